@@ -1,0 +1,165 @@
+//! Nanoseconds for a plan and for a row and axis, of the static library and of plain Rust with the same loops, in one
+//! run.
+//!
+//!     cargo run --release --offline
+//!
+//! Every time is processor time, the least of some batches; the batches of the two sides alternate. One table is lent
+//! to all calls and is not cleared between them: an accepted call writes every cell of its table, whatever stood there.
+
+mod plain;
+
+use std::hint::black_box;
+
+use outside::library;
+use outside::reference::{Axis, Job, Target, UNSET};
+
+/// An axis from rest to rest.
+fn axis(speed_limit: u32, acceleration_limit: u32, half_period: u32, second_weight: u32, position: i64) -> Axis {
+    let target = Target::Fixed { position, velocity: 0 };
+    Axis { speed_limit, acceleration_limit, half_period, second_weight, target, ..UNSET }
+}
+
+fn one(axis: Axis) -> Job {
+    let mut axes = [UNSET; 6];
+    axes[0] = axis;
+    Job { mask: 1, asked: 0, axes }
+}
+
+/// Six axes whose own least arrivals are 3,960 to 4,000.
+fn six() -> [Axis; 6] {
+    [
+        axis(1_000, 1, 40, 128, 2_950_000),
+        axis(2_000, 2, 256, 100, 5_428_000),
+        axis(500, 5, 0, 128, 1_950_000),
+        axis(33_000, 700, 80, 128, 127_144_200),
+        axis(30_000, 20_000, 12, 90, 119_440_000),
+        axis(7_000, 9, 120, 128, 21_435_554),
+    ]
+}
+
+/// The processor time of this thread in nanoseconds: what other programs take of the processor does not count.
+fn now() -> f64 {
+    #[repr(C)]
+    struct Time {
+        seconds: i64,
+        nanoseconds: i64,
+    }
+    extern "C" {
+        fn clock_gettime(clock: i32, time: *mut Time) -> i32;
+    }
+    const THREAD_PROCESSOR_TIME: i32 = 3;
+    let mut time = Time { seconds: 0, nanoseconds: 0 };
+    assert_eq!(unsafe { clock_gettime(THREAD_PROCESSOR_TIME, &mut time) }, 0);
+    time.seconds as f64 * 1e9 + time.nanoseconds as f64
+}
+
+fn least(times: &[f64]) -> f64 {
+    times.iter().copied().fold(f64::INFINITY, f64::min)
+}
+
+/// The times of both sides, in nanoseconds a call, for a table of `cells` cells.
+fn time(job: &Job, cells: usize) -> (f64, f64) {
+    let mut table = vec![0; cells];
+    let (signed, unsigned) = library::flat(&job.axes, 0);
+    let proved = |table: &mut [i64]| library::plan_flat(job.mask, job.asked, &signed, &unsigned, table);
+    let plain = |table: &mut [i64]| plain::plan(job, table);
+    let start = now();
+    let answer = proved(&mut table);
+    let once = now() - start;
+    let left = table.clone();
+    assert_eq!(plain(&mut table), answer);
+    assert!(table == left, "the two sides write different cells");
+    let calls = (1e7 / once).ceil() as usize;
+    let batches = if calls == 1 { 15 } else { 41 };
+    let mut times = (Vec::new(), Vec::new());
+    for _ in 0..batches {
+        times.0.push(batch(calls, || proved(black_box(&mut table)).arrival));
+        times.1.push(batch(calls, || plain(black_box(&mut table)).arrival));
+    }
+    (least(&times.0), least(&times.1))
+}
+
+fn batch(calls: usize, mut call: impl FnMut() -> u32) -> f64 {
+    let start = now();
+    for _ in 0..calls {
+        black_box(call());
+    }
+    (now() - start) / calls as f64
+}
+
+fn cells_of(job: &Job, arrival: u32) -> usize {
+    3 * job.count() * (arrival as usize + 1)
+}
+
+/// Prints the line of a whole call, and answers its arrival.
+fn whole(name: &str, job: &Job) -> u32 {
+    let mut table = vec![0; 3 * 6 * 4_097];
+    let answer = library::plan_typed(job.mask, job.asked, &job.axes, &mut table);
+    let (proved, plain) = time(job, table.len());
+    let what =
+        if answer.number == 0 { format!("{} rows", answer.arrival + 1) } else { format!("refused {}", answer.number) };
+    println!("| {name} | {what} | {proved:.0} | {plain:.0} | {:.2} |", proved / plain);
+    answer.arrival
+}
+
+/// Prints what a row and axis takes, from the choice of the velocities on: an asked job less the same job with too few
+/// cells, which stops before it chooses or writes, by the rows and axes written.
+fn by_row(name: &str, job: &Job, arrival: u32) {
+    let asked = Job { asked: arrival, ..*job };
+    let cells = cells_of(job, arrival);
+    let (accepted, refused) = (time(&asked, cells), time(&asked, cells - 1));
+    let count = (cells / 3) as f64;
+    let (proved, plain) = ((accepted.0 - refused.0) / count, (accepted.1 - refused.1) / count);
+    println!("| {name} | {} rows | {proved:.1} | {plain:.1} | {:.2} |", arrival + 1, proved / plain);
+}
+
+/// Prints what a row and axis takes without the search for the cruise. A speed limit of 1 and one of 1,048,576 give the
+/// same rows here; the search takes 10 sums for the one and 30 for the other, and 1 for the remainder. Their difference
+/// is the time of 20 sums an axis, and 11 of them are taken off.
+fn rows_alone(name: &str, axes: u32, arrival: u32) {
+    let slow = |speed: u32| {
+        let mut job = Job { mask: (1 << axes) - 1, asked: arrival, axes: [UNSET; 6] };
+        for i in 0..axes as usize {
+            job.axes[i] = axis(speed, 1, 30 * i as u32, 128, 70 * (i as i64 + 1));
+        }
+        job
+    };
+    let cells = cells_of(&slow(1), arrival);
+    let count = (cells / 3) as f64;
+    let (least, most, refused) = (time(&slow(1), cells), time(&slow(1 << 20), cells), time(&slow(1), cells - 1));
+    let alone = |least: f64, most: f64, refused: f64| (least - refused - 11.0 / 20.0 * (most - least)) / count;
+    let (proved, plain) = (alone(least.0, most.0, refused.0), alone(least.1, most.1, refused.1));
+    println!("| {name} | {} rows | {proved:.1} | {plain:.1} | {:.2} |", arrival + 1, proved / plain);
+}
+
+fn main() {
+    let short = one(axis(10, 1, 4, 100, 56));
+    let long = one(axis(100, 1, 40, 128, 185_900));
+    let wide = Job { mask: 63, asked: 0, axes: six() };
+    let never = one(axis(1, 1, 0, 128, 100_000_000));
+
+    println!("| least arrival, whole call | outcome | library, ns | plain Rust, ns | ratio |");
+    println!("|---|---|---|---|---|");
+    let short_arrival = whole("one axis, short", &short);
+    let long_arrival = whole("one axis, long", &long);
+    let wide_arrival = whole("six axes", &wide);
+    whole("out of reach", &never);
+    println!();
+    println!("| asked arrival, whole call | outcome | library, ns | plain Rust, ns | ratio |");
+    println!("|---|---|---|---|---|");
+    whole("one axis, short", &Job { asked: short_arrival, ..short });
+    whole("one axis, long", &Job { asked: long_arrival, ..long });
+    whole("six axes", &Job { asked: wide_arrival, ..wide });
+    println!();
+    println!("| velocities and rows, by row and axis | outcome | library, ns | plain Rust, ns | ratio |");
+    println!("|---|---|---|---|---|");
+    by_row("one axis, short", &short, short_arrival);
+    by_row("one axis, long", &long, long_arrival);
+    by_row("six axes", &wide, wide_arrival);
+    println!();
+    println!("| rows alone, by row and axis | outcome | library, ns | plain Rust, ns | ratio |");
+    println!("|---|---|---|---|---|");
+    rows_alone("one axis", 1, 1_999);
+    rows_alone("one axis", 1, 4_096);
+    rows_alone("six axes", 6, 4_096);
+}

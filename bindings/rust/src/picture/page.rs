@@ -1,0 +1,143 @@
+//! The page: title, legend, the axes' stacks of panels, caption.
+
+use super::panel::{self, Panel, Place, Ticks};
+use super::svg::{colour, stroke, Anchor, Drawing, Type};
+
+/// The margin of the page.
+const MARGIN: f64 = 24.0;
+
+/// The room between two stacks of panels that stand side by side.
+const BETWEEN: f64 = 28.0;
+
+/// The room for the heading of a stack.
+const HEADING: f64 = 20.0;
+
+/// The whole picture.
+pub struct Page {
+    /// The title of the picture.
+    pub title: String,
+    /// The axes.
+    pub stacks: Vec<Stack>,
+    /// Whether a sway without the blend is drawn.
+    pub compares: bool,
+    /// What the picture shows, below it.
+    pub caption: String,
+    /// The ticks that are drawn.
+    pub ticks: Ticks,
+}
+
+/// The panels of one axis, one above the other.
+pub struct Stack {
+    /// What the axis is called.
+    pub title: String,
+    /// What pole it stands on.
+    pub pole: String,
+    /// The panels from the top down.
+    pub panels: Vec<Panel>,
+}
+
+impl Stack {
+    /// The height of the stack with its heading.
+    fn height(&self) -> f64 {
+        HEADING + self.panels.len() as f64 * (panel::ABOVE + panel::HEIGHT) + panel::BELOW
+    }
+
+    /// Draws the stack, its heading at the top and its plots of a width at the left.
+    fn draw(&self, drawing: &mut Drawing, left: f64, top: f64, width: f64, ticks: Ticks) {
+        let room = width - Type::LABEL.width_of(&self.pole) - 8.0;
+        drawing.text(left, top + 14.0, Anchor::Start, Type::HEADING, &shortened(&self.title, room));
+        drawing.text(left + width, top + 14.0, Anchor::End, Type::LABEL, &self.pole);
+        for (index, panel) in self.panels.iter().enumerate() {
+            let top = top + HEADING + panel::ABOVE + index as f64 * (panel::ABOVE + panel::HEIGHT);
+            let last = index + 1 == self.panels.len();
+            panel.draw(drawing, Place { left, top, width }, ticks, index == 0, last);
+        }
+    }
+}
+
+impl Page {
+    /// The number of stacks side by side, and the width of their plots.
+    fn columns(&self) -> (usize, f64) {
+        match self.stacks.len() {
+            1 => (1, 680.0),
+            2 | 4 => (2, 440.0),
+            _ => (3, 330.0),
+        }
+    }
+
+    /// Draws the page.
+    pub fn draw(&self) -> String {
+        let (columns, plot_width) = self.columns();
+        let labels =
+            self.stacks.iter().flat_map(|stack| &stack.panels).map(Panel::label_width).fold(0.0, f64::max) + 8.0;
+        let pitch = labels + plot_width + BETWEEN;
+        let width = 2.0 * MARGIN + columns as f64 * pitch - BETWEEN;
+        let mut drawing = Drawing::new();
+        drawing.text(MARGIN, MARGIN + 14.0, Anchor::Start, Type::TITLE, &self.title);
+        let mut top = draw_legend(&mut drawing, MARGIN + 30.0, width, self.compares) + 14.0;
+        for row in self.stacks.chunks(columns) {
+            for (column, stack) in row.iter().enumerate() {
+                let left = MARGIN + labels + column as f64 * pitch;
+                stack.draw(&mut drawing, left, top, plot_width, self.ticks);
+            }
+            top += row.iter().map(Stack::height).fold(0.0, f64::max) + 12.0;
+        }
+        for line in wrapped(&self.caption, width - 2.0 * MARGIN) {
+            top += 16.0;
+            drawing.text(MARGIN, top, Anchor::Start, Type::BODY, &line);
+        }
+        drawing.finish(width, top + MARGIN, &self.title, &self.caption)
+    }
+}
+
+/// Draws what each line stands for, from a height on, and returns the height below it.
+fn draw_legend(drawing: &mut Drawing, top: f64, width: f64, compares: bool) -> f64 {
+    const SAMPLE: f64 = 28.0;
+    let always = [("plan", Some(stroke::PLAN)), ("target", Some(stroke::TARGET)), ("limit", Some(stroke::LIMIT))];
+    let unblended = compares.then_some(("sway without the blend, and its arrival", Some(stroke::UNBLENDED)));
+    let after = ("after arrival", None);
+    let (mut x, mut y) = (MARGIN, top);
+    for (name, stroke) in always.into_iter().chain(unblended).chain([after]) {
+        let entry_width = SAMPLE + 6.0 + Type::BODY.width_of(name) + 18.0;
+        if x + entry_width > width - MARGIN && x > MARGIN {
+            (x, y) = (MARGIN, y + 18.0);
+        }
+        match stroke {
+            Some(stroke) => drawing.line(&[(x, y + 4.0), (x + SAMPLE, y + 4.0)], stroke),
+            None => {
+                drawing.area(x, y - 2.0, SAMPLE, 12.0, colour::AFTER);
+                drawing.frame(x, y - 2.0, SAMPLE, 12.0);
+            }
+        }
+        drawing.text(x + SAMPLE + 6.0, y + 8.0, Anchor::Start, Type::BODY, name);
+        x += entry_width;
+    }
+    y + 12.0
+}
+
+/// A text in lines of a width.
+fn wrapped(text: &str, width: f64) -> Vec<String> {
+    let mut lines = vec![String::new()];
+    for word in text.split(' ') {
+        let line = lines.last_mut().expect("there is a first line");
+        if !line.is_empty() && Type::BODY.width_of(&format!("{line} {word}")) > width {
+            lines.push(word.into());
+        } else {
+            if !line.is_empty() {
+                line.push(' ');
+            }
+            line.push_str(word);
+        }
+    }
+    lines
+}
+
+/// A heading that fits a room, cut with an ellipsis where it is too long.
+fn shortened(title: &str, room: f64) -> String {
+    let mut text = String::from(title);
+    while Type::HEADING.width_of(&text) > room && text.chars().count() > 2 {
+        text.truncate(text.trim_end_matches('…').char_indices().last().map_or(0, |(index, _)| index));
+        text.push('…');
+    }
+    text
+}

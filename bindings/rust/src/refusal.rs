@@ -1,0 +1,347 @@
+//! The refusals, numbers 1 to 10, with what to look at on the set-up sheet.
+
+use std::fmt;
+
+use crate::{AXES, LATEST_ARRIVAL};
+
+/// What a call returns besides the table: the numbers of the C interface's answer.
+#[derive(Debug, Clone, Copy, PartialEq, Eq, Hash)]
+pub(crate) struct Answer {
+    pub number: u32,
+    pub place: u64,
+    pub mask: u32,
+    pub arrival: u32,
+}
+
+/// A set of axes: bit i stands for axis i.
+#[derive(Debug, Clone, Copy, PartialEq, Eq, Hash)]
+pub struct AxisMask(pub u32);
+
+impl AxisMask {
+    /// Whether no axis is in the set.
+    pub const fn is_empty(self) -> bool {
+        self.0 == 0
+    }
+
+    /// Whether an axis is in the set.
+    pub const fn contains(self, axis: usize) -> bool {
+        axis < AXES && self.0 >> axis & 1 == 1
+    }
+
+    /// The axes of the set, lowest first.
+    pub fn axes(self) -> impl Iterator<Item = usize> {
+        (0..AXES).filter(move |&axis| self.contains(axis))
+    }
+}
+
+/// The set as words of a sentence: `axis 0`, `axes 0 and 2`, `axes 0, 1 and 2`.
+impl fmt::Display for AxisMask {
+    fn fmt(&self, f: &mut fmt::Formatter<'_>) -> fmt::Result {
+        let numbers: Vec<String> = self.axes().map(|axis| axis.to_string()).collect();
+        match numbers.split_last() {
+            None => f.write_str("no axis"),
+            Some((only, [])) => write!(f, "axis {only}"),
+            Some((last, before)) => write!(f, "axes {} and {last}", before.join(", ")),
+        }
+    }
+}
+
+/// A line of the set-up sheet that a crew goes through before the first sighting.
+#[derive(Debug, Clone, Copy, PartialEq, Eq, Hash)]
+pub enum SheetLine {
+    /// The pole's half period and damping.
+    TapThePole,
+    /// The limits of the motors.
+    EnterLimits,
+    /// Where each axis is, and where it is to be.
+    EnterStartAndTarget,
+    /// The common arrival.
+    ReadTheArrival,
+    /// The refusal, where there is one.
+    ReadTheRefusal,
+}
+
+impl SheetLine {
+    /// The lines in the order of the sheet.
+    pub const ALL: [SheetLine; 5] = [
+        SheetLine::TapThePole,
+        SheetLine::EnterLimits,
+        SheetLine::EnterStartAndTarget,
+        SheetLine::ReadTheArrival,
+        SheetLine::ReadTheRefusal,
+    ];
+
+    /// The line as it stands on the sheet.
+    pub const fn text(self) -> &'static str {
+        match self {
+            SheetLine::TapThePole => "tap the pole, note the half period and how far each swing shrinks",
+            SheetLine::EnterLimits => "enter speed and acceleration limits for each axis",
+            SheetLine::EnterStartAndTarget => "enter start and target, still or moving",
+            SheetLine::ReadTheArrival => "read the arrival tick before the first sighting",
+            SheetLine::ReadTheRefusal => "read any refusal number",
+        }
+    }
+
+    /// What the line is there to catch.
+    pub const fn catches(self) -> &'static str {
+        match self {
+            SheetLine::TapThePole => "a blend tuned for another pole",
+            SheetLine::EnterLimits => "a table that the motors cannot follow",
+            SheetLine::EnterStartAndTarget => "a head that starts with a jump",
+            SheetLine::ReadTheArrival => "pan arriving while tilt still travels",
+            SheetLine::ReadTheRefusal => "a guess taken for a plan",
+        }
+    }
+}
+
+/// Why a job has no table. A refused call writes nothing.
+///
+/// As text it is a sentence that says what is wrong, which line of the set-up sheet to look at, and what to turn:
+///
+/// ```
+/// use polgamir::Refusal;
+///
+/// assert_eq!(
+///     Refusal::Blend { axis: 1 }.to_string(),
+///     "refused with 5: the half period of axis 1 is not 0 to 256 ticks, or its weight is not 1 to 128; \
+///      look at the sheet's line \"tap the pole, note the half period and how far each swing shrinks\": \
+///      tap again and enter both for axis 1"
+/// );
+/// ```
+#[derive(Debug, Clone, Copy, PartialEq, Eq, Hash)]
+#[non_exhaustive]
+pub enum Refusal {
+    /// 1: the mask word is absent, not of kind 1, or its payload is 0 or above 63; of a [`Job`](crate::Job): it has no axis.
+    Mask,
+    /// 2: a word is not of a kind allowed next, the end payload is not 0, or words are lacking or left over.
+    Words {
+        /// The first such word's index from 0, or the word count where words are lacking.
+        index: usize,
+    },
+    /// 3: the asked arrival is above 4,096.
+    AskedArrival,
+    /// 4: the speed limit or the acceleration limit is outside its range.
+    Limits {
+        /// The first such axis.
+        axis: usize,
+    },
+    /// 5: the half period or the second weight is outside its range.
+    Blend {
+        /// The first such axis.
+        axis: usize,
+    },
+    /// 6: start or target velocity exceeds the speed limit, target acceleration exceeds the acceleration limit, the target tick
+    /// exceeds 4,096 in size, or a position is outside −134,217,728 to 134,217,727.
+    StartOrTarget {
+        /// The first such axis.
+        axis: usize,
+    },
+    /// 7: the target accelerates on a damped pole: the half period is not 0 and the second weight is not 128.
+    AcceleratingTarget {
+        /// The first such axis.
+        axis: usize,
+    },
+    /// 8: the asked arrival is not reachable for every axis.
+    NotReachable {
+        /// The axes for which it is not.
+        axes: AxisMask,
+    },
+    /// 9: no arrival was asked for, and from 1 to 4,096 there is none that all axes have in common.
+    NoCommonArrival {
+        /// The axes that alone reach none, perhaps no axis.
+        axes: AxisMask,
+    },
+    /// 10: the lent table has fewer than 3 × axes × (arrival + 1) cells.
+    TableTooShort {
+        /// The arrival that the table would have had.
+        arrival: u32,
+    },
+    /// A number that this crate has no name for, from a library that knows more refusals.
+    Other {
+        /// The refusal's number.
+        number: u32,
+        /// The place, as a word's index or an axis.
+        place: u64,
+        /// The axes named.
+        axes: AxisMask,
+        /// The arrival named.
+        arrival: u32,
+    },
+}
+
+impl Refusal {
+    /// The refusal with the numbers of an answer that is none of acceptance.
+    pub(crate) fn from_answer(answer: Answer) -> Refusal {
+        let Answer { number, place, mask, arrival } = answer;
+        let axes = AxisMask(mask);
+        // An axis or the index of a word in a slice: both fit.
+        let index = place as usize;
+        match number {
+            1 => Refusal::Mask,
+            2 => Refusal::Words { index },
+            3 => Refusal::AskedArrival,
+            4 => Refusal::Limits { axis: index },
+            5 => Refusal::Blend { axis: index },
+            6 => Refusal::StartOrTarget { axis: index },
+            7 => Refusal::AcceleratingTarget { axis: index },
+            8 => Refusal::NotReachable { axes },
+            9 => Refusal::NoCommonArrival { axes },
+            10 => Refusal::TableTooShort { arrival },
+            _ => Refusal::Other { number, place, axes, arrival },
+        }
+    }
+
+    /// The refusal's number.
+    pub const fn number(&self) -> u32 {
+        match *self {
+            Refusal::Mask => 1,
+            Refusal::Words { .. } => 2,
+            Refusal::AskedArrival => 3,
+            Refusal::Limits { .. } => 4,
+            Refusal::Blend { .. } => 5,
+            Refusal::StartOrTarget { .. } => 6,
+            Refusal::AcceleratingTarget { .. } => 7,
+            Refusal::NotReachable { .. } => 8,
+            Refusal::NoCommonArrival { .. } => 9,
+            Refusal::TableTooShort { .. } => 10,
+            Refusal::Other { number, .. } => number,
+        }
+    }
+
+    /// The place: a word's index for 2, 1 for 3, the axis for 4 to 7, and 0 where no place is named.
+    pub const fn place(&self) -> u64 {
+        match *self {
+            Refusal::Words { index } => index as u64,
+            Refusal::AskedArrival => 1,
+            Refusal::Other { place, .. } => place,
+            _ => match self.axis() {
+                Some(axis) => axis as u64,
+                None => 0,
+            },
+        }
+    }
+
+    /// The axis that refusals 4 to 7 name.
+    pub const fn axis(&self) -> Option<usize> {
+        match *self {
+            Refusal::Limits { axis }
+            | Refusal::Blend { axis }
+            | Refusal::StartOrTarget { axis }
+            | Refusal::AcceleratingTarget { axis } => Some(axis),
+            _ => None,
+        }
+    }
+
+    /// The axes that refusals 8 and 9 name; empty for the others.
+    pub const fn mask(&self) -> AxisMask {
+        match *self {
+            Refusal::NotReachable { axes } | Refusal::NoCommonArrival { axes } | Refusal::Other { axes, .. } => axes,
+            _ => AxisMask(0),
+        }
+    }
+
+    /// The arrival that refusal 10 names; 0 for the others.
+    pub const fn arrival(&self) -> u32 {
+        match *self {
+            Refusal::TableTooShort { arrival } | Refusal::Other { arrival, .. } => arrival,
+            _ => 0,
+        }
+    }
+
+    /// The line of the set-up sheet to look at.
+    pub const fn sheet_line(&self) -> SheetLine {
+        match self {
+            Refusal::Blend { .. } => SheetLine::TapThePole,
+            Refusal::Mask | Refusal::Limits { .. } => SheetLine::EnterLimits,
+            Refusal::StartOrTarget { .. } | Refusal::AcceleratingTarget { .. } | Refusal::NoCommonArrival { .. } => {
+                SheetLine::EnterStartAndTarget
+            }
+            Refusal::AskedArrival | Refusal::NotReachable { .. } | Refusal::TableTooShort { .. } => {
+                SheetLine::ReadTheArrival
+            }
+            Refusal::Words { .. } | Refusal::Other { .. } => SheetLine::ReadTheRefusal,
+        }
+    }
+
+    /// The line that the table program prints, as `refused 8 place 0 axes 1 arrival 0`.
+    pub fn printed_line(&self) -> String {
+        let (number, place, mask, arrival) = (self.number(), self.place(), self.mask().0, self.arrival());
+        format!("refused {number} place {place} axes {mask} arrival {arrival}")
+    }
+
+    /// What is wrong.
+    fn write_cause(&self, f: &mut fmt::Formatter<'_>) -> fmt::Result {
+        match self {
+            Refusal::Mask => write!(f, "the job names no axis, or one above {}", AXES - 1),
+            Refusal::Words { index } => write!(f, "word {index} of the job is of a wrong kind, lacking or left over"),
+            Refusal::AskedArrival => write!(f, "the asked arrival is above {LATEST_ARRIVAL}"),
+            Refusal::Limits { axis } => write!(
+                f,
+                "the speed limit of axis {axis} is not 1 to 1048576, or its acceleration limit is not 1 to 65536"
+            ),
+            Refusal::Blend { axis } => {
+                write!(f, "the half period of axis {axis} is not 0 to 256 ticks, or its weight is not 1 to 128")
+            }
+            Refusal::StartOrTarget { axis } => write!(
+                f,
+                "on axis {axis} the start or target velocity is above the speed limit, the target acceleration is above \
+                 the acceleration limit, the target tick is more than 4096 ticks from tick 0, or a position is not \
+                 -134217728 to 134217727"
+            ),
+            Refusal::AcceleratingTarget { axis } => {
+                write!(f, "the target of axis {axis} accelerates while the swing of its pole shrinks")
+            }
+            Refusal::NotReachable { axes } => write!(f, "{axes} cannot arrive at the asked tick"),
+            Refusal::NoCommonArrival { axes } if axes.is_empty() => {
+                write!(f, "each axis can arrive, but no tick from 1 to {LATEST_ARRIVAL} suits all of them")
+            }
+            Refusal::NoCommonArrival { axes } => write!(f, "{axes} can arrive at no tick from 1 to {LATEST_ARRIVAL}"),
+            Refusal::TableTooShort { arrival } => {
+                write!(f, "the arrival is tick {arrival}, and the lent table is too short for rows 0 to {arrival}")
+            }
+            Refusal::Other { number, .. } => write!(f, "the planner refuses by a number, {number}, that has no name here"),
+        }
+    }
+
+    /// What to turn.
+    fn write_remedy(&self, f: &mut fmt::Formatter<'_>) -> fmt::Result {
+        match self {
+            Refusal::Mask => write!(f, "enter at least one of the axes 0 to {}", AXES - 1),
+            Refusal::Words { .. } => f.write_str("nothing was planned; write the words again from the sheet"),
+            Refusal::AskedArrival => write!(f, "ask for a tick from 1 to {LATEST_ARRIVAL}, or for the earliest"),
+            Refusal::Limits { axis } => write!(f, "enter both for axis {axis}, as its motor allows"),
+            Refusal::Blend { axis } => write!(f, "tap again and enter both for axis {axis}"),
+            Refusal::StartOrTarget { axis } => {
+                write!(f, "enter where axis {axis} is and goes, within what its limits allow")
+            }
+            Refusal::AcceleratingTarget { axis } => {
+                write!(f, "enter target acceleration 0 for axis {axis}, or weight 128 where the swing does not shrink")
+            }
+            Refusal::NotReachable { .. } => f.write_str(
+                "ask for the earliest arrival or another tick, not always a later one, \
+                 or raise limits as far as the motors allow",
+            ),
+            Refusal::NoCommonArrival { axes } if axes.is_empty() => {
+                f.write_str("change a moving target or a start, or raise limits as far as the motors allow")
+            }
+            Refusal::NoCommonArrival { .. } => {
+                f.write_str("bring start and target nearer, or raise limits as far as the motors allow")
+            }
+            Refusal::TableTooShort { arrival } => {
+                write!(f, "lend 3 cells for each axis and each of {} rows", arrival + 1)
+            }
+            Refusal::Other { .. } => f.write_str("nothing was planned; look the number up in the library's header"),
+        }
+    }
+}
+
+impl fmt::Display for Refusal {
+    fn fmt(&self, f: &mut fmt::Formatter<'_>) -> fmt::Result {
+        write!(f, "refused with {}: ", self.number())?;
+        self.write_cause(f)?;
+        write!(f, "; look at the sheet's line \"{}\": ", self.sheet_line().text())?;
+        self.write_remedy(f)
+    }
+}
+
+impl std::error::Error for Refusal {}

@@ -1,0 +1,195 @@
+//! The set-up sheet: a job as a person writes it, one entry to a line. The format's page is `docs/SHEET.md`.
+//!
+//! ```
+//! use polgamir::sheet::Sheet;
+//!
+//! let sheet: Sheet = "
+//! arrival 4
+//!
+//! axis 0 pan
+//!   half period         0     # no blend
+//!   weight              128   # the swing does not shrink
+//!   speed limit         10
+//!   acceleration limit  1
+//!   start position      0
+//!   start velocity      0
+//!   target              still
+//!   target position     1
+//! ".parse()?;
+//! assert_eq!(sheet.axis_name(0), Some("pan"));
+//! # Ok::<(), polgamir::sheet::SheetError>(())
+//! ```
+
+mod reading;
+
+use std::fmt;
+
+use crate::job::{Arrival, Axis, Job, RestPoint, Target};
+use crate::words::WordKind;
+use crate::AXES;
+
+/// A job with what its sheet says beside it: the names of the axes, and the lines that the entries stand on.
+#[derive(Debug, Clone, PartialEq, Eq, Default)]
+pub struct Sheet {
+    /// The job that the sheet asks for.
+    pub job: Job,
+    names: [Option<String>; AXES],
+    lines: Vec<EntryLine>,
+}
+
+/// The line of an entry.
+#[derive(Debug, Clone, Copy, PartialEq, Eq)]
+struct EntryLine {
+    /// The axis, or `None` for an entry of the whole job.
+    axis: Option<usize>,
+    entry: WordKind,
+    /// The line, from 1.
+    line: usize,
+}
+
+impl Sheet {
+    /// The name that the sheet gives to an axis.
+    pub fn axis_name(&self, number: usize) -> Option<&str> {
+        self.names.get(number)?.as_deref()
+    }
+
+    /// The line, from 1, that an entry of an axis stands on, or with `None` that of the whole job's [`WordKind::Arrival`]. A
+    /// sheet that was not read from text has no lines.
+    pub fn line_of(&self, axis: Option<usize>, entry: WordKind) -> Option<usize> {
+        self.lines.iter().find(|line| line.axis == axis && line.entry == entry).map(|line| line.line)
+    }
+
+    /// What to call an axis: `axis 0`, or `axis 0 pan` where the sheet names it.
+    pub fn axis_title(&self, number: usize) -> String {
+        match self.axis_name(number) {
+            Some(name) => format!("axis {number} {name}"),
+            None => format!("axis {number}"),
+        }
+    }
+}
+
+/// The sheet of a job, without names.
+impl From<Job> for Sheet {
+    fn from(job: Job) -> Sheet {
+        Sheet { job, ..Sheet::default() }
+    }
+}
+
+/// Why a text is no set-up sheet: the first line at fault, what was expected there and what was found.
+#[derive(Debug, Clone, PartialEq, Eq)]
+pub struct SheetError {
+    /// The line, from 1.
+    pub line: usize,
+    /// What was expected.
+    pub expected: String,
+    /// What was found instead.
+    pub found: String,
+}
+
+impl fmt::Display for SheetError {
+    fn fmt(&self, f: &mut fmt::Formatter<'_>) -> fmt::Result {
+        write!(f, "line {}: expected {}, found {}", self.line, self.expected, self.found)
+    }
+}
+
+impl std::error::Error for SheetError {}
+
+/// How a sheet says what a target is.
+#[derive(Debug, Clone, Copy, PartialEq, Eq)]
+enum TargetKind {
+    /// Fixed, and at rest.
+    Still,
+    /// Fixed, passed at a velocity that goes on uniformly.
+    Flying,
+    /// Moving by itself.
+    Moving,
+}
+
+impl TargetKind {
+    /// Every kind.
+    const ALL: [TargetKind; 3] = [TargetKind::Still, TargetKind::Flying, TargetKind::Moving];
+
+    /// The word on the sheet.
+    fn name(self) -> &'static str {
+        match self {
+            TargetKind::Still => "still",
+            TargetKind::Flying => "flying",
+            TargetKind::Moving => "moving",
+        }
+    }
+
+    /// The kind of a target.
+    fn of(target: &Target) -> TargetKind {
+        match target {
+            Target::Fixed(RestPoint { velocity: 0, .. }) => TargetKind::Still,
+            Target::Fixed(_) => TargetKind::Flying,
+            Target::Moving(_) => TargetKind::Moving,
+        }
+    }
+
+    /// Whether a target of this kind has an entry on the sheet.
+    fn has(self, entry: WordKind) -> bool {
+        match entry {
+            WordKind::TargetVelocity => self != TargetKind::Still,
+            WordKind::TargetAcceleration | WordKind::TargetTick => self == TargetKind::Moving,
+            _ => true,
+        }
+    }
+}
+
+/// The entries of an axis that are numbers, in the order in which a sheet is written.
+const ENTRIES: [WordKind; 10] = [
+    WordKind::HalfPeriod,
+    WordKind::SecondWeight,
+    WordKind::SpeedLimit,
+    WordKind::AccelerationLimit,
+    WordKind::StartPosition,
+    WordKind::StartVelocity,
+    WordKind::TargetPosition,
+    WordKind::TargetVelocity,
+    WordKind::TargetAcceleration,
+    WordKind::TargetTick,
+];
+
+/// What stands beside an entry on a written sheet.
+fn remark(entry: WordKind) -> &'static str {
+    match entry {
+        WordKind::HalfPeriod => "ticks, 0 to 256; 0: no blend",
+        WordKind::SecondWeight => "1 to 128; 128: the swing does not shrink",
+        WordKind::SpeedLimit => "units per tick, 1 to 1048576",
+        WordKind::AccelerationLimit => "units per tick², 1 to 65536",
+        WordKind::StartPosition | WordKind::TargetPosition => "units",
+        WordKind::StartVelocity | WordKind::TargetVelocity => "units per tick",
+        WordKind::TargetAcceleration => "units per tick²",
+        _ => "the tick at which position and velocity hold",
+    }
+}
+
+/// Writes the sheet in full, in a form that reads back as the same sheet.
+impl fmt::Display for Sheet {
+    fn fmt(&self, f: &mut fmt::Formatter<'_>) -> fmt::Result {
+        match self.job.arrival {
+            Arrival::Earliest => writeln!(f, "arrival earliest")?,
+            Arrival::At(tick) => writeln!(f, "arrival {tick}")?,
+        }
+        for (number, axis) in self.job.entered() {
+            writeln!(f, "\n{}", self.axis_title(number))?;
+            write_axis(f, axis)?;
+        }
+        Ok(())
+    }
+}
+
+/// Writes the entries of an axis.
+fn write_axis(f: &mut fmt::Formatter<'_>, axis: &Axis) -> fmt::Result {
+    let kind = TargetKind::of(&axis.target);
+    for entry in ENTRIES.into_iter().filter(|&entry| kind.has(entry)) {
+        if entry == WordKind::TargetPosition {
+            writeln!(f, "  {:19} {}", "target", kind.name())?;
+        }
+        for (_, value) in axis.entries().filter(|&(word, _)| word == entry) {
+            writeln!(f, "  {:19} {value:<11} # {}", entry.name(), remark(entry))?;
+        }
+    }
+    Ok(())
+}

@@ -1,0 +1,90 @@
+-- The mask of the axes that cannot arrive.
+use Prim.Native.Nat.{ℕ, zero, suc, _+_, _/_, _%_, _^_, _<_, _≤_}
+use native.Mathlib.Omega.{arith}
+use mathlib.Core.Path.{_≡_, refl, sym, ap, _∙_}
+use mathlib.Core.Bool.{Bool, true, false, cond, not}
+use mathlib.Core.Option.{Option, none, some}
+use mathlib.Core.List.{List, [], _∷_}
+use lib.ListN.{length, replicate}
+use lib.Dec.{eqb}
+use borrow.Author.Tests.{ne-eqb}
+use Rattle.model.specs.declared.Axis.{Axis}
+use Rattle.model.specs.Motion.{reachable}
+use Rattle.model.specs.Job.{JobAxis, setAxes, maskWhere}
+use Rattle.model.specs.Outcome.{allReach, leastFrom, leastArrival}
+use Rattle.arrival.specs.Arrivals.{orZero, cannotArrive, bitOf}
+use Rattle.arrival.proofs.SetAxes.{pick, from, axisAt, from-more, from-none}
+use Rattle.arrival.proofs.Search.{IfFound, found-passes}
+
+-- ---- one axis
+
+-- 0 stands for none, since no candidate is 0
+zero-is-none : (test : ℕ → Bool) (o : Option ℕ) → IfFound test 1 4096 o → eqb (orZero o) 0 ≡ elim o as (λ _. Bool) [ some n ↦ false | none ↦ true ]
+zero-is-none test none h = refl
+zero-is-none test (some n) h = ne-eqb n 0 (λ e. omega arith)
+
+-- the axis alone, as axis 0 of mask 1
+pub reaches-none : (n asked : ℕ) (x : Axis) → asked ≡ 0
+    → n ≡ orZero (leastFrom (allReach (setAxes 0 1 (replicate 6 x))) 1 4096) → eqb n 0 ≡ cannotArrive asked x
+unfolding cannotArrive
+reaches-none n asked x z e =
+    ap (λ (k : ℕ). eqb k 0) e
+    ∙ zero-is-none (allReach alone) (leastArrival alone) (found-passes (allReach alone) 1 4096)
+    ∙ sym (ap (λ (k : ℕ). cannotArrive k x) z)
+  where
+    alone : List JobAxis
+    alone = record { number = 0; axis = x } ∷ []
+
+pub misses-asked : (asked : ℕ) (x : Axis) → (asked ≡ 0 → ⊥) → not (reachable x asked) ≡ cannotArrive asked x
+unfolding cannotArrive
+misses-asked zero x h = absurd (h refl)
+misses-asked (suc n) x h = refl
+
+-- ---- the axes of a mask
+
+weighed : (f : Axis → Bool) (b : Bool) (i : ℕ) (x : Axis) (xs : List JobAxis)
+    → maskWhere f (pick b i x xs) ≡ cond (cond b (f x) false) (2 ^ i) 0 + maskWhere f xs
+weighed f true i x xs = go (f x)
+  where
+    go : (t : Bool) → elim t as (λ _. ℕ) [ true ↦ 2 ^ i + maskWhere f xs | false ↦ maskWhere f xs ] ≡ cond t (2 ^ i) 0 + maskWhere f xs
+    go true = refl
+    go false = omega arith
+weighed f false i x xs = omega arith
+
+module _ (asked i m : ℕ) (six : List Axis) where
+  -- the mask from axis i on
+  pub rest : ℕ
+  rest = maskWhere (cannotArrive asked) (from i m six)
+
+  pub none-more : length six ≤ i → rest ≡ 0
+  unfolding rest
+  none-more h = ap (maskWhere (cannotArrive asked)) (from-none i m six h)
+
+pub one-more : (asked i m : ℕ) (six : List Axis) → i < length six
+    → rest asked i m six ≡ bitOf m (axisAt six i) asked (2 ^ i) + rest asked (i + 1) (m / 2) six
+unfolding rest bitOf
+one-more asked i m six h =
+    ap (maskWhere (cannotArrive asked)) (from-more i m six h)
+    ∙ weighed (cannotArrive asked) (eqb (m % 2) 1) i (axisAt six i) (from (i + 1) (m / 2) six)
+
+pub all : (asked m : ℕ) (six : List Axis) → rest asked 0 m six ≡ maskWhere (cannotArrive asked) (setAxes 0 m six)
+unfolding rest
+all asked m six = refl
+
+pub bit-at-most : (m : ℕ) (x : Axis) (asked bit : ℕ) → bitOf m x asked bit ≤ bit
+unfolding bitOf
+bit-at-most m x asked bit = go (cond (eqb (m % 2) 1) (cannotArrive asked x) false)
+  where
+    go : (b : Bool) → cond b bit 0 ≤ bit
+    go true = omega arith
+    go false = omega arith
+
+pub bit-of-six : (i : ℕ) → i ≤ 6 → 2 ^ i ≤ 64
+bit-of-six zero h = omega arith
+bit-of-six (suc zero) h = omega arith
+bit-of-six (suc (suc zero)) h = omega arith
+bit-of-six (suc (suc (suc zero))) h = omega arith
+bit-of-six (suc (suc (suc (suc zero)))) h = omega arith
+bit-of-six (suc (suc (suc (suc (suc zero))))) h = omega arith
+bit-of-six (suc (suc (suc (suc (suc (suc zero)))))) h = omega arith
+bit-of-six (suc (suc (suc (suc (suc (suc (suc i))))))) h = absurd (omega arith)

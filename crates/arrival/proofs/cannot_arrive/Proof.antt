@@ -1,0 +1,25 @@
+use mathlib.Core.Bool.{not}
+use mathlib.Core.Path.{ap, _∙_}
+use borrow.Author.Needs.{needs}
+use Rattle.arrival.proofs.Unable.{reaches-none, misses-asked}
+use Rattle.arrival.proofs.cannot_arrive.Statement.{statement}
+use Rattle.arrival.proofs.cannot_arrive.Tie as tie
+
+least-common-requires : tie.Need-least-common-requires
+least-common-requires c κs = search needs
+
+returns : tie.Need-returns
+returns c =
+    let a = c .before .before .args in
+    reaches-none (c .least-common .result) (a .asked) (a .axis) (c .before .if1 .taken) (c .least-common .ensures)
+
+reaches-requires : tie.Need-reaches-requires
+reaches-requires c κs = search needs
+
+returns-2 : tie.Need-returns-2
+returns-2 c =
+    let a = c .before .before .args in
+    ap not (c .reaches .ensures) ∙ misses-asked (a .asked) (a .axis) (c .before .if1 .left)
+
+pub cannot-arrive-spec : {M : Type 1} → statement M
+cannot-arrive-spec = tie.close (tie.spec least-common-requires returns reaches-requires returns-2)

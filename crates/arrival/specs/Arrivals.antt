@@ -1,0 +1,63 @@
+-- What the search for an arrival gives back, from the definitions of `Outcome`.
+use Prim.Native.Nat.{ℕ, zero, suc, _%_, _≤_}
+use mathlib.Core.Path.{_≡_}
+use mathlib.Core.Bool.{Bool, true, false, cond, not}
+use mathlib.Core.Option.{Option, none, some}
+use mathlib.Core.List.{List}
+use lib.Dec.{eqb}
+use Rattle.model.specs.declared.Axis.{Axis}
+use Rattle.model.specs.Motion.{reachable}
+use Rattle.model.specs.Job.{JobAxis, maskWhere}
+use Rattle.model.specs.Refusals.{lastTick}
+use Rattle.model.specs.Outcome.{allReach, leastArrival, reachesNone}
+use Rattle.arrival.specs.declared.Arrival.{Arrival}
+
+-- ---- the arrival
+
+abbrev pub found : ℕ → Arrival
+found n = record { number = 0; mask = 0; tick = n }
+
+abbrev pub refused : ℕ → ℕ → Arrival
+refused number mask = record { number = number; mask = mask; tick = 0 }
+
+-- where none is asked: the least, or refusal 9
+abbrev pub leastOr : List JobAxis → Option ℕ → Arrival
+leastOr xs (some n) = found n
+leastOr xs none = refused 9 (maskWhere (λ x. reachesNone x) xs)
+
+-- where n is asked: n, or refusal 8
+abbrev pub askedOr : List JobAxis → ℕ → Bool → Arrival
+askedOr xs n true = found n
+askedOr xs n false = refused 8 (maskWhere (λ x. not (reachable x n)) xs)
+
+abbrev pub arrivalFor : List JobAxis → ℕ → Arrival
+arrivalFor xs zero = leastOr xs (leastArrival xs)
+arrivalFor xs (suc n) = askedOr xs (suc n) (allReach xs (suc n))
+
+-- what `arrival_of` gives back for the axes xs
+pub record ArrivalIs (xs : List JobAxis) (asked : ℕ) (r : Arrival) : Type 0 where
+  -- number, mask and tick, from the definitions
+  pub is : r ≡ arrivalFor xs asked
+  -- number 0: the tick is from 1 to 4,096, and every axis reaches it
+  pub first : r .number ≡ 0 → 1 ≤ r .tick
+  pub last : r .number ≡ 0 → r .tick ≤ lastTick
+  pub reached : r .number ≡ 0 → allReach xs (r .tick) ≡ true
+
+-- ---- its parts
+
+abbrev pub orZero : Option ℕ → ℕ
+orZero none = 0
+orZero (some n) = n
+
+-- an axis does not reach the asked arrival; or any, where 0 is asked
+unfoldable pub cannotArrive : ℕ → Axis → Bool
+cannotArrive zero x = reachesNone x
+cannotArrive (suc n) x = not (reachable x (suc n))
+
+-- the lowest bit of m names the axis, and the axis does not reach n
+unfoldable pub missedBy : ℕ → Axis → ℕ → Bool
+missedBy m x n = cond (eqb (m % 2) 1) (not (reachable x n)) false
+
+-- the bit of an axis that the lowest bit of m names and that cannot arrive, or 0
+unfoldable pub bitOf : ℕ → Axis → ℕ → ℕ → ℕ
+bitOf m x asked bit = cond (cond (eqb (m % 2) 1) (cannotArrive asked x) false) bit 0

@@ -1,0 +1,157 @@
+-- Every call, from words or from typed values, whatever was lent, ends in a verdict: `call-verdict`.
+use Prim.Native.Nat.{ℕ, zero, suc, _/_, _%_, _≤_, _<_}
+use mathlib.Core.Path.{_≡_, refl, subst}
+use mathlib.Core.Bool.{Bool, true, false, not, _&&_}
+use mathlib.Core.List.{List, [], _∷_}
+use mathlib.Core.Logic.{_⊎_, inl, inr}
+use native.Mathlib.Omega.{arith}
+use lib.Dec.{T, eqb, leb, ltb, leb→le, ltb→lt, nltb→le, nleb→lt}
+use lib.IntN.{ℤ}
+use borrow.Author.Tests.{eq-eqb}
+use Rattle.model.specs.declared.Axis.{Axis}
+use Rattle.model.specs.Job.{Job, JobAxis, setFrom, setAxes, typedJob, setBits}
+use Rattle.model.specs.Words.{Reading, Reader, got, wrong, _>>=_, field, axis, axes, ending, afterMask, kind, payload, goodMask, Decoded, noMask, badWord, job, decode}
+use Rattle.model.specs.Outcome.{Outcome, Input, words, typed, call, refuse, jobOutcome}
+use Rattle.model.specs.Verdict.{MaskOutside, MaskWordWrong, CallVerdict, words1, words2, wordsJob, typed1, typedJobs}
+use Rattle.model.proofs.Masks.{Ascends, ascends-from}
+use Rattle.model.proofs.Verdict.{verdict, is-refusal}
+
+-- ---- the numbers of the axes ascend
+
+abbrev Rising : ℕ → List ℕ → Type 0
+Rising k [] = Unit {0}
+Rising k (n ∷ ns) = (k ≤ n) × Rising (suc n) ns
+
+rising-from : (k l : ℕ) (ns : List ℕ) → k ≤ l → Rising l ns → Rising k ns
+rising-from k l [] h a = tt
+rising-from k l (n ∷ ns) h a = (omega (arith, a .0), a .1)
+
+set-rising : (c i m : ℕ) → Rising i (setFrom c i m)
+set-rising zero i m = tt
+set-rising (suc c) i m = go (eqb (m % 2) 1) (set-rising c (suc i) (m / 2))
+  where
+    go : (b : Bool) → Rising (suc i) (setFrom c (suc i) (m / 2))
+        → Rising i (elim b as (λ z. List ℕ) [ true ↦ i ∷ setFrom c (suc i) (m / 2) | false ↦ setFrom c (suc i) (m / 2) ])
+    go true h = (omega arith, h)
+    go false h = rising-from i (suc i) (setFrom c (suc i) (m / 2)) (omega arith) h
+
+set-ascends : (i m : ℕ) (six : List Axis) → Ascends i (setAxes i m six)
+set-ascends i m [] = tt
+set-ascends i m (x ∷ six) = go (eqb (m % 2) 1) (set-ascends (suc i) (m / 2) six)
+  where
+    go : (b : Bool) → Ascends (suc i) (setAxes (suc i) (m / 2) six)
+        → Ascends i (elim b as (λ z. List JobAxis) [
+          | true ↦ record { number = i; axis = x } ∷ setAxes (suc i) (m / 2) six
+          | false ↦ setAxes (suc i) (m / 2) six
+        ])
+    go true h = (omega arith, h)
+    go false h = ascends-from i (suc i) (setAxes (suc i) (m / 2) six) (omega arith) h
+
+-- ---- what was read before a reading that succeeds
+
+pub record Before {A B : Type 0} (m : Reader A) (f : A → Reader B) (i : ℕ) (ws : List ℕ) (r : Reading B) : Type 0 where
+  pub value : A
+  pub index : ℕ
+  pub rest : List ℕ
+  pub first : m i ws ≡ got value index rest
+  pub then : f value index rest ≡ r
+
+before : {A B : Type 0} (m : Reader A) (f : A → Reader B) (i : ℕ) (ws : List ℕ) (b : B) (k : ℕ) (vs : List ℕ)
+    → _>>=_ m f i ws ≡ got b k vs → Before m f i ws (got b k vs)
+before {A} {B} m f i ws b k vs = go (m i ws) refl
+  where
+    go : (r : Reading A) → m i ws ≡ r → (elim r as (λ z. Reading B) [ got a j us ↦ f a j us | wrong p ↦ wrong p ]) ≡ got b k vs → Before m f i ws (got b k vs)
+    go (got a j us) e q = record { value = a; index = j; rest = us; first = e; then = q }
+    go (wrong p) e q = absurd (let z : _≡_ {A = ℕ} 0 1 = cc in omega arith)
+
+axes-ascend : (ns : List ℕ) (l i : ℕ) (ws : List ℕ) (xs : List JobAxis) (k : ℕ) (vs : List ℕ) → Rising l ns → axes ns i ws ≡ got xs k vs → Ascends l xs
+axes-ascend [] l i ws xs k vs r e = let s : [] ≡ xs = cc in subst (Ascends l) s tt
+axes-ascend (n ∷ ns) l i ws xs k vs r e =
+    let a = before axis (λ x. _>>=_ (axes ns) (λ ys i ws. got (record { number = n; axis = x } ∷ ys) i ws)) i ws xs k vs e in
+    let b = before (axes ns) (λ ys i ws. got (record { number = n; axis = a .value } ∷ ys) i ws) (a .index) (a .rest) xs k vs (a .then) in
+    let s : (record { number = n; axis = a .value } ∷ b .value) ≡ xs = list-of (b .then) in
+    subst (Ascends l) s (r .0, axes-ascend ns (suc n) (a .index) (a .rest) (b .value) (b .index) (b .rest) (r .1) (b .first))
+  where
+    list-of : {ys zs : List JobAxis} {p q : ℕ} {us ts : List ℕ} → got ys p us ≡ got zs q ts → ys ≡ zs
+    list-of e = cc
+
+ending-gives : (j : Job) (i : ℕ) (ws : List ℕ) (o : Job) (k : ℕ) (vs : List ℕ) → ending j i ws ≡ got o k vs → j ≡ o
+ending-gives j i [] o k vs e = absurd (let z : _≡_ {A = ℕ} 0 1 = cc in omega arith)
+ending-gives j i (w ∷ []) o k vs e = go (eqb (kind w) 15 && eqb (payload w) 0) e
+  where
+    go : (b : Bool) → (elim b as (λ z. Reading Job) [ true ↦ got j (suc i) [] | false ↦ wrong i ]) ≡ got o k vs → j ≡ o
+    go true e = cc
+    go false e = absurd (let z : _≡_ {A = ℕ} 0 1 = cc in omega arith)
+ending-gives j i (w ∷ u ∷ ws) o k vs e = go (eqb (kind w) 15 && eqb (payload w) 0) e
+  where
+    go : (b : Bool) → (elim b as (λ z. Reading Job) [ true ↦ wrong (suc i) | false ↦ wrong i ]) ≡ got o k vs → j ≡ o
+    go true e = absurd (let z : _≡_ {A = ℕ} 0 1 = cc in omega arith)
+    go false e = absurd (let z : _≡_ {A = ℕ} 0 1 = cc in omega arith)
+
+-- a job that was read has its axes in ascending order
+job-ascends : (m i : ℕ) (ws : List ℕ) (o : Job) (k : ℕ) (vs : List ℕ) → afterMask m i ws ≡ got o k vs → Ascends 0 (o .axes)
+job-ascends m i ws o k vs e =
+    let a = before (field 2) (λ asked. _>>=_ (axes (setBits m)) (λ xs. ending (record { mask = m; asked = asked; axes = xs }))) i ws o k vs e in
+    let b = before (axes (setBits m)) (λ xs. ending (record { mask = m; asked = a .value; axes = xs })) (a .index) (a .rest) o k vs (a .then) in
+    subst (λ (j : Job). Ascends 0 (j .axes)) (ending-gives (record { mask = m; asked = a .value; axes = b .value }) (b .index) (b .rest) o k vs (b .then))
+    (axes-ascend (setBits m) 0 (a .index) (a .rest) (b .value) (b .index) (b .rest) (set-rising 6 0 m) (b .first))
+
+-- ---- masks
+
+mask-outside : (m : ℕ) → T (not (goodMask m)) → MaskOutside m
+mask-outside m t = go (ltb 0 m) (leb m 63) (nltb→le 0 m) (nleb→lt m 63) t
+  where
+    go : (a b : Bool) → (T (not a) → m ≤ 0) → (T (not b) → 63 < m) → T (not (a && b)) → MaskOutside m
+    go true true f g t = absurd t
+    go true false f g t = inr (g tt)
+    go false b f g t = let h : m ≤ 0 = f tt in inl (omega arith)
+
+mask-inside : (m : ℕ) → T (goodMask m) → (1 ≤ m) × (m ≤ 63)
+mask-inside m t = go (ltb 0 m) (leb m 63) (ltb→lt 0 m) (leb→le m 63) t
+  where
+    go : (a b : Bool) → (T a → 0 < m) → (T b → m ≤ 63) → T (a && b) → (1 ≤ m) × (m ≤ 63)
+    go true true f g t = (f tt, g tt)
+    go true false f g t = absurd t
+    go false b f g t = absurd t
+
+not-kind : (a : ℕ) → T (not (eqb a 1)) → a ≡ 1 → ⊥
+not-kind a t e = subst (λ (b : Bool). T (not b)) (eq-eqb a 1 e) t
+
+word-wrong : (w : ℕ) (ws : List ℕ) → T (not (eqb (kind w) 1 && goodMask (payload w))) → MaskWordWrong (w ∷ ws)
+word-wrong w ws t = go (eqb (kind w) 1) (goodMask (payload w)) (not-kind (kind w)) (mask-outside (payload w)) t
+  where
+    go : (a b : Bool) → (T (not a) → kind w ≡ 1 → ⊥) → (T (not b) → MaskOutside (payload w)) → T (not (a && b)) → (kind w ≡ 1 → ⊥) ⊎ MaskOutside (payload w)
+    go true b f g t = inr (g t)
+    go false b f g t = inl (f tt)
+
+-- ---- the calls
+
+-- by what the words are read as
+by-reading : (lent : List ℤ) (w : ℕ) (ws : List ℕ) (r : Reading Job) → afterMask (payload w) 1 ws ≡ r
+    → decode (w ∷ ws) ≡ (elim r as (λ z. Decoded) [ got j i rest ↦ job j | wrong p ↦ badWord p ])
+    → CallVerdict lent (elim (elim r as (λ z. Decoded) [ got j i rest ↦ job j | wrong p ↦ badWord p ]) as (λ z. Outcome) [
+      | noMask ↦ refuse 1 0 0 0 lent
+      | badWord p ↦ refuse 2 p 0 0 lent
+      | job j ↦ jobOutcome j lent
+    ]) (words (w ∷ ws))
+by-reading lent w ws (got j i rest) e d = wordsJob (w ∷ ws) j d (verdict j lent (job-ascends (payload w) 1 ws j i rest e))
+by-reading lent w ws (wrong p) e d = words2 (w ∷ ws) p d is-refusal
+
+by-mask : (lent : List ℤ) (w : ℕ) (ws : List ℕ) (b : Bool) → (T (not b) → MaskWordWrong (w ∷ ws))
+    → decode (w ∷ ws) ≡ (elim b as (λ z. Decoded) [ true ↦ elim (afterMask (payload w) 1 ws) [ got j i rest ↦ job j | wrong p ↦ badWord p ] | false ↦ noMask ])
+    → CallVerdict lent (elim (elim b as (λ z. Decoded) [
+      | true ↦ elim (afterMask (payload w) 1 ws) [ got j i rest ↦ job j | wrong p ↦ badWord p ]
+      | false ↦ noMask
+    ]) as (λ z. Outcome) [ noMask ↦ refuse 1 0 0 0 lent | badWord p ↦ refuse 2 p 0 0 lent | job j ↦ jobOutcome j lent ]) (words (w ∷ ws))
+by-mask lent w ws true f d = by-reading lent w ws (afterMask (payload w) 1 ws) refl d
+by-mask lent w ws false f d = words1 (w ∷ ws) (f tt) is-refusal
+
+by-typed-mask : (lent : List ℤ) (m asked : ℕ) (six : List Axis) (b : Bool) → (T b → (1 ≤ m) × (m ≤ 63)) → (T (not b) → MaskOutside m)
+    → CallVerdict lent (elim b as (λ z. Outcome) [ true ↦ jobOutcome (typedJob m asked six) lent | false ↦ refuse 1 0 0 0 lent ]) (typed m asked six)
+by-typed-mask lent m asked six true f g = typedJobs m asked six (f tt .0) (f tt .1) (verdict (typedJob m asked six) lent (set-ascends 0 m six))
+by-typed-mask lent m asked six false f g = typed1 m asked six (g tt) is-refusal
+
+pub call-verdict : (q : Input) (lent : List ℤ) → CallVerdict lent (call q lent) q
+call-verdict (words []) lent = words1 [] tt is-refusal
+call-verdict (words (w ∷ ws)) lent = by-mask lent w ws (eqb (kind w) 1 && goodMask (payload w)) (word-wrong w ws) refl
+call-verdict (typed m asked six) lent = by-typed-mask lent m asked six (goodMask m) (mask-inside m) (mask-outside m)

@@ -1,0 +1,184 @@
+-- A row carried on one tick misses the next row by at most 3/2 in position and in velocity: the exact blends follow rule 1, and each
+-- cell is off by a half at most, whichever way halves go.
+use Prim.Native.Nat.{ℕ, suc, _+_, _-_, _*_, _^_, _≤_, _<_}
+use mathlib.Core.Path.{_≡_, refl, sym, ap, ap₂, _∙_, subst, subst₂}
+use mathlib.Core.Logic.{⊎-elim}
+use mathlib.Core.List.{List, [], _∷_}
+use native.Mathlib.Omega.{arith}
+use lib.Dec.{T}
+use lib.ListN.{length, replicate, length-append, length-replicate}
+use lib.IntN.{ℤ, pos, natAbs, _+ℤ_, _-ℤ_, _*ℤ_, +ℤ-idr}
+use Rattle.whole.specs.Integers.{nearest}
+use Rattle.whole.proofs.Tests.{lt-or-le}
+use Rattle.whole.proofs.Differences.{whole, all₅, all₇}
+use Rattle.whole.proofs.Ring.{pol, same}
+use Rattle.whole.proofs.Rounding.{WithinHalf, half-iff, nearest-half}
+use Rattle.model.specs.declared.Axis.{Axis}
+use Rattle.model.specs.Quantities.{speedLimit, accelerationLimit, halfPeriod, secondWeight}
+use Rattle.model.specs.Leg.{feasible, chosen}
+use Rattle.model.specs.Motion.{Tick, leg, displacement, requiredSum, earlier, changesFrom, accelerations}
+use Rattle.model.specs.Motion.{startPosition, startVelocity, landingTick, landingAcceleration}
+use Rattle.model.specs.Rows.{track, tickAt, tickBack, blend}
+use Rattle.model.proofs.BlendTicks.{tick-start, tick-before, tick-after}
+use Rattle.model.proofs.PlannedMotion.{Follows, run-follows}
+use Rattle.model.proofs.PlannedTarget.{velocities-length}
+
+-- ---- the miss of rounded values, doubled: the roundings add up to 7/2, and the doubled miss is a whole number
+
+half-miss : (q v a p w b r : ℤ) → WithinHalf q 512 p → WithinHalf v 256 w → WithinHalf a 256 b → WithinHalf (q +ℤ pos 2 *ℤ v +ℤ a) 512 r
+    → natAbs (pos 2 *ℤ p +ℤ pos 2 *ℤ w +ℤ b -ℤ pos 2 *ℤ r) ≤ 3
+half-miss = all₇ _ (λ a b c d e f g h i j k l m n. simp (whole, half-iff) (omega arith))
+
+pub miss : (q v a : ℤ)
+    → natAbs (pos 2 *ℤ nearest q 512 +ℤ pos 2 *ℤ nearest v 256 +ℤ nearest a 256 -ℤ pos 2 *ℤ nearest (q +ℤ pos 2 *ℤ v +ℤ a) 512) ≤ 3
+miss q v a =
+    half-miss q v a (nearest q 512) (nearest v 256) (nearest a 256) (nearest (q +ℤ pos 2 *ℤ v +ℤ a) 512)
+    (nearest-half q 512 (omega arith)) (nearest-half v 256 (omega arith)) (nearest-half a 256 (omega arith))
+    (nearest-half (q +ℤ pos 2 *ℤ v +ℤ a) 512 (omega arith))
+
+half-miss-velocity : (v a w b r : ℤ) → WithinHalf v 256 w → WithinHalf a 256 b → WithinHalf (v +ℤ a) 256 r → natAbs (pos 2 *ℤ (w +ℤ b -ℤ r)) ≤ 3
+half-miss-velocity = all₅ _ (λ a b c d e f g h i j. simp (whole, half-iff) (omega arith))
+
+pub miss-velocity : (v a : ℤ) → natAbs (pos 2 *ℤ (nearest v 256 +ℤ nearest a 256 -ℤ nearest (v +ℤ a) 256)) ≤ 3
+miss-velocity v a =
+    half-miss-velocity v a (nearest v 256) (nearest a 256) (nearest (v +ℤ a) 256)
+    (nearest-half v 256 (omega arith)) (nearest-half a 256 (omega arith)) (nearest-half (v +ℤ a) 256 (omega arith))
+
+-- ---- before tick 0 the motion is uniform
+
+earlier-follows : (x : Axis) (j : ℕ) → Follows (earlier x (suc j)) (earlier x j)
+earlier-follows x j =
+    record {
+      position = one-less (startPosition x) (startVelocity x) (pos j)
+          ∙ ap (λ (i : ℤ). startPosition x -ℤ pos 2 *ℤ (i *ℤ startVelocity x) +ℤ pos 2 *ℤ startVelocity x +ℤ pos 0) (ap pos plain);
+      velocity = sym (+ℤ-idr (startVelocity x));
+    }
+  where
+    plain : j + 1 ≡ suc j
+    plain = omega arith
+
+    one-less : (q v i : ℤ) → q -ℤ pos 2 *ℤ (i *ℤ v) ≡ q -ℤ pos 2 *ℤ ((i +ℤ pos 1) *ℤ v) +ℤ pos 2 *ℤ v +ℤ pos 0
+    one-less q v i = same (q ∷ v ∷ i ∷ []) (search pol depth 20 fits 9000) tt
+
+changes-length : (v : ℤ) (ws : List ℤ) → length (changesFrom v ws) ≡ length ws
+changes-length v [] = refl
+changes-length v (w ∷ ws) = ap suc (changes-length w ws)
+
+module _ (x : Axis) (n : ℕ) (after : halfPeriod x < n)
+    (hA : 0 < 256 * accelerationLimit x) (small : 256 * speedLimit x ≤ 2 ^ 37) (t : T (feasible (leg x n) (displacement x n)))
+    (hB : secondWeight x ≤ 256) where
+  abbrev h : ℕ
+  h = halfPeriod x
+
+  -- ---- the planned ticks of row k + 1 follow those of row k
+
+  accelerations-length : length (accelerations x n) ≡ suc n
+  accelerations-length =
+      length-append (changesFrom (startVelocity x) list) (replicate (suc h) (landingAcceleration x n))
+      ∙ ap₂ _+_ (changes-length (startVelocity x) list ∙ velocities-length x n after hA small t) (length-replicate (suc h) (landingAcceleration x n))
+      ∙ plain (landingTick x n) h n (omega arith)
+    where
+      list : List ℤ
+      list = chosen (leg x n) (requiredSum x n)
+
+      plain : (a b c : ℕ) → a + b ≡ c → a + suc b ≡ suc c
+      plain a b c e = omega arith
+
+  now-follows : (k : ℕ) → k < n → Follows (tickAt (track n x) k) (tickAt (track n x) (suc k))
+  now-follows k q =
+      run-follows (startPosition x) (startVelocity x) (accelerations x n) (earlier x 0) k
+      (subst (λ (l : ℕ). suc k < l) (sym accelerations-length) (omega arith))
+
+  back-follows : (k : ℕ) → k < n → Follows (tickBack (track n x) k h) (tickBack (track n x) (suc k) h)
+  back-follows k q = ⊎-elim (λ a. ⊎-elim (λ b. before a b) (λ b. across a b) (lt-or-le (suc k) h)) within (lt-or-le k h)
+    where
+      before : k < h → suc k < h → Follows (tickBack (track n x) k h) (tickBack (track n x) (suc k) h)
+      before a b =
+          subst₂ Follows (sym (tick-before (track n x) k h a ∙ ap (earlier x) one-more)) (sym (tick-before (track n x) (suc k) h b))
+          (earlier-follows x (h - suc k))
+        where
+          one-more : h - k ≡ suc (h - suc k)
+          one-more = omega arith
+
+      -- tick 0 follows the uniform motion before it
+      across : k < h → h ≤ suc k → Follows (tickBack (track n x) k h) (tickBack (track n x) (suc k) h)
+      across a b =
+          subst₂ Follows (sym (tick-before (track n x) k h a ∙ ap (earlier x) one)) (sym (tick-after (track n x) (suc k) h 0 (omega arith)))
+          (record {
+            position = tick-start x n .0 ∙ uniform (startPosition x) (startVelocity x);
+            velocity = tick-start x n .1 ∙ sym (+ℤ-idr (startVelocity x));
+          })
+        where
+          one : h - k ≡ 1
+          one = omega arith
+
+          uniform : (q v : ℤ) → q ≡ q -ℤ pos 2 *ℤ (pos 1 *ℤ v) +ℤ pos 2 *ℤ v +ℤ pos 0
+          uniform q v = same (q ∷ v ∷ []) (search pol depth 20 fits 9000) tt
+
+      within : h ≤ k → Follows (tickBack (track n x) k h) (tickBack (track n x) (suc k) h)
+      within a =
+          subst₂ Follows (sym (tick-after (track n x) k h (k - h) (omega arith))) (sym (tick-after (track n x) (suc k) h (suc (k - h)) (omega arith)))
+          (now-follows (k - h) (omega arith))
+
+  -- ---- so do their blends
+
+  abbrev position : ℕ → ℤ
+  position k = blend (track n x) k (λ s. s .position)
+
+  abbrev velocity : ℕ → ℤ
+  velocity k = blend (track n x) k (λ s. s .velocity)
+
+  abbrev acceleration : ℕ → ℤ
+  acceleration k = blend (track n x) k (λ s. s .acceleration)
+
+  abbrev A : ℤ
+  A = pos (256 - secondWeight x)
+
+  abbrev B : ℤ
+  B = pos (secondWeight x)
+
+  position-follows : (k : ℕ) → k < n → position (suc k) ≡ position k +ℤ pos 2 *ℤ velocity k +ℤ acceleration k
+  position-follows k q =
+      ap₂ (λ (y z : ℤ). A *ℤ y +ℤ B *ℤ z) (now-follows k q .position) (back-follows k q .position)
+      ∙ mixed A B (s .position) (s .velocity) (s .acceleration) (u .position) (u .velocity) (u .acceleration)
+    where
+      s : Tick
+      s = tickAt (track n x) k
+
+      u : Tick
+      u = tickBack (track n x) k h
+
+      mixed : (A B q v a r w b : ℤ) → A *ℤ (q +ℤ pos 2 *ℤ v +ℤ a) +ℤ B *ℤ (r +ℤ pos 2 *ℤ w +ℤ b)
+          ≡ A *ℤ q +ℤ B *ℤ r +ℤ pos 2 *ℤ (A *ℤ v +ℤ B *ℤ w) +ℤ (A *ℤ a +ℤ B *ℤ b)
+      mixed A B q v a r w b = same (A ∷ B ∷ q ∷ v ∷ a ∷ r ∷ w ∷ b ∷ []) (search pol depth 30 fits 9000) tt
+
+  velocity-follows : (k : ℕ) → k < n → velocity (suc k) ≡ velocity k +ℤ acceleration k
+  velocity-follows k q =
+      ap₂ (λ (y z : ℤ). A *ℤ y +ℤ B *ℤ z) (now-follows k q .velocity) (back-follows k q .velocity)
+      ∙ mixed A B (s .velocity) (s .acceleration) (u .velocity) (u .acceleration)
+    where
+      s : Tick
+      s = tickAt (track n x) k
+
+      u : Tick
+      u = tickBack (track n x) k h
+
+      mixed : (A B v a w b : ℤ) → A *ℤ (v +ℤ a) +ℤ B *ℤ (w +ℤ b) ≡ A *ℤ v +ℤ B *ℤ w +ℤ (A *ℤ a +ℤ B *ℤ b)
+      mixed A B v a w b = same (A ∷ B ∷ v ∷ a ∷ w ∷ b ∷ []) (search pol depth 20 fits 9000) tt
+
+  -- ---- and so their cells miss by little
+
+  -- twice the position to which row k is carried on
+  abbrev carried : ℕ → ℤ
+  carried k = pos 2 *ℤ nearest (position k) 512 +ℤ pos 2 *ℤ nearest (velocity k) 256 +ℤ nearest (acceleration k) 256
+
+  pub carries-position : (k : ℕ) → k < n → natAbs (carried k -ℤ pos 2 *ℤ nearest (position (suc k)) 512) ≤ 3
+  carries-position k q =
+      subst (λ (z : ℤ). natAbs (carried k -ℤ pos 2 *ℤ nearest z 512) ≤ 3)
+      (sym (position-follows k q)) (miss (position k) (velocity k) (acceleration k))
+
+  pub carries-velocity : (k : ℕ) → k < n
+      → natAbs (pos 2 *ℤ (nearest (velocity k) 256 +ℤ nearest (acceleration k) 256 -ℤ nearest (velocity (suc k)) 256)) ≤ 3
+  carries-velocity k q =
+      subst (λ (z : ℤ). natAbs (pos 2 *ℤ (nearest (velocity k) 256 +ℤ nearest (acceleration k) 256 -ℤ nearest z 256)) ≤ 3)
+      (sym (velocity-follows k q)) (miss-velocity (velocity k) (acceleration k))

@@ -1,0 +1,206 @@
+-- Demand 3, the limits on cells and the exact start hold of every accepted call: `demand3`, `cell-limits`, `exact-start`.
+use Prim.Native.Nat.{ℕ, zero, suc, _+_, _*_, _≤_, _<_}
+use mathlib.Core.Path.{_≡_, refl, sym, ap, ap₂, _∙_, subst}
+use mathlib.Core.List.{List, [], _∷_, _++_, map}
+use mathlib.Core.Option.{some}
+use native.Mathlib.Omega.{arith}
+use native.Mathlib.Nat as N
+use lib.ListN.{getD, length, drop, getElem?, length-append, List·getD-append}
+use lib.Seq.{getD-take}
+use lib.IntN.{ℤ, pos, natAbs, _+ℤ_, _-ℤ_, _*ℤ_}
+use Rattle.model.specs.declared.Axis.{Axis}
+use Rattle.whole.specs.Integers.{nearest}
+use Rattle.model.specs.Rows.{track, blend, cells, table}
+use Rattle.model.specs.Job.{Job, JobAxis, axesOf, typedJob}
+use Rattle.model.specs.Words.{Decoded, noMask, badWord, job}
+use Rattle.model.specs.Motion.{reachable}
+use Rattle.model.specs.Demand.{tableIn, cellAt, positionCell, velocityCell, accelerationCell, Lands, Carries, SwayCancelled, sway, Demand3, Demand3Holds, CellLimits, CellLimitsHold, ExactStart, ExactStartHolds}
+use Rattle.model.specs.Outcome.{Outcome, Input, call, inputAxes, cellsNeeded}
+use Rattle.whole.proofs.Tests.{T-true}
+use Rattle.whole.proofs.Elements.{at-below, element}
+use Rattle.model.proofs.CellPlaces.{table-length, table-at}
+use Rattle.model.specs.Refusals.{Ready, AllPassed}
+use Rattle.model.specs.Verdict.{Among, IsArrival, Verdict, CallVerdict, words1, words2, wordsJob, typed1, typedJobs, accepted, refused3, refused4, refused5, refused6, refused7, refused8, refused9, refused10}
+use Rattle.model.specs.Quantities.{speedLimit, accelerationLimit}
+use Rattle.model.proofs.ReadyAxis as R
+use Rattle.model.proofs.CellLimits as L
+use Rattle.model.proofs.ExactStart as S
+use Rattle.model.proofs.Verdict.{passed-among, reach-is}
+use Rattle.model.proofs.CallVerdict.{call-verdict}
+use Rattle.model.proofs.Landing.{lands-position, lands-velocity, lands-acceleration}
+use Rattle.model.proofs.Carry.{carries-position, carries-velocity}
+use Rattle.model.proofs.SwayExact.{sway-same}
+use Rattle.model.proofs.SwayCancelled.{cancelled-exact, cancelled-rounded}
+
+module _ (xs : List Axis) (n : ℕ) (lent rest : List ℤ) (is : lent ≡ table xs n ++ rest)
+    (ready : (i : ℕ) (x : Axis) → getElem? xs i ≡ some x → Ready x n) where
+  -- a cell of the table
+  cell-is : (i j k : ℕ) (x : Axis) → getElem? xs i ≡ some x → j < 3 → k ≤ n → cellAt (tableIn xs n lent) i j k ≡ getD (cells k (track n x)) j (pos 0)
+  cell-is i j k x e hj hk =
+      getD-take (cellsNeeded (length xs) n) lent (3 * (length xs * k + i) + j) (pos 0) inside
+      ∙ ap (λ (l : List ℤ). getD l (3 * (length xs * k + i) + j) (pos 0)) is
+      ∙ List·getD-append (table xs n) rest (pos 0) (3 * (length xs * k + i) + j)
+      (subst (λ (m : ℕ). 3 * (length xs * k + i) + j < m) (sym (table-length xs n)) inside)
+      ∙ table-at xs n i j k x (pos 0) e hj hk
+    where
+      inside : 3 * (length xs * k + i) + j < cellsNeeded (length xs) n
+      inside = omega (arith, at-below xs i x e, N.mul-assoc 3 (length xs) (suc n), N.mul-suc (length xs) n, N.mul-le-mul-left (length xs) hk)
+
+  module _ (i : ℕ) (x : Axis) (e : getElem? xs i ≡ some x) where
+    g : Ready x n
+    g = ready i x e
+
+    lands : Lands x i n (tableIn xs n lent)
+    lands =
+        record {
+          position = cell-is i 0 n x e (omega arith) (omega arith)
+              ∙ lands-position x n (R.after x n g) (R.some-acceleration x n g) (R.speed-range x n g)
+              (R.moves x n g) (R.weight-range x n g) (R.no-correction x n g);
+          velocity = cell-is i 1 n x e (omega arith) (omega arith)
+              ∙ lands-velocity x n (R.after x n g) (R.some-acceleration x n g) (R.speed-range x n g)
+              (R.moves x n g) (R.weight-range x n g);
+          acceleration = cell-is i 2 n x e (omega arith) (omega arith)
+              ∙ lands-acceleration x n (R.after x n g) (R.some-acceleration x n g) (R.speed-range x n g)
+              (R.moves x n g) (R.weight-range x n g);
+        }
+
+    p : ℕ → ℤ
+    p k = nearest (blend (track n x) k (λ s. s .position)) 512
+
+    v : ℕ → ℤ
+    v k = nearest (blend (track n x) k (λ s. s .velocity)) 256
+
+    a : ℕ → ℤ
+    a k = nearest (blend (track n x) k (λ s. s .acceleration)) 256
+
+    p-is : (k : ℕ) → k ≤ n → p k ≡ positionCell (tableIn xs n lent) i k
+    unfolding p
+    p-is k h = sym (cell-is i 0 k x e (omega arith) h)
+
+    v-is : (k : ℕ) → k ≤ n → v k ≡ velocityCell (tableIn xs n lent) i k
+    unfolding v
+    v-is k h = sym (cell-is i 1 k x e (omega arith) h)
+
+    a-is : (k : ℕ) → k ≤ n → a k ≡ accelerationCell (tableIn xs n lent) i k
+    unfolding a
+    a-is k h = sym (cell-is i 2 k x e (omega arith) h)
+
+    miss-p : (k : ℕ) → k < n → natAbs (pos 2 *ℤ p k +ℤ pos 2 *ℤ v k +ℤ a k -ℤ pos 2 *ℤ p (suc k)) ≤ 3
+    unfolding p v a
+    miss-p k h = carries-position x n (R.after x n g) (R.some-acceleration x n g) (R.speed-range x n g) (R.moves x n g) (R.weight-range x n g) k h
+
+    miss-v : (k : ℕ) → k < n → natAbs (pos 2 *ℤ (v k +ℤ a k -ℤ v (suc k))) ≤ 3
+    unfolding v a
+    miss-v k h = carries-velocity x n (R.after x n g) (R.some-acceleration x n g) (R.speed-range x n g) (R.moves x n g) (R.weight-range x n g) k h
+
+    carries : (k : ℕ) → k < n → Carries i k (tableIn xs n lent)
+    carries k h =
+        record {
+          position = subst (λ (z : ℤ). natAbs z ≤ 3)
+              (ap₂ (λ (y z : ℤ). y -ℤ pos 2 *ℤ z)
+              (ap₂ (λ (y z : ℤ). y +ℤ z) (ap₂ (λ (y z : ℤ). pos 2 *ℤ y +ℤ pos 2 *ℤ z) (p-is k (omega arith)) (v-is k (omega arith)))
+              (a-is k (omega arith)))
+              (p-is (suc k) h))
+              (miss-p k h);
+          velocity = subst (λ (z : ℤ). natAbs (pos 2 *ℤ z) ≤ 3)
+              (ap₂ (λ (y z : ℤ). y -ℤ z) (ap₂ (λ (y z : ℤ). y +ℤ z) (v-is k (omega arith)) (a-is k (omega arith))) (v-is (suc k) h))
+              (miss-v k h);
+        }
+
+    stills : SwayCancelled x i n (tableIn xs n lent)
+    unfolding a
+    stills =
+        record {
+          exact = λ m w h s. cancelled-exact x n (R.after x n g) (R.some-acceleration x n g) (R.speed-range x n g) (R.moves x n g) (R.weight-range x n g) m w h s;
+          rounded = λ m G w h s b.
+              subst (λ (z : ℤ). natAbs z ≤ n * G) (sway-same a (accelerationCell (tableIn xs n lent) i) w m n a-is)
+              (cancelled-rounded x n (R.after x n g) (R.some-acceleration x n g) (R.speed-range x n g) (R.moves x n g) (R.weight-range x n g) m G w h s b);
+        }
+
+  whole : cellsNeeded (length xs) n ≤ length lent
+  whole = omega (arith, table-length xs n, ap length is ∙ length-append (table xs n) rest)
+
+  demanded : Demand3 xs n lent
+  demanded =
+      record {
+        whole = whole;
+        lands = lands;
+        carries = λ i k h q. let y : (x : Axis) × (getElem? xs i ≡ some x) = element xs i h in carries i (y .0) (y .1) k q;
+        sway = stills;
+      }
+
+  limited : CellLimits xs n lent
+  limited =
+      record {
+        velocities = λ i k x e h.
+            subst (λ (z : ℤ). natAbs z ≤ 256 * speedLimit x) (sym (cell-is i 1 k x e (omega arith) h)) (L.velocity-cell x n (ready i x e) k h);
+        accelerations = λ i k x e h.
+            subst (λ (z : ℤ). natAbs z ≤ 256 * accelerationLimit x) (sym (cell-is i 2 k x e (omega arith) h)) (L.acceleration-cell x n (ready i x e) k h);
+      }
+
+  started : ExactStart xs n lent
+  started =
+      record {
+        positions = λ i x e. cell-is i 0 0 x e (omega arith) (omega arith) ∙ S.start-position x n (ready i x e);
+        velocities = λ i x e. cell-is i 1 0 x e (omega arith) (omega arith) ∙ S.start-velocity x n (ready i x e);
+      }
+
+-- the axes of what the words are read as
+abbrev axesRead : Decoded → List Axis
+axesRead d = elim d [ noMask ↦ [] | badWord p ↦ [] | job j ↦ axesOf j ]
+
+-- an axis of a job without its number
+unnumbered : (l : List JobAxis) (i : ℕ) (x : Axis) → getElem? (map (λ y. y .axis) l) i ≡ some x → (y : JobAxis) × (Among l y × (y .axis ≡ x))
+unnumbered [] i x e = absurd (let z : _≡_ {A = ℕ} 0 1 = cc in omega arith)
+unnumbered (y ∷ l) zero x e = (y, ((zero, refl), cc))
+unnumbered (y ∷ l) (suc i) x e = let r = unnumbered l i x e in (r .0, ((suc (r .1 .0 .0), r .1 .0 .1), r .1 .1))
+
+-- an accepted job's axes can all be planned
+all-ready : (j : Job) (n : ℕ) → AllPassed (j .axes) → IsArrival j n → (i : ℕ) (x : Axis) → getElem? (axesOf j) i ≡ some x → Ready x n
+all-ready j n p a i x q =
+    let y = unnumbered (j .axes) i x q in
+    let g = passed-among (j .axes) p (y .0) (y .1 .0) in
+    subst (λ (x : Axis). Ready x n) (y .1 .1)
+    (record {
+      passed = g;
+      tick = a .last;
+      reach = T-true (reachable (y .0 .axis) n) (reach-is (y .0 .axis) n g .0 (a .reached (y .0) (y .1 .0)));
+    })
+
+-- what holds of the table of every job that can be planned holds of every accepted call
+module _ (Claim : List Axis → ℕ → List ℤ → Type 0)
+    (holds : (xs : List Axis) (n : ℕ) (lent rest : List ℤ) → lent ≡ table xs n ++ rest
+    → ((i : ℕ) (x : Axis) → getElem? xs i ≡ some x → Ready x n) → Claim xs n lent) where
+  -- only an accepted job has number 0
+  by-verdict : (j : Job) (lent : List ℤ) (o : Outcome) → Verdict j lent o → o .number ≡ 0 → Claim (axesOf j) (o .arrival) (o .cells)
+  by-verdict j lent o (accepted n p a room e) z =
+      subst (λ (m : ℕ). Claim (axesOf j) m (o .cells)) (sym (e .arrival))
+      (holds (axesOf j) n (o .cells) (drop (cellsNeeded (length (axesOf j)) n) lent) (e .cells) (all-ready j n p a))
+  by-verdict j lent o (refused3 a e) z = absurd (let n = e .number in omega arith)
+  by-verdict j lent o (refused4 i a b e) z = absurd (let n = e .number in omega arith)
+  by-verdict j lent o (refused5 i a b c e) z = absurd (let n = e .number in omega arith)
+  by-verdict j lent o (refused6 i a b c d e) z = absurd (let n = e .number in omega arith)
+  by-verdict j lent o (refused7 i a b c d f e) z = absurd (let n = e .number in omega arith)
+  by-verdict j lent o (refused8 m a b c d f e) z = absurd (let n = e .number in omega arith)
+  by-verdict j lent o (refused9 m a b c d e) z = absurd (let n = e .number in omega arith)
+  by-verdict j lent o (refused10 n a b c e) z = absurd (let n = e .number in omega arith)
+
+  by-call : (q : Input) (lent : List ℤ) (o : Outcome) → CallVerdict lent o q → o .number ≡ 0 → Claim (inputAxes q) (o .arrival) (o .cells)
+  by-call q lent o (words1 ws a e) z = absurd (let n = e .number in omega arith)
+  by-call q lent o (words2 ws p a e) z = absurd (let n = e .number in omega arith)
+  by-call q lent o (wordsJob ws j d v) z =
+      subst (λ (xs : List Axis). Claim xs (o .arrival) (o .cells)) (sym (ap axesRead d)) (by-verdict j lent o v z)
+  by-call q lent o (typed1 m asked six a e) z = absurd (let n = e .number in omega arith)
+  by-call q lent o (typedJobs m asked six a b v) z = by-verdict (typedJob m asked six) lent o v z
+
+  of-calls : (q : Input) (lent : List ℤ) → call q lent .number ≡ 0 → Claim (inputAxes q) (call q lent .arrival) (call q lent .cells)
+  of-calls q lent z = by-call q lent (call q lent) (call-verdict q lent) z
+
+pub demand3 : Demand3Holds
+demand3 = of-calls Demand3 demanded
+
+pub cell-limits : CellLimitsHold
+cell-limits = of-calls CellLimits limited
+
+pub exact-start : ExactStartHolds
+exact-start = of-calls ExactStart started

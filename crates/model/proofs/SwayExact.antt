@@ -1,0 +1,134 @@
+-- The sway left before rounding is 0: the accelerations α do not change from tick t on, and each row blends them with those h ticks
+-- back. The changes now and the same changes h ticks later cancel in every swing list.
+use Prim.Native.Nat.{ℕ, zero, suc, _+_, _-_, _≤_, _<_}
+use mathlib.Core.Path.{_≡_, ap, ap₂, _∙_, subst}
+use mathlib.Core.Bool.{true, false}
+use mathlib.Core.List.{[], _∷_}
+use native.Mathlib.Omega.{arith}
+use lib.Dec.{ltb}
+use lib.IntN.{ℤ, pos, _+ℤ_, _-ℤ_, _*ℤ_, *ℤ-zero}
+use Rattle.whole.proofs.Tests.{lt-choice, le-choice}
+use Rattle.whole.proofs.Ring.{pol, same}
+use Rattle.model.specs.Demand.{accelerationChange, sway}
+
+-- the sway looks at rows 0 to k alone
+pub sway-same : (c d w : ℕ → ℤ) (m k : ℕ) → ((q : ℕ) → q ≤ k → c q ≡ d q) → sway c w m k ≡ sway d w m k
+sway-same c d w m zero f = ap (λ (z : ℤ). z *ℤ w m) (f 0 (omega arith))
+sway-same c d w m (suc k) f =
+    ap₂ (λ (y z : ℤ). y +ℤ z *ℤ w (m - suc k)) (sway-same c d w m k (λ q h. f q (omega arith)))
+    (ap₂ (λ (y z : ℤ). y -ℤ z) (f (suc k) (omega arith)) (f k (omega arith)))
+
+-- f h ticks back, 0 before tick 0
+abbrev pub back : (ℕ → ℤ) → ℕ → ℕ → ℤ
+back f h k = elim (ltb k h) [ true ↦ pos 0 | false ↦ f (k - h) ]
+
+back-before : (f : ℕ → ℤ) (h k : ℕ) → k < h → back f h k ≡ pos 0
+back-before f h k q = lt-choice k h (pos 0) (f (k - h)) q
+
+back-after : (f : ℕ → ℤ) (h k j : ℕ) → k ≡ h + j → back f h k ≡ f j
+back-after f h k j e = le-choice k h (pos 0) (f (k - h)) (omega arith) ∙ ap f (omega arith)
+
+module _ (A B : ℤ) (α w : ℕ → ℤ) (h m : ℕ) (blended : 0 < h)
+    (swings : (i : ℕ) → i + h ≤ m → A *ℤ w (i + h) +ℤ B *ℤ w i ≡ pos 0) where
+  abbrev exact : ℕ → ℤ
+  exact k = A *ℤ α k +ℤ B *ℤ back α h k
+
+  -- the sums of the two halves of the blend
+  abbrev now : ℕ → ℤ
+  now n = A *ℤ sway α w m n
+
+  abbrev late : ℕ → ℤ
+  late n = B *ℤ sway α w (m - h) n
+
+  -- ---- a change of the blend: the change now, and the change h ticks back
+
+  change-before : (k : ℕ) → k < h → accelerationChange exact k ≡ A *ℤ accelerationChange α k
+  change-before zero q =
+      ap (λ (z : ℤ). A *ℤ α 0 +ℤ B *ℤ z) (back-before α h 0 q) ∙ same (A ∷ B ∷ α 0 ∷ []) (search pol depth 20 fits 9000) tt
+  change-before (suc k) q =
+      ap₂ (λ (y z : ℤ). A *ℤ α (suc k) +ℤ B *ℤ y -ℤ (A *ℤ α k +ℤ B *ℤ z)) (back-before α h (suc k) q) (back-before α h k (omega arith))
+      ∙ same (A ∷ B ∷ α (suc k) ∷ α k ∷ []) (search pol depth 20 fits 9000) tt
+
+  change-after : (k j : ℕ) → k ≡ h + j → accelerationChange exact k ≡ A *ℤ accelerationChange α k +ℤ B *ℤ accelerationChange α j
+  change-after zero j e = absurd (omega arith)
+  change-after (suc k) zero e =
+      ap₂ (λ (y z : ℤ). A *ℤ α (suc k) +ℤ B *ℤ y -ℤ (A *ℤ α k +ℤ B *ℤ z)) (back-after α h (suc k) 0 e) (back-before α h k (omega arith))
+      ∙ same (A ∷ B ∷ α (suc k) ∷ α k ∷ α 0 ∷ []) (search pol depth 20 fits 9000) tt
+  change-after (suc k) (suc j) e =
+      ap₂ (λ (y z : ℤ). A *ℤ α (suc k) +ℤ B *ℤ y -ℤ (A *ℤ α k +ℤ B *ℤ z)) (back-after α h (suc k) (suc j) e) (back-after α h k j (omega arith))
+      ∙ same (A ∷ B ∷ α (suc k) ∷ α k ∷ α (suc j) ∷ α j ∷ []) (search pol depth 20 fits 9000) tt
+
+  -- ---- the sway of the blend in its two halves
+
+  before : (n : ℕ) → n < h → sway exact w m n ≡ now n
+  before zero q = ap (λ (z : ℤ). z *ℤ w m) (change-before 0 q) ∙ same (A ∷ α 0 ∷ w m ∷ []) (search pol depth 20 fits 9000) tt
+  before (suc n) q =
+      ap₂ (λ (y z : ℤ). y +ℤ z *ℤ w (m - suc n)) (before n (omega arith)) (change-before (suc n) q)
+      ∙ factored (sway α w m n) (accelerationChange α (suc n)) (w (m - suc n))
+    where
+      factored : (s a x : ℤ) → A *ℤ s +ℤ A *ℤ a *ℤ x ≡ A *ℤ (s +ℤ a *ℤ x)
+      factored s a x = same (A ∷ s ∷ a ∷ x ∷ []) (search pol depth 20 fits 9000) tt
+
+  after : (n j : ℕ) → n ≡ h + j → sway exact w m n ≡ now n +ℤ late j
+  after zero j e = absurd (omega arith)
+  after (suc n) zero e =
+      ap₂ (λ (y z : ℤ). y +ℤ z *ℤ w (m - suc n)) (before n (omega arith)) (change-after (suc n) 0 e)
+      ∙ factored (sway α w m n) (accelerationChange α (suc n)) (α 0) (w (m - suc n))
+      ∙ ap (λ (i : ℕ). now (suc n) +ℤ B *ℤ (α 0 *ℤ w i)) (omega arith)
+    where
+      factored : (s a b x : ℤ) → A *ℤ s +ℤ (A *ℤ a +ℤ B *ℤ b) *ℤ x ≡ A *ℤ (s +ℤ a *ℤ x) +ℤ B *ℤ (b *ℤ x)
+      factored s a b x = same (A ∷ B ∷ s ∷ a ∷ b ∷ x ∷ []) (search pol depth 20 fits 9000) tt
+  after (suc n) (suc j) e =
+      ap₂ (λ (y z : ℤ). y +ℤ z *ℤ w (m - suc n)) (after n j (omega arith)) (change-after (suc n) (suc j) e)
+      ∙ factored (sway α w m n) (sway α w (m - h) j) (accelerationChange α (suc n)) (accelerationChange α (suc j)) (w (m - suc n))
+      ∙ ap (λ (i : ℕ). now (suc n) +ℤ B *ℤ (sway α w (m - h) j +ℤ accelerationChange α (suc j) *ℤ w i)) (omega arith)
+    where
+      factored : (s u a b x : ℤ) → A *ℤ s +ℤ B *ℤ u +ℤ (A *ℤ a +ℤ B *ℤ b) *ℤ x ≡ A *ℤ (s +ℤ a *ℤ x) +ℤ B *ℤ (u +ℤ b *ℤ x)
+      factored s u a b x = same (A ∷ B ∷ s ∷ u ∷ a ∷ b ∷ x ∷ []) (search pol depth 20 fits 9000) tt
+
+  -- ---- the two halves cancel, row by row
+
+  swing-at : (j : ℕ) → j + h ≤ m → A *ℤ w (m - j) +ℤ B *ℤ w (m - h - j) ≡ pos 0
+  swing-at j q = subst (λ (i : ℕ). A *ℤ w i +ℤ B *ℤ w (m - h - j) ≡ pos 0) (omega arith) (swings (m - h - j) (omega arith))
+
+  cancel : (j : ℕ) → j + h ≤ m → now j +ℤ late j ≡ pos 0
+  cancel zero q =
+      same (A ∷ B ∷ α 0 ∷ w m ∷ w (m - h) ∷ []) (search pol depth 20 fits 9000) tt
+      ∙ ap (λ (z : ℤ). α 0 *ℤ z) (first (swing-at 0 q))
+      ∙ *ℤ-zero (α 0)
+    where
+      first : A *ℤ w (m - 0) +ℤ B *ℤ w (m - h - 0) ≡ pos 0 → A *ℤ w m +ℤ B *ℤ w (m - h) ≡ pos 0
+      first e = ap₂ (λ (i k : ℕ). A *ℤ w i +ℤ B *ℤ w k) (omega arith) (omega arith) ∙ e
+  cancel (suc j) q =
+      grouped (sway α w m j) (sway α w (m - h) j) (accelerationChange α (suc j)) (w (m - suc j)) (w (m - h - suc j))
+      ∙ ap₂ (λ (y z : ℤ). y +ℤ accelerationChange α (suc j) *ℤ z) (cancel j (omega arith)) (swing-at (suc j) q)
+      ∙ none (accelerationChange α (suc j))
+    where
+      grouped : (s u a x y : ℤ) → A *ℤ (s +ℤ a *ℤ x) +ℤ B *ℤ (u +ℤ a *ℤ y) ≡ A *ℤ s +ℤ B *ℤ u +ℤ a *ℤ (A *ℤ x +ℤ B *ℤ y)
+      grouped s u a x y = same (A ∷ B ∷ s ∷ u ∷ a ∷ x ∷ y ∷ []) (search pol depth 20 fits 9000) tt
+
+      none : (a : ℤ) → pos 0 +ℤ a *ℤ pos 0 ≡ pos 0
+      none a = same (a ∷ []) (search pol depth 20 fits 9000) tt
+
+  -- ---- from tick t on nothing changes
+
+  module _ (t : ℕ) (fits : t + h ≤ m) (steady : (k : ℕ) → t ≤ k → k < t + h → α (suc k) ≡ α k) where
+    unchanged : (k : ℕ) → t ≤ k → k < t + h → now (suc k) ≡ now k
+    unchanged k a b =
+        ap (λ (z : ℤ). A *ℤ (sway α w m k +ℤ (z -ℤ α k) *ℤ w (m - suc k))) (steady k a b) ∙ none (sway α w m k) (α k) (w (m - suc k))
+      where
+        none : (s a x : ℤ) → A *ℤ (s +ℤ (a -ℤ a) *ℤ x) ≡ A *ℤ s
+        none s a x = same (A ∷ s ∷ a ∷ x ∷ []) (search pol depth 20 fits 9000) tt
+
+    flat : (i : ℕ) → i ≤ h → now (t + i) ≡ now t
+    flat zero q = ap now none
+      where
+        none : t + 0 ≡ t
+        none = omega arith
+    flat (suc i) q = ap now next ∙ unchanged (t + i) (omega arith) (omega arith) ∙ flat i (omega arith)
+      where
+        next : t + suc i ≡ suc (t + i)
+        next = omega arith
+
+    pub sway-exact : sway exact w m (t + h) ≡ pos 0
+    sway-exact = after (t + h) t (omega arith) ∙ ap (λ (z : ℤ). z +ℤ late t) (flat h (omega arith)) ∙ cancel t fits

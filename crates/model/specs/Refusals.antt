@@ -1,0 +1,88 @@
+-- The refusals that one axis meets by itself (paper 01, "Refusal list", numbers 4 to 7), and what an axis has that none of them refuses.
+use Prim.Native.Nat.{ℕ, _≤_}
+use mathlib.Core.Path.{_≡_}
+use mathlib.Core.Bool.{Bool, true, false, not, _&&_}
+use mathlib.Core.List.{List, [], _∷_}
+use lib.IntN.{ℤ, pos, negsuc, natAbs}
+use lib.Signed.{leZ}
+use lib.Dec.{eqb, leb}
+use Rattle.model.specs.declared.Axis.{Axis}
+use Rattle.model.specs.declared.RestPoint.{RestPoint}
+use Rattle.model.specs.declared.State.{State}
+use Rattle.model.specs.declared.Target.{Target}
+use Rattle.model.specs.declared.Target.the-variants.{Fixed, Moving}
+use Rattle.model.specs.Quantities.{speedLimit, accelerationLimit, halfPeriod, secondWeight}
+use Rattle.model.specs.Motion.{reachable}
+use Rattle.model.specs.Job.{JobAxis}
+
+-- from a to b
+abbrev pub within : ℕ → ℕ → ℕ → Bool
+within a b n = leb a n && leb n b
+
+-- the last tick that an arrival, or in size a target's tick, may be
+abbrev pub lastTick : ℕ
+lastTick = 4096
+
+-- ---- 4: L or M is outside its range
+
+abbrev pub limitsRefused : Axis → Bool
+limitsRefused x = not (within 1 1048576 (speedLimit x) && within 1 65536 (accelerationLimit x))
+
+-- ---- 5: h or B is outside its range, B also when h is 0
+
+abbrev pub blendRefused : Axis → Bool
+blendRefused x = not (within 0 256 (halfPeriod x) && within 1 128 (secondWeight x))
+
+-- ---- 6: start or target velocity exceeds L in size, target acceleration exceeds M in size, target tick exceeds 4,096 in size, or a
+-- position is outside −134,217,728 to 134,217,727, which 28 bits hold
+
+abbrev pub positionAllowed : ℤ → Bool
+positionAllowed p = leZ (negsuc 134217727) p && leZ p (pos 134217727)
+
+abbrev pub velocityAllowed : Axis → ℤ → Bool
+velocityAllowed x v = leb (natAbs v) (speedLimit x)
+
+abbrev pub restAllowed : Axis → RestPoint → Bool
+restAllowed x r = positionAllowed (r .position) && velocityAllowed x (r .velocity)
+
+-- the acceleration and the tick of a moving target
+abbrev pub motionAllowed : Axis → State → Bool
+motionAllowed x m = leb (natAbs (m .acceleration)) (accelerationLimit x) && leb (natAbs (m .tick)) lastTick
+
+abbrev pub targetAllowed : Axis → Target → Bool
+targetAllowed x (Fixed r) = restAllowed x r
+targetAllowed x (Moving m) = restAllowed x (record { position = m .position; velocity = m .velocity }) && motionAllowed x m
+
+abbrev pub valuesRefused : Axis → Bool
+valuesRefused x = not (restAllowed x (x .start) && targetAllowed x (x .target))
+
+-- ---- 7: the target accelerates while h is not 0 and B is not 128
+
+abbrev pub accelerates : Target → Bool
+accelerates (Fixed r) = false
+accelerates (Moving m) = not (eqb (natAbs (m .acceleration)) 0)
+
+-- the blend's two weights differ
+abbrev pub damped : Axis → Bool
+damped x = not (eqb (halfPeriod x) 0) && not (eqb (secondWeight x) 128)
+
+abbrev pub accelerationRefused : Axis → Bool
+accelerationRefused x = accelerates (x .target) && damped x
+
+-- ---- what an axis has that none of them refuses
+
+pub record Passed (x : Axis) : Type 0 where
+  pub limits : limitsRefused x ≡ false
+  pub blend : blendRefused x ≡ false
+  pub values : valuesRefused x ≡ false
+  pub acceleration : accelerationRefused x ≡ false
+
+abbrev pub AllPassed : List JobAxis → Type 0
+AllPassed [] = Unit
+AllPassed (x ∷ xs) = Passed (x .axis) × AllPassed xs
+
+-- an axis that can be planned for arrival n
+pub record Ready (x : Axis) (n : ℕ) : Type 0 where
+  pub passed : Passed x
+  pub tick : n ≤ lastTick
+  pub reach : reachable x n ≡ true

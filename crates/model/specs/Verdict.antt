@@ -1,0 +1,117 @@
+-- What each answer says, in the words of paper 01 ("Refusal list, in checking order"): the named case of every number, the first in checking
+-- order, by the existence of a list (rule 4) and not by the decision. The theorem `verdict` says that every call's outcome is one of these.
+use Prim.Native.Nat.{ℕ, _≤_, _<_}
+use mathlib.Core.Path.{_≡_}
+use mathlib.Core.Bool.{Bool, true, false}
+use mathlib.Core.Option.{some}
+use mathlib.Core.List.{List, [], _∷_, _++_}
+use mathlib.Core.Logic.{_↔_, _⊎_}
+use lib.IntN.{ℤ}
+use lib.ListN.{length, drop, getElem?}
+use Rattle.model.specs.declared.Axis.{Axis}
+use Rattle.model.specs.Motion.{Reachable}
+use Rattle.model.specs.Rows.{table}
+use Rattle.model.specs.Job.{Job, JobAxis, axesOf, typedJob, bit}
+use Rattle.model.specs.Words.{kind, payload, decode, badWord, job}
+use Rattle.model.specs.Refusals.{limitsRefused, blendRefused, valuesRefused, accelerationRefused, AllPassed}
+use Rattle.model.specs.Outcome.{Outcome, Input, words, typed, cellsNeeded}
+
+-- ---- the two kinds of answer
+
+-- a refusal: number, place, mask and arrival, and nothing lent is written
+pub record Refuses (o : Outcome) (n p m a : ℕ) (lent : List ℤ) : Type 0 where
+  pub number : o .number ≡ n
+  pub place : o .place ≡ p
+  pub mask : o .mask ≡ m
+  pub arrival : o .arrival ≡ a
+  pub cells : o .cells ≡ lent
+
+-- an accepted job: its own mask and its arrival, the rows in the table's first cells, and the cells after the last row as they were
+pub record Accepts (o : Outcome) (j : Job) (n : ℕ) (lent : List ℤ) : Type 0 where
+  pub number : o .number ≡ 0
+  pub place : o .place ≡ 0
+  pub mask : o .mask ≡ j .mask
+  pub arrival : o .arrival ≡ n
+  pub cells : o .cells ≡ table (axesOf j) n ++ drop (cellsNeeded (length (axesOf j)) n) lent
+
+-- ---- axes of a list
+
+-- x is one of the axes
+abbrev pub Among : List JobAxis → JobAxis → Type 0
+Among xs x = (k : ℕ) × (getElem? xs k ≡ some x)
+
+-- a test refuses none of the axes
+abbrev pub NoneRefused : (Axis → Bool) → List JobAxis → Type 0
+NoneRefused test xs = (x : JobAxis) → Among xs x → test (x .axis) ≡ false
+
+-- axis number i is the first that a test refuses
+pub record FirstRefused (test : Axis → Bool) (xs : List JobAxis) (i : ℕ) : Type 0 where
+  pub index : ℕ
+  pub axis : JobAxis
+  pub here : getElem? xs index ≡ some axis
+  pub number : axis .number ≡ i
+  pub refused : test (axis .axis) ≡ true
+  pub before : (k : ℕ) (y : JobAxis) → k < index → getElem? xs k ≡ some y → test (y .axis) ≡ false
+
+-- the mask m names exactly those of the axes of which Q holds
+pub record Names (Q : Axis → Type 0) (xs : List JobAxis) (m : ℕ) : Type 0 where
+  pub each : (x : JobAxis) → Among xs x → (bit m (x .number) ≡ true) ↔ Q (x .axis)
+  pub only : (i : ℕ) → bit m i ≡ true → (x : JobAxis) × (Among xs x × (x .number ≡ i))
+
+-- ---- arrivals
+
+abbrev pub AllReachable : List JobAxis → ℕ → Type 0
+AllReachable xs n = (x : JobAxis) → Among xs x → Reachable (x .axis) n
+
+-- an axis that alone reaches no arrival from 1 to 4,096
+abbrev pub ReachesNone : Axis → Type 0
+ReachesNone x = (n : ℕ) → 1 ≤ n → n ≤ 4096 → Reachable x n → ⊥
+
+-- the arrival of a job: the asked one, or where none is asked the least from 1 to 4,096, that every axis reaches
+pub record IsArrival (j : Job) (n : ℕ) : Type 0 where
+  pub first : 1 ≤ n
+  pub last : n ≤ 4096
+  pub reached : AllReachable (j .axes) n
+  pub asked : (j .asked ≡ n) ⊎ ((j .asked ≡ 0) × ((k : ℕ) → 1 ≤ k → k < n → AllReachable (j .axes) k → ⊥))
+
+-- ---- from refusal 3 on: a job whose mask and words passed
+
+pub data Verdict (j : Job) (lent : List ℤ) (o : Outcome) : Type 0 where
+  refused3 : 4096 < j .asked → Refuses o 3 1 0 0 lent → Verdict j lent o
+  refused4 : (i : ℕ) → j .asked ≤ 4096 → FirstRefused limitsRefused (j .axes) i → Refuses o 4 i 0 0 lent → Verdict j lent o
+  refused5 : (i : ℕ) → j .asked ≤ 4096 → NoneRefused limitsRefused (j .axes) → FirstRefused blendRefused (j .axes) i
+      → Refuses o 5 i 0 0 lent → Verdict j lent o
+  refused6 : (i : ℕ) → j .asked ≤ 4096 → NoneRefused limitsRefused (j .axes) → NoneRefused blendRefused (j .axes)
+      → FirstRefused valuesRefused (j .axes) i → Refuses o 6 i 0 0 lent → Verdict j lent o
+  refused7 : (i : ℕ) → j .asked ≤ 4096 → NoneRefused limitsRefused (j .axes) → NoneRefused blendRefused (j .axes)
+      → NoneRefused valuesRefused (j .axes) → FirstRefused accelerationRefused (j .axes) i → Refuses o 7 i 0 0 lent → Verdict j lent o
+  -- an arrival is asked for, and the mask names exactly the axes that do not reach it, of which there is one
+  refused8 : (m : ℕ) → 1 ≤ j .asked → j .asked ≤ 4096 → AllPassed (j .axes)
+      → (AllReachable (j .axes) (j .asked) → ⊥) → Names (λ x. Reachable x (j .asked) → ⊥) (j .axes) m
+      → Refuses o 8 0 m 0 lent → Verdict j lent o
+  -- none is asked for, no common one exists, and the mask names exactly the axes that alone reach none
+  refused9 : (m : ℕ) → j .asked ≡ 0 → AllPassed (j .axes)
+      → ((n : ℕ) → 1 ≤ n → n ≤ 4096 → AllReachable (j .axes) n → ⊥) → Names ReachesNone (j .axes) m
+      → Refuses o 9 0 m 0 lent → Verdict j lent o
+  refused10 : (n : ℕ) → AllPassed (j .axes) → IsArrival j n → length lent < cellsNeeded (length (j .axes)) n
+      → Refuses o 10 0 0 n lent → Verdict j lent o
+  accepted : (n : ℕ) → AllPassed (j .axes) → IsArrival j n → cellsNeeded (length (j .axes)) n ≤ length lent
+      → Accepts o j n lent → Verdict j lent o
+
+-- ---- the two calls
+
+-- a mask that names no axis or one that there is not
+abbrev pub MaskOutside : ℕ → Type 0
+MaskOutside m = (m ≡ 0) ⊎ (63 < m)
+
+-- the mask word is absent, not of kind 1, or its payload is 0 or above 63
+abbrev pub MaskWordWrong : List ℕ → Type 0
+MaskWordWrong [] = Unit
+MaskWordWrong (w ∷ ws) = (kind w ≡ 1 → ⊥) ⊎ MaskOutside (payload w)
+
+pub data CallVerdict (lent : List ℤ) (o : Outcome) : Input → Type 0 where
+  words1 : (ws : List ℕ) → MaskWordWrong ws → Refuses o 1 0 0 0 lent → CallVerdict lent o (words ws)
+  words2 : (ws : List ℕ) (p : ℕ) → decode ws ≡ badWord p → Refuses o 2 p 0 0 lent → CallVerdict lent o (words ws)
+  wordsJob : (ws : List ℕ) (j : Job) → decode ws ≡ job j → Verdict j lent o → CallVerdict lent o (words ws)
+  typed1 : (m asked : ℕ) (six : List Axis) → MaskOutside m → Refuses o 1 0 0 0 lent → CallVerdict lent o (typed m asked six)
+  typedJobs : (m asked : ℕ) (six : List Axis) → 1 ≤ m → m ≤ 63 → Verdict (typedJob m asked six) lent o → CallVerdict lent o (typed m asked six)

@@ -1,0 +1,76 @@
+-- The ranges of an axis that passed refusals 4 to 7, and what the functions of this crate give back.
+use Prim.Native.Nat.{ℕ, _*_, _^_, _≤_}
+use mathlib.Core.Path.{_≡_}
+use mathlib.Core.Bool.{Bool, true, false}
+use mathlib.Core.List.{List, [], _∷_}
+use lib.Dec.{eqb}
+use lib.IntN.{ℤ, pos, _+ℤ_, _*ℤ_}
+use Rattle.whole.specs.Ranges.{Within, Is}
+use Rattle.model.specs.declared.Axis.{Axis}
+use Rattle.model.specs.declared.State.{State}
+use Rattle.model.specs.Quantities.{fineSteps, speedLimit, accelerationLimit, halfPeriod, secondWeight, asMoving, twicePositionAt, velocityAt}
+use Rattle.model.specs.Motion.{shift, startVelocity, landingTick, landingPosition, landingVelocity, landingAcceleration}
+use Rattle.model.specs.Refusals.{lastTick}
+use Rattle.model.specs.Outcome.{axisRefusals}
+use Rattle.profile.specs.declared.Profile.{Profile}
+use Rattle.profile.specs.Profiles.{Ranged}
+use Rattle.motion.specs.declared.Landing.{Landing}
+
+-- ---- ranges, in powers of two that hold what refusals 4 to 6 leave
+
+-- a target, read as moving
+pub record StateRanges (m : State) : Type 0 where
+  pub position : Within (2 ^ 27) (m .position)
+  pub velocity : Within (2 ^ 20) (m .velocity)
+  pub acceleration : Within (2 ^ 16) (m .acceleration)
+  pub tick : Within lastTick (m .tick)
+
+-- an axis; that one follows from `Passed` is the law `ranges-of`
+pub record Ranges (x : Axis) : Type 0 where
+  pub «speed_limit» : speedLimit x ≤ 2 ^ 20
+  pub «acceleration_limit» : accelerationLimit x ≤ 2 ^ 16
+  pub «half_period» : halfPeriod x ≤ 256
+  pub «second_weight» : secondWeight x ≤ 128
+  pub position : Within (2 ^ 27) (x .start .position)
+  pub velocity : Within (2 ^ 20) (x .start .velocity)
+  -- the target, for every arrival
+  pub target : (n : ℕ) → n ≤ lastTick → StateRanges (asMoving (x .target) n)
+
+-- ---- rule 3: the planned motion for a target in motion m at tick k, which at the landing tick is `landingPosition` and `landingVelocity`
+
+abbrev pub plannedPosition : Axis → State → ℕ → ℤ
+plannedPosition x m k = pos fineSteps *ℤ twicePositionAt m (pos k) +ℤ pos 2 *ℤ (shift x *ℤ velocityAt m (pos k))
+
+abbrev pub plannedVelocity : Axis → State → ℕ → ℤ
+plannedVelocity x m k = pos fineSteps *ℤ velocityAt m (pos k) +ℤ shift x *ℤ m .acceleration
+
+-- the landing for arrival n
+pub record LandingIs (x : Axis) (n : ℕ) (r : Landing) : Type 0 where
+  pub position : Is (2 ^ 52) (r .position) (landingPosition x n)
+  pub velocity : Is (2 ^ 39) (r .velocity) (landingVelocity x n)
+  pub acceleration : Is (2 ^ 24) (r .acceleration) (landingAcceleration x n)
+
+-- ---- rule 4: the profile that stands for the leg of an arrival
+
+abbrev pub profileFor : Axis → ℕ → Profile
+profileFor x n =
+    record {
+      «speed_limit» = fineSteps * speedLimit x;
+      «acceleration_limit» = fineSteps * accelerationLimit x;
+      start = startVelocity x;
+      end = landingVelocity x n;
+      ticks = landingTick x n;
+    }
+
+pub record ProfileIs (x : Axis) (n : ℕ) (r : Profile) : Type 0 where
+  pub is : r ≡ profileFor x n
+  pub ranged : Ranged r
+
+-- ---- refusals 4 to 7: the test of a number in a list of numbered tests, and in the list of `model`
+
+abbrev pub testOf : List (ℕ × (Axis → Bool)) → ℕ → Axis → Bool
+testOf [] n x = false
+testOf (t ∷ ts) n x = elim (eqb n (t .0)) [ true ↦ t .1 x | false ↦ testOf ts n x ]
+
+abbrev pub refusalTest : ℕ → Axis → Bool
+refusalTest = testOf axisRefusals

@@ -1,0 +1,72 @@
+-- The two calls: what they promise follows from the outcome of their stages.
+use Prim.Native.Nat.{ℕ, _<_}
+use Rattle.model.proofs.Demand.{demand3}
+use native.Mathlib.Omega.{arith}
+use mathlib.Core.Path.{_≡_, refl, sym, ap, subst, _∙_}
+use mathlib.Core.Bool.{Bool, true, false, _&&_, false≢true}
+use mathlib.Core.List.{List}
+use lib.IntN.{ℤ}
+use lib.Dec.{ltb, leb}
+use borrow.Author.Tests.{leb-true}
+use Rattle.model.specs.declared.Axis.{Axis}
+use Rattle.model.specs.declared.Answer.{Answer}
+use Rattle.model.specs.Job.{typedJob}
+use Rattle.model.specs.Words.{goodMask, Decoded, noMask, badWord, job, decode}
+use Rattle.model.specs.Outcome.{Outcome, Input, refuse, jobOutcome, outcomeOfTyped, outcomeOfWords, call, inputAxes}
+use Rattle.model.specs.Demand.{Demand3}
+use Rattle.words.specs.declared.DecodedJob.{DecodedJob}
+use Rattle.words.specs.Decoding.{decodedJob, Decodes}
+use Rattle.planner.specs.Promise.{Promise}
+use Rattle.planner.specs.Stages.{Gives}
+
+-- demand 3 of the definitions, carried to what the call leaves
+pub promise : (q : Input) (entry : List ℤ) (r : Answer) (exit : List ℤ) → Gives (call q entry) r exit → Promise q entry r exit
+promise q entry r exit g =
+    let number = ap (λ (o : Outcome). o .number) (g .outcome) in
+    record {
+      outcome = g .outcome;
+      demand3 = λ z. subst (λ (o : Outcome). Demand3 (inputAxes q) (o .arrival) (o .cells)) (sym (g .outcome)) (demand3 q entry (sym number ∙ z));
+      fitted = g .fitted;
+    }
+
+-- ---- typed values
+
+module _ (m asked : ℕ) (six : List Axis) (lent : List ℤ) where
+  by-mask : Bool → Outcome
+  by-mask b = elim b [ true ↦ jobOutcome (typedJob m asked six) lent | false ↦ refuse 1 0 0 0 lent ]
+
+  pub mask-refused : goodMask m ≡ false → refuse 1 0 0 0 lent ≡ outcomeOfTyped m asked six lent
+  unfolding by-mask
+  mask-refused e = sym (ap by-mask e)
+
+  pub mask-passed : goodMask m ≡ true → jobOutcome (typedJob m asked six) lent ≡ outcomeOfTyped m asked six lent
+  unfolding by-mask
+  mask-passed e = sym (ap by-mask e)
+
+pub six-bits-mask : (m : ℕ) → goodMask m ≡ true → m < 64
+six-bits-mask m e = let h = leb-true m 63 (second (ltb 0 m) (leb m 63) e) in omega arith
+  where
+    second : (a b : Bool) → a && b ≡ true → b ≡ true
+    second true b e = e
+    second false b e = absurd (false≢true e)
+
+-- ---- words
+
+module _ (ws : List ℕ) (lent : List ℤ) (d : DecodedJob) (is : Decodes ws d) where
+  by-words : Decoded → Outcome
+  by-words w = elim w [ noMask ↦ refuse 1 0 0 0 lent | badWord p ↦ refuse 2 p 0 0 lent | job j ↦ jobOutcome j lent ]
+
+  pub words-refused : (d .number ≡ 0 → ⊥) → refuse (d .number) (d .place) 0 0 lent ≡ outcomeOfWords ws lent
+  unfolding by-words
+  words-refused h =
+      ap (λ (e : DecodedJob). refuse (e .number) (e .place) 0 0 lent) (is .decoded)
+      ∙ go (decode ws) (λ z. h (ap (λ (e : DecodedJob). e .number) (is .decoded) ∙ z))
+    where
+      go : (w : Decoded) → (decodedJob w .number ≡ 0 → ⊥) → refuse (decodedJob w .number) (decodedJob w .place) 0 0 lent ≡ by-words w
+      go noMask h = refl
+      go (badWord p) h = refl
+      go (job j) h = absurd (h refl)
+
+  pub words-passed : d .number ≡ 0 → jobOutcome (typedJob (d .mask) (d .asked) (d .axes)) lent ≡ outcomeOfWords ws lent
+  unfolding by-words
+  words-passed z = sym (ap by-words (is .typed z))

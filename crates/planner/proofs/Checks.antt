@@ -1,0 +1,164 @@
+-- Refusals 3 to 7 in checking order.
+use Prim.Native.Nat.{ℕ, zero, suc, _+_, _-_, _<_, _≤_}
+use native.Mathlib.Omega.{arith}
+use mathlib.Core.Path.{_≡_, refl, sym, ap, _∙_}
+use mathlib.Core.Bool.{Bool, true, false, cond}
+use mathlib.Core.Option.{Option, none, some}
+use mathlib.Core.List.{List, [], _∷_}
+use lib.IntN.{ℤ}
+use lib.ListN.{drop}
+use lib.Dec.{eqb, leb}
+use borrow.Author.Tests.{le-leb, lt-leb, leb-true, ne-eqb}
+use Rattle.model.specs.declared.Axis.{Axis}
+use Rattle.model.specs.Job.{Job, JobAxis}
+use Rattle.model.specs.Refusals.{AllPassed, lastTick, limitsRefused, blendRefused, valuesRefused, accelerationRefused}
+use Rattle.model.specs.Outcome.{Outcome, refuse, firstAxis, axisRefusals, tested, arrived, jobOutcome}
+use Rattle.motion.specs.Motions.{refusalTest}
+use Rattle.planner.specs.declared.Refusal.{Refusal}
+use Rattle.planner.specs.Stages.{firstRefusal, checkedFor, Checked}
+
+abbrev Tests : Type 0
+Tests = List (ℕ × (Axis → Bool))
+
+-- ---- the loop over the numbers 4 to 7
+
+-- the tests of the numbers from n on
+abbrev rulesFrom : ℕ → Tests
+rulesFrom n = drop (n - 4) axisRefusals
+
+rules-more : (n : ℕ) → 4 ≤ n → n ≤ 7 → rulesFrom n ≡ (n, refusalTest n) ∷ rulesFrom (n + 1)
+rules-more zero l h = absurd (omega arith)
+rules-more (suc zero) l h = absurd (omega arith)
+rules-more (suc (suc zero)) l h = absurd (omega arith)
+rules-more (suc (suc (suc zero))) l h = absurd (omega arith)
+rules-more (suc (suc (suc (suc zero)))) l h = refl
+rules-more (suc (suc (suc (suc (suc zero))))) l h = refl
+rules-more (suc (suc (suc (suc (suc (suc zero)))))) l h = refl
+rules-more (suc (suc (suc (suc (suc (suc (suc zero))))))) l h = refl
+rules-more (suc (suc (suc (suc (suc (suc (suc (suc n)))))))) l h = absurd (omega arith)
+
+module _ (xs : List JobAxis) where
+  -- the first refusal of the numbers from n on
+  pub from : ℕ → Refusal
+  from n = firstRefusal (rulesFrom n) xs
+
+  by : ℕ → Option ℕ → Refusal
+  by n o = elim o [ some i ↦ record { number = n; place = i } | none ↦ firstRefusal (rulesFrom (n + 1)) xs ]
+
+  opened : (n : ℕ) → 4 ≤ n → n ≤ 7 → from n ≡ by n (firstAxis (refusalTest n) xs)
+  unfolding from by
+  opened n l h = ap (λ (ts : Tests). firstRefusal ts xs) (rules-more n l h)
+
+  pub refused-here : (n i : ℕ) → 4 ≤ n → n ≤ 7 → firstAxis (refusalTest n) xs ≡ some i → from n ≡ record { number = n; place = i }
+  unfolding by
+  refused-here n i l h e = opened n l h ∙ ap (by n) e
+
+  pub refused-later : (n : ℕ) → 4 ≤ n → n ≤ 7 → firstAxis (refusalTest n) xs ≡ none → from n ≡ from (n + 1)
+  unfolding from by
+  refused-later n l h e = opened n l h ∙ ap (by n) e
+
+  pub none-refused : (n : ℕ) → n ≡ 8 → from n ≡ record { number = 0; place = 0 }
+  unfolding from
+  none-refused n e = ap (λ (k : ℕ). firstRefusal (rulesFrom k) xs) e
+
+  pub begun : from 4 ≡ firstRefusal axisRefusals xs
+  unfolding from
+  begun = refl
+
+-- ---- what number 0 says
+
+-- no test of a list holds of an axis
+abbrev Clear : Tests → List JobAxis → Type 0
+Clear [] xs = Unit
+Clear (t ∷ ts) xs = (firstAxis (t .1) xs ≡ none) × Clear ts xs
+
+-- no number of a list is 0
+abbrev Numbered : Tests → Type 0
+Numbered [] = Unit
+Numbered (t ∷ ts) = (t .0 ≡ 0 → ⊥) × Numbered ts
+
+four-numbered : Numbered axisRefusals
+four-numbered = ((λ e. omega arith), ((λ e. omega arith), ((λ e. omega arith), ((λ e. omega arith), tt))))
+
+clear : (ts : Tests) (xs : List JobAxis) → Numbered ts → firstRefusal ts xs .number ≡ 0 → Clear ts xs
+clear [] xs n z = tt
+clear (t ∷ ts) xs (n, ns) z = go (firstAxis (t .1) xs) refl z (clear ts xs ns)
+  where
+    go : (o : Option ℕ) → firstAxis (t .1) xs ≡ o
+        → (elim o as (λ _. Refusal) [ some i ↦ record { number = t .0; place = i } | none ↦ firstRefusal ts xs ]) .number ≡ 0
+        → (firstRefusal ts xs .number ≡ 0 → Clear ts xs) → Clear (t ∷ ts) xs
+    go (some i) e z h = absurd (n z)
+    go none e z h = (e, h z)
+
+split : (f : Axis → Bool) (x : JobAxis) (xs : List JobAxis) → firstAxis f (x ∷ xs) ≡ none → (f (x .axis) ≡ false) × (firstAxis f xs ≡ none)
+split f x xs e = go (f (x .axis)) e
+  where
+    go : (b : Bool) → _≡_ {A = Option ℕ} (elim b as (λ _. Option ℕ) [ true ↦ some (x .number) | false ↦ firstAxis f xs ]) none
+        → (b ≡ false) × (firstAxis f xs ≡ none)
+    go true e = absurd (let z : _≡_ {A = ℕ} 0 1 = cc in omega arith)
+    go false e = (refl, e)
+
+all-passed : (xs : List JobAxis) → Clear axisRefusals xs → AllPassed xs
+all-passed [] c = tt
+all-passed (x ∷ xs) (l, (b, (v, (a, _)))) =
+    let l' = split limitsRefused x xs l in
+    let b' = split blendRefused x xs b in
+    let v' = split valuesRefused x xs v in
+    let a' = split accelerationRefused x xs a in
+    (record { limits = l' .0; blend = b' .0; values = v' .0; acceleration = a' .0 }, all-passed xs (l' .1, (b' .1, (v' .1, (a' .1, tt)))))
+
+-- ---- what `check` gives back
+
+by-asked : Job → Bool → Refusal
+by-asked j b = elim b [ true ↦ firstRefusal axisRefusals (j .axes) | false ↦ record { number = 3; place = 1 } ]
+
+pub checked : (j : Job) (r : Refusal) → r ≡ checkedFor j → Checked j r
+unfolding by-asked
+checked j r e = go (leb (j .asked) lastTick) refl
+  where
+    go : (b : Bool) → leb (j .asked) lastTick ≡ b → Checked j r
+    go true t =
+        let first : r ≡ firstRefusal axisRefusals (j .axes) = e ∙ ap (by-asked j) t in
+        let number = ap (λ (q : Refusal). q .number) first in
+        record {
+          is = e;
+          asked = λ z. leb-true (j .asked) lastTick t;
+          passed = λ z. all-passed (j .axes) (clear axisRefusals (j .axes) four-numbered (sym number ∙ z));
+        }
+    go false t =
+        let number = ap (λ (q : Refusal). q .number) (e ∙ ap (by-asked j) t) in
+        record { is = e; asked = λ z. absurd (omega arith); passed = λ z. absurd (omega arith) }
+
+module _ (j : Job) (r : Refusal) where
+  -- refusal 3
+  pub asked-late : lastTick < j .asked → r ≡ record { number = 3; place = 1 } → Checked j r
+  unfolding by-asked
+  asked-late h e = checked j r (e ∙ sym (ap (by-asked j) (lt-leb (j .asked) lastTick h)))
+
+  -- refusals 4 to 7, or none
+  pub asked-in-time : j .asked ≤ lastTick → r ≡ firstRefusal axisRefusals (j .axes) → Checked j r
+  unfolding by-asked
+  asked-in-time h e = checked j r (e ∙ sym (ap (by-asked j) (le-leb (j .asked) lastTick h)))
+
+-- ---- the outcome after the checks
+
+abbrev pub afterChecks : Job → List ℤ → Refusal → Outcome
+afterChecks j lent r = cond (eqb (r .number) 0) (arrived j (j .asked) lent) (refuse (r .number) (r .place) 0 0 lent)
+
+tests-are : (ts : Tests) (j : Job) (lent : List ℤ) → Numbered ts → afterChecks j lent (firstRefusal ts (j .axes)) ≡ tested ts j lent
+tests-are [] j lent n = refl
+tests-are (t ∷ ts) j lent (n, ns) = go (firstAxis (t .1) (j .axes)) (tests-are ts j lent ns)
+  where
+    go : (o : Option ℕ) → afterChecks j lent (firstRefusal ts (j .axes)) ≡ tested ts j lent
+        → afterChecks j lent (elim o [ some i ↦ record { number = t .0; place = i } | none ↦ firstRefusal ts (j .axes) ])
+        ≡ (elim o as (λ _. Outcome) [ some i ↦ refuse (t .0) i 0 0 lent | none ↦ tested ts j lent ])
+    go (some i) h = ap (λ (b : Bool). cond b (arrived j (j .asked) lent) (refuse (t .0) i 0 0 lent)) (ne-eqb (t .0) 0 n)
+    go none h = h
+
+pub checks-are : (j : Job) (lent : List ℤ) → afterChecks j lent (checkedFor j) ≡ jobOutcome j lent
+checks-are j lent = go (leb (j .asked) lastTick)
+  where
+    go : (b : Bool) → afterChecks j lent (elim b [ true ↦ firstRefusal axisRefusals (j .axes) | false ↦ record { number = 3; place = 1 } ])
+        ≡ (elim b as (λ _. Outcome) [ true ↦ tested axisRefusals j lent | false ↦ refuse 3 1 0 0 lent ])
+    go true = tests-are axisRefusals j lent four-numbered
+    go false = refl

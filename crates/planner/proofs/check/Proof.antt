@@ -1,0 +1,108 @@
+use Prim.Native.Nat.{_-_, _≤_}
+use native.Mathlib.Omega.{arith}
+use mathlib.Core.Path.{_≡_, sym, ap, _∙_}
+use borrow.Author.Needs.{needs}
+use Rattle.model.specs.Outcome.{axisRefusals}
+use Rattle.model.specs.Job.{setAxes, typedJob}
+use Rattle.planner.specs.Stages.{firstRefusal, foundAxis}
+use Rattle.planner.proofs.Checks.{from, begun, refused-here, refused-later, none-refused, asked-late, asked-in-time}
+use Rattle.planner.proofs.check.Statement.{statement}
+use Rattle.planner.proofs.check.Tie as tie
+
+abbrev Inv-loop : tie.InvT-loop
+Inv-loop mask asked axes number₀ number =
+    record {
+      first : from (setAxes 0 mask axes) number ≡ firstRefusal axisRefusals (setAxes 0 mask axes);
+      low : 4 ≤ number;
+      high : number ≤ 8;
+    }
+
+abbrev μ-loop : tie.MeasureT-loop
+μ-loop mask asked axes number₀ number = 8 - number
+
+refusal-of-requires : tie.Need-refusal-of-requires Inv-loop μ-loop
+refusal-of-requires c κs = search needs
+
+returns : tie.Need-returns Inv-loop μ-loop
+returns c =
+    let a = c .before .before .args in
+    asked-late (typedJob (a .mask) (a .asked) (a .axes)) (c .refusal-of .result) (c .before .if1 .taken) (c .refusal-of .ensures)
+
+loop-holds : tie.Need-loop-holds Inv-loop μ-loop
+loop-holds c =
+    let a = c .before .args in
+    record { first = begun (setAxes 0 (a .mask) (a .axes)); low = omega arith; high = omega arith }
+
+first-refused-requires : tie.Need-first-refused-requires Inv-loop μ-loop
+first-refused-requires c κs = search needs
+
+enum-known-first : tie.Need-enum-known-first Inv-loop μ-loop
+enum-known-first c = search needs
+
+refusal-of-requires-2 : tie.Need-refusal-of-requires-2 Inv-loop μ-loop
+refusal-of-requires-2 c κs = search needs
+
+returns-2 : tie.Need-returns-2 Inv-loop μ-loop
+returns-2 c =
+    let l = c .before .before .before .before .before .before .loop in
+    let a = c .before .before .before .before .before .before .before .before .args in
+    let xs = setAxes 0 (a .mask) (a .axes) in
+    let r = c .refusal-of2 in
+    let at = sym (c .before .before .before .before .first-refused .ensures) ∙ ap foundAxis (c .before .before .first .given .1) in
+    let is = refused-here xs (l .number) _ (omega arith) (omega arith) at in
+    let in-time = c .before .before .before .before .before .before .before .if1 .left in
+    asked-in-time (typedJob (a .mask) (a .asked) (a .axes)) (r .result) in-time (r .ensures ∙ sym is ∙ l .inv .first)
+
+enum-told : tie.Need-enum-told Inv-loop μ-loop
+enum-told c = search needs
+
+add-number : tie.Need-add-number Inv-loop μ-loop
+add-number c = omega arith
+
+loop-less : tie.Need-loop-less Inv-loop μ-loop
+loop-less c = omega arith
+
+loop-again : tie.Need-loop-again Inv-loop μ-loop
+loop-again c =
+    let l = c .before .before .before .before .loop in
+    let a = c .before .before .before .before .before .before .args in
+    let xs = setAxes 0 (a .mask) (a .axes) in
+    let nowhere = sym (c .before .before .first-refused .ensures) ∙ ap foundAxis (c .enum-told .given .1) in
+    record {
+      first = sym (refused-later xs (l .number) (omega arith) (omega arith) nowhere) ∙ l .inv .first;
+      low = omega arith;
+      high = omega arith;
+    }
+
+refusal-of-requires-3 : tie.Need-refusal-of-requires-3 Inv-loop μ-loop
+refusal-of-requires-3 c κs = search needs
+
+returns-3 : tie.Need-returns-3 Inv-loop μ-loop
+returns-3 c =
+    let l = c .before .before .loop in
+    let a = c .before .before .before .before .args in
+    let xs = setAxes 0 (a .mask) (a .axes) in
+    let r = c .refusal-of3 in
+    let is = none-refused xs (l .number) (omega arith) in
+    let in-time = c .before .before .before .if1 .left in
+    asked-in-time (typedJob (a .mask) (a .asked) (a .axes)) (r .result) in-time (r .ensures ∙ sym is ∙ l .inv .first)
+
+pub check-spec : {M : Type 1} → statement M
+check-spec =
+    tie.close
+    (tie.spec
+    Inv-loop
+    μ-loop
+    refusal-of-requires
+    returns
+    loop-holds
+    first-refused-requires
+    enum-known-first
+    refusal-of-requires-2
+    returns-2
+    enum-told
+    add-number
+    loop-less
+    loop-again
+    refusal-of-requires-3
+    returns-3)

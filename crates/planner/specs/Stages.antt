@@ -1,0 +1,48 @@
+-- What the stages of a call give back to one another.
+use Prim.Native.Nat.{ℕ, _%_, _≤_}
+use mathlib.Core.Path.{_≡_}
+use mathlib.Core.Bool.{Bool, true, false, cond}
+use mathlib.Core.Option.{Option, none, some}
+use mathlib.Core.List.{List, [], _∷_}
+use lib.IntN.{ℤ}
+use lib.Dec.{eqb, leb}
+use Rattle.model.specs.declared.Axis.{Axis}
+use Rattle.model.specs.declared.Answer.{Answer}
+use Rattle.model.specs.Job.{Job, JobAxis}
+use Rattle.model.specs.Refusals.{AllPassed, lastTick}
+use Rattle.model.specs.Outcome.{Outcome, firstAxis, axisRefusals}
+use Rattle.motion.specs.Motions.{refusalTest}
+use Rattle.planner.specs.declared.Refusal.{Refusal}
+use Rattle.planner.specs.declared.FirstAxis.{FirstAxis}
+use Rattle.planner.specs.declared.FirstAxis.the-variants.{At, Nowhere}
+use Rattle.planner.specs.Promise.{outcomeOf, Fitted}
+
+-- a stage that ends a call: the answer and the lent table are an outcome of the definitions
+pub record Gives (o : Outcome) (r : Answer) (exit : List ℤ) : Type 0 where
+  pub outcome : outcomeOf r exit ≡ o
+  pub fitted : r .number ≡ 0 → Fitted r exit
+
+-- ---- refusals 3 to 7
+
+-- the first refusal of a list of numbered tests, or number 0
+abbrev pub firstRefusal : List (ℕ × (Axis → Bool)) → List JobAxis → Refusal
+firstRefusal [] xs = record { number = 0; place = 0 }
+firstRefusal (t ∷ ts) xs = elim (firstAxis (t .1) xs) [ some i ↦ record { number = t .0; place = i } | none ↦ firstRefusal ts xs ]
+
+abbrev pub checkedFor : Job → Refusal
+checkedFor j = elim (leb (j .asked) lastTick) [ true ↦ firstRefusal axisRefusals (j .axes) | false ↦ record { number = 3; place = 1 } ]
+
+-- what `check` gives back for a job
+pub record Checked (j : Job) (r : Refusal) : Type 0 where
+  pub is : r ≡ checkedFor j
+  -- number 0: the asked arrival and the axes have passed
+  pub asked : r .number ≡ 0 → j .asked ≤ lastTick
+  pub passed : r .number ≡ 0 → AllPassed (j .axes)
+
+abbrev pub foundAxis : FirstAxis → Option ℕ
+foundAxis (At i) = some i
+foundAxis Nowhere = none
+
+-- the lowest bit of m names the axis, and a number refuses it
+unfoldable pub refusedHere : ℕ → Axis → ℕ → Bool
+refusedHere m x number = cond (eqb (m % 2) 1) (refusalTest number x) false

@@ -1,0 +1,71 @@
+-- The leg of `model` that a profile stands for, the ranges in which its code does not overflow, and what the functions of this crate give back.
+use Prim.Native.Nat.{ℕ, _-_, _*_, _^_, _≤_}
+use mathlib.Core.Path.{_≡_}
+use mathlib.Core.Bool.{Bool, true, false, _&&_}
+use lib.IntN.{ℤ, pos, natAbs, _+ℤ_, _-ℤ_}
+use lib.Signed.{leZ, ltZ}
+use lib.Dec.{leb, ltb}
+use Rattle.whole.specs.Ranges.{Within, Is}
+use Rattle.whole.specs.Integers.{sumTo}
+use Rattle.model.specs.Leg.{Leg, upper, lower, clamped, fitsAt, cruise, remainder}
+use Rattle.profile.specs.declared.Profile.{Profile}
+use Rattle.profile.specs.declared.Raised.{Raised}
+use Rattle.profile.specs.declared.CruisePlan.{CruisePlan}
+
+-- the velocities, in the model's terms
+abbrev pub legOf : Profile → Leg
+legOf p =
+    record {
+      ticks = p .ticks;
+      start = p .start;
+      end = p .end;
+      speedLimit = p .«speed_limit»;
+      accelerationLimit = p .«acceleration_limit»;
+    }
+
+-- where its code does not overflow; the ends may exceed the speed limit
+pub record Ranged (p : Profile) : Type 0 where
+  pub «speed_limit» : p .«speed_limit» ≤ 2 ^ 37
+  pub «acceleration_limit» : p .«acceleration_limit» ≤ 2 ^ 33
+  pub ticks : p .ticks ≤ 4096
+  pub start : Within (2 ^ 37) (p .start)
+  pub end : Within (2 ^ 37) (p .end)
+
+-- ---- rule 4: `feasible` in parts
+
+-- the ends are within the speed limit and near enough to one another
+abbrev pub endsAllowed : Leg → Bool
+endsAllowed g =
+    leb (natAbs (g .start)) (g .speedLimit)
+    && (leb (natAbs (g .end)) (g .speedLimit) && leb (natAbs (g .end -ℤ g .start)) (g .accelerationLimit * g .ticks))
+
+-- the sum s is between the sums of the two envelopes
+abbrev pub sumBetween : Leg → ℤ → Bool
+sumBetween g s = leZ (sumTo (lower g) (g .ticks - 1)) s && leZ s (sumTo (upper g) (g .ticks - 1))
+
+-- ---- rule 5
+
+-- one step of `climb`: c + step where that keeps to the speed limit and fits the required sum s, else c
+abbrev pub climbStep : Leg → ℤ → ℤ → ℕ → ℤ
+climbStep g s c step =
+    let d : ℤ = c +ℤ pos step in
+    elim (leZ d (pos (g .speedLimit)) && fitsAt g s d) [ true ↦ d | false ↦ c ]
+
+-- one tick of `raised`: the velocity of tick k at cruise c with r raises left, and the raises left after it
+abbrev pub raisedAt : Leg → ℤ → ℕ → ℕ → Raised
+raisedAt g c k r =
+    let v : ℤ = clamped g c k in
+    elim (ltb 0 r && ltZ v (clamped g (c +ℤ pos 1) k)) [
+      | true ↦ record { velocity = v +ℤ pos 1; left = r - 1 }
+      | false ↦ record { velocity = v; left = r }
+    ]
+
+-- what `raised_velocity` gives
+pub record RaisedIs (g : Leg) (c : ℤ) (k left : ℕ) (r : Raised) : Type 0 where
+  pub is : r ≡ raisedAt g c k left
+  pub within : Within (2 ^ 48) (r .velocity)
+
+-- what `cruise` gives, for the required sum s
+pub record CruiseIs (g : Leg) (s : ℤ) (r : CruisePlan) : Type 0 where
+  pub velocity : Is (2 ^ 37) (r .velocity) (cruise g s)
+  pub raised : r .raised ≡ remainder g s

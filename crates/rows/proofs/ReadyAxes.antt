@@ -1,0 +1,153 @@
+-- The axes of a mask that have passed refusals 4 to 7 and reach the arrival: each can be planned, and its plan is within the ranges.
+use mathlib.Core.Path.{_≡_, refl, sym, ap, ap₂, subst, _∙_}
+use Rattle.whole.proofs.Tests.{left, true-T}
+use mathlib.Core.Bool.{Bool, true, false}
+use mathlib.Core.List.{List, [], _∷_, _++_, map, append-assoc, append-nil}
+use Prim.Native.Nat.{ℕ, suc, _+_, _*_, _/_, _%_, _<_, _≤_}
+use native.Mathlib.Numerals.{add-one}
+use lib.ListN.{length, getD, set, take, drop}
+use lib.Seq.{take-suc-set, take-length, drop-cons, drop-length}
+use native.Mathlib.Omega.{arith}
+use lib.Dec.{eqb, leb, leb→le}
+use lib.IntN.{ℤ, natAbs}
+use Rattle.model.specs.declared.Axis.{Axis}
+use Rattle.model.specs.Quantities.{fineSteps, speedLimit, halfPeriod, secondWeight}
+use Rattle.model.specs.Leg.{feasible, required, cruise, remainder}
+use Rattle.model.specs.Motion.{startPosition, startVelocity, landingAcceleration, leg, displacement, requiredSum, reachable}
+use Rattle.model.specs.Job.{JobAxis, setAxes, unsetAxis}
+use Rattle.model.specs.Outcome.{allReach}
+use Rattle.model.specs.Refusals.{lastTick, AllPassed, Ready}
+use Rattle.profile.specs.declared.Profile.{Profile}
+use Rattle.profile.specs.Profiles.{legOf}
+use Rattle.motion.specs.Motions.{profileFor}
+use Rattle.motion.proofs.ReadyAxis.{ready-feasible, ready-landed, ready-ranges}
+use Rattle.motion.proofs.ReadyAxis.{start-position-within, landing-acceleration-within, profile-ranged, cruise-within}
+use Rattle.rows.specs.declared.AxisPlan.{AxisPlan}
+use Rattle.rows.specs.Plans.{planOf, unsetPlan, planAt, axisPlans, setPlans, PlanRanges, AllRanged}
+
+pub plan-ranges : {x : Axis} {n : ℕ} → Ready x n → PlanRanges (planOf n x)
+plan-ranges {x} {n} r =
+    record {
+      origin = record { within = omega (arith, start-position-within r .within) };
+      profile = profile-ranged r;
+      start = leb→le speed limit (left (leb speed limit) _ (true-T (ready-feasible r)));
+      end = ready-landed r;
+      cruise = record { within = omega (arith, cruise-within r .within) };
+      acceleration = landing-acceleration-within r;
+      «half_period» = ready-ranges r .«half_period»;
+      «second_weight» = ready-ranges r .«second_weight»;
+    }
+  where
+    speed : ℕ
+    speed = natAbs (startVelocity x)
+
+    limit : ℕ
+    limit = fineSteps * speedLimit x
+
+-- ---- the plan of one axis, from its parts
+
+module _ (x : Axis) (n : ℕ) (f : Profile) (d : ℤ) (same : f ≡ profileFor x n) (way : d ≡ displacement x n) where
+  pub plan-feasible : Ready x n → feasible (legOf f) d ≡ true
+  plan-feasible r = ap₂ (λ (g : Profile) (e : ℤ). feasible (legOf g) e) same way ∙ ready-feasible r
+
+  -- a plan with the blend of the axis
+  abbrev planWith : ℤ → Profile → ℤ → ℕ → ℤ → AxisPlan
+  planWith o g v r a =
+      record { origin = o; profile = g; cruise = v; raised = r; acceleration = a; «half_period» = halfPeriod x; «second_weight» = secondWeight x }
+
+  pub plan-is : (o v a : ℤ) (r : ℕ) → o ≡ startPosition x → v ≡ cruise (legOf f) (required (legOf f) d) → a ≡ landingAcceleration x n
+      → r ≡ remainder (legOf f) (required (legOf f) d) → planWith o f v r a ≡ planOf n x
+  plan-is o v a r p q s k =
+      λ i. planWith (p i) (same i) (speed i) (raise i) (s i)
+    where
+      speed : v ≡ cruise (leg x n) (requiredSum x n)
+      speed = q ∙ ap₂ (λ (g : Profile) (e : ℤ). cruise (legOf g) (required (legOf g) e)) same way
+
+      raise : r ≡ remainder (leg x n) (requiredSum x n)
+      raise = k ∙ ap₂ (λ (g : Profile) (e : ℤ). remainder (legOf g) (required (legOf g) e)) same way
+
+-- ---- a list of axes
+
+abbrev pub AllReady : ℕ → List JobAxis → Type 0
+AllReady n [] = Unit
+AllReady n (x ∷ xs) = Ready (x .axis) n × AllReady n xs
+
+pub all-ready : (n : ℕ) (xs : List JobAxis) → AllPassed xs → n ≤ lastTick → allReach xs n ≡ true → AllReady n xs
+all-ready n [] p h e = tt
+all-ready n (x ∷ xs) p h e =
+    let b = both (reachable (x .axis) n) e in
+    (record { passed = p .0; tick = h; reach = b .0 }, all-ready n xs (p .1) h (b .1))
+  where
+    both : (r : Bool) → (elim r as (λ _. Bool) [ true ↦ allReach xs n | false ↦ false ]) ≡ true → (r ≡ true) × (allReach xs n ≡ true)
+    both true q = (refl, q)
+    both false q = absurd (mathlib.Core.Bool.false≢true q)
+
+-- the first axis of a list, where its bit is set, and the others
+ready-first : (n i m : ℕ) (x : Axis) (xs : List Axis) → AllReady n (setAxes i m (x ∷ xs))
+    → (eqb (m % 2) 1 ≡ true → Ready x n) × AllReady n (setAxes (suc i) (m / 2) xs)
+ready-first n i m x xs = go (eqb (m % 2) 1)
+  where
+    axes : List JobAxis
+    axes = setAxes (suc i) (m / 2) xs
+
+    go : (b : Bool) → AllReady n (elim b as (λ _. List JobAxis) [ true ↦ record { number = i; axis = x } ∷ axes | false ↦ axes ])
+        → (b ≡ true → Ready x n) × AllReady n axes
+    go true r = ((λ e. r .0), r .1)
+    go false r = ((λ e. absurd (mathlib.Core.Bool.false≢true e)), r)
+
+-- axis i of six, where its bit is the lowest of the mask's rest
+module _ (n i rest : ℕ) (axes : List Axis) (here : i < length axes) (ready : AllReady n (setAxes i rest (drop i axes))) where
+  parted : (eqb (rest % 2) 1 ≡ true → Ready (getD axes i unsetAxis) n) × AllReady n (setAxes (suc i) (rest / 2) (drop (suc i) axes))
+  parted =
+      ready-first n i rest (getD axes i unsetAxis) (drop (suc i) axes)
+      (subst (λ (l : List Axis). AllReady n (setAxes i rest l)) (drop-cons axes i unsetAxis here) ready)
+
+  pub ready-here : eqb (rest % 2) 1 ≡ true → Ready (getD axes i unsetAxis) n
+  ready-here = parted .0
+
+  pub ready-next : AllReady n (setAxes (i + 1) (rest / 2) (drop (i + 1) axes))
+  ready-next = subst (λ (j : ℕ). AllReady n (setAxes j (rest / 2) (drop j axes))) (sym (add-one i)) (parted .1)
+
+  pub plans-next : (plans : List AxisPlan) (p : AxisPlan) → i < length plans → p ≡ planAt n rest (getD axes i unsetAxis)
+      → take (i + 1) (set plans i p) ++ axisPlans n (rest / 2) (drop (i + 1) axes) ≡ take i plans ++ axisPlans n rest (drop i axes)
+  plans-next plans p l e =
+      ap (λ (j : ℕ). take j (set plans i p) ++ axisPlans n (rest / 2) (drop j axes)) (add-one i)
+      ∙ ap (λ (t : List AxisPlan). t ++ axisPlans n (rest / 2) (drop (suc i) axes)) (take-suc-set plans i p l)
+      ∙ append-assoc (take i plans) (p ∷ []) (axisPlans n (rest / 2) (drop (suc i) axes))
+      ∙ ap (λ (q : AxisPlan). take i plans ++ (q ∷ axisPlans n (rest / 2) (drop (suc i) axes))) e
+      ∙ ap (λ (a : List Axis). take i plans ++ axisPlans n rest a) (sym (drop-cons axes i unsetAxis here))
+
+pub plans-all : (n i m rest : ℕ) (axes : List Axis) (plans : List AxisPlan) → i ≡ length axes → i ≡ length plans
+    → take i plans ++ axisPlans n rest (drop i axes) ≡ axisPlans n m axes → plans ≡ axisPlans n m axes
+plans-all n i m rest axes plans e f h =
+    sym (take-length plans)
+    ∙ ap (λ (j : ℕ). take j plans) (sym f)
+    ∙ sym (append-nil (take i plans))
+    ∙ ap (λ (a : List Axis). take i plans ++ axisPlans n rest a) (sym (ap (λ (j : ℕ). drop j axes) e ∙ drop-length axes))
+    ∙ h
+
+-- the plans of a list of axes
+abbrev pub plansFor : ℕ → List JobAxis → List AxisPlan
+plansFor n xs = map (λ (x : JobAxis). planOf n (x .axis)) xs
+
+pub all-ranged : (n : ℕ) (xs : List JobAxis) → AllReady n xs → AllRanged (plansFor n xs)
+all-ranged n [] r = tt
+all-ranged n (x ∷ xs) r = (plan-ranges (r .0), all-ranged n xs (r .1))
+
+-- ---- the plans that a mask names are those of the axes that it names
+
+pub plans-are : (n i m : ℕ) (xs : List Axis) → setPlans m (axisPlans n m xs) ≡ plansFor n (setAxes i m xs)
+plans-are n i m [] = refl
+plans-are n i m (x ∷ xs) = go (plans-are n (suc i) (m / 2) xs) (eqb (m % 2) 1)
+  where
+    plans : List AxisPlan
+    plans = setPlans (m / 2) (axisPlans n (m / 2) xs)
+
+    axes : List JobAxis
+    axes = setAxes (suc i) (m / 2) xs
+
+    go : plans ≡ plansFor n axes → (b : Bool)
+        → (elim b as (λ _. List AxisPlan) [ true ↦ (elim b as (λ _. AxisPlan) [ true ↦ planOf n x | false ↦ unsetPlan ]) ∷ plans | false ↦ plans ])
+        ≡ plansFor n (elim b as (λ _. List JobAxis) [ true ↦ record { number = i; axis = x } ∷ axes | false ↦ axes ])
+    go rest true = ap (λ (l : List AxisPlan). planOf n x ∷ l) rest
+    go rest false = rest

@@ -1,0 +1,65 @@
+use mathlib.Core.Path.{_≡_, ap, _∙_}
+use Rattle.whole.proofs.Bounds.{exact, exactly, within}
+use borrow.Author.Needs.{needs}
+use lib.IntN.{ℤ, _-ℤ_}
+use mir.Syntax.{w64}
+use mir.Val.{toZ, ofZ}
+use Rattle.model.specs.Motion.{startPosition, displacement}
+use Rattle.motion.proofs.ReadyAxis.{ready-after, ready-landed}
+use Rattle.rows.proofs.ReadyAxes.{plan-feasible, plan-is}
+use Rattle.rows.proofs.axis_plan.Statement.{statement}
+use Rattle.rows.proofs.axis_plan.Tie as tie
+
+landing-at-requires : tie.Need-landing-at-requires
+landing-at-requires c κs = (c .pre .passed, (c .pre .tick, ready-after (c .pre)))
+
+profile-of-requires : tie.Need-profile-of-requires
+profile-of-requires c κs =
+    let r = c .before .pre in
+    (r .passed, (r .tick, (ready-after r, (c .landing-at .ensures, ready-landed r))))
+
+displacement-requires : tie.Need-displacement-requires
+displacement-requires c κs = let l = c .before .landing-at .ensures in (c .before .before .pre .passed, within (search exact depth 9) tt)
+
+-- the displacement, as the number that it is
+abbrev Way : tie.After-displacement → Type 0
+Way d =
+    let a = d .before .before .before in
+    toZ w64 (ofZ w64 (d .displacement .result)) ≡ displacement (a .args .x) (a .args .n)
+
+way : (d : tie.After-displacement) → Way d
+way d =
+    let x = d .before .before .before .args .x in
+    let l = d .before .before .landing-at in
+    let e : toZ w64 (ofZ w64 (d .displacement .result)) ≡ l .result .position -ℤ startPosition x = exactly (search exact depth 9) tt in
+    e ∙ ap (λ (z : ℤ). z -ℤ startPosition x) (l .ensures .position .is)
+
+cruise-requires : tie.Need-cruise-requires
+cruise-requires c κs =
+    let a = c .before .before .before in
+    let f = c .before .profile-of in
+    (f .ensures .ranged, (within (search exact depth 9) tt, plan-feasible (a .args .x) (a .args .n) (f .result) _ (f .ensures .is) (way c) (a .pre)))
+
+start-position-requires : tie.Need-start-position-requires
+start-position-requires c κs = search needs
+
+returns : tie.Need-returns
+returns c =
+    let d = c .before .before .before .before in
+    let a = d .before .before .before in
+    let l = d .before .before .landing-at .ensures in
+    let f = d .before .profile-of in
+    let k = c .before .before .before .cruise .ensures in
+    plan-is (a .args .x) (a .args .n) (f .result) _ (f .ensures .is) (way d) _ _ _ _
+    (exactly (search exact depth 9) tt) (exactly (search exact depth 9) tt) (exactly (search exact depth 9) tt) (k .raised)
+
+pub axis-plan-spec : {M : Type 1} → statement M
+axis-plan-spec =
+    tie.close
+    (tie.spec
+    landing-at-requires
+    profile-of-requires
+    displacement-requires
+    cruise-requires
+    start-position-requires
+    returns)

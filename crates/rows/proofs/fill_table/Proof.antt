@@ -1,0 +1,37 @@
+use mathlib.Core.Path.{_∙_}
+use borrow.Author.Needs.{needs}
+use Rattle.model.specs.Job.{setAxes}
+use Rattle.rows.proofs.ReadyAxes.{AllReady, all-ready}
+use Rattle.rows.proofs.JobTable.{plan-ranged, plan-arrives, plan-fits, plan-rows}
+use Rattle.rows.proofs.fill_table.Statement.{statement}
+use Rattle.rows.proofs.fill_table.Tie as tie
+
+-- each axis of the mask can be planned
+ready : (a : tie.Start) → AllReady (a .args .n) (setAxes 0 (a .args .mask) (a .args .axes))
+ready a = all-ready (a .args .n) (setAxes 0 (a .args .mask) (a .args .axes)) (a .pre .0) (a .pre .1 .0) (a .pre .1 .1 .0)
+
+plan-for-requires : tie.Need-plan-for-requires
+plan-for-requires c κs = search needs
+
+fill-requires : tie.Need-fill-requires
+fill-requires c κs =
+    let a = c .before .before in
+    let p = c .before .plan-for in (
+      plan-ranged (a .args .mask) (a .args .n) (a .args .axes) (ready a) (p .result) (p .ensures),
+      (
+        plan-arrives (a .args .mask) (a .args .n) (a .args .axes) (ready a) (p .result) (p .ensures) (a .pre .1 .0),
+        plan-fits (a .args .mask) (a .args .n) (a .args .axes) (ready a) (p .result) (p .ensures) (a .args .table .now) (a .pre .1 .1 .1),
+      ),
+    )
+
+same-length : tie.Need-same-length
+same-length c = search needs
+
+returns : tie.Need-returns
+returns c =
+    let a = c .before .before .before .before in
+    let p = c .before .before .before .plan-for in
+    c .before .fill .ensures ∙ plan-rows (a .args .mask) (a .args .n) (a .args .axes) (ready a) (p .result) (p .ensures) (a .args .table .now)
+
+pub fill-table-spec : {M : Type 1} → statement M
+fill-table-spec = tie.close (tie.spec plan-for-requires fill-requires same-length returns)

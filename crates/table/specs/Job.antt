@@ -1,0 +1,19 @@
+-- The job of the program's input and the text that it prints (paper 01, "Job words" and "Field cases").
+use Prim.Native.Nat.{ℕ}
+use mathlib.Core.List.{List}
+use lib.IntN.{ℤ, pos}
+use lib.ListN.{take, replicate}
+use Rattle.model.specs.Bytes.{wordsOf}
+use Rattle.model.specs.Outcome.{Input, words, call}
+use Rattle.text.specs.Printed.{printed}
+
+-- at most 256 bytes are read
+abbrev pub jobOf : List ℕ → Input
+jobOf bytes = words (wordsOf (take 256 bytes))
+
+-- the program's table has 8,192 cells, all 0
+abbrev pub lentTable : List ℤ
+lentTable = replicate 8192 (pos 0)
+
+unfoldable pub jobText : List ℕ → List ℕ
+jobText bytes = printed (call (jobOf bytes) lentTable)

@@ -1,0 +1,11 @@
+pub mod Tests
+pub mod Counting
+pub mod Elements
+pub mod Lists
+pub mod Differences
+pub mod Laws
+pub mod Ring
+pub mod Bounds
+pub mod Order
+pub mod Rounding
+pub mod Sums

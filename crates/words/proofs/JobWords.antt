@@ -1,0 +1,195 @@
+-- A whole job: what the code returns at each of its ways out is what the definitions decode.
+use Prim.Native.Nat.{ℕ, suc, _+_, _<_, _≤_}
+use Rattle.whole.proofs.Tests.{either}
+use Rattle.whole.proofs.Counting.{next-one}
+use native.Mathlib.Omega.{arith}
+use mathlib.Core.Path.{_≡_, refl, sym, ap, subst, _∙_}
+use mathlib.Core.Bool.{Bool, true, false, cond, _&&_, and-false, true≢false}
+use mathlib.Core.Logic.{⊎-elim}
+use mathlib.Core.List.{List, [], _∷_}
+use lib.ListN.{getD, length, drop, drop-of-length-le}
+use lib.Seq.{drop-cons}
+use lib.Dec.{eqb, ltb}
+use borrow.Author.Tests.{ltb-true, ltb-false, lt-ltb, le-ltb}
+use Rattle.model.specs.declared.Axis.{Axis}
+use Rattle.model.specs.Job.{Job, JobAxis, setBits}
+use Rattle.model.specs.Words.{kind, payload, Reading, got, wrong, axes, ending, afterMask, goodMask, noMask, badWord, job, decode}
+use Rattle.words.specs.declared.AxesReading.{AxesReading}
+use Rattle.words.specs.declared.DecodedJob.{DecodedJob}
+use Rattle.words.specs.Decoding.{unsetAxes, placed, refusedJob, decodedJob, decidedJob}
+use Rattle.words.specs.ByIndex.{isKind, isEnd, payloadAt, readAll, begun}
+use Rattle.words.proofs.Reader.{on, field-yes, field-no, inside, outside, there}
+use Rattle.words.proofs.AxesWords.{Matches, reads}
+
+-- ---- the end word
+
+abbrev endWord : ℕ → Bool
+endWord w = eqb (kind w) 15 && eqb (payload w) 0
+
+end-inside : (ws : List ℕ) (i : ℕ) → i < length ws → isEnd ws i ≡ endWord (getD ws i 0)
+end-inside ws i h =
+    ap (λ (b : Bool). cond b (eqb (payloadAt ws i) 0) false) (inside ws i 15 h)
+    ∙ both (eqb (kind (getD ws i 0)) 15) (eqb (payloadAt ws i) 0)
+  where
+    both : (b d : Bool) → cond b d false ≡ b && d
+    both true d = refl
+    both false d = refl
+
+-- what `ending` reads at index i, by its tests: an end word, and a word after it
+abbrev ends : {A : Type 0} → A → ℕ → Bool → Bool → Reading A
+ends a i b l = cond b (cond l (wrong (i + 1)) (got a (i + 1) [])) (wrong i)
+
+last-word : {A : Type 0} (a : A) (i w : ℕ) → ending a i (w ∷ []) ≡ ends a i (endWord w) false
+last-word a i w = go (endWord w)
+  where
+    go : (b : Bool) → elim b [ true ↦ got a (suc i) [] | false ↦ wrong i ] ≡ ends a i b false
+    go true = ap (λ (k : ℕ). got a k []) (next-one i)
+    go false = refl
+
+more-words : {A : Type 0} (a : A) (i w u : ℕ) (us : List ℕ) → ending a i (w ∷ u ∷ us) ≡ ends a i (endWord w) true
+more-words a i w u us = go (endWord w)
+  where
+    go : (b : Bool) → elim b [ true ↦ wrong (suc i) | false ↦ wrong i ] ≡ ends a i b true
+    go true = ap (λ (k : ℕ). wrong k) (next-one i)
+    go false = refl
+
+module _ {A : Type 0} (a : A) (ws : List ℕ) (i : ℕ) where
+  ending-there : i < length ws → ending a i (drop i ws) ≡ ends a i (endWord (getD ws i 0)) (ltb (i + 1) (length ws))
+  ending-there h =
+      ap (ending a i) (drop-cons ws i 0 h)
+      ∙ ⊎-elim
+      (λ t. let k = ltb-true (i + 1) (length ws) t in
+      ap (λ (vs : List ℕ). ending a i (getD ws i 0 ∷ vs)) (drop-cons ws (suc i) 0 (omega arith))
+      ∙ more-words a i (getD ws i 0) (getD ws (suc i) 0) (drop (suc (suc i)) ws)
+      ∙ ap (ends a i (endWord (getD ws i 0))) (sym t))
+      (λ t. let k = ltb-false (i + 1) (length ws) t in
+      ap (λ (vs : List ℕ). ending a i (getD ws i 0 ∷ vs)) (drop-of-length-le ws {i = suc i} (omega arith))
+      ∙ last-word a i (getD ws i 0)
+      ∙ ap (ends a i (endWord (getD ws i 0))) (sym t))
+      (either (ltb (i + 1) (length ws)))
+
+  ending-is : ending a i (drop i ws) ≡ ends a i (isEnd ws i) (ltb (i + 1) (length ws))
+  ending-is = ⊎-elim
+      (λ t. let h = ltb-true i (length ws) t in
+      ending-there h ∙ ap (λ (b : Bool). ends a i b (ltb (i + 1) (length ws))) (sym (end-inside ws i h)))
+      (λ t. ap (ending a i) (drop-of-length-le ws {i = i} (ltb-false i (length ws) t))
+      ∙ sym (ap (λ (b : Bool). ends a i (cond b (eqb (payloadAt ws i) 0) false) (ltb (i + 1) (length ws))) (outside ws i 15 t)))
+      (either (ltb i (length ws)))
+
+-- ---- from the mask on
+
+abbrev jobOf : ℕ → ℕ → List JobAxis → Job
+jobOf m asked xs = record { mask = m; asked = asked; axes = xs }
+
+abbrev accepted : ℕ → ℕ → List Axis → DecodedJob
+accepted m asked six = record { number = 0; place = 0; mask = m; asked = asked; axes = six }
+
+-- once the axes are read, by the tests of the end word
+abbrev closed : ℕ → ℕ → ℕ → List Axis → Bool → Bool → DecodedJob
+closed m asked i six b l = cond b (cond l (refusedJob 2 (i + 1)) (accepted m asked six)) (refusedJob 2 i)
+
+-- a reading of axes that the code's reading s matches
+module _ (ws : List ℕ) (m asked : ℕ) (s : AxesReading) where
+  abbrev read : Reading (List JobAxis) → DecodedJob
+  read r = decidedJob (on (λ xs. ending (jobOf m asked xs)) r)
+
+  stopped-is : (r : Reading (List JobAxis)) → Matches ws unsetAxes s r → s .got ≡ false → read r ≡ refusedJob 2 (s .at)
+  stopped-is (got xs j vs) (a, b, c, d) e = absurd (true≢false (sym a ∙ e))
+  stopped-is (wrong p) (a, b) e = ap (refusedJob 2) (sym b)
+
+  closed-is : (r : Reading (List JobAxis)) → Matches ws unsetAxes s r → s .got ≡ true
+      → read r ≡ closed m asked (s .at) (s .axes) (isEnd ws (s .at)) (ltb (s .at + 1) (length ws))
+  closed-is (got xs j vs) (a, b, c, d) e =
+      ap (λ (us : List ℕ). decidedJob (ending (jobOf m asked xs) j us)) c
+      ∙ ap (λ (k : ℕ). decidedJob (ending (jobOf m asked xs) k (drop k ws))) (sym b)
+      ∙ ap decidedJob (ending-is (jobOf m asked xs) ws (s .at))
+      ∙ decided (isEnd ws (s .at)) (ltb (s .at + 1) (length ws))
+      ∙ ap (λ (six : List Axis). closed m asked (s .at) six (isEnd ws (s .at)) (ltb (s .at + 1) (length ws))) (sym d)
+    where
+      decided : (b l : Bool) → decidedJob (ends (jobOf m asked xs) (s .at) b l) ≡ closed m asked (s .at) (placed xs unsetAxes) b l
+      decided true true = refl
+      decided true false = refl
+      decided false l = refl
+  closed-is (wrong p) (a, b) e = absurd (true≢false (sym e ∙ a))
+
+module _ (ws : List ℕ) (m : ℕ) where
+  abbrev after : DecodedJob
+  after = decidedJob (afterMask m 1 (drop 1 ws))
+
+  abbrev by-asked : Reading ℕ → DecodedJob
+  by-asked r = decidedJob (on (λ a i vs. on (λ xs. ending (jobOf m a xs)) (axes (setBits m) i vs)) r)
+
+  pub no-asked : isKind ws 1 2 ≡ false → refusedJob 2 1 ≡ after
+  no-asked e = sym (ap by-asked (field-no ws 2 1 e))
+
+  module _ (e : isKind ws 1 2 ≡ true) (asked : ℕ) (a : asked ≡ payloadAt ws 1) (s : AxesReading) (is : s ≡ readAll ws 6 0 m begun) where
+    axes-read : Reading (List JobAxis)
+    axes-read = axes (setBits m) 2 (drop 2 ws)
+
+    matches : Matches ws unsetAxes s axes-read
+    unfolding axes-read
+    matches = subst (λ (q : AxesReading). Matches ws unsetAxes q (axes (setBits m) 2 (drop 2 ws))) (sym is) (reads ws 6 0 m 2 unsetAxes)
+
+    after-is : after ≡ read ws m asked s axes-read
+    unfolding axes-read
+    after-is =
+        ap by-asked (field-yes ws 2 1 e)
+        ∙ ap (λ (k : ℕ). decidedJob (on (λ xs. ending (jobOf m k xs)) (axes (setBits m) 2 (drop 2 ws)))) (sym a)
+
+    pub wrong-axis : s .got ≡ false → refusedJob 2 (s .at) ≡ after
+    wrong-axis h = sym (after-is ∙ stopped-is ws m asked s axes-read matches h)
+
+    by-end : (b l : Bool) → s .got ≡ true → isEnd ws (s .at) ≡ b → ltb (s .at + 1) (length ws) ≡ l → closed m asked (s .at) (s .axes) b l ≡ after
+    by-end b l h p q =
+        sym
+        (after-is
+        ∙ closed-is ws m asked s axes-read matches h
+        ∙ (λ i. closed m asked (s .at) (s .axes) (p i) (q i)))
+
+    pub no-end : s .got ≡ true → isEnd ws (s .at) ≡ false → refusedJob 2 (s .at) ≡ after
+    no-end h p = by-end false (ltb (s .at + 1) (length ws)) h p refl
+
+    pub left-over : s .got ≡ true → isEnd ws (s .at) ≡ true → s .at + 1 < length ws → refusedJob 2 (s .at + 1) ≡ after
+    left-over h p k = by-end true true h p (lt-ltb _ _ k)
+
+    pub whole-job : s .got ≡ true → isEnd ws (s .at) ≡ true → length ws ≤ s .at + 1 → accepted m asked (s .axes) ≡ after
+    whole-job h p k = by-end true false h p (le-ltb _ _ k)
+
+-- ---- the mask
+
+-- `decode` of a word and those after it, by the test of its mask
+abbrev by-mask : ℕ → List ℕ → Bool → DecodedJob
+by-mask w ws b = elim b [ true ↦ decidedJob (afterMask (payload w) 1 ws) | false ↦ refusedJob 1 0 ]
+
+decode-is : (w : ℕ) (ws : List ℕ) → decodedJob (decode (w ∷ ws)) ≡ by-mask w ws (eqb (kind w) 1 && goodMask (payload w))
+decode-is w ws = go (eqb (kind w) 1 && goodMask (payload w))
+  where
+    reading : (r : Reading Job) → decodedJob (elim r [ got j i vs ↦ job j | wrong p ↦ badWord p ]) ≡ decidedJob r
+    reading (got j i vs) = refl
+    reading (wrong p) = refl
+
+    go : (b : Bool)
+        → decodedJob (elim b [ true ↦ elim (afterMask (payload w) 1 ws) [ got j i vs ↦ job j | wrong p ↦ badWord p ] | false ↦ noMask ])
+        ≡ by-mask w ws b
+    go true = reading (afterMask (payload w) 1 ws)
+    go false = refl
+
+pub no-mask-word : (ws : List ℕ) → isKind ws 0 1 ≡ false → refusedJob 1 0 ≡ decodedJob (decode ws)
+no-mask-word [] e = refl
+no-mask-word (w ∷ ws) e =
+    sym (decode-is w ws ∙ ap (λ (b : Bool). by-mask w ws (b && goodMask (payload w))) (sym (inside (w ∷ ws) 0 1 (omega arith)) ∙ e))
+
+pub bad-mask : (ws : List ℕ) → goodMask (payloadAt ws 0) ≡ false → refusedJob 1 0 ≡ decodedJob (decode ws)
+bad-mask [] e = refl
+bad-mask (w ∷ ws) e =
+    sym
+    (decode-is w ws
+    ∙ ap (λ (b : Bool). by-mask w ws (eqb (kind w) 1 && b)) e
+    ∙ ap (by-mask w ws) (and-false (eqb (kind w) 1)))
+
+pub good-mask : (ws : List ℕ) → isKind ws 0 1 ≡ true → goodMask (payloadAt ws 0) ≡ true
+    → decidedJob (afterMask (payloadAt ws 0) 1 (drop 1 ws)) ≡ decodedJob (decode ws)
+good-mask [] e f = absurd (let z = there [] 0 1 e in omega arith)
+good-mask (w ∷ ws) e f =
+    let k : eqb (kind w) 1 ≡ true = sym (inside (w ∷ ws) 0 1 (omega arith)) ∙ e in
+    sym (decode-is w ws ∙ (λ i. by-mask w ws (k i && f i)))

@@ -1,0 +1,37 @@
+use Prim.Native.Nat.{_%_, _^_}
+use Rattle.whole.proofs.Bounds.{exact, sfits, exactly}
+use native.Mathlib.Omega.{arith}
+use mathlib.Core.Path.{_∙_}
+use mir.Val.{Fits}
+use mir.Syntax.{w32}
+use borrow.Author.Needs.{needs}
+use Rattle.words.proofs.Twos as twos
+use Rattle.words.proofs.signed_payload.Statement.{statement}
+use Rattle.words.proofs.signed_payload.Tie as tie
+
+cast-result : tie.Need-cast-result
+cast-result c = search needs
+
+returns : tie.Need-returns
+returns c =
+    let n = c .before .args .word % 2 ^ 28 in
+    let f : Fits w32 n = record { fits = omega arith } in
+    exactly (search exact depth 9) tt ∙ twos.clear n (c .if1 .taken)
+
+cast-result-2 : tie.Need-cast-result-2
+cast-result-2 c = search needs
+
+sub-result : tie.Need-sub-result
+sub-result c =
+    let n = c .before .args .word % 2 ^ 28 in
+    let f : Fits w32 n = record { fits = omega arith } in
+    sfits (search exact depth 9) tt
+
+returns-2 : tie.Need-returns-2
+returns-2 c =
+    let n = c .before .args .word % 2 ^ 28 in
+    let f : Fits w32 n = record { fits = omega arith } in
+    exactly (search exact depth 9) tt ∙ twos.set n (c .if1 .left) (omega arith)
+
+pub signed-payload-spec : {M : Type 1} → statement M
+signed-payload-spec = tie.close (tie.spec cast-result returns cast-result-2 sub-result returns-2)

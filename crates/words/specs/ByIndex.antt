@@ -1,0 +1,87 @@
+-- How the code reads words: by index into the whole list, where the definitions of `Words` take one word after another.
+use Prim.Native.Nat.{ℕ, zero, suc, _+_, _/_, _%_}
+use mathlib.Core.Bool.{Bool, true, false, cond}
+use mathlib.Core.List.{List}
+use lib.IntN.{ℤ}
+use lib.ListN.{getD, length, drop, set}
+use lib.Dec.{eqb, ltb}
+use Rattle.model.specs.declared.Axis.{Axis}
+use Rattle.model.specs.declared.State.{State}
+use Rattle.model.specs.declared.Target.{Target}
+use Rattle.model.specs.declared.RestPoint.{RestPoint}
+use Rattle.model.specs.Words.{kind, payload, twos, Reading, got, wrong, axis}
+use Rattle.words.specs.declared.AxisReading.{AxisReading}
+use Rattle.words.specs.declared.AxisReading.the-variants.{Got, Wrong}
+use Rattle.words.specs.declared.AxesReading.{AxesReading}
+use Rattle.words.specs.Decoding.{unsetAxes}
+
+-- ---- one word
+
+abbrev pub payloadAt : List ℕ → ℕ → ℕ
+payloadAt ws i = payload (getD ws i 0)
+
+abbrev pub signedAt : List ℕ → ℕ → ℤ
+signedAt ws i = twos (payloadAt ws i)
+
+-- word i is there and of kind k
+unfoldable pub isKind : List ℕ → ℕ → ℕ → Bool
+isKind ws i k = cond (ltb i (length ws)) (eqb (kind (getD ws i 0)) k) false
+
+-- word i is the end word
+abbrev pub isEnd : List ℕ → ℕ → Bool
+isEnd ws i = cond (isKind ws i 15) (eqb (payloadAt ws i) 0) false
+
+-- the first index from i on whose word is not of the kind due there: k, k + 1, .., of n words; i + n where each is
+unfoldable pub firstWrong : List ℕ → ℕ → ℕ → ℕ → ℕ
+firstWrong ws i k zero = i
+firstWrong ws i k (suc n) = cond (isKind ws i k) (firstWrong ws (suc i) (suc k) n) i
+
+-- ---- one axis, whose words begin at i
+
+unfoldable pub restAt : List ℕ → ℕ → RestPoint
+restAt ws i = record { position = signedAt ws i; velocity = signedAt ws (i + 1) }
+
+unfoldable pub stateAt : List ℕ → ℕ → State
+stateAt ws i =
+    record {
+      position = signedAt ws i;
+      velocity = signedAt ws (i + 1);
+      acceleration = signedAt ws (i + 2);
+      tick = signedAt ws (i + 3);
+    }
+
+unfoldable pub axisAt : List ℕ → ℕ → Target → Axis
+axisAt ws i g =
+    record {
+      start = restAt ws i;
+      «speed_limit» = payloadAt ws (i + 2);
+      «acceleration_limit» = payloadAt ws (i + 3);
+      «half_period» = payloadAt ws (i + 4);
+      «second_weight» = payloadAt ws (i + 5);
+      target = g;
+    }
+
+-- a reading of the definitions, without the words after it
+abbrev pub axisReading : Reading Axis → AxisReading
+axisReading (got x j ws) = Got x j
+axisReading (wrong p) = Wrong p
+
+-- ---- the axes of a mask
+
+-- what was read so far, with axis i
+abbrev pub withAxis : ℕ → AxesReading → AxisReading → AxesReading
+withAxis i s (Got x j) = record { got = true; at = j; axes = set (s .axes) i x }
+withAxis i s (Wrong p) = record { got = false; at = p; axes = s .axes }
+
+-- with axis i, where the lowest bit of m names it and no word before was wrong
+abbrev pub readOn : List ℕ → ℕ → ℕ → AxesReading → AxesReading
+readOn ws i m s = cond (s .got) (cond (eqb (m % 2) 1) (withAxis i s (axisReading (axis (s .at) (drop (s .at) ws)))) s) s
+
+-- n axes from number i on
+unfoldable pub readAll : List ℕ → ℕ → ℕ → ℕ → AxesReading → AxesReading
+readAll ws zero i m s = s
+readAll ws (suc n) i m s = readAll ws n (suc i) (m / 2) (readOn ws i m s)
+
+-- no axis read; their words begin at index 2
+abbrev pub begun : AxesReading
+begun = record { got = true; at = 2; axes = unsetAxes }

@@ -1,0 +1,44 @@
+-- What decoding a job's words gives back, from what the definition `decode` says of them.
+use Prim.Native.Nat.{ℕ}
+use mathlib.Core.Path.{_≡_}
+use mathlib.Core.Bool.{true}
+use mathlib.Core.List.{List, [], _∷_}
+use lib.ListN.{set, replicate}
+use Rattle.model.specs.declared.Axis.{Axis}
+use Rattle.model.specs.Job.{Job, JobAxis, typedJob, unsetAxis}
+use Rattle.model.specs.Words.{Reading, got, wrong, Decoded, noMask, badWord, job, decode, goodMask}
+use Rattle.words.specs.declared.DecodedJob.{DecodedJob}
+
+-- six axes, none of them set
+abbrev pub unsetAxes : List Axis
+unsetAxes = replicate 6 unsetAxis
+
+-- the axes of a job at their numbers, in a list of axes
+abbrev pub placed : List JobAxis → List Axis → List Axis
+placed [] six = six
+placed (x ∷ xs) six = placed xs (set six (x .number) (x .axis))
+
+abbrev pub acceptedJob : Job → DecodedJob
+acceptedJob j = record { number = 0; place = 0; mask = j .mask; asked = j .asked; axes = placed (j .axes) unsetAxes }
+
+abbrev pub refusedJob : ℕ → ℕ → DecodedJob
+refusedJob number place = record { number = number; place = place; mask = 0; asked = 0; axes = unsetAxes }
+
+-- refusal 1, refusal 2 with its place, or the job
+abbrev pub decodedJob : Decoded → DecodedJob
+decodedJob noMask = refusedJob 1 0
+decodedJob (badWord p) = refusedJob 2 p
+decodedJob (job j) = acceptedJob j
+
+-- the same after an allowed mask
+abbrev pub decidedJob : Reading Job → DecodedJob
+decidedJob (got j i ws) = acceptedJob j
+decidedJob (wrong p) = refusedJob 2 p
+
+-- what `decode` gives back for the words ws
+pub record Decodes (ws : List ℕ) (r : DecodedJob) : Type 0 where
+  -- every field, from the definition
+  pub decoded : r ≡ decodedJob (decode ws)
+  -- number 0: the definition's job is that of the mask, the asked arrival and the six axes as typed values, and the mask is allowed
+  pub typed : r .number ≡ 0 → decode ws ≡ job (typedJob (r .mask) (r .asked) (r .axes))
+  pub allowed : r .number ≡ 0 → goodMask (r .mask) ≡ true

@@ -1,0 +1,9 @@
+//! What the tests of the planner from outside share: the calls of the static library, a reference written from paper 01
+//! that finds its sums by areas and not tick by tick, and random jobs with a fixed seed.
+
+pub mod jobs;
+pub mod leg;
+pub mod library;
+pub mod random;
+pub mod reference;
+pub mod swing;

@@ -1,0 +1,168 @@
+//! The library and the reference agree on random jobs, valid and damaged, from words and from typed values: on the
+//! answer and on every lent cell, those past the table and those of a refused call among them. More than 200,000 calls
+//! are compared.
+
+use outside::jobs::{self, Reach};
+use outside::library;
+use outside::random::Random;
+use outside::reference::{self, Answer, Job};
+
+/// What is compared for a job, and the memory that is lent.
+struct Comparison {
+    random: Random,
+    got: Vec<i64>,
+    want: Vec<i64>,
+    /// How many calls gave each number.
+    seen: [usize; 11],
+    /// How many jobs that search past tick `LONG` are still tried; the others are left out, since such a search takes
+    /// milliseconds.
+    long_searches: usize,
+}
+
+/// A search that ends later than this, or nowhere, is a long one.
+const LONG: i64 = 200;
+
+impl Comparison {
+    fn new(seed: u64, long_searches: usize) -> Comparison {
+        Comparison { random: Random::new(seed), got: Vec::new(), want: Vec::new(), seen: [0; 11], long_searches }
+    }
+
+    /// Lends both sides the same cells.
+    fn lend(&mut self, cells: usize) {
+        let fill = self.random.word() as i64;
+        self.got.clear();
+        self.got.extend((0..cells as i64).map(|i| fill ^ (i << 32)));
+        self.want.clone_from(&self.got);
+    }
+
+    /// A number of cells about what `job` may need: too few, just enough, or more.
+    fn some_cells(&mut self, job: &Job, most_rows: usize) -> usize {
+        let row = 3 * job.mask.count_ones().max(1) as usize;
+        match self.random.below(8) {
+            0 => self.random.below(row * 4),
+            1 if 0 < job.asked && job.asked <= 4096 => row * (job.asked as usize + 1),
+            2 if 0 < job.asked && job.asked <= 4096 => row * (job.asked as usize + 1) - 1,
+            _ => row * most_rows + self.random.below(7),
+        }
+    }
+
+    /// Whether the job is tried.
+    fn tries(&mut self, job: &Job) -> bool {
+        let long = job.searches_past(LONG);
+        if long && self.long_searches == 0 {
+            return false;
+        }
+        self.long_searches -= usize::from(long);
+        true
+    }
+
+    fn compare(&mut self, got: Answer, want: Answer, job: &dyn std::fmt::Debug) {
+        assert_eq!(got, want, "{job:?}");
+        if let Some(at) = (0..self.got.len()).find(|&i| self.got[i] != self.want[i]) {
+            panic!("cell {at} is {} for {}: {job:?}", self.got[at], self.want[at]);
+        }
+        self.seen[want.number as usize] += 1;
+    }
+
+    fn typed(&mut self, job: &Job, cells: usize) {
+        if !self.tries(job) {
+            return;
+        }
+        self.lend(cells);
+        let unread = self.random.word() as i64;
+        let (signed, mut unsigned) = library::flat(&job.axes, unread);
+        for i in 0..6 {
+            if unsigned[5 * i + 4] != 0 {
+                unsigned[5 * i + 4] = self.random.pick(&[1, 2, 1 << 31, u32::MAX]);
+            }
+        }
+        let got = library::plan_flat(job.mask, job.asked, &signed, &unsigned, &mut self.got);
+        let want = job.plan(&mut self.want);
+        self.compare(got, want, job);
+    }
+
+    fn words(&mut self, words: &[u32], cells: usize) {
+        if reference::decode(words).is_ok_and(|job| !self.tries(&job)) {
+            return;
+        }
+        self.lend(cells);
+        let got = library::plan_words(words, &mut self.got);
+        let want = reference::plan_words(words, &mut self.want);
+        self.compare(got, want, &words);
+    }
+
+    /// Prints how many calls gave each number, and asks that there were enough of them.
+    fn report(&self, name: &str, least: usize) {
+        eprintln!("{name}: calls by number {:?}", self.seen);
+        assert!(self.seen.iter().sum::<usize>() >= least, "{name}: {:?}", self.seen);
+    }
+
+    /// `count` jobs of a reach, each from typed values and from words, whole and damaged.
+    fn run(&mut self, reach: Reach, count: usize, most_rows: usize) {
+        for _ in 0..count {
+            let job = jobs::job(&mut self.random, reach);
+            let cells = self.some_cells(&job, most_rows);
+            self.typed(&job, cells);
+            let damaged = jobs::damaged_job(&mut self.random, &job);
+            self.typed(&damaged, cells);
+            let words = jobs::words(&job);
+            self.words(&words, cells);
+            let damaged = jobs::damaged_words(&mut self.random, &words);
+            self.words(&damaged, cells);
+        }
+    }
+}
+
+#[test]
+fn near_jobs_agree() {
+    let mut comparison = Comparison::new(1, 20);
+    comparison.run(Reach::Near, 40_000, 60);
+    comparison.report("near", 145_000);
+    assert!(comparison.seen.iter().all(|&n| n > 0), "{:?}", comparison.seen);
+}
+
+#[test]
+fn quick_jobs_agree() {
+    let mut comparison = Comparison::new(2, 20);
+    comparison.run(Reach::Quick, 10_000, 100);
+    comparison.report("quick", 33_000);
+    assert!(comparison.seen[0] > 1_000);
+}
+
+#[test]
+fn asked_jobs_agree() {
+    let mut comparison = Comparison::new(3, 5);
+    comparison.run(Reach::Asked, 1_000, 4_097);
+    comparison.report("asked", 3_500);
+    assert!(comparison.seen[0] > 100);
+}
+
+#[test]
+fn far_jobs_agree() {
+    let mut comparison = Comparison::new(4, usize::MAX);
+    comparison.run(Reach::Far, 40, 4_097);
+    comparison.run(Reach::Anywhere, 10, 4_097);
+    comparison.report("far", 200);
+    assert!(comparison.seen[0] > 20 && comparison.seen[9] > 20, "{:?}", comparison.seen);
+}
+
+#[test]
+fn stray_words_agree() {
+    let mut comparison = Comparison::new(5, 5);
+    for _ in 0..20_000 {
+        let words = jobs::stray_words(&mut comparison.random);
+        comparison.words(&words, 2_000);
+    }
+    comparison.report("stray", 19_900);
+    assert!(comparison.seen[2] > 1_000);
+}
+
+#[test]
+fn random_words_agree() {
+    let mut comparison = Comparison::new(6, 0);
+    for _ in 0..1_000 {
+        let count = comparison.random.below(14);
+        let words: Vec<u32> = (0..count).map(|_| comparison.random.word() as u32).collect();
+        comparison.words(&words, 40);
+    }
+}

@@ -1,0 +1,190 @@
+//! The field cases and the traps of paper 01, and jobs that its text decides where it is easily misread, with the
+//! paper's own numbers: the library and the reference both give them, from typed values and from words.
+
+use outside::jobs;
+use outside::library;
+use outside::reference::{self, Answer, Axis, Job, Target, UNSET};
+
+/// L = 10, M = 1, h = 0, B = 128, start 0 at rest.
+const PLAIN: Axis = Axis {
+    start_position: 0,
+    start_velocity: 0,
+    speed_limit: 10,
+    acceleration_limit: 1,
+    half_period: 0,
+    second_weight: 128,
+    target: Target::Fixed { position: 0, velocity: 0 },
+};
+
+fn to(position: i64) -> Axis {
+    Axis { target: Target::Fixed { position, velocity: 0 }, ..PLAIN }
+}
+
+fn after(position: i64, velocity: i64, acceleration: i64, tick: i64) -> Axis {
+    Axis { target: Target::Moving { position, velocity, acceleration, tick }, ..PLAIN }
+}
+
+fn one(axis: Axis) -> Job {
+    job(&[axis])
+}
+
+fn job(axes: &[Axis]) -> Job {
+    let mut all = [UNSET; 6];
+    all[..axes.len()].copy_from_slice(axes);
+    Job { mask: (1 << axes.len()) - 1, asked: 0, axes: all }
+}
+
+fn asked(job: Job, asked: u32) -> Job {
+    Job { asked, ..job }
+}
+
+/// The answer of all four calls, which agree, and the first axis's rows where it is accepted.
+fn outcome(job: Job, cells: usize) -> (Answer, Vec<[i64; 3]>) {
+    let tables = &mut [vec![7; cells], vec![7; cells], vec![7; cells], vec![7; cells]];
+    let answers = [
+        library::plan_typed(job.mask, job.asked, &job.axes, &mut tables[0]),
+        library::plan_words(&jobs::words(&job), &mut tables[1]),
+        job.plan(&mut tables[2]),
+        reference::plan_words(&jobs::words(&job), &mut tables[3]),
+    ];
+    assert!(answers.iter().all(|answer| *answer == answers[0]), "{answers:?}");
+    assert!(tables.iter().all(|table| *table == tables[0]));
+    let answer = answers[0];
+    let mut rows = Vec::new();
+    if answer.number == 0 {
+        let width = 3 * answer.mask.count_ones() as usize;
+        rows =
+            tables[0].chunks(width).take(answer.arrival as usize + 1).map(|row| row[..3].try_into().unwrap()).collect();
+    }
+    (answer, rows)
+}
+
+fn arrival(job: Job) -> u32 {
+    let (answer, _) = outcome(job, 2_000);
+    assert_eq!((answer.number, answer.place, answer.mask), (0, 0, job.mask));
+    answer.arrival
+}
+
+fn refused(job: Job) -> (u32, u64, u32, u32) {
+    let (answer, _) = outcome(job, 2_000);
+    (answer.number, answer.place, answer.mask, answer.arrival)
+}
+
+fn column(job: Job, which: usize) -> Vec<i64> {
+    outcome(job, 2_000).1.iter().map(|row| row[which]).collect()
+}
+
+fn positions(job: Job) -> Vec<i64> {
+    column(job, 0)
+}
+
+fn velocities(job: Job) -> Vec<i64> {
+    column(job, 1)
+}
+
+fn accelerations(job: Job) -> Vec<i64> {
+    column(job, 2)
+}
+
+/// Case F's axis.
+fn flying(position: i64) -> Axis {
+    Axis { speed_limit: 20, start_velocity: 10, target: Target::Fixed { position, velocity: 10 }, ..PLAIN }
+}
+
+#[test]
+fn field_cases() {
+    let a = one(Axis { start_position: 5, ..to(5) });
+    assert_eq!(outcome(a, 6).1, [[1280, 0, 0], [1280, 0, 0]]);
+    let b = one(to(4));
+    assert_eq!(positions(b), [0, 128, 512, 896, 1024]);
+    let c = asked(one(to(1)), 4);
+    assert_eq!(outcome(c, 15).1, [[0, 0, 86], [43, 86, -1], [129, 85, 0], [214, 85, -85], [256, 0, 0]]);
+    let d = one(Axis { half_period: 1, ..to(1) });
+    assert_eq!(positions(d), [0, 64, 192, 256]);
+    assert_eq!(velocities(d), [0, 128, 128, 0]);
+    assert_eq!(accelerations(d), [128, 0, -128, 0]);
+    assert_eq!(refused(asked(b, 3)), (8, 0, 1, 0));
+    let f = one(flying(10));
+    assert_eq!(arrival(f), 1);
+    assert_eq!(refused(asked(f, 2)), (8, 0, 1, 0));
+    assert_eq!(refused(asked(f, 38)), (8, 0, 1, 0));
+    assert_eq!(arrival(asked(f, 39)), 39);
+    assert_eq!(arrival(one(to(1))), 2);
+    assert_eq!(arrival(job(&[flying(10), to(1)])), 39);
+    let h = one(after(0, 1, 0, 0));
+    assert_eq!(velocities(h), [0, 256, 384, 256]);
+    assert_eq!(library::plan_words(&[], &mut []).number, 1);
+    assert_eq!(library::plan_words(&[0x1000_0040], &mut []).number, 1);
+    assert_eq!(library::plan_words(&[0x1000_003F], &mut []), Answer { number: 2, place: 1, mask: 0, arrival: 0 });
+    assert_eq!(outcome(c, 14).0, Answer { number: 10, place: 0, mask: 0, arrival: 4 });
+    assert_eq!(refused(one(Axis { second_weight: 129, ..to(1) })), (5, 0, 0, 0));
+    assert_eq!(refused(one(Axis { speed_limit: 1, ..to(100_000_000) })), (9, 0, 1, 0));
+}
+
+#[test]
+fn the_words_of_case_c() {
+    let words = [
+        0x1000_0001,
+        0x2000_0004,
+        0x3000_0000,
+        0x4000_0000,
+        0x5000_000A,
+        0x6000_0001,
+        0x7000_0000,
+        0x8000_0080,
+        0x9000_0001,
+        0xA000_0000,
+        0xF000_0000,
+    ];
+    assert_eq!(jobs::words(&asked(one(to(1)), 4)), words);
+    let bytes: Vec<u8> = words.iter().flat_map(|word| word.to_le_bytes()).collect();
+    let text = "arrival 4\n0 0 0 86\n1 43 86 -1\n2 129 85 0\n3 214 85 -85\n4 256 0 0\n";
+    assert_eq!(reference::printed(&bytes), text);
+}
+
+#[test]
+fn traps_of_this_trade() {
+    assert_eq!(arrival(one(flying(30))), 3);
+    assert_eq!(positions(asked(one(Axis { half_period: 1, ..to(1) }), 54))[1], 1);
+}
+
+#[test]
+fn easily_misread() {
+    // The speed limit holds for the planned velocity at landing and at arrival.
+    let wide = Axis { acceleration_limit: 2, half_period: 1, ..after(0, 0, 1, 0) };
+    assert_eq!(refused(asked(one(wide), 10)), (8, 0, 1, 0));
+    // One axis that fails is enough.
+    assert_eq!(refused(asked(job(&[flying(10), to(1)]), 2)), (8, 0, 1, 0));
+    // N > h even when nothing moves.
+    assert_eq!(arrival(one(Axis { start_position: 5, half_period: 1, ..to(5) })), 2);
+    // A fixed target that flies has its tick at the arrival.
+    let passing =
+        Axis { start_velocity: 1, half_period: 4, target: Target::Fixed { position: 8, velocity: 1 }, ..PLAIN };
+    assert_eq!(arrival(one(passing)), 7);
+    // Half units of a moving target are kept.
+    assert_eq!(outcome(one(after(0, 0, 1, 0)), 6).1, [[0, 0, 256], [128, 256, 256]]);
+    // Halves go toward plus infinity.
+    let back = asked(one(to(-1)), 4);
+    assert_eq!(velocities(back), [0, -85, -85, -86, 0]);
+    assert_eq!(positions(back), [0, -42, -127, -213, -256]);
+    // A moving target is carried back before its tick.
+    assert_eq!(arrival(one(after(10, 1, 0, 10))), 3);
+    // By number, then by axis.
+    let two = job(&[Axis { half_period: 300, ..to(1) }, Axis { speed_limit: 0, ..to(1) }]);
+    assert_eq!(refused(two), (4, 1, 0, 0));
+    // The place is the axis's number, not its rank.
+    let mut third = Job { mask: 4, ..one(UNSET) };
+    third.axes[2] = Axis { speed_limit: 0, ..to(1) };
+    assert_eq!(refused(third), (4, 2, 0, 0));
+    // Each axis alone arrives, and never both at once.
+    assert_eq!(refused(job(&[after(0, 0, 1, 0), to(1000)])), (9, 0, 0, 0));
+    // A typed asked arrival above 4,096 names word 1 all the same.
+    assert_eq!(refused(asked(one(to(1)), 4_097)), (3, 1, 0, 0));
+    // The first offender is the end word, before what is left over.
+    let mut words = jobs::words(&one(to(1)));
+    *words.last_mut().unwrap() += 1;
+    words.push(0);
+    let wanted = Answer { number: 2, place: 10, mask: 0, arrival: 0 };
+    assert_eq!(library::plan_words(&words, &mut []), wanted);
+    assert_eq!(reference::plan_words(&words, &mut []), wanted);
+}

@@ -1,0 +1,116 @@
+//! Demand 3 of paper 01 on the tables that the library writes: the landing is exact, both misses are at most 3/2 fine
+//! steps on every row, and the sway of every kind of swing list is 0 before rounding and at most N times G as rounded.
+//! The limits on cells hold too.
+
+use outside::jobs::{self, Reach};
+use outside::library;
+use outside::random::Random;
+use outside::reference::{Axis, Job, Planned};
+use outside::swing;
+
+/// The cells of one axis of a table, a row each.
+fn rows_of(table: &[i64], axes: usize, rank: usize, arrival: usize) -> Vec<[i64; 3]> {
+    (0..=arrival).map(|k| table[3 * (axes * k + rank)..][..3].try_into().unwrap()).collect()
+}
+
+fn landing_is_exact(axis: &Axis, arrival: i64, last: [i64; 3]) {
+    let (twice_position, velocity) = axis.target.at(arrival, arrival);
+    let want = [128 * twice_position, 256 * velocity, 256 * axis.target.acceleration()];
+    assert_eq!(last, want, "{axis:?} at {arrival}");
+}
+
+fn misses_are_small(rows: &[[i64; 3]]) {
+    for pair in rows.windows(2) {
+        let ([p, v, a], [next_p, next_v, _]) = (pair[0], pair[1]);
+        assert!((2 * (p + v - next_p) + a).abs() <= 3, "position: {pair:?}");
+        assert!(2 * (v + a - next_v).abs() <= 3, "velocity: {pair:?}");
+    }
+}
+
+fn cells_are_within_limits(axis: &Axis, rows: &[[i64; 3]]) {
+    let (speed, acceleration) = (256 * i64::from(axis.speed_limit), 256 * i64::from(axis.acceleration_limit));
+    assert!(rows.iter().all(|&[_, v, a]| v.abs() <= speed && a.abs() <= acceleration), "{axis:?}");
+}
+
+/// Tries swing lists of an axis with a blend, for ticks from the arrival on. Answers how many were not zero.
+fn sway_is_cancelled(random: &mut Random, axis: &Axis, arrival: usize, rows: &[[i64; 3]], lists: usize) -> usize {
+    let (h, b) = (axis.half_period as usize, i64::from(axis.second_weight));
+    let rounded: Vec<i64> = rows.iter().map(|row| row[2]).collect();
+    let planned = Planned::reaching(axis, arrival as i64).unwrap().with_list();
+    let exact: Vec<i64> = (0..=arrival as i64).map(|k| planned.exact(axis, k).acceleration).collect();
+    let longest = swing::longest(h, b, arrival + 3_000);
+    let mut tried = 0;
+    for _ in 0..lists {
+        if longest < arrival {
+            // No list of this length with entries that can be held here but the zero list.
+            assert_eq!(swing::sway(&rounded, &vec![0; arrival + 1]), 0);
+            break;
+        }
+        let m = match random.below(3) {
+            0 => arrival,
+            1 => random.between(arrival as i64, longest.min(arrival + 2 * h) as i64) as usize,
+            _ => random.between(arrival as i64, longest as i64) as usize,
+        };
+        let g = swing::list(random, h, b, m);
+        assert!(swing::is_swing(&g, h, b));
+        let most = g.iter().map(|entry| entry.abs()).max().unwrap();
+        assert_eq!(swing::sway(&exact, &g), 0, "{axis:?} at {arrival}, tick {m}");
+        assert!(swing::sway(&rounded, &g).abs() <= arrival as i128 * most, "{axis:?} at {arrival}, tick {m}");
+        tried += usize::from(most > 0);
+    }
+    tried
+}
+
+/// Tries `count` jobs of a reach; answers how many axes were landed, and how many swing lists that are not zero were
+/// tried on undamped and on damped axes.
+fn run(seed: u64, reach: Reach, count: usize, lists: usize) -> [usize; 3] {
+    let mut random = Random::new(seed);
+    let mut table = vec![0; 3 * 6 * 4_097];
+    let mut tried = [0; 3];
+    for _ in 0..count {
+        let job: Job = jobs::job(&mut random, reach);
+        if job.searches_past(100) {
+            continue;
+        }
+        let answer = if random.once_in(2) {
+            library::plan_typed(job.mask, job.asked, &job.axes, &mut table)
+        } else {
+            library::plan_words(&jobs::words(&job), &mut table)
+        };
+        if answer.number != 0 {
+            continue;
+        }
+        let arrival = answer.arrival as usize;
+        for (rank, (_, axis)) in job.set().enumerate() {
+            let rows = rows_of(&table, job.count(), rank, arrival);
+            landing_is_exact(axis, arrival as i64, rows[arrival]);
+            misses_are_small(&rows);
+            cells_are_within_limits(axis, &rows);
+            tried[0] += 1;
+            if axis.half_period > 0 {
+                let kind = if axis.second_weight == 128 { 1 } else { 2 };
+                tried[kind] += sway_is_cancelled(&mut random, axis, arrival, &rows, lists);
+            }
+        }
+    }
+    eprintln!("{reach:?}: axes, undamped and damped lists {tried:?}");
+    tried
+}
+
+#[test]
+fn near_jobs_meet_demand_3() {
+    let tried = run(11, Reach::Near, 10_000, 3);
+    assert!(tried.iter().all(|&n| n > 1_000), "{tried:?}");
+}
+
+#[test]
+fn quick_jobs_meet_demand_3() {
+    let tried = run(12, Reach::Quick, 5_000, 3);
+    assert!(tried.iter().all(|&n| n > 500), "{tried:?}");
+}
+
+#[test]
+fn asked_jobs_meet_demand_3() {
+    let tried = run(13, Reach::Asked, 1_000, 2);
+    assert!(tried[0] > 200 && tried[1] > 100 && tried[2] > 10, "{tried:?}");
+}

@@ -1,0 +1,178 @@
+//! Values at the ends of their types and ranges, one field at a time and on every axis; every mask; tables of every
+//! length about the cells needed.
+
+use outside::jobs::{with_signed, with_unsigned, SIGNED_ENDS, UNSIGNED_ENDS};
+use outside::library;
+use outside::reference::{Answer, Axis, Job, Target, UNSET};
+
+const FIXED: Axis = Axis {
+    start_position: 0,
+    start_velocity: 0,
+    speed_limit: 1_048_576,
+    acceleration_limit: 65_536,
+    half_period: 2,
+    second_weight: 128,
+    target: Target::Fixed { position: 7, velocity: 0 },
+};
+
+const MOVING: Axis = Axis { target: Target::Moving { position: 7, velocity: 3, acceleration: 0, tick: 2 }, ..FIXED };
+
+/// The answers and the cells agree. An asked arrival keeps the library from a long search; a job without one reaches
+/// its target soon.
+fn agrees(job: &Job, cells: usize) -> Answer {
+    let mut got: Vec<i64> = (0..cells as i64).map(|i| !i).collect();
+    let mut want = got.clone();
+    let answer = library::plan_typed(job.mask, job.asked, &job.axes, &mut got);
+    assert_eq!(answer, job.plan(&mut want), "{job:?}");
+    assert!(got == want, "{job:?}");
+    answer
+}
+
+#[test]
+fn every_signed_value_at_every_end() {
+    for axis in [FIXED, MOVING] {
+        for i in 0..6 {
+            for j in 0..6 {
+                for value in SIGNED_ENDS {
+                    let mut job = Job { mask: 63, asked: 4_096, axes: [axis; 6] };
+                    job.axes[i] = with_signed(axis, j, value);
+                    agrees(&job, 3 * 6 * 20);
+                    job.mask = 1 << i;
+                    agrees(&job, 3 * 4_097);
+                }
+            }
+        }
+    }
+}
+
+#[test]
+fn every_unsigned_value_at_every_end() {
+    for axis in [FIXED, MOVING] {
+        for i in 0..6 {
+            for j in 0..4 {
+                for value in UNSIGNED_ENDS {
+                    let mut job = Job { mask: 63, asked: 300, axes: [axis; 6] };
+                    job.axes[i] = with_unsigned(axis, j, value);
+                    agrees(&job, 3 * 6 * 301);
+                    job.mask = 1 << i;
+                    agrees(&job, 3 * 301);
+                }
+            }
+        }
+    }
+}
+
+#[test]
+fn two_values_at_ends_on_two_axes() {
+    for (first, second) in [(0, 1), (2, 5), (4, 3)] {
+        for j in 0..6 {
+            for k in 0..4 {
+                for value in [i64::MIN, 134_217_728, i64::MAX] {
+                    for limit in [0, 129, 257, u32::MAX] {
+                        let mut job = Job { mask: 63, asked: 9, axes: [MOVING; 6] };
+                        job.axes[first] = with_signed(MOVING, j, value);
+                        job.axes[second] = with_unsigned(MOVING, k, limit);
+                        agrees(&job, 3 * 6 * 10);
+                    }
+                }
+            }
+        }
+    }
+}
+
+#[test]
+fn every_mask_and_every_bit_beyond() {
+    for mask in 0..130 {
+        agrees(&Job { mask, asked: 0, axes: [FIXED; 6] }, 3 * 6 * 8);
+    }
+    for bit in 6..32 {
+        let answer = agrees(&Job { mask: 1 | 1 << bit, asked: 0, axes: [FIXED; 6] }, 100);
+        assert_eq!(answer, Answer { number: 1, place: 0, mask: 0, arrival: 0 });
+    }
+}
+
+#[test]
+fn axes_off_the_mask_are_never_looked_at() {
+    let wild = Axis {
+        start_position: i64::MIN,
+        start_velocity: i64::MAX,
+        speed_limit: u32::MAX,
+        acceleration_limit: 0,
+        half_period: u32::MAX,
+        second_weight: 0,
+        target: Target::Moving { position: i64::MIN, velocity: i64::MIN, acceleration: i64::MIN, tick: i64::MIN },
+    };
+    for mask in 1..64u32 {
+        let mut axes = [wild; 6];
+        for (i, axis) in axes.iter_mut().enumerate() {
+            if mask >> i & 1 == 1 {
+                *axis = MOVING;
+            }
+        }
+        let job = Job { mask, asked: 0, axes };
+        let cells = 3 * mask.count_ones() as usize * 12;
+        let answer = agrees(&job, cells);
+        assert_eq!((answer.number, answer.mask), (0, mask));
+    }
+}
+
+#[test]
+fn asked_arrivals_at_every_end() {
+    for asked in UNSIGNED_ENDS.into_iter().chain([3, 4, 5, 4_095]) {
+        agrees(&Job { mask: 8, asked, axes: [FIXED; 6] }, 3 * 4_097);
+    }
+}
+
+#[test]
+fn tables_of_every_length() {
+    let job = Job { mask: 0b100101, asked: 6, axes: [FIXED; 6] };
+    for cells in 0..200 {
+        let answer = agrees(&job, cells);
+        assert_eq!(answer.number, if cells < 3 * 3 * 7 { 10 } else { 0 });
+    }
+}
+
+#[test]
+fn the_largest_table() {
+    let mut axes = [MOVING; 6];
+    for (i, axis) in axes.iter_mut().enumerate() {
+        axis.start_velocity = i as i64 - 3;
+        axis.half_period = 50 * i as u32;
+    }
+    let job = Job { mask: 63, asked: 4_096, axes };
+    assert_eq!(agrees(&job, 73_746).number, 0);
+    assert_eq!(agrees(&job, 73_745).number, 10);
+}
+
+#[test]
+fn any_number_but_zero_is_a_moving_target() {
+    let mut axes = [UNSET; 6];
+    axes[2] = MOVING;
+    let (signed, mut unsigned) = library::flat(&axes, 0);
+    let mut want = vec![0; 60];
+    let answer = Job { mask: 4, asked: 0, axes }.plan(&mut want);
+    for kind in [1, 2, 256, 65_536, 1 << 31, u32::MAX] {
+        unsigned[5 * 2 + 4] = kind;
+        let mut got = vec![0; 60];
+        assert_eq!(library::plan_flat(4, 0, &signed, &unsigned, &mut got), answer);
+        assert_eq!(got, want);
+    }
+}
+
+#[test]
+fn many_threads_at_once() {
+    let job = Job { mask: 63, asked: 200, axes: [MOVING; 6] };
+    let mut want = vec![0; 3 * 6 * 201];
+    let answer = job.plan(&mut want);
+    std::thread::scope(|scope| {
+        for _ in 0..8 {
+            scope.spawn(|| {
+                for _ in 0..20 {
+                    let mut got = vec![0; want.len()];
+                    assert_eq!(library::plan_typed(job.mask, job.asked, &job.axes, &mut got), answer);
+                    assert_eq!(got, want);
+                }
+            });
+        }
+    });
+}

@@ -1,0 +1,196 @@
+#!/usr/bin/env python3
+"""Writes the cases of `cases.py`, with what the reference expects of each, as
+the input and the expected output of the program `fieldcases`.
+
+    python3 tests/reference/make_fieldcases.py
+    python3 tests/reference/make_fieldcases.py --check
+    python3 tests/reference/make_fieldcases.py --drawn SEED COUNT FOLDER
+
+The first writes crates/fieldcases/stdin and stdout, the second says whether
+these are what it would write, and the third writes the two files for random
+cases into a folder.
+"""
+
+import os
+import sys
+from typing import List, NamedTuple, Tuple
+
+import cases
+from reference import Answer, Axis, plan_typed, plan_words
+
+CRATE = os.path.join(os.path.dirname(os.path.abspath(__file__)), '../../crates/fieldcases')
+BUFFER = 73760                  # the cells of the program's buffer
+UNTOUCHED = -1234567890123      # what each holds before a call
+PRIME = 2147483647              # 2^31 - 1
+
+
+class Outcome(NamedTuple):
+    answer: Answer
+    sum: int                    # over the whole buffer
+
+
+class Expected(NamedTuple):
+    case: cases.Case
+    outcome: Outcome
+    buffer: List[int]           # as the call leaves it
+
+
+def sum_of(buffer: List[int]) -> int:
+    """31 times the sum so far, and twice the cell's size, one more below 0."""
+    total = 0
+    for x in buffer:
+        total = (31 * total + 2 * (abs(x) % PRIME) + (x < 0)) % PRIME
+    return total
+
+
+def expected(case: cases.Case) -> Expected:
+    lent = [UNTOUCHED] * case.lent
+    if case.words is not None:
+        answer, cells = plan_words(case.words, lent)
+    else:
+        answer, cells = plan_typed(case.mask, case.asked, case.axes, lent)
+    buffer = cells + [UNTOUCHED] * (BUFFER - case.lent)
+    return Expected(case, Outcome(answer, sum_of(buffer)), buffer)
+
+
+def listed(e: Expected) -> List[int]:
+    """The indices of the cells that a case lists: all of a small table, else
+    those of row 1, of a row in the middle and of the last row, for the first
+    axis and for the last; and the first cell after the table."""
+    answer = e.outcome.answer
+    if answer.number != 0:
+        return []
+    width = 3 * bin(answer.mask).count('1')
+    need = width * (answer.arrival + 1)
+    if need <= 18:
+        indices = list(range(need))
+    else:
+        indices = []
+        for row in (1, answer.arrival // 2, answer.arrival):
+            ends = {row * width, row * width + width - 3}
+            indices += [first + k for first in sorted(ends) for k in range(3)]
+    return indices + [need] * (need < BUFFER)
+
+
+# --- The input of the program ----------------------------------------------
+
+def axis_line(axis: Axis) -> str:
+    target = axis.target
+    return ' axis %d %d limits %d %d pole %d %d target %d: %s' % (
+        *axis.start, axis.speed_limit, axis.acceleration_limit, axis.half_period,
+        axis.second_weight, len(target), ' '.join(map(str, target)))
+
+
+def case_lines(e: Expected, shown: Outcome, cells: List[Tuple[int, int]]) -> List[str]:
+    """A case: its name, the cells lent, its input, and what it expects."""
+    case = e.case
+    head = '"%s" lent %d' % (case.name, case.lent)
+    if case.words is not None:
+        words = ['%08X' % word for word in case.words]
+        lines = ['%s words %d' % (head, len(words))]
+        lines += [' ' + ' '.join(words[i:i + 10]) for i in range(0, len(words), 10)]
+    else:
+        listed = sum(1 << bit for bit in range(6) if case.axes[bit] != cases.UNSET)
+        lines = ['%s typed mask %d asked %d listed %d' % (head, case.mask, case.asked, listed)]
+        lines += [axis_line(axis) for axis in case.axes if axis != cases.UNSET]
+    lines.append(' number %d place %d axes %d arrival %d sum %d' % (*shown.answer, shown.sum))
+    pairs = ['%d: %d' % cell for cell in cells]
+    return lines + [', '.join([' cells %d' % len(cells)] + pairs)]
+
+
+# --- Its expected output ---------------------------------------------------
+
+def outcome_text(outcome: Outcome) -> str:
+    number, place, mask, arrival = outcome.answer
+    head = 'refused %d' % number if number else 'accepted'
+    return '%s place %d axes %d arrival %d sum %d' % (head, place, mask, arrival, outcome.sum)
+
+
+def output_line(e: Expected, shown: Outcome, cells: List[Tuple[int, int]]) -> str:
+    if shown != e.outcome:
+        return '%s EXPECTED %s CAME %s' % (e.case.name, outcome_text(shown),
+                                           outcome_text(e.outcome))
+    for place, value in cells:
+        if e.buffer[place] != value:
+            return '%s cell %d EXPECTED %d CAME %d' % (e.case.name, place, value,
+                                                       e.buffer[place])
+    return '%s %s ok' % (e.case.name, outcome_text(e.outcome))
+
+
+# --- Expectations that are wrong on purpose --------------------------------
+
+def wrong_on_purpose():
+    """Case C with each part of what is expected altered in turn, so that a
+    difference in each is seen to be found."""
+    e = expected(next(case for case in cases.field().cases if case.name == 'C'))
+    cells = [(i, e.buffer[i]) for i in listed(e)]
+    answer, total = e.outcome
+
+    def named(what: str) -> Expected:
+        return e._replace(case=e.case._replace(name='wrong on purpose: ' + what))
+
+    return [
+        (named('number'), Outcome(answer._replace(number=8), total), cells),
+        (named('place'), Outcome(answer._replace(place=1), total), cells),
+        (named('mask'), Outcome(answer._replace(mask=3), total), cells),
+        (named('arrival'), Outcome(answer._replace(arrival=5), total), cells),
+        (named('sum'), Outcome(answer, total + 1), cells),
+        (named('a cell'), e.outcome, cells[:6] + [(6, -cells[6][1])] + cells[7:]),
+        (named('a cell below 0'), e.outcome, cells[:5] + [(5, 1)] + cells[6:]),
+        (named('a cell after the table'), e.outcome, cells[:-1] + [(15, 0)]),
+    ]
+
+
+def texts(groups: List[cases.Group], altered=()) -> Tuple[str, str]:
+    """The program's input and its output, for groups of cases and for some
+    with altered expectations."""
+    lines, output = [], []
+    for group in groups:
+        lines += ['', '# ' + group.about]
+        for case in group.cases:
+            e = expected(case)
+            cells = [(i, e.buffer[i]) for i in listed(e)]
+            lines += case_lines(e, e.outcome, cells)
+            output.append(output_line(e, e.outcome, cells))
+    right = len(output)
+    if altered:
+        lines += ['', '# Expectations that are wrong on purpose: the program must say so.']
+    for e, outcome, cells in altered:
+        lines += case_lines(e, outcome, cells)
+        output.append(output_line(e, outcome, cells))
+    head = ['# Made by tests/reference/make_fieldcases.py.', 'cases %d' % len(output)]
+    output.append('as expected: %d of %d' % (right, len(output)))
+    return '\n'.join(head + lines) + '\n', '\n'.join(output) + '\n'
+
+
+def write(folder: str, pair: Tuple[str, str]) -> None:
+    for name, text in zip(('stdin', 'stdout'), pair):
+        with open(os.path.join(folder, name), 'w') as out:
+            out.write(text)
+
+
+def is_stored(folder: str, pair: Tuple[str, str]) -> bool:
+    def stored(name: str) -> str:
+        with open(os.path.join(folder, name)) as kept:
+            return kept.read()
+    return (stored('stdin'), stored('stdout')) == pair
+
+
+def main(words: List[str]) -> int:
+    if words[:1] == ['--drawn'] and len(words) == 4:
+        write(words[3], texts([cases.drawn(int(words[1]), int(words[2]))]))
+        return 0
+    pair = texts(cases.groups(), wrong_on_purpose())
+    if words == ['--check']:
+        same = is_stored(CRATE, pair)
+        print('as stored' if same else 'not as stored')
+        return 0 if same else 1
+    if words:
+        print(__doc__)
+        return 2
+    write(CRATE, pair)
+    return 0
+
+
+if __name__ == '__main__':
+    sys.exit(main(sys.argv[1:]))

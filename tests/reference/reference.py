@@ -1,0 +1,477 @@
+#!/usr/bin/env python3
+"""An independent reference of the planner: paper 01 in exact whole numbers.
+
+It is written from the paper alone and shares nothing with the Rattle code.
+Every section names the rule of the paper that it follows.
+
+    python3 reference.py < job       the table program: job words in, text out
+    python3 reference.py --selftest  the paper's cases, and checks by definition
+
+Units: a fine step is 1/256 unit. Planned positions are counted in half fine
+steps, planned velocities and accelerations in fine steps (rule 1).
+"""
+
+import sys
+from typing import Dict, List, NamedTuple, Optional, Tuple, Union
+
+FINE = 256                      # fine steps in a unit; also A + B
+LAST_TICK = 4096                # the latest arrival
+AXES = 6                        # bits 0 to 5 of the mask
+PROGRAM_BYTES = 256             # what the table program reads
+PROGRAM_CELLS = 8192            # what the table program lends
+
+
+# --- Quantities ------------------------------------------------------------
+
+class RestPoint(NamedTuple):
+    """A start, or a fixed target: a position held at a uniform velocity."""
+    position: int
+    velocity: int
+
+
+class State(NamedTuple):
+    """A moving target: its state at a target tick."""
+    position: int
+    velocity: int
+    acceleration: int
+    tick: int
+
+
+class Axis(NamedTuple):
+    start: RestPoint
+    speed_limit: int            # L
+    acceleration_limit: int     # M
+    half_period: int            # h
+    second_weight: int          # B
+    target: Union[RestPoint, State]
+
+
+class Job(NamedTuple):
+    mask: int
+    asked: int                  # 0: the least arrival
+    axes: Dict[int, Axis]       # by bit, for each set bit of the mask
+
+
+class Answer(NamedTuple):
+    number: int
+    place: int = 0
+    mask: int = 0
+    arrival: int = 0
+
+
+def acceleration_of(target) -> int:
+    return target.acceleration if isinstance(target, State) else 0
+
+
+def target_at(axis: Axis, tick: int, arrival: int) -> Tuple[int, int]:
+    """Twice the target's position, and its velocity, at a tick.
+
+    A fixed target is read as moving with a = 0 and t the arrival tick. The
+    position is doubled because a*d*d/2 may be half a unit.
+    """
+    target = axis.target
+    since = target.tick if isinstance(target, State) else arrival
+    a = acceleration_of(target)
+    d = tick - since
+    return (2 * target.position + 2 * target.velocity * d + a * d * d,
+            target.velocity + a * d)
+
+
+# --- Planned motion --------------------------------------------------------
+
+class Ends(NamedTuple):
+    """Where the planned motion starts and lands, for one arrival N."""
+    ticks: int                  # T = N - h
+    start_position: int
+    start_velocity: int
+    end_position: int
+    end_velocity: int
+    end_acceleration: int       # from tick T on
+    limit: int                  # 256 L
+    step: int                   # 256 M
+
+
+def planned_ends(axis: Axis, arrival: int) -> Ends:
+    """Rules 2 and 3."""
+    h, b = axis.half_period, axis.second_weight
+    ticks = arrival - h
+    a = acceleration_of(axis.target)
+    twice_y, y_velocity = target_at(axis, ticks, arrival)
+    return Ends(
+        ticks=ticks,
+        start_position=512 * axis.start.position + 2 * b * h * axis.start.velocity,
+        start_velocity=256 * axis.start.velocity,
+        end_position=256 * twice_y + 2 * b * h * y_velocity,
+        end_velocity=256 * y_velocity + b * h * a,
+        end_acceleration=256 * a,
+        limit=256 * axis.speed_limit,
+        step=256 * axis.acceleration_limit)
+
+
+def twice_required_sum(e: Ends) -> int:
+    """Twice the sum that the velocities of ticks 1 to T - 1 must have.
+
+    By rule 1 a tick moves the position by 2V + alpha, the sum of its two end
+    velocities; so the displacement is both ends once and the rest twice.
+    """
+    return e.end_position - e.start_position - e.start_velocity - e.end_velocity
+
+
+def ramp_sum(first: int, step: int, limit: int, count: int) -> int:
+    """The sum over k = 1 to count of the lesser of limit and first + step*k."""
+    below = min(count, (limit - first) // step)
+    return below * first + step * below * (below + 1) // 2 + (count - below) * limit
+
+
+def upper_sum(start: int, end: int, limit: int, step: int, ticks: int) -> int:
+    """The sum of the upper envelope (rule 5) over ticks 1 to T - 1.
+
+    Up to tick `turn` the ramp from the start is the lower of the two ramps,
+    after it the ramp down to the end.
+    """
+    turn = min((end - start + step * ticks) // (2 * step), ticks - 1)
+    return (ramp_sum(start, step, limit, turn)
+            + ramp_sum(end, step, limit, ticks - 1 - turn))
+
+
+def list_exists(start: int, end: int, limit: int, step: int, ticks: int,
+                twice_sum: int) -> bool:
+    """Whether some list of whole velocities meets rule 4.
+
+    The ends must lie within the limit and within reach of each other. Then
+    every list lies between the envelopes, both envelopes are lists, and one
+    can be turned into the other by changes of one: each whole sum between
+    theirs is reached, and no other.
+    """
+    if abs(start) > limit or abs(end) > limit or abs(end - start) > step * ticks:
+        return False
+    if twice_sum % 2 != 0:
+        return False
+    lower = -upper_sum(-start, -end, limit, step, ticks)
+    upper = upper_sum(start, end, limit, step, ticks)
+    return lower <= twice_sum // 2 <= upper
+
+
+def reachable(axis: Axis, arrival: int) -> bool:
+    """Rule 4."""
+    if arrival <= axis.half_period:
+        return False
+    e = planned_ends(axis, arrival)
+    at_arrival = e.end_velocity + e.end_acceleration * axis.half_period
+    if abs(e.end_velocity) > e.limit or abs(at_arrival) > e.limit:
+        return False
+    return list_exists(e.start_velocity, e.end_velocity, e.limit, e.step, e.ticks,
+                       twice_required_sum(e))
+
+
+def envelopes(e: Ends) -> List[Tuple[int, int]]:
+    """The lower and the upper envelope at ticks 1 to T - 1 (rule 5)."""
+    def at(k: int) -> Tuple[int, int]:
+        rise, fall = e.step * k, e.step * (e.ticks - k)
+        return (max(-e.limit, e.start_velocity - rise, e.end_velocity - fall),
+                min(e.limit, e.start_velocity + rise, e.end_velocity + fall))
+    return [at(k) for k in range(1, e.ticks)]
+
+
+def chosen_velocities(e: Ends) -> List[int]:
+    """The list of rule 5, for ticks 0 to T."""
+    between = envelopes(e)
+    required = twice_required_sum(e) // 2
+
+    def brought(cruise: int) -> List[int]:
+        return [min(max(cruise, low), high) for low, high in between]
+
+    # The largest cruise whose sum does not exceed the required one: the sum
+    # never falls as the cruise rises.
+    cruise, above = -e.limit, e.limit + 1
+    while above - cruise > 1:
+        middle = (cruise + above) // 2
+        if sum(brought(middle)) <= required:
+            cruise = middle
+        else:
+            above = middle
+    velocities = brought(cruise)
+    raised = brought(cruise + 1) if cruise < e.limit else velocities
+    remainder = required - sum(velocities)
+    for i in range(len(velocities)):
+        if remainder > 0 and raised[i] > velocities[i]:
+            velocities[i] += 1
+            remainder -= 1
+    assert remainder == 0, 'rule 5 leaves no remainder on a reachable arrival'
+    return [e.start_velocity] + velocities + [e.end_velocity]
+
+
+# --- Blend and rows --------------------------------------------------------
+
+class Planned(NamedTuple):
+    """The planned motion of an axis, at any tick up to N."""
+    ends: Ends
+    velocities: List[int]       # ticks 0 to T
+    positions: List[int]        # ticks 0 to T
+
+    def at(self, k: int) -> Tuple[int, int, int]:
+        """Position, velocity and acceleration at tick k, also before 0."""
+        e = self.ends
+        if k < 0:
+            return e.start_position + 2 * e.start_velocity * k, e.start_velocity, 0
+        if k < e.ticks:
+            return (self.positions[k], self.velocities[k],
+                    self.velocities[k + 1] - self.velocities[k])
+        j, a = k - e.ticks, e.end_acceleration
+        return (e.end_position + 2 * e.end_velocity * j + a * j * j,
+                e.end_velocity + a * j, a)
+
+
+def plan_axis(axis: Axis, arrival: int) -> Planned:
+    e = planned_ends(axis, arrival)
+    velocities = chosen_velocities(e)
+    positions = [e.start_position]
+    for before, after in zip(velocities, velocities[1:]):
+        positions.append(positions[-1] + before + after)
+    assert positions[-1] == e.end_position, 'rule 3: the plan lands on its target'
+    return Planned(e, velocities, positions)
+
+
+def blended(axis: Axis, planned: Planned, k: int) -> Tuple[int, int, int]:
+    """The exact blends at tick k, each times 256: half fine steps for the
+    position, fine steps for velocity and acceleration."""
+    b = axis.second_weight
+    first, second = planned.at(k), planned.at(k - axis.half_period)
+    return tuple((FINE - b) * x + b * y for x, y in zip(first, second))
+
+
+def nearest(numerator: int, denominator: int) -> int:
+    """The quotient rounded to the nearest, halves upward."""
+    return (2 * numerator + denominator) // (2 * denominator)
+
+
+def row_cells(axis: Axis, planned: Planned, k: int) -> List[int]:
+    position, velocity, acceleration = blended(axis, planned, k)
+    return [nearest(position, 2 * FINE), nearest(velocity, FINE),
+            nearest(acceleration, FINE)]
+
+
+def table_cells(job: Job, arrival: int) -> List[int]:
+    """Rows 0 to N; in a row the axes ascend."""
+    plans = [(axis, plan_axis(axis, arrival)) for _, axis in sorted(job.axes.items())]
+    return [cell for k in range(arrival + 1) for axis, planned in plans
+            for cell in row_cells(axis, planned, k)]
+
+
+# --- Job words -------------------------------------------------------------
+
+SIGNED_KINDS = (3, 4, 9, 10, 11, 12)
+
+
+def kind_of(word: int) -> int:
+    return word >> 28
+
+
+def payload_of(word: int) -> int:
+    payload = word & 0x0FFFFFFF
+    if kind_of(word) in SIGNED_KINDS and payload >= 1 << 27:
+        return payload - (1 << 28)
+    return payload
+
+
+def mask_is_good(mask: int) -> bool:
+    return 1 <= mask <= 63
+
+
+class Refused(Exception):
+    def __init__(self, answer: Answer):
+        super().__init__(answer)
+        self.answer = answer
+
+
+class Reader:
+    """Takes words in order; the first that is not allowed is refusal 2."""
+
+    def __init__(self, words: List[int]):
+        self.words = words
+        self.index = 1          # the mask word is read already
+
+    def refuse(self) -> None:
+        raise Refused(Answer(2, place=self.index))
+
+    def next_is(self, kind: int) -> bool:
+        return self.index < len(self.words) and kind_of(self.words[self.index]) == kind
+
+    def take(self, kind: int) -> int:
+        if not self.next_is(kind):
+            self.refuse()       # a wrong word's index, or the word count
+        self.index += 1
+        return payload_of(self.words[self.index - 1])
+
+    def axis(self) -> Axis:
+        position, velocity, speed, acceleration, half, weight, p, v = (
+            self.take(kind) for kind in range(3, 11))
+        target = RestPoint(p, v)
+        if self.next_is(11):
+            a = self.take(11)
+            target = State(p, v, a, self.take(12))
+        return Axis(RestPoint(position, velocity), speed, acceleration, half, weight,
+                    target)
+
+    def end(self) -> None:
+        if self.next_is(15) and payload_of(self.words[self.index]) != 0:
+            self.refuse()       # a wrong end payload, before what is left over
+        self.take(15)
+        if self.index < len(self.words):
+            self.refuse()       # the first word left over
+
+
+def decode(words: List[int]) -> Job:
+    """The job of the words; refusals 1 and 2."""
+    if not words or kind_of(words[0]) != 1 or not mask_is_good(payload_of(words[0])):
+        raise Refused(Answer(1))
+    mask = payload_of(words[0])
+    reader = Reader(words)
+    asked = reader.take(2)
+    axes = {}
+    for bit in range(AXES):
+        if mask >> bit & 1:
+            axes[bit] = reader.axis()
+    reader.end()
+    return Job(mask, asked, axes)
+
+
+def encode(job: Job) -> List[int]:
+    """The words of a job whose values fit their payloads."""
+    def word(kind: int, value: int) -> int:
+        return kind << 28 | value & 0x0FFFFFFF
+
+    words = [word(1, job.mask), word(2, job.asked)]
+    for _, axis in sorted(job.axes.items()):
+        values = [*axis.start, axis.speed_limit, axis.acceleration_limit,
+                  axis.half_period, axis.second_weight, *axis.target]
+        words += [word(kind, value) for kind, value in enumerate(values, 3)]
+    return words + [word(15, 0)]
+
+
+def words_of_bytes(data: bytes) -> List[int]:
+    """Little-endian words; one to three left-over bytes are one wrong word."""
+    whole = len(data) // 4 * 4
+    words = [int.from_bytes(data[i:i + 4], 'little') for i in range(0, whole, 4)]
+    return words + [0] if whole < len(data) else words
+
+
+# --- Refusals 3 to 10 ------------------------------------------------------
+
+def breaks_4(axis: Axis) -> bool:
+    return not (1 <= axis.speed_limit <= 1048576
+                and 1 <= axis.acceleration_limit <= 65536)
+
+
+def breaks_5(axis: Axis) -> bool:
+    return not (0 <= axis.half_period <= 256 and 1 <= axis.second_weight <= 128)
+
+
+def breaks_6(axis: Axis) -> bool:
+    target = axis.target
+    tick = target.tick if isinstance(target, State) else 0
+    return (abs(axis.start.velocity) > axis.speed_limit
+            or abs(target.velocity) > axis.speed_limit
+            or abs(acceleration_of(target)) > axis.acceleration_limit
+            or abs(tick) > LAST_TICK
+            or not -134217728 <= axis.start.position <= 134217727
+            or not -134217728 <= target.position <= 134217727)
+
+
+def breaks_7(axis: Axis) -> bool:
+    return (acceleration_of(axis.target) != 0 and axis.half_period != 0
+            and axis.second_weight != 128)
+
+
+PER_AXIS = ((4, breaks_4), (5, breaks_5), (6, breaks_6), (7, breaks_7))
+
+
+def least_common_arrival(job: Job) -> Optional[int]:
+    for arrival in range(1, LAST_TICK + 1):
+        if all(reachable(axis, arrival) for axis in job.axes.values()):
+            return arrival
+    return None
+
+
+def mask_where(job: Job, test) -> int:
+    """The mask of the axes that pass a test."""
+    return sum(1 << bit for bit, axis in job.axes.items() if test(axis))
+
+
+def reaches_none(axis: Axis) -> bool:
+    return not any(reachable(axis, n) for n in range(1, LAST_TICK + 1))
+
+
+def judge(job: Job, lent: int) -> Answer:
+    """The answer to a job that passed 1 and 2: refusals 3 to 10, or 0."""
+    if job.asked > LAST_TICK:
+        return Answer(3, place=1)
+    for number, breaks in PER_AXIS:
+        for bit, axis in sorted(job.axes.items()):
+            if breaks(axis):
+                return Answer(number, place=bit)
+    if job.asked:
+        arrival = job.asked
+        failing = mask_where(job, lambda axis: not reachable(axis, arrival))
+        if failing:
+            return Answer(8, mask=failing)
+    else:
+        arrival = least_common_arrival(job)
+        if arrival is None:
+            return Answer(9, mask=mask_where(job, reaches_none))
+    if lent < 3 * len(job.axes) * (arrival + 1):
+        return Answer(10, arrival=arrival)
+    return Answer(0, mask=job.mask, arrival=arrival)
+
+
+# --- The calls, and the table program --------------------------------------
+
+Outcome = Tuple[Answer, List[int]]
+
+
+def plan_job(job: Job, lent: List[int]) -> Outcome:
+    answer = judge(job, len(lent))
+    if answer.number != 0:
+        return answer, list(lent)
+    cells = table_cells(job, answer.arrival)
+    return answer, cells + list(lent[len(cells):])
+
+
+def plan_words(words: List[int], lent: List[int]) -> Outcome:
+    """The answer, and the lent cells as the call leaves them."""
+    try:
+        job = decode(words)
+    except Refused as refused:
+        return refused.answer, list(lent)
+    return plan_job(job, lent)
+
+
+def plan_typed(mask: int, asked: int, axes: List[Axis], lent: List[int]) -> Outcome:
+    """The same from typed values: six axes, those off the mask never looked at."""
+    if not mask_is_good(mask):
+        return Answer(1), list(lent)
+    used = {bit: axes[bit] for bit in range(AXES) if mask >> bit & 1}
+    return plan_job(Job(mask, asked, used), lent)
+
+
+def printed(answer: Answer, cells: List[int]) -> str:
+    if answer.number != 0:
+        return 'refused %d place %d axes %d arrival %d\n' % answer
+    width = 3 * bin(answer.mask).count('1')
+    lines = ['arrival %d' % answer.arrival]
+    for k in range(answer.arrival + 1):
+        row = cells[k * width:(k + 1) * width]
+        lines.append(' '.join(str(x) for x in [k, *row]))
+    return '\n'.join(lines) + '\n'
+
+
+def table_program(data: bytes) -> str:
+    return printed(*plan_words(words_of_bytes(data[:PROGRAM_BYTES]),
+                               [0] * PROGRAM_CELLS))
+
+
+if __name__ == '__main__':
+    if sys.argv[1:] == ['--selftest']:
+        import selftest
+        sys.exit(selftest.main())
+    sys.stdout.write(table_program(sys.stdin.buffer.read(PROGRAM_BYTES)))

@@ -1,0 +1,277 @@
+"""The reference against the paper: `python3 reference.py --selftest`.
+
+Three parts: the paper's field cases, traps, settled readings and ranges as
+numbers; the planning functions against their definitions, by trying every
+list; and demand 3 of the paper over random jobs.
+"""
+
+import itertools
+import random
+import sys
+from fractions import Fraction
+
+import reference as ref
+from cases import CHASING, DEFAULT, F, F_TO_30, UNSET, axis, mask_of, placed, random_axis, to
+from reference import Answer
+
+def plan(axes, asked=0, lent=8192):
+    """The outcome for axes given as a list (bits from 0 on) or by bit. It is
+    computed from words and from typed values, which must agree."""
+    by_bit = placed(axes)
+    mask = mask_of(by_bit)
+    cells = [7] * lent
+    typed = ref.plan_typed(mask, asked, [by_bit.get(i, UNSET) for i in range(6)], cells)
+    words = ref.plan_words(ref.encode(ref.Job(mask, asked, by_bit)), cells)
+    same('words and typed values', words, typed)
+    same('the cells lent', len(typed[1]), lent)
+    return typed
+
+
+def same(what, found, expected):
+    if found != expected:
+        raise AssertionError('%s: found %r, expected %r' % (what, found, expected))
+
+
+def column(outcome, index, axes=1):
+    """One cell of each row: 0, 1, 2 for position, velocity, acceleration."""
+    answer, cells = outcome
+    width = 3 * axes
+    return cells[index:width * (answer.arrival + 1):width]
+
+
+def arrives(what, outcome, arrival):
+    same(what, (outcome[0].number, outcome[0].arrival), (0, arrival))
+    return outcome
+
+
+def refuses(what, outcome, number, place=0, mask=0, arrival=0):
+    same(what, outcome[0], Answer(number, place, mask, arrival))
+    same(what + ', cells', outcome[1], [7] * len(outcome[1]))
+
+
+# --- The paper's numbers ---------------------------------------------------
+
+C_WORDS = [0x10000001, 0x20000004, 0x30000000, 0x40000000, 0x5000000A, 0x60000001,
+           0x70000000, 0x80000080, 0x90000001, 0xA0000000, 0xF0000000]
+
+C_TEXT = """arrival 4
+0 0 0 86
+1 43 86 -1
+2 129 85 0
+3 214 85 -85
+4 256 0 0
+"""
+
+
+def bytes_of(words):
+    return b''.join(word.to_bytes(4, 'little') for word in words)
+
+
+def field_cases():
+    a = arrives('A', plan([to(5, start=(5, 0))]), 1)
+    same('A rows', a[1][:7], [1280, 0, 0, 1280, 0, 0, 7])
+    b = arrives('B', plan([to(4)]), 4)
+    same('B positions', column(b, 0), [0, 128, 512, 896, 1024])
+    same('C words', ref.encode(ref.Job(1, 4, {0: to(1)})), C_WORDS)
+    same('C text', ref.table_program(bytes_of(C_WORDS)), C_TEXT)
+    d = arrives('D', plan([to(1, half_period=1)]), 3)
+    same('D positions', column(d, 0), [0, 64, 192, 256])
+    same('D velocities', column(d, 1), [0, 128, 128, 0])
+    same('D accelerations', column(d, 2), [128, 0, -128, 0])
+    refuses('E', plan([to(4)], asked=3), 8, mask=1)
+    same('E text', ref.printed(*plan([to(4)], asked=3)),
+         'refused 8 place 0 axes 1 arrival 0\n')
+    arrives('F', plan([F]), 1)
+    for asked in range(2, 39):
+        refuses('F asked %d' % asked, plan([F], asked=asked), 8, mask=1)
+    arrives('F asked 39', plan([F], asked=39), 39)
+    arrives('G axis 0', plan([F]), 1)
+    arrives('G axis 1', plan([to(1)]), 2)
+    arrives('G', plan([F, to(1)]), 39)
+    h = arrives('H', plan([axis(target=(0, 1, 0, 0))]), 3)
+    same('H velocities', column(h, 1), [0, 256, 384, 256])
+    refuses('I, no words', ref.plan_words([], []), 1)
+    refuses('I, mask 64', ref.plan_words([0x10000040], []), 1)
+    refuses('I, mask 63', ref.plan_words([0x1000003F], []), 2, place=1)
+    refuses('J', plan([to(1)], asked=4, lent=14), 10, arrival=4)
+    arrives('J with 15 cells', plan([to(1)], asked=4, lent=15), 4)
+    refuses('K', plan([axis(second_weight=129)]), 5)
+    refuses('L', plan([to(100000000, speed_limit=1)]), 9, mask=1)
+
+
+def traps():
+    same('F by halving', next(n for n in range(2, 4097) if ref.reachable(F, n)), 39)
+    arrives('F to 30', plan([F_TO_30]), 3)
+    same('F to 30 by doubling', next(n for n in range(4, 4097)
+                                     if ref.reachable(F_TO_30, n)), 37)
+    rounding = arrives('target 1', plan([to(1, half_period=1)], asked=54), 54)
+    same('target 1, position in row 1', rounding[1][3], 1)
+
+
+def settled_readings():
+    refuses('1', plan({2: axis(speed_limit=0)}), 4, place=2)
+    refuses('2', plan([to(1)], asked=4, lent=14), 10, arrival=4)
+    refuses('3', ref.plan_typed(1, 4097, [DEFAULT] * 6, [7]), 3, place=1)
+    arrives('5', plan([axis(target=(10, 1, 0, 10))]), 3)
+    refuses('6, first', ref.plan_words(ref.words_of_bytes(b'\x10'), []), 1)
+    for rest in range(1, 4):
+        data = bytes_of(C_WORDS[:5]) + b'\xf0' * rest
+        refuses('6, later', ref.plan_words(ref.words_of_bytes(data), []), 2, place=5)
+        data = bytes_of(C_WORDS) + b'\xf0' * rest
+        refuses('6, left over', ref.plan_words(ref.words_of_bytes(data), []), 2, place=11)
+    refuses('7', ref.plan_words(C_WORDS[:-1] + [0xF0000001, 0xF0000000], []), 2, place=10)
+    refuses('14', plan([CHASING], asked=10), 8, mask=1)
+    refuses('15', plan([F, to(1)], asked=2), 8, mask=1)
+    arrives('16', plan([to(5, start=(5, 0), half_period=1)]), 2)
+    arrives('17', plan([axis(start=(0, 1), half_period=4, target=(8, 1))]), 7)
+    halves = arrives('18', plan([axis(target=(0, 0, 1, 0))]), 1)
+    same('18 rows', halves[1][:6], [0, 0, 256, 128, 256, 256])
+    below = arrives('19', plan([to(-1)], asked=4), 4)
+    same('19 positions', column(below, 0), [0, -42, -127, -213, -256])
+    same('19 velocities', column(below, 1), [0, -85, -85, -86, 0])
+    refuses('21', plan([axis(half_period=300), axis(speed_limit=0)]), 4, place=1)
+    refuses('22', plan([axis(target=(0, 0, 1, 0)), to(1000)]), 9)
+    same('25', ref.chosen_velocities(ref.planned_ends(to(0), 1)), [0, 0])
+
+
+def ranges():
+    """The last value of each range passes its check, and the next is refused."""
+    low, high = -134217728, 134217727
+    for number, inside, outside in (
+            (4, axis(speed_limit=1), axis(speed_limit=0)),
+            (4, axis(speed_limit=1048576), axis(speed_limit=1048577)),
+            (4, axis(acceleration_limit=1), axis(acceleration_limit=0)),
+            (4, axis(acceleration_limit=65536), axis(acceleration_limit=65537)),
+            (5, axis(half_period=256), axis(half_period=257)),
+            (5, axis(second_weight=1), axis(second_weight=0)),
+            (5, axis(second_weight=128), axis(second_weight=129)),
+            (6, axis(start=(0, 10)), axis(start=(0, 11))),
+            (6, axis(start=(0, -10)), axis(start=(0, -11))),
+            (6, axis(target=(0, 10)), axis(target=(0, 11))),
+            (6, axis(target=(0, -10, 0, 0)), axis(target=(0, -11, 0, 0))),
+            (6, axis(target=(0, 0, 1, 0)), axis(target=(0, 0, 2, 0))),
+            (6, axis(target=(0, 0, -1, 0)), axis(target=(0, 0, -2, 0))),
+            (6, axis(target=(0, 0, 0, 4096)), axis(target=(0, 0, 0, 4097))),
+            (6, axis(target=(0, 0, 0, -4096)), axis(target=(0, 0, 0, -4097))),
+            (6, axis(start=(low, 0)), axis(start=(low - 1, 0))),
+            (6, axis(start=(high, 0)), axis(start=(high + 1, 0))),
+            (6, to(low), to(low - 1)), (6, to(high), to(high + 1)),
+            (6, axis(target=(low, 0, 0, 0)), axis(target=(low - 1, 0, 0, 0))),
+            (6, axis(target=(high, 0, 0, 0)), axis(target=(high + 1, 0, 0, 0))),
+            (7, axis(half_period=1, target=(0, 0, 1, 0)),
+             axis(half_period=1, second_weight=127, target=(0, 0, 1, 0))),
+            (7, axis(second_weight=127, target=(0, 0, 1, 0)),
+             axis(half_period=1, second_weight=127, target=(0, 0, 1, 0)))):
+        passed = ref.plan_typed(1, 0, [inside] * 6, [])[0]
+        assert passed.number > 7, 'inside its range: %r' % (inside,)
+        refuses('range', ref.plan_typed(4, 0, [outside] * 6, [7]), number, place=2)
+
+
+# --- The planning functions against their definitions ----------------------
+
+def every_list(start, end, limit, step, ticks):
+    """Every list of whole velocities that rule 4 admits, whatever its sum."""
+    for inner in itertools.product(range(-limit, limit + 1), repeat=ticks - 1):
+        whole = [start, *inner, end]
+        if all(abs(y - x) <= step for x, y in zip(whole, whole[1:])):
+            yield inner
+
+
+def definitions(rng, count=120):
+    """`list_exists` and `chosen_velocities` over small numbers, by trial."""
+    for _ in range(count):
+        limit, step, ticks = rng.randint(1, 4), rng.randint(1, 3), rng.randint(1, 5)
+        start, end = rng.randint(-limit, limit), rng.randint(-limit, limit)
+        sums = {sum(inner) for inner in every_list(start, end, limit, step, ticks)}
+        for wanted in range(-limit * ticks - 1, limit * ticks + 2):
+            found = ref.list_exists(start, end, limit, step, ticks, 2 * wanted)
+            same('a list exists', found, wanted in sums)
+            odd = ref.list_exists(start, end, limit, step, ticks, 2 * wanted + 1)
+            same('no list has half a step', odd, False)
+            if found:
+                chosen_is_by_rule_5(start, end, limit, step, ticks, wanted)
+
+
+def chosen_is_by_rule_5(start, end, limit, step, ticks, wanted):
+    e = ref.Ends(ticks, 0, start, 2 * wanted + start + end, end, 0, limit, step)
+    between = ref.envelopes(e)
+
+    def brought(c):
+        return [sorted((low, c, high))[1] for low, high in between]
+
+    cruise = max(c for c in range(-limit, limit + 1) if sum(brought(c)) <= wanted)
+    expected, raised = brought(cruise), brought(cruise + 1)
+    rising = [i for i in range(ticks - 1) if raised[i] > expected[i]]
+    for i in rising[:wanted - sum(expected)]:
+        expected[i] += 1
+    same('rule 5', ref.chosen_velocities(e), [start, *expected, end])
+
+
+# --- Demand 3 over random jobs ---------------------------------------------
+
+def swing_list(rng, h, b, last):
+    """g(0) to g(last) with A g(i + h) + B g(i) = 0, whole numbers."""
+    first = [rng.randint(-3, 3) for _ in range(h)]
+    blocks = last // h
+    return [first[i % h] * (-b) ** (i // h) * (256 - b) ** (blocks - i // h)
+            for i in range(last + 1)]
+
+
+def sway(accelerations, g, m):
+    changes = [y - x for x, y in zip([0, *accelerations], accelerations)]
+    return sum(change * g[m - k] for k, change in enumerate(changes))
+
+
+def demand_3(rng, one, n, cells):
+    """The claim of demand 3 for one axis, given its cells row by row."""
+    target, (twice_y, velocity) = one.target, ref.target_at(one, n, n)
+    a = ref.acceleration_of(target)
+    same('last row', cells[n], [Fraction(256 * twice_y, 2), 256 * velocity, 256 * a])
+    for (p, v, acc), (p1, v1, _) in zip(cells, cells[1:]):
+        assert abs(Fraction(2 * p + 2 * v + acc, 2) - p1) <= Fraction(3, 2), 'carried position'
+        assert abs(v + acc - v1) <= Fraction(3, 2), 'carried velocity'
+    for _, v, acc in cells:
+        assert abs(v) <= 256 * one.speed_limit, 'velocity cell'
+        assert abs(acc) <= 256 * one.acceleration_limit, 'acceleration cell'
+    if one.half_period >= 1:
+        m = n + rng.randint(0, 5)
+        g = swing_list(rng, one.half_period, one.second_weight, m)
+        planned = ref.plan_axis(one, n)
+        exact = [ref.blended(one, planned, k)[2] for k in range(n + 1)]
+        same('sway before rounding', sway(exact, g, m), 0)
+        left = sway([row[2] for row in cells], g, m)
+        assert abs(left) <= n * max(map(abs, g)), 'sway as rounded'
+
+
+def random_jobs(rng, count=80):
+    accepted = 0
+    for _ in range(count):
+        bits = sorted(rng.sample(range(6), rng.choice([1, 1, 2, 3, 6])))
+        axes = {bit: random_axis(rng) for bit in bits}
+        answer, cells = plan(axes, asked=rng.choice([0, 0, rng.randint(40, 120)]))
+        if answer.number != 0:
+            continue
+        accepted += 1
+        width = 3 * len(bits)
+        same('cells after the last row', set(cells[width * (answer.arrival + 1):]) - {7}, set())
+        for rank, bit in enumerate(bits):
+            rows = [cells[k * width + 3 * rank:k * width + 3 * rank + 3]
+                    for k in range(answer.arrival + 1)]
+            demand_3(rng, axes[bit], answer.arrival, rows)
+    assert accepted > count // 4, 'too few jobs were accepted to say anything'
+
+
+def main():
+    rng = random.Random(1)
+    field_cases()
+    traps()
+    settled_readings()
+    ranges()
+    definitions(rng)
+    random_jobs(rng)
+    print('reference: field cases, traps, settled readings, ranges, definitions, demand 3: ok')
+    return 0
+
+
+if __name__ == '__main__':
+    sys.exit(main())
