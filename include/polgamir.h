@@ -4,8 +4,8 @@
  * From a job (starts, targets, limits, the pole's half period and damping) a call writes a table of position, velocity and
  * acceleration for each tick that lands exactly on the targets with the sway cancelled, or refuses with a number from 1 to 10.
  *
- * Link with libcapi.a (`rt staticlib capi` writes target/staticlib/libcapi.a, for x86-64 Linux). All that it takes from another
- * library is memcpy.
+ * Link with libcapi.a (`rt staticlib capi` writes target/staticlib/libcapi.a, for x86-64 Linux). All that it takes from other
+ * libraries is memcpy and memset.
  *
  * Units. Time is a whole number of ticks. Inputs are whole units, units per tick and units per tick squared. A cell is in fine
  * steps, 1/256 unit, per tick and per tick squared for velocities and accelerations.
@@ -16,7 +16,7 @@
  * is 0, and `table` overlaps no other array that is lent to the same call.
  *
  * Threads. The library has no state, takes no lock, allocates no memory and makes no system call. Any number of threads may call
- * it at the same time, each with a table of its own.
+ * it at the same time, each with a table of its own. A call takes about 30 kB of stack.
  */
 #ifndef POLGAMIR_H
 #define POLGAMIR_H

@@ -53,30 +53,38 @@ fn now() -> f64 {
     time.seconds as f64 * 1e9 + time.nanoseconds as f64
 }
 
-fn least(times: &[f64]) -> f64 {
-    times.iter().copied().fold(f64::INFINITY, f64::min)
+/// The times of both sides for some calls, in nanoseconds a call. A call is a job and how many cells it is lent. The
+/// batches of all calls alternate, so that a disturbance does not fall on one of them alone.
+fn time<const N: usize>(calls: [(&Job, usize); N]) -> [(f64, f64); N] {
+    let mut table = vec![0; 3 * 6 * 4_097];
+    let mut times = [(f64::INFINITY, f64::INFINITY); N];
+    let counts = calls.map(|(job, cells)| (1e7 / once(job, &mut table[..cells])).ceil() as usize);
+    let rounds = if counts.contains(&1) { 15 } else { 41 };
+    for _ in 0..rounds {
+        for (i, (job, cells)) in calls.into_iter().enumerate() {
+            let lent = &mut table[..cells];
+            let (signed, unsigned) = library::flat(&job.axes, 0);
+            let proved = || library::plan_flat(job.mask, job.asked, &signed, &unsigned, black_box(&mut *lent)).arrival;
+            times[i].0 = times[i].0.min(batch(counts[i], proved));
+            let plain = || plain::plan(job, black_box(&mut *lent)).arrival;
+            times[i].1 = times[i].1.min(batch(counts[i], plain));
+        }
+    }
+    times
 }
 
-/// The times of both sides, in nanoseconds a call, for a table of `cells` cells.
-fn time(job: &Job, cells: usize) -> (f64, f64) {
-    let mut table = vec![0; cells];
-    let (signed, unsigned) = library::flat(&job.axes, 0);
-    let proved = |table: &mut [i64]| library::plan_flat(job.mask, job.asked, &signed, &unsigned, table);
-    let plain = |table: &mut [i64]| plain::plan(job, table);
+/// The time of one call of the library, after which both sides must have given the same answer and the same cells.
+fn once(job: &Job, lent: &mut [i64]) -> f64 {
     let start = now();
-    let answer = proved(&mut table);
-    let once = now() - start;
-    let left = table.clone();
-    assert_eq!(plain(&mut table), answer);
-    assert!(table == left, "the two sides write different cells");
-    let calls = (1e7 / once).ceil() as usize;
-    let batches = if calls == 1 { 15 } else { 41 };
-    let mut times = (Vec::new(), Vec::new());
-    for _ in 0..batches {
-        times.0.push(batch(calls, || proved(black_box(&mut table)).arrival));
-        times.1.push(batch(calls, || plain(black_box(&mut table)).arrival));
-    }
-    (least(&times.0), least(&times.1))
+    let answer = library::plan_typed(job.mask, job.asked, &job.axes, lent);
+    let took = now() - start;
+    let written = lent.to_vec();
+    lent.fill(0);
+    let plain = plain::plan(job, lent);
+    assert_eq!(plain, answer);
+    let cells = if answer.number == 0 { cells_of(job, answer.arrival) } else { 0 };
+    assert!(lent[..cells] == written[..cells], "the two sides write different cells");
+    took
 }
 
 fn batch(calls: usize, mut call: impl FnMut() -> u32) -> f64 {
@@ -95,7 +103,7 @@ fn cells_of(job: &Job, arrival: u32) -> usize {
 fn whole(name: &str, job: &Job) -> u32 {
     let mut table = vec![0; 3 * 6 * 4_097];
     let answer = library::plan_typed(job.mask, job.asked, &job.axes, &mut table);
-    let (proved, plain) = time(job, table.len());
+    let [(proved, plain)] = time([(job, table.len())]);
     let what =
         if answer.number == 0 { format!("{} rows", answer.arrival + 1) } else { format!("refused {}", answer.number) };
     println!("| {name} | {what} | {proved:.0} | {plain:.0} | {:.2} |", proved / plain);
@@ -107,7 +115,7 @@ fn whole(name: &str, job: &Job) -> u32 {
 fn by_row(name: &str, job: &Job, arrival: u32) {
     let asked = Job { asked: arrival, ..*job };
     let cells = cells_of(job, arrival);
-    let (accepted, refused) = (time(&asked, cells), time(&asked, cells - 1));
+    let [accepted, refused] = time([(&asked, cells), (&asked, cells - 1)]);
     let count = (cells / 3) as f64;
     let (proved, plain) = ((accepted.0 - refused.0) / count, (accepted.1 - refused.1) / count);
     println!("| {name} | {} rows | {proved:.1} | {plain:.1} | {:.2} |", arrival + 1, proved / plain);
@@ -126,7 +134,7 @@ fn rows_alone(name: &str, axes: u32, arrival: u32) {
     };
     let cells = cells_of(&slow(1), arrival);
     let count = (cells / 3) as f64;
-    let (least, most, refused) = (time(&slow(1), cells), time(&slow(1 << 20), cells), time(&slow(1), cells - 1));
+    let [least, most, refused] = time([(&slow(1), cells), (&slow(1 << 20), cells), (&slow(1), cells - 1)]);
     let alone = |least: f64, most: f64, refused: f64| (least - refused - 11.0 / 20.0 * (most - least)) / count;
     let (proved, plain) = (alone(least.0, most.0, refused.0), alone(least.1, most.1, refused.1));
     println!("| {name} | {} rows | {proved:.1} | {plain:.1} | {:.2} |", arrival + 1, proved / plain);

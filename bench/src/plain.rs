@@ -1,6 +1,6 @@
 //! The planner in plain Rust, with the library's loops and none of its proofs: reach by the envelopes' sums tick by
 //! tick, the least common arrival by trying tick after tick, cruise by halving steps over those sums, rows by stepping
-//! two tracks an axis.
+//! a blended track an axis, over the planned velocities of the last 512 ticks.
 
 use outside::reference::{Answer, Axis, Job, Target};
 
@@ -90,72 +90,72 @@ fn reaches(axis: &Axis, arrival: u32) -> bool {
     (leg.last + change_after * i64::from(axis.half_period)).abs() <= leg.limit && leg.has_list()
 }
 
-/// The planned motion at a tick, and how many velocities are still to be raised.
-#[derive(Clone, Copy)]
+/// An axis on its way through the rows.
 struct Track {
-    position: i64,
-    velocity: i64,
-    left: i64,
-}
-
-struct AxisPlan {
     leg: Leg,
     cruise: i64,
     change_after: i64,
     half_period: i64,
-    weight: i64,
-    /// The motion at the row's tick and a half period before it.
-    early: Track,
-    late: Track,
+    second_weight: i64,
+    /// 256 times the blended position, in half fine steps, and the blended velocity at the row's tick.
+    position: i64,
+    velocity: i64,
+    /// The planned velocity at the row's tick, and how many are still to be raised.
+    planned: i64,
+    left: i64,
+    /// The planned velocities of the last 512 ticks.
+    kept: [i64; 512],
 }
 
-impl AxisPlan {
-    fn new(axis: &Axis, arrival: u32) -> AxisPlan {
+fn nearest(x: i64, by: i64) -> i64 {
+    (x + by / 2).div_euclid(by)
+}
+
+impl Track {
+    fn new(axis: &Axis, arrival: u32) -> Track {
         let Ends { first_position, change_after, leg } = ends(axis, arrival);
         let cruise = leg.cruise();
         let left = leg.sum - leg.sum_at(cruise);
-        let half_period = i64::from(axis.half_period);
-        let early = Track { position: first_position, velocity: leg.first, left };
-        let late = Track { position: first_position - 2 * half_period * leg.first, ..early };
-        let weight = i64::from(axis.second_weight);
-        AxisPlan { leg, cruise, change_after, half_period, weight, early, late }
+        let (half_period, second_weight) = (i64::from(axis.half_period), i64::from(axis.second_weight));
+        let position = 256 * first_position - 2 * second_weight * half_period * leg.first;
+        let (velocity, planned) = (256 * leg.first, leg.first);
+        let kept = [0; 512];
+        Track { leg, cruise, change_after, half_period, second_weight, position, velocity, planned, left, kept }
     }
 
-    fn step(&self, track: Track, tick: i64) -> Track {
-        let (mut velocity, mut left) = (track.velocity, track.left);
-        if tick < 0 {
-            // uniform before tick 0
-        } else if tick + 1 < self.leg.ticks {
+    /// Takes the planned velocity from a tick to the next.
+    fn plan_next(&mut self, tick: i64) {
+        if tick + 1 < self.leg.ticks {
             let (lower, upper) = self.leg.envelopes(tick + 1);
-            velocity = lower.max(upper.min(self.cruise));
-            if left > 0 && velocity < lower.max(upper.min(self.cruise + 1)) {
-                velocity += 1;
-                left -= 1;
+            self.planned = lower.max(upper.min(self.cruise));
+            if self.left > 0 && self.planned < lower.max(upper.min(self.cruise + 1)) {
+                self.planned += 1;
+                self.left -= 1;
             }
         } else if tick < self.leg.ticks {
-            velocity = self.leg.last;
+            self.planned = self.leg.last;
         } else {
-            velocity += self.change_after;
+            self.planned += self.change_after;
         }
-        Track { position: track.position + track.velocity + velocity, velocity, left }
     }
 
-    fn cell(&self, early: i64, late: i64, by: i64) -> i64 {
-        let exact = (256 - self.weight) * early + self.weight * late;
-        (exact + by / 2).div_euclid(by)
+    /// The planned velocity a half period before a tick.
+    fn behind(&self, tick: i64) -> i64 {
+        if tick <= self.half_period {
+            return self.leg.first;
+        }
+        self.kept[(tick - self.half_period) as usize % 512]
     }
 
-    /// The three cells of the row at a tick, after which the tracks stand one tick on.
+    /// The three cells of the row at a tick, after which the track stands one tick on.
     fn row(&mut self, tick: i64) -> [i64; 3] {
-        let (early, late) = (self.early, self.late);
-        self.early = self.step(early, tick);
-        self.late = self.step(late, tick - self.half_period);
-        let changes = (self.early.velocity - early.velocity, self.late.velocity - late.velocity);
-        [
-            self.cell(early.position, late.position, 512),
-            self.cell(early.velocity, late.velocity, 256),
-            self.cell(changes.0, changes.1, 256),
-        ]
+        self.plan_next(tick);
+        self.kept[(tick + 1) as usize % 512] = self.planned;
+        let next = (256 - self.second_weight) * self.planned + self.second_weight * self.behind(tick + 1);
+        let cells = [nearest(self.position, 512), nearest(self.velocity, 256), nearest(next - self.velocity, 256)];
+        self.position += self.velocity + next;
+        self.velocity = next;
+        cells
     }
 }
 
@@ -195,10 +195,10 @@ pub fn plan(job: &Job, table: &mut [i64]) -> Answer {
     if table.len() < width * (arrival as usize + 1) {
         return refusal(10, 0, arrival);
     }
-    let mut plans: Vec<AxisPlan> = job.set().map(|(_, axis)| AxisPlan::new(axis, arrival)).collect();
+    let mut tracks: Vec<Track> = job.set().map(|(_, axis)| Track::new(axis, arrival)).collect();
     for (tick, row) in table.chunks_exact_mut(width).take(arrival as usize + 1).enumerate() {
-        for (plan, cells) in plans.iter_mut().zip(row.chunks_exact_mut(3)) {
-            cells.copy_from_slice(&plan.row(tick as i64));
+        for (track, cells) in tracks.iter_mut().zip(row.chunks_exact_mut(3)) {
+            cells.copy_from_slice(&track.row(tick as i64));
         }
     }
     refusal(0, job.mask, arrival)
