@@ -1,6 +1,6 @@
 //! The planner in plain Rust, with the library's loops and none of its proofs: reach by the envelopes' sums tick by
 //! tick, the least common arrival by trying tick after tick, cruise by halving steps over those sums, rows by stepping
-//! a blended track an axis, over the planned velocities of the last 512 ticks.
+//! a blended track an axis, each planned velocity by its region.
 
 use outside::reference::{Answer, Axis, Job, Target};
 
@@ -90,21 +90,23 @@ fn reaches(axis: &Axis, arrival: u32) -> bool {
     (leg.last + change_after * i64::from(axis.half_period)).abs() <= leg.limit && leg.has_list()
 }
 
-/// An axis on its way through the rows.
+/// An axis on its way through the rows: its planned velocities in three regions, and its track.
 struct Track {
-    leg: Leg,
+    first: i64,
+    rise: i64,
+    up: i64,
     cruise: i64,
+    raised: i64,
+    last: i64,
+    fall: i64,
+    down: i64,
+    ticks: i64,
     change_after: i64,
     half_period: i64,
     second_weight: i64,
     /// 256 times the blended position, in half fine steps, and the blended velocity at the row's tick.
     position: i64,
     velocity: i64,
-    /// The planned velocity at the row's tick, and how many are still to be raised.
-    planned: i64,
-    left: i64,
-    /// The planned velocities of the last 512 ticks.
-    kept: [i64; 512],
 }
 
 fn nearest(x: i64, by: i64) -> i64 {
@@ -115,43 +117,66 @@ impl Track {
     fn new(axis: &Axis, arrival: u32) -> Track {
         let Ends { first_position, change_after, leg } = ends(axis, arrival);
         let cruise = leg.cruise();
-        let left = leg.sum - leg.sum_at(cruise);
+        let raised = leg.sum - leg.sum_at(cruise);
         let (half_period, second_weight) = (i64::from(axis.half_period), i64::from(axis.second_weight));
         let position = 256 * first_position - 2 * second_weight * half_period * leg.first;
-        let (velocity, planned) = (256 * leg.first, leg.first);
-        let kept = [0; 512];
-        Track { leg, cruise, change_after, half_period, second_weight, position, velocity, planned, left, kept }
+        let velocity = 256 * leg.first;
+        let short =
+            |from: i64| if from <= cruise { (cruise - from) / leg.slope } else { (from - cruise - 1) / leg.slope };
+        let slope = |from: i64| if from <= cruise { leg.slope } else { -leg.slope };
+        let (mut rise, mut fall) = (short(leg.first), short(leg.last));
+        if leg.ticks <= rise + fall {
+            let apart = if leg.first <= cruise { leg.last - leg.first } else { leg.first - leg.last };
+            rise = (apart + leg.slope * leg.ticks) / (2 * leg.slope);
+            fall = leg.ticks - rise;
+        }
+        let (up, down) = (slope(leg.first), slope(leg.last));
+        let Leg { first, last, ticks, .. } = leg;
+        Track {
+            first,
+            rise,
+            up,
+            cruise,
+            raised,
+            last,
+            fall,
+            down,
+            ticks,
+            change_after,
+            half_period,
+            second_weight,
+            position,
+            velocity,
+        }
     }
 
-    /// Takes the planned velocity from a tick to the next.
-    fn plan_next(&mut self, tick: i64) {
-        if tick + 1 < self.leg.ticks {
-            let (lower, upper) = self.leg.envelopes(tick + 1);
-            self.planned = lower.max(upper.min(self.cruise));
-            if self.left > 0 && self.planned < lower.max(upper.min(self.cruise + 1)) {
-                self.planned += 1;
-                self.left -= 1;
-            }
-        } else if tick < self.leg.ticks {
-            self.planned = self.leg.last;
+    /// The planned velocity of a tick.
+    fn planned(&self, tick: i64) -> i64 {
+        if tick >= self.ticks {
+            self.last + (tick - self.ticks) * self.change_after
+        } else if tick <= self.rise {
+            self.first + tick * self.up
+        } else if tick + self.fall >= self.ticks {
+            self.last + (self.ticks - tick) * self.down
+        } else if tick - self.rise <= self.raised {
+            self.cruise + 1
         } else {
-            self.planned += self.change_after;
+            self.cruise
         }
     }
 
     /// The planned velocity a half period before a tick.
     fn behind(&self, tick: i64) -> i64 {
-        if tick <= self.half_period {
-            return self.leg.first;
+        if tick < self.half_period {
+            return self.first;
         }
-        self.kept[(tick - self.half_period) as usize % 512]
+        self.planned(tick - self.half_period)
     }
 
     /// The three cells of the row at a tick, after which the track stands one tick on.
     fn row(&mut self, tick: i64) -> [i64; 3] {
-        self.plan_next(tick);
-        self.kept[(tick + 1) as usize % 512] = self.planned;
-        let next = (256 - self.second_weight) * self.planned + self.second_weight * self.behind(tick + 1);
+        let ahead = self.planned(tick + 1);
+        let next = (256 - self.second_weight) * ahead + self.second_weight * self.behind(tick + 1);
         let cells = [nearest(self.position, 512), nearest(self.velocity, 256), nearest(next - self.velocity, 256)];
         self.position += self.velocity + next;
         self.velocity = next;

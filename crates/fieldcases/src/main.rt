@@ -2,7 +2,9 @@
 // independent reference computed. It prints a line for each case and, last, how many came as expected.
 //
 // The cases come as text on standard input: tests/reference/README.md says how it is made and what a case looks like. Where
-// a number is looked for, every byte that begins none is passed over, so the words between the numbers are for readers.
+// a number is looked for, every byte that begins none is passed over, so the words between the numbers are for readers, but
+// for three letters: the input begins with `words` or `typed`, and the outcome that is expected with `number`.
+use model::Answer;
 use model::Axis;
 use model::RestPoint;
 use model::State;
@@ -18,23 +20,12 @@ const UNTOUCHED: i64 = -1234567890123;
 // The prime 2^31 - 1, below which the sum over the buffer stays.
 const PRIME: u64 = 2147483647;
 
-// What a call gives back, with the sum over the buffer as it leaves it.
-struct Outcome {
-    number: u32,
-    place: u64,
-    mask: u32,
-    arrival: u32,
-    sum: u64,
-}
-
-// Reading the text. A function that takes `at` by reference reads from there on and moves it past what it read.
-
-fn byte_at(text: &[u8], at: usize) -> u8 {
-    if at < text.len() { text[at] } else { 0 }
-}
+// Reading the text, from an index on.
 
 // The index of the first byte from an index on that is this one; the length where there is none.
-fn found(text: &[u8], from: usize, byte: u8) -> usize {
+fn found(text: &[u8], from: usize, byte: u8) -> usize
+    ensures { λ r. ⌜ (r ≤ length (now (text .entry))) × (from ≤ length (now (text .entry)) → from ≤ r) ⌝ }
+{
     let mut i = from;
     while i < text.len() {
         if text[i] == byte {
@@ -45,305 +36,202 @@ fn found(text: &[u8], from: usize, byte: u8) -> usize {
     text.len()
 }
 
-// The bytes from one index up to another; none where these are no part of the text.
-fn part(text: &[u8], first: usize, end: usize) -> &[u8] {
-    if first <= end {
-        if end <= text.len() {
-            return &text[first..end];
-        }
-    }
-    &text[..0]
-}
-
-// The first lower-case letter from an index on; 0 where there is none.
-fn letter(text: &[u8], from: usize) -> u8 {
-    let mut i = from;
-    while i < text.len() {
-        if 97 <= text[i] {
-            return text[i];
-        }
-        i += 1;
-    }
-    0
-}
-
-// The value of a digit, and 255 for a byte that is none. Letters are digits of job words only, and stand in upper case.
-fn digit(byte: u8, hex: bool) -> u64
-    ensures { λ r. ⌜ r ≤ 255 ⌝ }
-{
-    if 48 <= byte {
-        if byte <= 57 {
-            return byte as u64 - 48;
-        }
-    }
-    if hex {
-        if 65 <= byte {
-            if byte <= 70 {
-                return byte as u64 - 55;
-            }
-        }
-    }
-    255
-}
-
-// The index of the first digit from an index on; the length where there is none.
-fn first_digit(text: &[u8], from: usize, hex: bool) -> usize {
-    let mut i = from;
-    while i < text.len() {
-        if digit(text[i], hex) < 16 {
-            return i;
-        }
-        i += 1;
-    }
-    text.len()
-}
-
-// A number with one more digit. Numbers of up to 19 digits come out exactly; of a longer one the first digits are lost.
-fn appended(value: u64, digit: u64, hex: bool) -> u64
-    requires { ⌜ digit < 16 ⌝ }
-{
-    let kept = value % 1000000000000000000;
-    if hex {
-        16 * kept + digit
-    } else {
-        10 * kept + digit
-    }
-}
-
-// The number whose digits begin here.
-fn digits(text: &[u8], at: &mut usize, hex: bool) -> u64 {
-    let mut value: u64 = 0;
-    while *at < text.len() {
-        let d = digit(text[*at], hex);
-        if 16 <= d {
-            return value;
-        }
-        value = appended(value, d, hex);
-        *at += 1;
-    }
-    value
-}
-
-// The next number without a sign.
-fn next_size(text: &[u8], at: &mut usize, hex: bool) -> u64 {
-    *at = first_digit(text, *at, hex);
-    digits(text, at, hex)
-}
-
-fn next_number(text: &[u8], at: &mut usize) -> u32 {
-    (next_size(text, at, false) % 4294967296) as u32
-}
-
-fn next_index(text: &[u8], at: &mut usize) -> usize
-    ensures { λ r. ⌜ r ≤ 4294967295 ⌝ }
-{
-    next_number(text, at) as usize
-}
-
-// The next job word, in hexadecimal.
-fn next_word(text: &[u8], at: &mut usize) -> u32 {
-    (next_size(text, at, true) % 4294967296) as u32
-}
-
-// The number of this size below 0; the least one of its type where the size is larger than any.
-fn negative(size: u64) -> i64 {
+// The number of a size and a sign; the last one on that side where the size is larger than any.
+fn signed(size: u64, minus: bool) -> i64 {
     if 9223372036854775807 < size {
-        return -9223372036854775808;
+        if minus {
+            return -9223372036854775808;
+        }
+        return 9223372036854775807;
     }
     let k = size as i64;
-    -k
+    if minus { -k } else { k }
 }
 
-// The next number with its sign.
-fn next_signed(text: &[u8], at: &mut usize) -> i64 {
-    let first = first_digit(text, *at, false);
-    *at = first;
-    let size = digits(text, at, false);
-    if 0 < first {
-        if byte_at(text, first - 1) == b'-' {
-            return negative(size);
+// The value of a digit, also of a letter; 16 for a byte that is none.
+fn digit(byte: u8) -> u64
+    ensures { λ r. ⌜ r ≤ 16 ⌝ }
+{
+    found(b"0123456789ABCDEF", 0, byte) as u64
+}
+
+// The next number in a base, with its sign, and `at` moved past it; 0 where there is none. Letters are digits of job words only, and stand in upper
+// case. Numbers of up to 19 digits come out exactly; of a longer one the first digits are lost.
+fn next(text: &[u8], at: &mut usize, base: u64) -> i64
+    requires { ⌜ base ≤ 16 ⌝ }
+{
+    let mut size: u64 = 0;
+    let mut begun = false;
+    let mut minus = false;
+    while *at < text.len() {
+        let byte = text[*at];
+        let d = digit(byte);
+        if d < base {
+            size = size % 1000000000000000000 * base + d;
+            begun = true;
+        } else {
+            if begun {
+                break;
+            }
+            minus = byte == b'-';
         }
+        *at += 1;
     }
-    (size % 9223372036854775808) as i64
+    signed(size, minus)
 }
 
-fn next_rest(text: &[u8], at: &mut usize) -> RestPoint {
-    let position = next_signed(text, at);
-    let velocity = next_signed(text, at);
-    RestPoint {
+// The size of a number, modulo 2^32.
+fn low(x: i64) -> u32 {
+    (whole::size(x) % 4294967296) as u32
+}
+
+// The index after so many numbers.
+fn after(text: &[u8], from: usize, count: u32) -> usize {
+    let mut at = from;
+    let mut i = 0;
+    while i < count {
+        next(text, &mut at, 10);
+        i += 1;
+    }
+    at
+}
+
+// The number that comes after so many others.
+fn nth(text: &[u8], from: usize, count: u32) -> i64 {
+    let mut at = after(text, from, count);
+    next(text, &mut at, 10)
+}
+
+fn nth_low(text: &[u8], from: usize, count: u32) -> u32 {
+    low(nth(text, from, count))
+}
+
+// The target of the axis whose numbers come next: the count of its own numbers is 4 for a moving one.
+fn target_at(text: &[u8], from: usize) -> Target {
+    let position = nth(text, from, 7);
+    let velocity = nth(text, from, 8);
+    if nth_low(text, from, 6) == 4 {
+        return Target::Moving(State {
+            position: position,
+            velocity: velocity,
+            acceleration: nth(text, from, 9),
+            tick: nth(text, from, 10),
+        });
+    }
+    Target::Fixed(RestPoint {
         position: position,
         velocity: velocity,
-    }
-}
-
-// A target: the count of its numbers, 2 for a fixed one, and then these.
-fn next_target(text: &[u8], at: &mut usize) -> Target {
-    let count = next_number(text, at);
-    let rest = next_rest(text, at);
-    if count == 2 {
-        return Target::Fixed(rest);
-    }
-    let acceleration = next_signed(text, at);
-    let tick = next_signed(text, at);
-    Target::Moving(State {
-        position: rest.position,
-        velocity: rest.velocity,
-        acceleration: acceleration,
-        tick: tick,
     })
 }
 
-fn next_axis(text: &[u8], at: &mut usize) -> Axis {
-    let start = next_rest(text, at);
-    let speed_limit = next_number(text, at);
-    let acceleration_limit = next_number(text, at);
-    let half_period = next_number(text, at);
-    let second_weight = next_number(text, at);
-    let target = next_target(text, at);
+// The axis whose numbers come next.
+fn axis_at(text: &[u8], from: usize) -> Axis {
+    let target = target_at(text, from);
     Axis {
-        start: start,
-        speed_limit: speed_limit,
-        acceleration_limit: acceleration_limit,
-        half_period: half_period,
-        second_weight: second_weight,
+        start: RestPoint {
+            position: nth(text, from, 0),
+            velocity: nth(text, from, 1),
+        },
+        speed_limit: nth_low(text, from, 2),
+        acceleration_limit: nth_low(text, from, 3),
+        half_period: nth_low(text, from, 4),
+        second_weight: nth_low(text, from, 5),
         target: target,
     }
 }
 
-// An axis that is listed, or one of zeros.
-fn listed_axis(text: &[u8], at: &mut usize, listed: u32) -> Axis {
-    if listed == 1 {
-        return next_axis(text, at);
+fn after_axis(text: &[u8], from: usize) -> usize {
+    let target = after(text, from, 7);
+    after(text, target, nth_low(text, from, 6))
+}
+
+// The six axes: a mask of those that are listed, and these. The others are of zeros, as an axis is that is read past the end.
+fn axes_at(text: &[u8], from: usize) -> [Axis; 6] {
+    let unset = axis_at(text, text.len());
+    let mut axes = [unset; 6];
+    let mut listed = nth_low(text, from, 0);
+    let mut at = after(text, from, 1);
+    let mut i = 0;
+    while i < 6 {
+        if listed % 2 == 1 {
+            let axis = axis_at(text, at);
+            axes[i] = axis;
+            at = after_axis(text, at);
+        }
+        listed = listed / 2;
+        i += 1;
     }
-    Axis {
-        start: RestPoint {
-            position: 0,
-            velocity: 0,
-        },
-        speed_limit: 0,
-        acceleration_limit: 0,
-        half_period: 0,
-        second_weight: 0,
-        target: Target::Fixed(RestPoint {
-            position: 0,
-            velocity: 0,
-        }),
-    }
+    axes
 }
-
-// The six axes: a mask of those that are listed, and these.
-fn next_axes(text: &[u8], at: &mut usize) -> [Axis; 6] {
-    let listed = next_number(text, at);
-    let a = listed_axis(text, at, listed % 2);
-    let b = listed_axis(text, at, listed / 2 % 2);
-    let c = listed_axis(text, at, listed / 4 % 2);
-    let d = listed_axis(text, at, listed / 8 % 2);
-    let e = listed_axis(text, at, listed / 16 % 2);
-    let f = listed_axis(text, at, listed / 32 % 2);
-    [a, b, c, d, e, f]
-}
-
-// What a call gives back, with a sum of 0.
-fn answered(number: u32, place: usize, mask: u32, arrival: u32) -> Outcome {
-    Outcome {
-        number: number,
-        place: place as u64,
-        mask: mask,
-        arrival: arrival,
-        sum: 0,
-    }
-}
-
-fn next_outcome(text: &[u8], at: &mut usize) -> Outcome {
-    let number = next_number(text, at);
-    let place = next_index(text, at);
-    let mask = next_number(text, at);
-    let arrival = next_number(text, at);
-    let mut outcome = answered(number, place, mask, arrival);
-    outcome.sum = next_size(text, at, false);
-    outcome
-}
-
-// Calling the planner.
 
 // Reads a count of words and so many words, or as many as there is room for, and answers how many.
-fn next_words(text: &[u8], at: &mut usize, words: &mut [u32]) -> usize
+fn read_words(text: &[u8], from: usize, words: &mut [u32]) -> usize
     ensures { λ r. ⌜ Counts r (now (words .exit)) ⌝ }
 {
-    let count = next_index(text, at);
+    let count = nth_low(text, from, 0) as usize;
+    let mut at = after(text, from, 1);
     let mut i = 0;
     while i < words.len() {
         if count <= i {
             return i;
         }
-        words[i] = next_word(text, at);
+        words[i] = low(next(text, &mut at, 16));
         i += 1;
     }
     i
 }
 
+// Calling the planner.
+
 // A call from words. The longest job has 63; one more may be left over.
-fn plan_words(text: &[u8], at: &mut usize, table: &mut [i64]) -> Outcome {
+fn plan_words(text: &[u8], from: usize, table: &mut [i64]) -> Answer {
     let mut words = [0u32; 64];
-    let count = next_words(text, at, &mut words);
-    let answer = planner::plan_words(&words[..count], table);
-    answered(answer.number, answer.place, answer.mask, answer.arrival)
+    let count = read_words(text, from, &mut words);
+    planner::plan_words(&words[..count], table)
 }
 
 // A call from typed values: the mask, the asked arrival and the six axes.
-fn plan_typed(text: &[u8], at: &mut usize, table: &mut [i64]) -> Outcome {
-    let mask = next_number(text, at);
-    let asked = next_number(text, at);
-    let axes = next_axes(text, at);
-    let answer = planner::plan_typed(mask, asked, axes, table);
-    answered(answer.number, answer.place, answer.mask, answer.arrival)
+fn plan_typed(text: &[u8], from: usize, table: &mut [i64]) -> Answer {
+    let mask = nth_low(text, from, 0);
+    let asked = nth_low(text, from, 1);
+    let axes = axes_at(text, after(text, from, 2));
+    planner::plan_typed(mask, asked, axes, table)
 }
 
 // The call of a case, with the cells that it is lent.
-fn planned(text: &[u8], at: &mut usize, table: &mut [i64]) -> Outcome {
-    if letter(text, *at) == b'w' {
-        return plan_words(text, at, table);
+fn planned(text: &[u8], from: usize, table: &mut [i64]) -> Answer {
+    if found(text, from, b'w') < found(text, from, b't') {
+        return plan_words(text, from, table);
     }
-    plan_typed(text, at, table)
+    plan_typed(text, from, table)
 }
 
-// Reads how many cells of the buffer are lent, and calls with these.
-fn lent(text: &[u8], at: &mut usize, buffer: &mut [i64]) -> Outcome {
-    let n = next_index(text, at);
+// The call of a case with the first cells of the buffer, as many as it says are lent.
+fn lent(text: &[u8], from: usize, input: usize, buffer: &mut [i64]) -> Answer {
+    let n = nth_low(text, from, 0) as usize;
     if n <= buffer.len() {
-        return planned(text, at, &mut buffer[..n]);
+        return planned(text, input, &mut buffer[..n]);
     }
-    planned(text, at, buffer)
-}
-
-fn clear(buffer: &mut [i64]) {
-    let mut i = 0;
-    while i < buffer.len() {
-        buffer[i] = UNTOUCHED;
-        i += 1;
-    }
+    planned(text, input, buffer)
 }
 
 // Comparing.
 
-// What a cell adds to the sum: twice its size, and one more where it is below 0.
-fn weight(x: i64) -> u64
-    ensures { λ r. ⌜ r ≤ 4294967293 ⌝ }
-{
-    let twice = 2 * (whole::size(x) % PRIME);
-    if x < 0 { twice + 1 } else { twice }
-}
-
+// The sum with one more cell: its weight is twice its size, and one more where it is below 0.
 fn added(sum: u64, x: i64) -> u64
     requires { ⌜ sum < 2147483647 ⌝ }
     ensures { λ r. ⌜ r < 2147483647 ⌝ }
 {
-    (31 * sum + weight(x)) % PRIME
+    let twice = 2 * (whole::size(x) % PRIME);
+    let weight = if x < 0 { twice + 1 } else { twice };
+    (31 * sum + weight) % PRIME
 }
 
 // The sum over all cells: at each cell 31 times the sum so far and the cell's weight, modulo the prime. As 31 has an inverse
 // modulo the prime, two buffers that differ in one cell, by less than 2^30 in size, have different sums.
-fn sum_of(buffer: &[i64]) -> u64 {
+fn sum_of(buffer: &[i64]) -> u64
+    ensures { λ r. ⌜ r < 2147483647 ⌝ }
+{
     let mut sum: u64 = 0;
     let mut i = 0;
     while i < buffer.len() {
@@ -354,12 +242,37 @@ fn sum_of(buffer: &[i64]) -> u64 {
     sum
 }
 
-fn same(a: Outcome, b: Outcome) -> bool {
-    a.number == b.number
-        && a.place == b.place
-        && a.mask == b.mask
-        && a.arrival == b.arrival
-        && a.sum == b.sum
+// What a call gives back: number, place, mask and arrival, with the sum over the buffer as it leaves it.
+fn outcome(answer: Answer, sum: u64) -> [i64; 5] {
+    [
+        answer.number as i64,
+        signed(answer.place as u64, false),
+        answer.mask as i64,
+        answer.arrival as i64,
+        signed(sum, false),
+    ]
+}
+
+// The outcome whose numbers come next.
+fn outcome_at(text: &[u8], from: usize) -> [i64; 5] {
+    [
+        nth(text, from, 0),
+        nth(text, from, 1),
+        nth(text, from, 2),
+        nth(text, from, 3),
+        nth(text, from, 4),
+    ]
+}
+
+fn same(a: &[i64; 5], b: &[i64; 5]) -> bool {
+    let mut i = 0;
+    while i < 5 {
+        if a[i] != b[i] {
+            return false;
+        }
+        i += 1;
+    }
+    true
 }
 
 fn cell_at(buffer: &[i64], i: usize) -> i64 {
@@ -368,80 +281,81 @@ fn cell_at(buffer: &[i64], i: usize) -> i64 {
 
 // Printing.
 
-fn print(text: &[u8]) {
-    io::write_all(1, text);
+// Prints the bytes from an index up to the next that is this one, and answers the index after it.
+fn print_to(text: &[u8], from: usize, byte: u8) -> usize
+    requires { ⌜ from ≤ length (now text) ⌝ }
+    ensures { λ r. ⌜ r ≤ length (now (text .entry)) ⌝ }
+{
+    let end = found(text, from, byte);
+    io::write_all(1, &text[from..end]);
+    if end < text.len() { end + 1 } else { end }
 }
 
-fn print_field(label: &[u8], n: u64) {
-    print(label);
-    io::print_decimal(1, n);
-}
-
-fn print_signed(label: &[u8], x: i64) {
-    print(label);
+fn print_signed(x: i64) {
     if x < 0 {
-        print(b"-");
+        io::write_all(1, b"-");
     }
     let n = whole::size(x);
     io::print_decimal(1, n);
 }
 
-fn print_number(number: u32) {
-    if number == 0 {
-        print(b" accepted");
+// Prints a text with the numbers from an index on, each in the place of a `%`.
+fn print(text: &[u8], numbers: &[i64], from: usize) {
+    let mut at = 0;
+    let mut i = from;
+    while i < numbers.len() {
+        at = print_to(text, at, b'%');
+        print_signed(numbers[i]);
+        i += 1;
+    }
+    print_to(text, at, b'%');
+}
+
+fn print_outcome(o: &[i64; 5]) {
+    if o[0] == 0 {
+        print(b" accepted place % axes % arrival % sum %", o, 1);
     } else {
-        print_field(b" refused ", number as u64);
+        print(b" refused % place % axes % arrival % sum %", o, 0);
     }
 }
 
-fn print_outcome(o: Outcome) {
-    print_number(o.number);
-    print_field(b" place ", o.place);
-    print_field(b" axes ", o.mask as u64);
-    print_field(b" arrival ", o.arrival as u64);
-    print_field(b" sum ", o.sum);
-}
-
-fn print_difference(expected: Outcome, came: Outcome) {
-    print(b" EXPECTED");
+fn print_difference(expected: &[i64; 5], came: &[i64; 5]) {
+    io::write_all(1, b" EXPECTED");
     print_outcome(expected);
-    print(b" CAME");
+    io::write_all(1, b" CAME");
     print_outcome(came);
-    print(b"\n");
+    io::write_all(1, b"\n");
 }
 
-fn print_cell(place: usize, expected: i64, came: i64) {
-    print_field(b" cell ", place as u64);
-    print_signed(b" EXPECTED ", expected);
-    print_signed(b" CAME ", came);
-    print(b"\n");
-}
-
-fn print_count(right: u64, done: u64) {
-    print_field(b"as expected: ", right);
-    print_field(b" of ", done);
-    print(b"\n");
+fn print_cell(place: u32, expected: i64, came: i64) {
+    print(
+        b" cell % EXPECTED % CAME %\n",
+        &[place as i64, expected, came],
+        0,
+    );
 }
 
 // Running.
 
-// Reads the cells listed for a case, an index and a value each, up to the first that differs.
-fn cells_same(text: &[u8], at: &mut usize, buffer: &[i64]) -> bool {
-    let count = next_index(text, at);
+// Compares the cells that are listed after an outcome, an index and a value each, up to the first that differs.
+fn cells_same(text: &[u8], from: usize, buffer: &[i64]) -> bool {
+    let count = nth_low(text, from, 5);
+    let mut at = after(text, from, 6);
     let mut i = 0;
     while i < count {
         if !cell_same(text, at, buffer) {
             return false;
         }
+        at = after(text, at, 2);
         i += 1;
     }
     true
 }
 
-fn cell_same(text: &[u8], at: &mut usize, buffer: &[i64]) -> bool {
-    let place = next_index(text, at);
-    let expected = next_signed(text, at);
-    let came = cell_at(buffer, place);
+fn cell_same(text: &[u8], from: usize, buffer: &[i64]) -> bool {
+    let place = nth_low(text, from, 0);
+    let expected = nth(text, from, 1);
+    let came = cell_at(buffer, place as usize);
     if expected == came {
         return true;
     }
@@ -449,61 +363,68 @@ fn cell_same(text: &[u8], at: &mut usize, buffer: &[i64]) -> bool {
     false
 }
 
-// Reads what is expected, compares what came with it, and prints the rest of the line.
-fn compared(text: &[u8], at: &mut usize, came: Outcome, buffer: &[i64]) -> bool {
-    let expected = next_outcome(text, at);
-    if !same(expected, came) {
-        print_difference(expected, came);
-        return false;
+// Compares what came with the outcome that is expected, and prints the two where they differ.
+fn outcome_same(text: &[u8], from: usize, came: &[i64; 5]) -> bool {
+    let expected = outcome_at(text, from);
+    if same(&expected, came) {
+        return true;
     }
-    if !cells_same(text, at, buffer) {
-        return false;
-    }
-    print_outcome(came);
-    print(b" ok\n");
-    true
+    print_difference(&expected, came);
+    false
 }
 
-// Moves past the next byte that is this one.
-fn pass(text: &[u8], at: &mut usize, byte: u8) {
-    let i = found(text, *at, byte);
-    *at = i;
-    if i < text.len() {
-        *at = i + 1;
+// Compares what came with what is expected, and prints the rest of the line.
+fn compared(text: &[u8], from: usize, came: &[i64; 5], buffer: &[i64]) -> bool {
+    if outcome_same(text, from, came) {
+        if cells_same(text, from, buffer) {
+            print_outcome(came);
+            io::write_all(1, b" ok\n");
+            return true;
+        }
     }
+    false
 }
 
-// Prints the next name in quotation marks, which begins a case and its line.
-fn print_name(text: &[u8], at: &mut usize) {
-    pass(text, at, b'"');
-    let first = *at;
-    let end = found(text, first, b'"');
-    pass(text, at, b'"');
-    print(part(text, first, end));
+// Runs the case whose text comes next, and answers whether it came as expected.
+fn run_case(text: &[u8], from: usize) -> bool {
+    let input = after(text, from, 1);
+    let mut buffer = cell_buffer();
+    let answer = lent(text, from, input, &mut buffer);
+    let sum = sum_of(&buffer);
+    let came = outcome(answer, sum);
+    compared(text, found(text, input, b'n'), &came, &buffer)
 }
 
-// Runs the next case, and answers whether it came as expected.
-fn run_case(text: &[u8], at: &mut usize, buffer: &mut [i64]) -> bool {
-    print_name(text, at);
-    clear(buffer);
-    let mut came = lent(text, at, buffer);
-    came.sum = sum_of(buffer);
-    compared(text, at, came, buffer)
+// Prints the next name in quotation marks, which begins a case and its line, and answers the index after it.
+fn print_name(text: &[u8], from: usize) -> usize
+    requires { ⌜ from ≤ length (now text) ⌝ }
+    ensures { λ r. ⌜ r ≤ length (now (text .entry)) ⌝ }
+{
+    let mark = found(text, from, b'"');
+    if mark < text.len() {
+        return print_to(text, mark + 1, b'"');
+    }
+    mark
+}
+
+fn print_count(right: u32, done: u32) {
+    print(b"as expected: % of %\n", &[right as i64, done as i64], 0);
 }
 
 // Runs every case of the text: their count, and then the cases.
-fn run(text: &[u8], buffer: &mut [i64]) {
+fn run(text: &[u8]) {
+    let count = nth_low(text, 0, 0);
     let mut at: usize = 0;
-    let count = next_index(text, &mut at);
-    let mut right: u64 = 0;
-    let mut done: usize = 0;
+    let mut right: u32 = 0;
+    let mut done: u32 = 0;
     while done < count {
-        if run_case(text, &mut at, buffer) {
+        at = print_name(text, at);
+        if run_case(text, at) {
             right += 1;
         }
         done += 1;
     }
-    print_count(right, done as u64);
+    print_count(right, done);
 }
 
 // Room for the text; what is longer is not read.
@@ -523,6 +444,5 @@ fn cell_buffer() -> [i64; 73760]
 fn main() {
     let mut text = text_buffer();
     let got = io::read_full(0, &mut text);
-    let mut buffer = cell_buffer();
-    run(&text[..got], &mut buffer);
+    run(&text[..got]);
 }

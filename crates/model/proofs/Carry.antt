@@ -1,11 +1,10 @@
 -- A row carried on one tick misses the next row by at most 3/2 in position and in velocity: the exact blends follow rule 1, and each
 -- cell is off by a half at most, whichever way halves go.
-use Prim.Native.Nat.{ℕ, suc, _+_, _-_, _*_, _^_, _≤_, _<_}
+use Prim.Native.Nat.{ℕ, suc, _+_, _-_, _≤_, _<_}
 use mathlib.Core.Path.{_≡_, refl, sym, ap, ap₂, _∙_, subst, subst₂}
 use mathlib.Core.Logic.{⊎-elim}
 use mathlib.Core.List.{List, [], _∷_}
 use native.Mathlib.Omega.{arith}
-use lib.Dec.{T}
 use lib.ListN.{length, replicate, length-append, length-replicate}
 use lib.IntN.{ℤ, pos, natAbs, _+ℤ_, _-ℤ_, _*ℤ_, +ℤ-idr}
 use Rattle.whole.specs.Integers.{nearest}
@@ -14,11 +13,13 @@ use Rattle.whole.proofs.Differences.{whole, all₅, all₇}
 use Rattle.whole.proofs.Ring.{pol, same}
 use Rattle.whole.proofs.Rounding.{WithinHalf, half-iff, nearest-half}
 use Rattle.model.specs.declared.Axis.{Axis}
-use Rattle.model.specs.Quantities.{speedLimit, accelerationLimit, halfPeriod, secondWeight}
-use Rattle.model.specs.Leg.{feasible, chosen}
-use Rattle.model.specs.Motion.{Tick, leg, displacement, requiredSum, earlier, changesFrom, accelerations}
+use Rattle.model.specs.Quantities.{halfPeriod, secondWeight}
+use Rattle.model.specs.Leg.{chosen}
+use Rattle.model.specs.Motion.{Tick, leg, requiredSum, earlier, changesFrom, accelerations}
 use Rattle.model.specs.Motion.{startPosition, startVelocity, landingTick, landingAcceleration}
 use Rattle.model.specs.Rows.{track, tickAt, tickBack, blend}
+use Rattle.model.specs.Refusals.{Ready}
+use Rattle.model.proofs.ReadyAxis as R
 use Rattle.model.proofs.BlendTicks.{tick-start, tick-before, tick-after}
 use Rattle.model.proofs.PlannedMotion.{Follows, run-follows}
 use Rattle.model.proofs.PlannedTarget.{velocities-length}
@@ -64,9 +65,7 @@ changes-length : (v : ℤ) (ws : List ℤ) → length (changesFrom v ws) ≡ len
 changes-length v [] = refl
 changes-length v (w ∷ ws) = ap suc (changes-length w ws)
 
-module _ (x : Axis) (n : ℕ) (after : halfPeriod x < n)
-    (hA : 0 < 256 * accelerationLimit x) (small : 256 * speedLimit x ≤ 2 ^ 37) (t : T (feasible (leg x n) (displacement x n)))
-    (hB : secondWeight x ≤ 256) where
+module _ (x : Axis) (n : ℕ) (r : Ready x n) where
   abbrev h : ℕ
   h = halfPeriod x
 
@@ -75,8 +74,8 @@ module _ (x : Axis) (n : ℕ) (after : halfPeriod x < n)
   accelerations-length : length (accelerations x n) ≡ suc n
   accelerations-length =
       length-append (changesFrom (startVelocity x) list) (replicate (suc h) (landingAcceleration x n))
-      ∙ ap₂ _+_ (changes-length (startVelocity x) list ∙ velocities-length x n after hA small t) (length-replicate (suc h) (landingAcceleration x n))
-      ∙ plain (landingTick x n) h n (omega arith)
+      ∙ ap₂ _+_ (changes-length (startVelocity x) list ∙ velocities-length x n r) (length-replicate (suc h) (landingAcceleration x n))
+      ∙ plain (landingTick x n) h n (omega (arith, R.after x n r))
     where
       list : List ℤ
       list = chosen (leg x n) (requiredSum x n)

@@ -21,9 +21,9 @@ use Rattle.model.specs.Rows.{track, tickAt, tickBack, blend}
 use Rattle.model.specs.Refusals.{Ready}
 use Rattle.model.proofs.PassedAxis.{target-acceleration}
 use Rattle.model.proofs.ReadyAxis as R
-use Rattle.model.proofs.ChosenMeets.{chosen-meets}
 use Rattle.model.proofs.Reaches.{reach-lands, reach-arrives}
 use Rattle.model.proofs.PlannedTarget.{landed, tick-landed, velocities-length}
+use Rattle.model.proofs.PlannedTarget as P
 
 -- ---- a run over the changes of a list of velocities has these velocities and changes
 
@@ -88,14 +88,13 @@ module _ (x : Axis) (n : ℕ) (r : Ready x n) where
 
   meets : Meets (leg x n) (displacement x n) W
   unfolding W
-  meets = chosen-meets (leg x n) (displacement x n) (omega (arith, R.after x n r)) (R.some-acceleration x n r) (R.speed-range x n r) (R.moves x n r)
+  meets = P.meets x n r
 
   long : length (chosen (leg x n) (requiredSum x n)) ≡ landingTick x n
-  long = velocities-length x n (R.after x n r) (R.some-acceleration x n r) (R.speed-range x n r) (R.moves x n r)
+  long = velocities-length x n r
 
-  late : (j : ℕ) → j ≤ halfPeriod x
-      → tickAt (track n x) (landingTick x n + j) ≡ landed x n (R.after x n r) (R.some-acceleration x n r) (R.speed-range x n r) (R.moves x n r) j
-  late j h = tick-landed x n (R.after x n r) (R.some-acceleration x n r) (R.speed-range x n r) (R.moves x n r) j h
+  late : (j : ℕ) → j ≤ halfPeriod x → tickAt (track n x) (landingTick x n + j) ≡ landed x n j
+  late j h = tick-landed x n r j h
 
   landing-acceleration : natAbs (landingAcceleration x n) ≤ fineSteps * accelerationLimit x
   landing-acceleration =

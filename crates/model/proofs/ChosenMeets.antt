@@ -22,6 +22,31 @@ use Rattle.model.proofs.RaisedList.{raised-total, raised-length, raised
 use Rattle.model.proofs.FeasibleTests.{feasible-joined, feasible-even, feasible-below, feasible-cruise}
 use Rattle.model.proofs.Travel.{travelled-is}
 
+pub chosen-length : (g : Leg) (s : ℤ) → 0 < g .ticks → length (chosen g s) ≡ g .ticks
+chosen-length g s some =
+    length-append middle (g .end ∷ []) ∙ plain (length middle) (g .ticks) (raised-length g (cruise g s) (g .ticks - 1) 1 (remainder g s)) some
+  where
+    middle : List ℤ
+    middle = raised g (cruise g s) (g .ticks - 1) 1 (remainder g s)
+
+    plain : (a k : ℕ) → a ≡ k - 1 → 0 < k → a + 1 ≡ k
+    plain a k e h = omega arith
+
+module _ (g : Leg) (δ : ℤ) (range : g .speedLimit ≤ 2 ^ 37) (t : T (feasible g δ)) where
+  abbrev S : ℤ
+  S = required g δ
+
+  pub cruise-largest : IsCruise g S (cruise g S)
+  cruise-largest = feasible-cruise g δ t range
+
+  pub remainder-left : sumAt g (cruise g S) +ℤ pos (remainder g S) ≡ S
+  remainder-left =
+      ap (λ (z : ℤ). sumAt g (cruise g S) +ℤ z) (pos-natAbs (S -ℤ sumAt g (cruise g S)) (yes-nonNeg fits))
+      ∙ add-sub (sumAt g (cruise g S)) S
+    where
+      fits : pos 0 ≤ℤ (S -ℤ sumAt g (cruise g S))
+      fits = sub-nonneg (sumAt g (cruise g S)) S (cruise-largest .fits)
+
 module _ (g : Leg) (δ : ℤ) (some : 0 < g .ticks)
     (hA : 0 < g .accelerationLimit) (range : g .speedLimit ≤ 2 ^ 37) (t : T (feasible g δ)) where
   -- the required sum, its cruise, what the cruise leaves of the sum, and the number of ticks between the ends
@@ -40,24 +65,13 @@ module _ (g : Leg) (δ : ℤ) (some : 0 < g .ticks)
   joined : Joined g
   joined = feasible-joined g δ t
 
-  pub cruise-largest : IsCruise g s (cruise g s)
-  cruise-largest = feasible-cruise g δ t range
-
   C : IsCruise g s c
   unfolding c
-  C = cruise-largest
-
-  pub remainder-left : sumAt g (cruise g s) +ℤ pos (remainder g s) ≡ s
-  remainder-left =
-      ap (λ (z : ℤ). sumAt g (cruise g s) +ℤ z) (pos-natAbs (s -ℤ sumAt g (cruise g s)) (yes-nonNeg fits))
-      ∙ add-sub (sumAt g (cruise g s)) s
-    where
-      fits : pos 0 ≤ℤ (s -ℤ sumAt g (cruise g s))
-      fits = sub-nonneg (sumAt g (cruise g s)) s (cruise-largest .fits)
+  C = cruise-largest g δ range t
 
   left-is : sumAt g c +ℤ pos left ≡ s
   unfolding c left
-  left-is = remainder-left
+  left-is = remainder-left g δ range t
 
   -- at c + 1 the sum is enough: c is the largest that does not exceed it, or the speed limit, where the upper envelope's sum is enough
   enough : s ≤ℤ sumAt g (c +ℤ pos 1)
@@ -74,7 +88,7 @@ module _ (g : Leg) (δ : ℤ) (some : 0 < g .ticks)
       top : pos (g .speedLimit) <ℤ (c +ℤ pos 1) → s ≤ℤ sumAt g (c +ℤ pos 1)
       top q =
           ≤ℤ-trans (subst (λ (z : ℤ). s ≤ℤ z) (sym (highest-sum g joined)) (feasible-below g δ t))
-          (sumAt-mono g (joined .start) (joined .end) s (pos (g .speedLimit)) (c +ℤ pos 1) (<ℤ-weaken q))
+          (sumAt-mono g (pos (g .speedLimit)) (c +ℤ pos 1) (<ℤ-weaken q))
 
   -- the velocities of ticks 1 to T − 1
   middle : List ℤ
@@ -130,10 +144,3 @@ module _ (g : Leg) (δ : ℤ) (some : 0 < g .ticks)
   pub chosen-meets : Meets g δ (λ k. getD (g .start ∷ chosen g (required g δ)) k (pos 0))
   unfolding w middle c left
   chosen-meets = meets
-
-  pub chosen-length : length (chosen g (required g δ)) ≡ g .ticks
-  unfolding middle c left
-  chosen-length = length-append middle (g .end ∷ []) ∙ plain (length middle) n (g .ticks) middle-length shape
-    where
-      plain : (a b c : ℕ) → a ≡ b → suc b ≡ c → a + 1 ≡ c
-      plain a b c p q = omega arith

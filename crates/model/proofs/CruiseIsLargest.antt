@@ -6,7 +6,7 @@ use mathlib.Core.Logic.{⊎-elim}
 use native.Mathlib.Omega.{arith}
 use native.Mathlib.Nat.{pow-succ'}
 use lib.Dec.{T}
-use lib.IntN.{ℤ, pos, negℤ, natAbs, _+ℤ_}
+use lib.IntN.{ℤ, pos, negℤ, _+ℤ_}
 use lib.Signed.{leZ, _≤ℤ_, _<ℤ_, leZ-yes, ≤ℤ-refl, clashℤ}
 use Rattle.whole.specs.Integers.{sumTo}
 use Rattle.whole.proofs.Tests.{by-bool}
@@ -21,10 +21,10 @@ use Rattle.model.proofs.Envelopes.{lowest-sum}
 fails : (x y : ℤ) → T (not (leZ x y)) → y <ℤ x
 fails x y t = PN-lt (nle-PN x y t)
 
-module _ (g : Leg) (hs : natAbs (g .start) ≤ g .speedLimit) (he : natAbs (g .end) ≤ g .speedLimit) (s : ℤ) where
-  pub sumAt-mono : (c d : ℤ) → c ≤ℤ d → sumAt g c ≤ℤ sumAt g d
-  sumAt-mono c d h = sum-mono (clamped g c) (clamped g d) (g .ticks - 1) (λ k q. clamp-mono (lower g k) (upper g k) c d h)
+pub sumAt-mono : (g : Leg) (c d : ℤ) → c ≤ℤ d → sumAt g c ≤ℤ sumAt g d
+sumAt-mono g c d h = sum-mono (clamped g c) (clamped g d) (g .ticks - 1) (λ k q. clamp-mono (lower g k) (upper g k) c d h)
 
+module _ (g : Leg) (s : ℤ) where
   abbrev L : ℤ
   L = pos (g .speedLimit)
 
@@ -68,7 +68,7 @@ module _ (g : Leg) (hs : natAbs (g .start) ≤ g .speedLimit) (he : natAbs (g .e
 
       -- e fits and d does not, so e is below d
       exceeds : (e : ℤ) → sumAt g e ≤ℤ s → s <ℤ sumAt g d → e <ℤ d
-      exceeds e q f = ⊎-elim (λ (p : d ≤ℤ e). clashℤ f (≤ℤ-trans (sumAt-mono d e p) q)) (λ p. p) (≤ℤ-total d e)
+      exceeds e q f = ⊎-elim (λ (p : d ≤ℤ e). clashℤ f (≤ℤ-trans (sumAt-mono g d e p) q)) (λ p. p) (≤ℤ-total d e)
 
       beyond : (e d l : ℤ) → e ≤ℤ l → l <ℤ d → e <ℤ d
       beyond = all₃ _ (λ a b c d e f. simp whole (omega arith))

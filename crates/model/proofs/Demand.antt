@@ -22,7 +22,6 @@ use Rattle.model.proofs.CellPlaces.{table-length, table-at}
 use Rattle.model.specs.Refusals.{Ready, AllPassed}
 use Rattle.model.specs.Verdict.{Among, IsArrival, Verdict, CallVerdict, words1, words2, wordsJob, typed1, typedJobs, accepted, refused3, refused4, refused5, refused6, refused7, refused8, refused9, refused10}
 use Rattle.model.specs.Quantities.{speedLimit, accelerationLimit}
-use Rattle.model.proofs.ReadyAxis as R
 use Rattle.model.proofs.CellLimits as L
 use Rattle.model.proofs.ExactStart as S
 use Rattle.model.proofs.Verdict.{passed-among, reach-is}
@@ -54,14 +53,11 @@ module _ (xs : List Axis) (n : ℕ) (lent rest : List ℤ) (is : lent ≡ table 
     lands =
         record {
           position = cell-is i 0 n x e (omega arith) (omega arith)
-              ∙ lands-position x n (R.after x n g) (R.some-acceleration x n g) (R.speed-range x n g)
-              (R.moves x n g) (R.weight-range x n g) (R.no-correction x n g);
+              ∙ lands-position x n g;
           velocity = cell-is i 1 n x e (omega arith) (omega arith)
-              ∙ lands-velocity x n (R.after x n g) (R.some-acceleration x n g) (R.speed-range x n g)
-              (R.moves x n g) (R.weight-range x n g);
+              ∙ lands-velocity x n g;
           acceleration = cell-is i 2 n x e (omega arith) (omega arith)
-              ∙ lands-acceleration x n (R.after x n g) (R.some-acceleration x n g) (R.speed-range x n g)
-              (R.moves x n g) (R.weight-range x n g);
+              ∙ lands-acceleration x n g;
         }
 
     p : ℕ → ℤ
@@ -87,11 +83,11 @@ module _ (xs : List Axis) (n : ℕ) (lent rest : List ℤ) (is : lent ≡ table 
 
     miss-p : (k : ℕ) → k < n → natAbs (pos 2 *ℤ p k +ℤ pos 2 *ℤ v k +ℤ a k -ℤ pos 2 *ℤ p (suc k)) ≤ 3
     unfolding p v a
-    miss-p k h = carries-position x n (R.after x n g) (R.some-acceleration x n g) (R.speed-range x n g) (R.moves x n g) (R.weight-range x n g) k h
+    miss-p k h = carries-position x n g k h
 
     miss-v : (k : ℕ) → k < n → natAbs (pos 2 *ℤ (v k +ℤ a k -ℤ v (suc k))) ≤ 3
     unfolding v a
-    miss-v k h = carries-velocity x n (R.after x n g) (R.some-acceleration x n g) (R.speed-range x n g) (R.moves x n g) (R.weight-range x n g) k h
+    miss-v k h = carries-velocity x n g k h
 
     carries : (k : ℕ) → k < n → Carries i k (tableIn xs n lent)
     carries k h =
@@ -111,10 +107,10 @@ module _ (xs : List Axis) (n : ℕ) (lent rest : List ℤ) (is : lent ≡ table 
     unfolding a
     stills =
         record {
-          exact = λ m w h s. cancelled-exact x n (R.after x n g) (R.some-acceleration x n g) (R.speed-range x n g) (R.moves x n g) (R.weight-range x n g) m w h s;
+          exact = λ m w h s. cancelled-exact x n g m w h s;
           rounded = λ m G w h s b.
               subst (λ (z : ℤ). natAbs z ≤ n * G) (sway-same a (accelerationCell (tableIn xs n lent) i) w m n a-is)
-              (cancelled-rounded x n (R.after x n g) (R.some-acceleration x n g) (R.speed-range x n g) (R.moves x n g) (R.weight-range x n g) m G w h s b);
+              (cancelled-rounded x n g m G w h s b);
         }
 
   whole : cellsNeeded (length xs) n ≤ length lent

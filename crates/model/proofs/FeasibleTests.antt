@@ -45,4 +45,4 @@ module _ (g : Leg) (δ : ℤ) (t : T (feasible g δ)) where
 
   -- and has a cruise
   pub feasible-cruise : g .speedLimit ≤ 2 ^ 37 → IsCruise g (required g δ) (cruise g (required g δ))
-  feasible-cruise small = cruise-is g (feasible-joined .start) (feasible-joined .end) (required g δ) small (leZ-yes (passed .1 .1 .1 .1 .0))
+  feasible-cruise small = cruise-is g (required g δ) small (leZ-yes (passed .1 .1 .1 .1 .0))

@@ -1,9 +1,8 @@
 -- Row N is on the target: the cells of an axis there are 256 times the target's position, velocity and acceleration.
-use Prim.Native.Nat.{ℕ, _+_, _-_, _*_, _^_, _≤_, _<_}
+use Prim.Native.Nat.{ℕ, _+_, _-_, _≤_}
 use mathlib.Core.Path.{_≡_, ap, ap₂, _∙_, subst}
 use mathlib.Core.List.{[], _∷_}
 use native.Mathlib.Omega.{arith}
-use lib.Dec.{T}
 use lib.IntN.{ℤ, pos, _+ℤ_, _-ℤ_, _*ℤ_, +ℤ-idr}
 use Rattle.whole.specs.Integers.{nearest}
 use Rattle.whole.proofs.Differences.{whole}
@@ -11,10 +10,11 @@ use Rattle.whole.proofs.Ring.{pol, same}
 use Rattle.whole.proofs.Rounding.{nearest-whole}
 use Rattle.model.specs.declared.Axis.{Axis}
 use Rattle.model.specs.declared.State.{State}
-use Rattle.model.specs.Quantities.{speedLimit, accelerationLimit, halfPeriod, secondWeight, asMoving, twicePositionAt, velocityAt}
-use Rattle.model.specs.Leg.{feasible}
-use Rattle.model.specs.Motion.{Tick, leg, displacement, landingTick}
+use Rattle.model.specs.Quantities.{halfPeriod, secondWeight, asMoving, twicePositionAt, velocityAt}
+use Rattle.model.specs.Motion.{Tick, landingTick}
 use Rattle.model.specs.Rows.{track, tickAt, tickBack, blend}
+use Rattle.model.specs.Refusals.{Ready}
+use Rattle.model.proofs.ReadyAxis as R
 use Rattle.model.proofs.BlendTicks.{tick-after}
 use Rattle.model.proofs.PlannedTarget.{landed, tick-landed}
 
@@ -50,9 +50,7 @@ module _ (b h p v a l t : ℤ) where
       ≡ pos 512 *ℤ (pos 128 *ℤ place (l +ℤ h)) +ℤ (b *ℤ (a *ℤ (h *ℤ h))) *ℤ (pos 256 -ℤ pos 2 *ℤ b)
   blended-position = same (b ∷ h ∷ p ∷ v ∷ a ∷ l ∷ t ∷ []) (search pol depth 30 fits 9000) tt
 
-module _ (x : Axis) (n : ℕ) (after : halfPeriod x < n)
-    (hA : 0 < 256 * accelerationLimit x) (small : 256 * speedLimit x ≤ 2 ^ 37) (t : T (feasible (leg x n) (displacement x n)))
-    (hB : secondWeight x ≤ 256) where
+module _ (x : Axis) (n : ℕ) (r : Ready x n) where
   abbrev h : ℕ
   h = halfPeriod x
 
@@ -63,21 +61,21 @@ module _ (x : Axis) (n : ℕ) (after : halfPeriod x < n)
   m = asMoving (x .target) n
 
   arrival : landingTick x n + h ≡ n
-  arrival = omega arith
+  arrival = omega (arith, R.after x n r)
 
   abbrev at : ℕ → Tick
-  at j = landed x n after hA small t j
+  at j = landed x n j
 
   -- the two planned ticks of row N
   now-N : tickAt (track n x) n ≡ at h
-  now-N = subst (λ (k : ℕ). tickAt (track n x) k ≡ at h) arrival (tick-landed x n after hA small t h (omega arith))
+  now-N = subst (λ (k : ℕ). tickAt (track n x) k ≡ at h) arrival (tick-landed x n r h (omega arith))
 
   back-N : tickBack (track n x) n h ≡ at 0
-  back-N = tick-after (track n x) n h (landingTick x n + 0) (omega arith) ∙ tick-landed x n after hA small t 0 (omega arith)
+  back-N = tick-after (track n x) n h (landingTick x n + 0) (omega (arith, R.after x n r)) ∙ tick-landed x n r 0 (omega arith)
 
   row-N : (f : Tick → ℤ) → blend (track n x) n f ≡ (pos 256 -ℤ B) *ℤ f (at h) +ℤ B *ℤ f (at 0)
   row-N f =
-      ap (λ (a : ℤ). a *ℤ f (tickAt (track n x) n) +ℤ B *ℤ f (tickBack (track n x) n h)) (weights (secondWeight x) hB)
+      ap (λ (a : ℤ). a *ℤ f (tickAt (track n x) n) +ℤ B *ℤ f (tickBack (track n x) n h)) (weights (secondWeight x) (R.weight-range x n r))
       ∙ ap₂ (λ (s u : Tick). (pos 256 -ℤ B) *ℤ f s +ℤ B *ℤ f u) now-N back-N
 
   pub exact-acceleration : blend (track n x) n (λ s. s .acceleration) ≡ pos 256 *ℤ (pos 256 *ℤ m .acceleration)
@@ -99,13 +97,12 @@ module _ (x : Axis) (n : ℕ) (after : halfPeriod x < n)
           ∙ ap (λ (z : ℤ). pos 256 *ℤ (pos 256 *ℤ velocityAt m z)) pos-N
 
   -- refusal 7: the target does not accelerate, or h is 0, or B is 128
-  module _ (steady : (B *ℤ (m .acceleration *ℤ (pos h *ℤ pos h))) *ℤ (pos 256 -ℤ pos 2 *ℤ B) ≡ pos 0) where
-    pub lands-position : nearest (blend (track n x) n (λ s. s .position)) 512 ≡ pos 128 *ℤ twicePositionAt m (pos n)
-    lands-position = ap (λ (z : ℤ). nearest z 512) exact ∙ nearest-whole 512 (pos 128 *ℤ twicePositionAt m (pos n)) (omega arith)
-      where
-        exact : blend (track n x) n (λ s. s .position) ≡ pos 512 *ℤ (pos 128 *ℤ twicePositionAt m (pos n))
-        exact =
-            row-N (λ s. s .position)
-            ∙ blended-position B (pos h) (m .position) (m .velocity) (m .acceleration) (pos (landingTick x n)) (m .tick)
-            ∙ ap₂ (λ (k z : ℤ). pos 512 *ℤ (pos 128 *ℤ twicePositionAt m k) +ℤ z) pos-N steady
-            ∙ +ℤ-idr (pos 512 *ℤ (pos 128 *ℤ twicePositionAt m (pos n)))
+  pub lands-position : nearest (blend (track n x) n (λ s. s .position)) 512 ≡ pos 128 *ℤ twicePositionAt m (pos n)
+  lands-position = ap (λ (z : ℤ). nearest z 512) exact ∙ nearest-whole 512 (pos 128 *ℤ twicePositionAt m (pos n)) (omega arith)
+    where
+      exact : blend (track n x) n (λ s. s .position) ≡ pos 512 *ℤ (pos 128 *ℤ twicePositionAt m (pos n))
+      exact =
+          row-N (λ s. s .position)
+          ∙ blended-position B (pos h) (m .position) (m .velocity) (m .acceleration) (pos (landingTick x n)) (m .tick)
+          ∙ ap₂ (λ (k z : ℤ). pos 512 *ℤ (pos 128 *ℤ twicePositionAt m k) +ℤ z) pos-N (R.no-correction x n r)
+          ∙ +ℤ-idr (pos 512 *ℤ (pos 128 *ℤ twicePositionAt m (pos n)))

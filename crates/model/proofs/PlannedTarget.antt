@@ -1,35 +1,39 @@
 -- The planned motion of an axis at a reachable arrival: from the landing tick T on it is the planned target of rule 3.
-use Prim.Native.Nat.{ℕ, suc, _+_, _*_, _^_, _≤_, _<_}
+use Prim.Native.Nat.{ℕ, suc, _+_, _≤_, _<_}
 use mathlib.Core.Path.{_≡_, sym, ap, ap₂, _∙_}
 use mathlib.Core.List.{List, _∷_}
 use native.Mathlib.Omega.{arith}
-use lib.Dec.{T}
 use lib.ListN.{getD, length, replicate}
 use lib.IntN.{ℤ, pos, _+ℤ_, _-ℤ_}
 use Rattle.whole.proofs.Laws.{add-sub}
 use Rattle.model.specs.declared.Axis.{Axis}
-use Rattle.model.specs.Quantities.{speedLimit, accelerationLimit, halfPeriod}
-use Rattle.model.specs.Leg.{Meets, feasible, chosen, travelled}
+use Rattle.model.specs.Quantities.{halfPeriod}
+use Rattle.model.specs.Leg.{Meets, chosen, travelled}
 use Rattle.model.specs.Motion.{Tick, run, leg, displacement, requiredSum, planned, earlier}
 use Rattle.model.specs.Motion.{startPosition, startVelocity, landingTick, landingPosition, landingVelocity, landingAcceleration}
 use Rattle.model.specs.Rows.{track, tickAt}
+use Rattle.model.specs.Refusals.{Ready}
+use Rattle.model.proofs.ReadyAxis as R
 use Rattle.model.proofs.ChosenMeets.{chosen-meets, chosen-length}
 use Rattle.model.proofs.PlannedMotion.{run-over, run-steady, steadyTick, distance-is, final-is, distance, final}
 
-module _ (x : Axis) (n : ℕ) (after : halfPeriod x < n)
-    (hA : 0 < 256 * accelerationLimit x) (small : 256 * speedLimit x ≤ 2 ^ 37) (t : T (feasible (leg x n) (displacement x n))) where
+-- j ticks after the landing
+abbrev pub landed : Axis → ℕ → ℕ → Tick
+landed x n j = steadyTick (landingPosition x n) (landingVelocity x n) (landingAcceleration x n) j
+
+module _ (x : Axis) (n : ℕ) (r : Ready x n) where
   some : 0 < landingTick x n
-  some = omega arith
+  some = omega (arith, R.after x n r)
 
   -- the velocities chosen for ticks 1 to T
   abbrev velocities : List ℤ
   velocities = chosen (leg x n) (requiredSum x n)
 
-  meets : Meets (leg x n) (displacement x n) (λ k. getD (startVelocity x ∷ velocities) k (pos 0))
-  meets = chosen-meets (leg x n) (displacement x n) some hA small t
+  pub meets : Meets (leg x n) (displacement x n) (λ k. getD (startVelocity x ∷ velocities) k (pos 0))
+  meets = chosen-meets (leg x n) (displacement x n) some (R.some-acceleration x n r) (R.speed-range x n r) (R.moves x n r)
 
   pub velocities-length : length velocities ≡ landingTick x n
-  velocities-length = chosen-length (leg x n) (displacement x n) some hA small t
+  velocities-length = chosen-length (leg x n) (requiredSum x n) some
 
   lands-position : startPosition x +ℤ distance (startVelocity x) velocities ≡ landingPosition x n
   lands-position = ap (λ (z : ℤ). startPosition x +ℤ z) went ∙ add-sub (startPosition x) (landingPosition x n)
@@ -46,16 +50,12 @@ module _ (x : Axis) (n : ℕ) (after : halfPeriod x < n)
       ∙ ap (λ (k : ℕ). getD (startVelocity x ∷ velocities) k (pos 0)) velocities-length
       ∙ meets .ends
 
-  -- j ticks after the landing
-  abbrev pub landed : ℕ → Tick
-  landed j = steadyTick (landingPosition x n) (landingVelocity x n) (landingAcceleration x n) j
-
-  planned-landed : (j : ℕ) (d : Tick) → j ≤ halfPeriod x → getD (planned x n) (landingTick x n + j) d ≡ landed j
+  planned-landed : (j : ℕ) (d : Tick) → j ≤ halfPeriod x → getD (planned x n) (landingTick x n + j) d ≡ landed x n j
   planned-landed j d h =
       ap (λ (k : ℕ). getD (planned x n) (k + j) d) (sym velocities-length)
       ∙ run-over (startPosition x) (startVelocity x) velocities (replicate (suc (halfPeriod x)) (landingAcceleration x n)) d j
       ∙ ap₂ (λ (q v : ℤ). getD (run q v (replicate (suc (halfPeriod x)) (landingAcceleration x n))) j d) lands-position lands-velocity
       ∙ run-steady (landingPosition x n) (landingVelocity x n) (landingAcceleration x n) (suc (halfPeriod x)) j d (omega arith)
 
-  pub tick-landed : (j : ℕ) → j ≤ halfPeriod x → tickAt (track n x) (landingTick x n + j) ≡ landed j
+  pub tick-landed : (j : ℕ) → j ≤ halfPeriod x → tickAt (track n x) (landingTick x n + j) ≡ landed x n j
   tick-landed j h = planned-landed j (earlier x 0) h

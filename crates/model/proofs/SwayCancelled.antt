@@ -1,26 +1,25 @@
 -- The sway left of an axis is 0 before rounding, and at most N × G as rounded.
-use Prim.Native.Nat.{ℕ, zero, suc, _+_, _-_, _*_, _^_, _≤_, _<_}
+use Prim.Native.Nat.{ℕ, zero, suc, _+_, _-_, _*_, _≤_, _<_}
 use mathlib.Core.Path.{_≡_, refl, sym, ap, ap₂, _∙_}
 use mathlib.Core.Bool.{Bool, true, false}
 use native.Mathlib.Omega.{arith}
-use lib.Dec.{T, ltb}
+use lib.Dec.{ltb}
 use lib.IntN.{ℤ, pos, natAbs, _+ℤ_, _-ℤ_, _*ℤ_, +ℤ-invr}
 use Rattle.whole.specs.Integers.{nearest}
 use Rattle.whole.proofs.Rounding.{nearest-half}
 use Rattle.model.specs.declared.Axis.{Axis}
-use Rattle.model.specs.Quantities.{speedLimit, accelerationLimit, halfPeriod, secondWeight, asMoving}
-use Rattle.model.specs.Leg.{feasible}
-use Rattle.model.specs.Motion.{Tick, leg, displacement, earlier, landingTick, landingAcceleration}
+use Rattle.model.specs.Quantities.{halfPeriod, secondWeight, asMoving}
+use Rattle.model.specs.Motion.{Tick, earlier, landingTick, landingAcceleration}
 use Rattle.model.specs.Rows.{track, tickAt, tickBack, blend}
+use Rattle.model.specs.Refusals.{Ready}
+use Rattle.model.proofs.ReadyAxis as R
 use Rattle.model.specs.Demand.{Swing, Bounded, sway}
 use Rattle.model.proofs.Landing.{exact-acceleration, lands-acceleration}
 use Rattle.model.proofs.PlannedTarget.{tick-landed}
 use Rattle.model.proofs.SwayExact.{back, sway-same, sway-exact}
 use Rattle.model.proofs.SwayRounded.{sway-rounded}
 
-module _ (x : Axis) (n : ℕ) (after : halfPeriod x < n)
-    (hA : 0 < 256 * accelerationLimit x) (small : 256 * speedLimit x ≤ 2 ^ 37) (t : T (feasible (leg x n) (displacement x n)))
-    (hB : secondWeight x ≤ 256) where
+module _ (x : Axis) (n : ℕ) (r : Ready x n) where
   abbrev h : ℕ
   h = halfPeriod x
 
@@ -49,7 +48,7 @@ module _ (x : Axis) (n : ℕ) (after : halfPeriod x < n)
 
   α-landed : (j : ℕ) → j ≤ h → α (landingTick x n + j) ≡ landingAcceleration x n
   unfolding α
-  α-landed j q = ap (λ (s : Tick). s .acceleration) (tick-landed x n after hA small t j q)
+  α-landed j q = ap (λ (s : Tick). s .acceleration) (tick-landed x n r j q)
 
   α-steady : (k : ℕ) → landingTick x n ≤ k → k < landingTick x n + h → α (suc k) ≡ α k
   α-steady k a b =
@@ -66,18 +65,18 @@ module _ (x : Axis) (n : ℕ) (after : halfPeriod x < n)
   cancelled-exact m w q s =
       sway-same exact (λ k. A *ℤ α k +ℤ B *ℤ back α h k) w m n (λ k l. ap (λ (z : ℤ). A *ℤ α k +ℤ B *ℤ z) (back-acceleration k))
       ∙ ap (λ (i : ℕ). sway (λ k. A *ℤ α k +ℤ B *ℤ back α h k) w m i) arrival
-      ∙ sway-exact A B α w h m (s .blended) (s .swings) (landingTick x n) (omega arith) α-steady
+      ∙ sway-exact A B α w h m (s .blended) (s .swings) (landingTick x n) (omega (arith, R.after x n r)) α-steady
     where
       arrival : n ≡ landingTick x n + h
-      arrival = omega arith
+      arrival = omega (arith, R.after x n r)
 
   last-whole : pos 256 *ℤ nearest (exact n) 256 -ℤ exact n ≡ pos 0
   last-whole =
-      ap₂ (λ (y z : ℤ). pos 256 *ℤ y -ℤ z) (lands-acceleration x n after hA small t hB) (exact-acceleration x n after hA small t hB)
+      ap₂ (λ (y z : ℤ). pos 256 *ℤ y -ℤ z) (lands-acceleration x n r) (exact-acceleration x n r)
       ∙ +ℤ-invr (pos 256 *ℤ (pos 256 *ℤ asMoving (x .target) n .acceleration))
 
   pub cancelled-rounded : (m G : ℕ) (w : ℕ → ℤ) → n ≤ m → Swing x m w → Bounded m G w → natAbs (sway (λ k. nearest (exact k) 256) w m n) ≤ n * G
-  cancelled-rounded m G w q s b = go n (omega arith) (cancelled-exact m w q s) last-whole
+  cancelled-rounded m G w q s b = go n (omega (arith, R.after x n r)) (cancelled-exact m w q s) last-whole
     where
       go : (i : ℕ) → 0 < i → sway exact w m i ≡ pos 0 → pos 256 *ℤ nearest (exact i) 256 -ℤ exact i ≡ pos 0
           → natAbs (sway (λ k. nearest (exact k) 256) w m i) ≤ i * G

@@ -6,18 +6,16 @@ use native.Mathlib.Omega.{arith}
 use native.Mathlib.Nat.{mul-le-mul}
 use lib.Dec.{T}
 use lib.IntN.{ℤ, pos, natAbs, _+ℤ_, _*ℤ_}
-use Rattle.whole.proofs.Laws.{natAbs-iff}
 use Rattle.whole.specs.Ranges.{Within}
 use Rattle.whole.proofs.Tests.{T-true, true-T}
 use Rattle.whole.proofs.Bounds.{exact, within}
 use Rattle.model.specs.declared.Axis.{Axis}
-use Rattle.model.specs.Leg.{feasible, IsCruise, cruise}
+use Rattle.model.specs.Leg.{feasible}
 use Rattle.model.specs.Quantities.{fineSteps, speedLimit, halfPeriod}
-use Rattle.model.specs.Motion.{reachable, shift, leg, displacement, requiredSum}
-use Rattle.model.specs.Motion.{startPosition, startVelocity, landingVelocity, landingAcceleration, arrivalVelocity}
+use Rattle.model.specs.Motion.{reachable, shift, leg, displacement}
+use Rattle.model.specs.Motion.{startPosition, startVelocity, landingVelocity, landingAcceleration}
 use Rattle.model.specs.Refusals.{Ready}
-use Rattle.model.proofs.FeasibleTests.{feasible-cruise}
-use Rattle.model.proofs.Reaches.{reach-after, reach-lands, reach-arrives, reach-feasible}
+use Rattle.model.proofs.Reaches.{reach-after, reach-lands, reach-feasible}
 use Rattle.profile.specs.Profiles.{Ranged}
 use Rattle.motion.specs.Motions.{Ranges, profileFor}
 use Rattle.motion.proofs.PassedRanges.{ranges-of}
@@ -37,9 +35,6 @@ module _ {x : Axis} {n : ℕ} (r : Ready x n) where
 
   pub ready-landed : natAbs (landingVelocity x n) ≤ fineSteps * speedLimit x
   ready-landed = reach-lands x n reached
-
-  pub ready-arrived : natAbs (arrivalVelocity x n) ≤ fineSteps * speedLimit x
-  ready-arrived = reach-arrives x n reached
 
   pub ready-feasible : feasible (leg x n) (displacement x n) ≡ true
   ready-feasible = T-true (feasible (leg x n) (displacement x n)) (reach-feasible x n reached)
@@ -74,15 +69,3 @@ module _ {x : Axis} {n : ℕ} (r : Ready x n) where
         start = record { within = omega (arith, start-velocity-within .within) };
         end = record { within = omega (arith, landing-velocity-within .within) };
       }
-
-  -- ---- the cruise
-
-  pub ready-cruise : IsCruise (leg x n) (requiredSum x n) (cruise (leg x n) (requiredSum x n))
-  ready-cruise = feasible-cruise (leg x n) (displacement x n) (true-T ready-feasible) (omega (arith, ready-ranges .«speed_limit»))
-
-  pub cruise-within : Within (2 ^ 28) (cruise (leg x n) (requiredSum x n))
-  cruise-within =
-      let k = ready-cruise in
-      let h : natAbs (cruise (leg x n) (requiredSum x n)) ≤ fineSteps * speedLimit x =
-      natAbs-iff (fineSteps * speedLimit x) (cruise (leg x n) (requiredSum x n)) .1 (k .above, k .below) in
-      record { within = omega (arith, ready-ranges .«speed_limit») }

@@ -5,22 +5,21 @@ use native.Mathlib.Omega.{arith}
 use mathlib.Core.Path.{_≡_, refl, sym, ap, subst, _∙_}
 use mathlib.Core.Bool.{Bool, true, false, cond}
 use mathlib.Core.Option.{Option, none, some}
-use mathlib.Core.List.{List, _++_}
+use mathlib.Core.List.{List}
 use lib.IntN.{ℤ}
-use lib.ListN.{length, drop, length-map}
+use lib.ListN.{length}
 use lib.Dec.{eqb, lit<}
 use borrow.Author.Tests.{lt-ltb, le-ltb, eq-eqb, ne-eqb}
 use Rattle.model.specs.declared.Axis.{Axis}
 use Rattle.model.specs.declared.Answer.{Answer}
-use Rattle.model.specs.Rows.{table}
 use Rattle.model.specs.Job.{Job, setBits, setAxes, axesOf, typedJob}
 use Rattle.model.specs.Refusals.{lastTick}
-use Rattle.model.specs.Outcome.{accept, Outcome, refuse, allReach, leastArrival, cellsNeeded, tableOver, filled, arrived, jobOutcome}
+use Rattle.model.specs.Outcome.{accept, Outcome, outcomeOf, refuse, allReach, leastArrival, cellsNeeded, tableOver, filled, arrived, jobOutcome}
 use Rattle.arrival.specs.declared.Arrival.{Arrival}
 use Rattle.arrival.specs.Arrivals.{leastOr, askedOr, arrivalFor}
 use Rattle.arrival.proofs.SetAxes.{six-axes-bits, six-bits}
 use Rattle.planner.specs.declared.Refusal.{Refusal}
-use Rattle.planner.specs.Promise.{outcomeOf, Fitted}
+use Rattle.planner.specs.Promise.{Fitted}
 use Rattle.planner.specs.Stages.{checkedFor, Gives}
 use Rattle.planner.proofs.Checks.{afterChecks, checks-are}
 

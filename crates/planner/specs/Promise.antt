@@ -8,12 +8,8 @@ use lib.ListN.{length}
 use Rattle.model.specs.declared.Answer.{Answer}
 use Rattle.model.specs.Job.{setBits}
 use Rattle.model.specs.Refusals.{lastTick}
-use Rattle.model.specs.Outcome.{Outcome, Input, call, inputAxes, cellsNeeded}
+use Rattle.model.specs.Outcome.{Input, outcomeOf, call, inputAxes, cellsNeeded}
 use Rattle.model.specs.Demand.{Demand3}
-
--- an answer, and the lent table as the call leaves it, as an outcome of the definitions
-abbrev pub outcomeOf : Answer → List ℤ → Outcome
-outcomeOf r exit = record { number = r .number; place = r .place; mask = r .mask; arrival = r .arrival; cells = exit }
 
 -- the rows are in the lent table: a caller may walk them by the mask and the arrival of the answer
 pub record Fitted (r : Answer) (exit : List ℤ) : Type 0 where

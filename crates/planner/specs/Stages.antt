@@ -10,12 +10,12 @@ use Rattle.model.specs.declared.Axis.{Axis}
 use Rattle.model.specs.declared.Answer.{Answer}
 use Rattle.model.specs.Job.{Job, JobAxis}
 use Rattle.model.specs.Refusals.{AllPassed, lastTick}
-use Rattle.model.specs.Outcome.{Outcome, firstAxis, axisRefusals}
+use Rattle.model.specs.Outcome.{Outcome, outcomeOf, firstAxis, axisRefusals}
 use Rattle.motion.specs.Motions.{refusalTest}
 use Rattle.planner.specs.declared.Refusal.{Refusal}
 use Rattle.planner.specs.declared.FirstAxis.{FirstAxis}
 use Rattle.planner.specs.declared.FirstAxis.the-variants.{At, Nowhere}
-use Rattle.planner.specs.Promise.{outcomeOf, Fitted}
+use Rattle.planner.specs.Promise.{Fitted}
 
 -- a stage that ends a call: the answer and the lent table are an outcome of the definitions
 pub record Gives (o : Outcome) (r : Answer) (exit : List ℤ) : Type 0 where

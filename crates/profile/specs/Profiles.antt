@@ -3,13 +3,12 @@ use Prim.Native.Nat.{ℕ, _-_, _*_, _^_, _≤_}
 use mathlib.Core.Path.{_≡_}
 use mathlib.Core.Bool.{Bool, true, false, _&&_}
 use lib.IntN.{ℤ, pos, natAbs, _+ℤ_, _-ℤ_}
-use lib.Signed.{leZ, ltZ}
-use lib.Dec.{leb, ltb}
+use lib.Signed.{leZ}
+use lib.Dec.{leb}
 use Rattle.whole.specs.Ranges.{Within, Is}
 use Rattle.whole.specs.Integers.{sumTo}
-use Rattle.model.specs.Leg.{Leg, upper, lower, clamped, fitsAt, cruise, remainder}
+use Rattle.model.specs.Leg.{Leg, upper, lower, fitsAt, cruise, remainder}
 use Rattle.profile.specs.declared.Profile.{Profile}
-use Rattle.profile.specs.declared.Raised.{Raised}
 use Rattle.profile.specs.declared.CruisePlan.{CruisePlan}
 
 -- the velocities, in the model's terms
@@ -50,20 +49,6 @@ abbrev pub climbStep : Leg → ℤ → ℤ → ℕ → ℤ
 climbStep g s c step =
     let d : ℤ = c +ℤ pos step in
     elim (leZ d (pos (g .speedLimit)) && fitsAt g s d) [ true ↦ d | false ↦ c ]
-
--- one tick of `raised`: the velocity of tick k at cruise c with r raises left, and the raises left after it
-abbrev pub raisedAt : Leg → ℤ → ℕ → ℕ → Raised
-raisedAt g c k r =
-    let v : ℤ = clamped g c k in
-    elim (ltb 0 r && ltZ v (clamped g (c +ℤ pos 1) k)) [
-      | true ↦ record { velocity = v +ℤ pos 1; left = r - 1 }
-      | false ↦ record { velocity = v; left = r }
-    ]
-
--- what `raised_velocity` gives
-pub record RaisedIs (g : Leg) (c : ℤ) (k left : ℕ) (r : Raised) : Type 0 where
-  pub is : r ≡ raisedAt g c k left
-  pub within : Within (2 ^ 48) (r .velocity)
 
 -- what `cruise` gives, for the required sum s
 pub record CruiseIs (g : Leg) (s : ℤ) (r : CruisePlan) : Type 0 where

@@ -15,6 +15,8 @@ use Rattle.model.specs.declared.Axis.{Axis}
 use Rattle.model.specs.Quantities.{halfPeriod, secondWeight}
 use Rattle.model.specs.Motion.{Tick, earlier}
 use Rattle.model.specs.Rows.{track, tickAt, tickBack, cells}
+use Rattle.model.specs.Refusals.{Ready}
+use Rattle.motion.proofs.ReadyAxis.{ready-after}
 use Rattle.rows.specs.declared.AxisPlan.{AxisPlan}
 use Rattle.rows.specs.Plans.{planOf}
 use Rattle.rows.specs.Tracks.{plannedAt, velocityBack, mix, blendedVelocity, blendedPosition, axisCells}
@@ -26,7 +28,7 @@ use Rattle.rows.proofs.PlannedTicks.{plannedPosition, planTick, tick-is
 
 -- j ticks before tick 0
 abbrev earlyPosition : AxisPlan → ℕ → ℤ
-earlyPosition p j = p .origin -ℤ pos 2 *ℤ (pos j *ℤ p .profile .start)
+earlyPosition p j = p .origin -ℤ pos 2 *ℤ (pos j *ℤ p .regions .start)
 
 backPosition : AxisPlan → ℕ → ℤ
 backPosition p k =
@@ -36,7 +38,7 @@ backPosition p k =
     ]
 
 early-0 : (p : AxisPlan) → earlyPosition p 0 ≡ p .origin
-early-0 p = ring (p .origin) (p .profile .start)
+early-0 p = ring (p .origin) (p .regions .start)
   where
     ring : (q v : ℤ) → q -ℤ pos 2 *ℤ (pos 0 *ℤ v) ≡ q
     ring q v = same (q ∷ v ∷ []) (search pol depth 20 fits 9000) tt
@@ -59,15 +61,16 @@ module _ (p : AxisPlan) (k : ℕ) where
           ∙ ap (earlyPosition p) {x = 0} {y = p .«half_period» - k} (omega arith)
 
 -- each tick goes on by the velocities at its two ends there too
-back-goes-on : (p : AxisPlan) (k : ℕ) → backPosition p k +ℤ velocityBack p k +ℤ velocityBack p (suc k) ≡ backPosition p (suc k)
+back-goes-on : (p : AxisPlan) (k : ℕ) → 0 < p .regions .ticks
+    → backPosition p k +ℤ velocityBack p k +ℤ velocityBack p (suc k) ≡ backPosition p (suc k)
 unfolding plannedPosition
-back-goes-on p k = go (decLt k h)
+back-goes-on p k some = go (decLt k h)
   where
     h : ℕ
     h = p .«half_period»
 
     v : ℤ
-    v = p .profile .start
+    v = p .regions .start
 
     ring : (q v j : ℤ) → q -ℤ pos 2 *ℤ ((j +ℤ pos 1) *ℤ v) +ℤ v +ℤ v ≡ q -ℤ pos 2 *ℤ (j *ℤ v)
     ring q v j = same (q ∷ v ∷ j ∷ []) (search pol depth 20 fits 9000) tt
@@ -80,12 +83,12 @@ back-goes-on p k = go (decLt k h)
     earlier-by l = early-position p k (omega arith) ∙ ap (earlyPosition p) {x = h - k} {y = h - suc k + 1} (omega arith)
 
     -- one tick later
-    later-by : h ≤ k → velocityBack p (suc k) ≡ plannedAt p (suc (k - h)) .velocity
-    later-by l = sym (back-late p (suc k) (omega arith)) ∙ ap (λ (j : ℕ). plannedAt p j .velocity) {x = suc k - h} {y = suc (k - h)} (omega arith)
+    later-by : h ≤ k → velocityBack p (suc k) ≡ plannedAt p (suc (k - h))
+    later-by l = sym (back-late p (suc k) (omega arith)) ∙ ap (plannedAt p) {x = suc k - h} {y = suc (k - h)} (omega arith)
 
     go : Dec (k < h) → backPosition p k +ℤ velocityBack p k +ℤ velocityBack p (suc k) ≡ backPosition p (suc k)
     go (Dec.yes l) =
-        sum _ _ _ _ v v (earlier-by l) (sym (back-early p k (omega arith))) (sym (back-early p (suc k) (omega arith)))
+        sum _ _ _ _ v v (earlier-by l) (sym (back-early p k some (omega arith))) (sym (back-early p (suc k) some (omega arith)))
         ∙ ring (p .origin) v (pos (h - suc k))
         ∙ sym (early-position p (suc k) (omega arith))
     go (Dec.no l) =
@@ -96,32 +99,35 @@ back-goes-on p k = go (decLt k h)
 -- ---- the blend
 
 -- the position that is carried on is the blend of the two
-position-is : (p : AxisPlan) (k : ℕ) → p .«second_weight» ≤ 256
+position-is : (p : AxisPlan) (k : ℕ) → 0 < p .regions .ticks → p .«second_weight» ≤ 256
     → blendedPosition p k ≡ mix (p .«second_weight») (plannedPosition p k) (backPosition p k)
 unfolding blendedPosition blendedVelocity plannedPosition
-position-is p zero h =
-    sym (mix-start (p .«second_weight») (p .«half_period») (p .origin) (p .profile .start) h)
+position-is p zero some h =
+    sym (mix-start (p .«second_weight») (p .«half_period») (p .origin) (p .regions .start) h)
     ∙ ap (mix (p .«second_weight») (p .origin)) before
   where
     before : earlyPosition p (p .«half_period») ≡ backPosition p 0
     before = ap (earlyPosition p) {x = p .«half_period»} {y = p .«half_period» - 0} (omega arith) ∙ sym (early-position p 0 (omega arith))
-position-is p (suc k) h =
-    ap (λ (z : ℤ). z +ℤ blendedVelocity p k +ℤ blendedVelocity p (suc k)) (position-is p k h)
-    ∙ sym (mix-sum (p .«second_weight») (plannedPosition p k) (plannedAt p k .velocity) (plannedAt p (suc k) .velocity)
+position-is p (suc k) some h =
+    ap (λ (z : ℤ). z +ℤ blendedVelocity p k +ℤ blendedVelocity p (suc k)) (position-is p k some h)
+    ∙ sym (mix-sum (p .«second_weight») (plannedPosition p k) (plannedAt p k) (plannedAt p (suc k))
     (backPosition p k) (velocityBack p k) (velocityBack p (suc k)))
-    ∙ ap (mix (p .«second_weight») (plannedPosition p (suc k))) (back-goes-on p k)
+    ∙ ap (mix (p .«second_weight») (plannedPosition p (suc k))) (back-goes-on p k some)
 
 -- ---- of an axis and its arrival
 
 backTick : AxisPlan → ℕ → Tick
 backTick p k = record { position = backPosition p k; velocity = velocityBack p k; acceleration = velocityBack p (suc k) -ℤ velocityBack p k }
 
-module _ (x : Axis) (n k : ℕ) (after : halfPeriod x < n) (last : k ≤ n) where
+module _ (x : Axis) (n k : ℕ) (ready : Ready x n) (last : k ≤ n) where
   abbrev p : AxisPlan
   p = planOf n x
 
   abbrev h : ℕ
   h = halfPeriod x
+
+  some : 0 < p .regions .ticks
+  some = let after = ready-after ready in omega arith
 
   back-is : tickBack (track n x) k h ≡ backTick p k
   unfolding backTick
@@ -135,24 +141,24 @@ module _ (x : Axis) (n k : ℕ) (after : halfPeriod x < n) (last : k ≤ n) wher
       at q v a q′ v′ a′ e f g = λ i. record { position = e i; velocity = f i; acceleration = g i }
 
       -- one tick later
-      later : h ≤ k → plannedAt p (suc (k - h)) .velocity ≡ velocityBack p (suc k)
-      later l = ap (λ (j : ℕ). plannedAt p j .velocity) {x = suc (k - h)} {y = suc k - h} (omega arith) ∙ back-late p (suc k) (omega arith)
+      later : h ≤ k → plannedAt p (suc (k - h)) ≡ velocityBack p (suc k)
+      later l = ap (plannedAt p) {x = suc (k - h)} {y = suc k - h} (omega arith) ∙ back-late p (suc k) (omega arith)
 
       go : Dec (k < h) → tickBack (track n x) k h ≡ backTick p k
       go (Dec.yes l) =
           sym (choice-yes (ltb k h) (earlier x (h - k)) (tickAt (track n x) (k - h)) (lt-ltb k h l))
-          ∙ at _ _ _ _ _ _ (sym (early-position p k (omega arith))) (back-early p k (omega arith))
-          (none (p .profile .start) ∙ ap₂ _-ℤ_ (back-early p (suc k) (omega arith)) (back-early p k (omega arith)))
+          ∙ at _ _ _ _ _ _ (sym (early-position p k (omega arith))) (back-early p k some (omega arith))
+          (none (p .regions .start) ∙ ap₂ _-ℤ_ (back-early p (suc k) some (omega arith)) (back-early p k some (omega arith)))
       go (Dec.no l) =
           sym (choice-no (ltb k h) (earlier x (h - k)) (tickAt (track n x) (k - h)) (le-ltb k h (omega arith)))
-          ∙ tick-is x n (k - h) after (omega arith)
+          ∙ tick-is x n (k - h) ready (omega arith)
           ∙ at _ _ _ _ _ _ (sym (late-position p k (omega arith))) (back-late p k (omega arith))
           (ap₂ _-ℤ_ (later (omega arith)) (back-late p k (omega arith)))
 
   pub cells-are : secondWeight x ≤ 256 → axisCells k p ≡ cells k (track n x)
   unfolding backTick
   cells-are w =
-      (λ i. nearest (position-is p k w i) 512 ∷ nearest (velocity i) 256 ∷ nearest (acceleration i) 256 ∷ [])
+      (λ i. nearest (position-is p k some w i) 512 ∷ nearest (velocity i) 256 ∷ nearest (acceleration i) 256 ∷ [])
       ∙ sym (λ i. nearest (mix b (ahead i .position) (behind i .position)) 512
       ∷ nearest (mix b (ahead i .velocity) (behind i .velocity)) 256
       ∷ nearest (mix b (ahead i .acceleration) (behind i .acceleration)) 256
@@ -162,16 +168,16 @@ module _ (x : Axis) (n k : ℕ) (after : halfPeriod x < n) (last : k ≤ n) wher
       b = secondWeight x
 
       ahead : tickAt (track n x) k ≡ planTick p k
-      ahead = tick-is x n k after last
+      ahead = tick-is x n k ready last
 
       behind : tickBack (track n x) k h ≡ backTick p k
       behind = back-is
 
-      velocity : blendedVelocity p k ≡ mix b (plannedAt p k .velocity) (velocityBack p k)
+      velocity : blendedVelocity p k ≡ mix b (plannedAt p k) (velocityBack p k)
       velocity = sym (velocity-is p k)
 
       acceleration : blendedVelocity p (suc k) -ℤ blendedVelocity p k
-          ≡ mix b (plannedAt p (suc k) .velocity -ℤ plannedAt p k .velocity) (velocityBack p (suc k) -ℤ velocityBack p k)
+          ≡ mix b (plannedAt p (suc k) -ℤ plannedAt p k) (velocityBack p (suc k) -ℤ velocityBack p k)
       acceleration =
           ap₂ _-ℤ_ (sym (velocity-is p (suc k))) velocity
-          ∙ sym (mix-change b (plannedAt p (suc k) .velocity) (plannedAt p k .velocity) (velocityBack p (suc k)) (velocityBack p k))
+          ∙ sym (mix-change b (plannedAt p (suc k)) (plannedAt p k) (velocityBack p (suc k)) (velocityBack p k))

@@ -10,7 +10,7 @@ use Rattle.model.specs.Rows.{track, concat, tabulate, row, table}
 use Rattle.model.specs.Job.{JobAxis, setAxes, axesOf, typedJob}
 use Rattle.model.specs.Refusals.{lastTick}
 use Rattle.model.specs.Outcome.{cellsNeeded, tableOver}
-use Rattle.motion.proofs.ReadyAxis.{ready-after, ready-ranges}
+use Rattle.motion.proofs.ReadyAxis.{ready-ranges}
 use Rattle.rows.specs.Plans.{planFor, plansOf, AllRanged}
 use Rattle.rows.specs.declared.AxisPlan.{AxisPlan}
 use Rattle.rows.specs.declared.Plan.{Plan}
@@ -27,7 +27,7 @@ row-is : (n k : ℕ) (xs : List JobAxis) → AllReady n xs → k ≤ n → planR
 row-is n k [] r h = refl
 row-is n k (x ∷ xs) r h =
     let b = ready-ranges (r .0) .«second_weight» in
-    ap₂ _++_ (cells-are (x .axis) n k (ready-after (r .0)) h (omega arith)) (row-is n k xs (r .1) h)
+    ap₂ _++_ (cells-are (x .axis) n k (r .0) h (omega arith)) (row-is n k xs (r .1) h)
 
 module _ (m n : ℕ) (xs : List Axis) (ready : AllReady n (setAxes 0 m xs)) where
   table-is : planTable (planFor m xs n) ≡ table (axesOf (typedJob m n xs)) n

@@ -8,36 +8,39 @@ use lib.IntN.{ℤ, pos, _+ℤ_, _-ℤ_, _*ℤ_}
 use lib.ListN.{getD, replicate}
 use Rattle.model.specs.declared.Axis.{Axis}
 use Rattle.model.specs.Quantities.{halfPeriod}
-use Rattle.model.specs.Leg.{raised}
-use Rattle.model.specs.Motion.{Tick, run, changesFrom, leg, planned, earlier, landingTick, landingVelocity, landingAcceleration}
-use Rattle.model.specs.Rows.{track, tickAt}
-use Rattle.profile.specs.declared.Raised.{Raised}
-use Rattle.profile.proofs.RaisedTicks.{raised-next}
+use Rattle.model.specs.Leg.{Leg}
+use Rattle.model.specs.Motion.{Tick, run, changesFrom, leg, displacement, startVelocity, planned, earlier, landingTick}
+use Rattle.model.specs.Refusals.{Ready}
+use Rattle.model.specs.Rows.{track, tickAt, tabulate}
+use Rattle.model.proofs.ReadyAxis.{some-acceleration, speed-range, moves}
+use Rattle.profile.specs.Regions.{velocityIn}
+use Rattle.profile.proofs.ChosenRegions.{chosen-in-regions}
+use Rattle.motion.proofs.ReadyAxis.{ready-after}
 use Rattle.rows.specs.declared.AxisPlan.{AxisPlan}
 use Rattle.rows.specs.Plans.{planOf}
 use Rattle.rows.specs.Tracks.{plannedAt}
-use Rattle.rows.proofs.Velocities.{cruises, lands, goes-on}
+use Rattle.rows.proofs.Velocities.{planned-before, planned-start, lands, goes-on}
 
 -- ---- the ticks of a plan
 
 unfoldable pub plannedPosition : AxisPlan → ℕ → ℤ
 plannedPosition p zero = p .origin
-plannedPosition p (suc k) = plannedPosition p k +ℤ plannedAt p k .velocity +ℤ plannedAt p (suc k) .velocity
+plannedPosition p (suc k) = plannedPosition p k +ℤ plannedAt p k +ℤ plannedAt p (suc k)
 
 abbrev tickFrom : ℤ → ℤ → ℤ → Tick
 tickFrom q v w = record { position = q; velocity = v; acceleration = w -ℤ v }
 
 abbrev pub planTick : AxisPlan → ℕ → Tick
-planTick p k = tickFrom (plannedPosition p k) (plannedAt p k .velocity) (plannedAt p (suc k) .velocity)
+planTick p k = tickFrom (plannedPosition p k) (plannedAt p k) (plannedAt p (suc k))
 
 -- where a tick from position q goes
 abbrev onTo : AxisPlan → ℕ → ℤ → ℤ
-onTo p i q = q +ℤ plannedAt p i .velocity +ℤ plannedAt p (suc i) .velocity
+onTo p i q = q +ℤ plannedAt p i +ℤ plannedAt p (suc i)
 
 -- c ticks from tick i on, from position q
 walk : AxisPlan → ℕ → ℤ → ℕ → List Tick
 walk p i q zero = []
-walk p i q (suc c) = tickFrom q (plannedAt p i .velocity) (plannedAt p (suc i) .velocity) ∷ walk p (suc i) (onTo p i q) c
+walk p i q (suc c) = tickFrom q (plannedAt p i) (plannedAt p (suc i)) ∷ walk p (suc i) (onTo p i q) c
 
 -- ---- a run over accelerations is a walk over velocities
 
@@ -52,64 +55,65 @@ one q v w αs = ap₂ (λ (z y : ℤ). tickFrom q v w ∷ run z y αs) (far q v 
     fast v w = same (v ∷ w ∷ []) (search pol depth 20 fits 9000) tt
 
 -- one tick of a walk, from a run to the velocity that the plan has there
-onward : (p : AxisPlan) (i c : ℕ) (q w : ℤ) (αs : List ℤ) → w ≡ plannedAt p (suc i) .velocity
-    → run (onTo p i q) (plannedAt p (suc i) .velocity) αs ≡ walk p (suc i) (onTo p i q) c
-    → run q (plannedAt p i .velocity) ((w -ℤ plannedAt p i .velocity) ∷ αs) ≡ walk p i q (suc c)
+onward : (p : AxisPlan) (i c : ℕ) (q w : ℤ) (αs : List ℤ) → w ≡ plannedAt p (suc i)
+    → run (onTo p i q) (plannedAt p (suc i)) αs ≡ walk p (suc i) (onTo p i q) c
+    → run q (plannedAt p i) ((w -ℤ plannedAt p i) ∷ αs) ≡ walk p i q (suc c)
 unfolding walk
 onward p i c q w αs e h =
-    ap (λ (z : ℤ). run q (plannedAt p i .velocity) ((z -ℤ plannedAt p i .velocity) ∷ αs)) e
-    ∙ one q (plannedAt p i .velocity) (plannedAt p (suc i) .velocity) αs
-    ∙ ap (λ (l : List Tick). tickFrom q (plannedAt p i .velocity) (plannedAt p (suc i) .velocity) ∷ l) h
+    ap (λ (z : ℤ). run q (plannedAt p i) ((z -ℤ plannedAt p i) ∷ αs)) e
+    ∙ one q (plannedAt p i) (plannedAt p (suc i)) αs
+    ∙ ap (λ (l : List Tick). tickFrom q (plannedAt p i) (plannedAt p (suc i)) ∷ l) h
 
 -- from the landing on
-steady : (p : AxisPlan) (c i : ℕ) (q : ℤ) → p .profile .ticks ≤ i → run q (plannedAt p i .velocity) (replicate c (p .acceleration)) ≡ walk p i q c
+steady : (p : AxisPlan) (c i : ℕ) (q : ℤ) → p .regions .ticks ≤ i → run q (plannedAt p i) (replicate c (p .acceleration)) ≡ walk p i q c
 unfolding walk
 steady p zero i q h = refl
 steady p (suc c) i q h =
     ap (λ (α : ℤ). run q v (α ∷ replicate c (p .acceleration))) {x = p .acceleration} (less v (p .acceleration))
-    ∙ onward p i c q (v +ℤ p .acceleration) (replicate c (p .acceleration)) (ap (λ (r : Raised). r .velocity) (goes-on p i h))
-    (steady p c (suc i) (onTo p i q) (omega arith))
+    ∙ onward p i c q (v +ℤ p .acceleration) (replicate c (p .acceleration)) (goes-on p i h) (steady p c (suc i) (onTo p i q) (omega arith))
   where
     v : ℤ
-    v = plannedAt p i .velocity
+    v = plannedAt p i
 
     less : (v a : ℤ) → a ≡ (v +ℤ a) -ℤ v
     less v a = same (v ∷ a ∷ []) (search pol depth 20 fits 9000) tt
 
-module _ (x : Axis) (n : ℕ) where
+-- the changes along the velocities ws after tick i, to the landing, and c ticks of the acceleration after it
+abbrev along : AxisPlan → ℕ → ℕ → List ℤ → List ℤ
+along p c i ws = changesFrom (plannedAt p i) (ws ++ (p .regions .end ∷ [])) ++ replicate c (p .acceleration)
+
+-- from tick i on, where j ticks are left before the landing tick
+up-to-landing : (p : AxisPlan) (j i c : ℕ) (q : ℤ) → i + suc j ≡ p .regions .ticks
+    → run q (plannedAt p i) (along p c i (tabulate (velocityIn (p .regions)) (suc i) j)) ≡ walk p i q (suc (j + c))
+up-to-landing p zero i c q h =
+    onward p i c q (p .regions .end) (replicate c (p .acceleration)) (lands p (suc i) (omega arith))
+    (steady p c (suc i) (onTo p i q) (omega arith))
+    ∙ ap (λ (m : ℕ). walk p i q (suc m)) {x = c} {y = zero + c} (omega arith)
+up-to-landing p (suc j) i c q h =
+    ap (λ (v : ℤ). run q (plannedAt p i) (along p c i (v ∷ tabulate (velocityIn (p .regions)) (suc (suc i)) j)))
+    (planned-before p (suc i) (omega arith))
+    ∙ onward p i (suc (j + c)) q (plannedAt p (suc i)) (along p c (suc i) (tabulate (velocityIn (p .regions)) (suc (suc i)) j)) refl
+    (up-to-landing p j (suc i) c (onTo p i q) (omega arith))
+    ∙ ap (λ (m : ℕ). walk p i q (suc m)) {x = suc (j + c)} {y = suc j + c} (omega arith)
+
+module _ (x : Axis) (n : ℕ) (ready : Ready x n) where
   abbrev p : AxisPlan
   p = planOf n x
 
-  -- the changes along the velocities ws from tick i on, to the landing, and c ticks of the acceleration after it
-  abbrev along : ℕ → ℕ → List ℤ → List ℤ
-  along c i ws = changesFrom (plannedAt p i .velocity) (ws ++ (landingVelocity x n ∷ [])) ++ replicate c (landingAcceleration x n)
+  abbrev g : Leg
+  g = leg x n
 
-  -- the velocities of rule 5 after tick i, where j ticks are left before the landing tick
-  abbrev after : ℕ → ℕ → List ℤ
-  after j i = raised (leg x n) (p .cruise) j (suc i) (plannedAt p i .left)
+  -- the definition's list of accelerations, over the velocities of the plan
+  abbrev over : ℤ → List ℤ → List Tick
+  over v ws = run (p .origin) v (changesFrom v ws ++ replicate (suc (halfPeriod x)) (p .acceleration))
 
-  after-next : (j i : ℕ) → suc i < landingTick x n → after (suc j) i ≡ plannedAt p (suc i) .velocity ∷ after j (suc i)
-  after-next j i h =
-      raised-next (leg x n) (p .cruise) (suc i) (plannedAt p i .left) j
-      ∙ ap (λ (r : Raised). r .velocity ∷ raised (leg x n) (p .cruise) j (suc (suc i)) (r .left)) (cruises p i h)
-
-  up-to-landing : (j i c : ℕ) (q : ℤ) → i + suc j ≡ landingTick x n
-      → run q (plannedAt p i .velocity) (along c i (after j i)) ≡ walk p i q (suc (j + c))
-  up-to-landing zero i c q h =
-      onward p i c q (landingVelocity x n) (replicate c (landingAcceleration x n))
-      (ap (λ (r : Raised). r .velocity) (lands p i (omega arith) (omega arith)))
-      (steady p c (suc i) (onTo p i q) (omega arith))
-      ∙ ap (λ (m : ℕ). walk p i q (suc m)) {x = c} {y = zero + c} (omega arith)
-  up-to-landing (suc j) i c q h =
-      ap (λ (l : List ℤ). run q (plannedAt p i .velocity) (along c i l)) (after-next j i (omega arith))
-      ∙ onward p i (suc (j + c)) q (plannedAt p (suc i) .velocity) (along c (suc i) (after j (suc i))) refl
-      (up-to-landing j (suc i) c (onTo p i q) (omega arith))
-      ∙ ap (λ (m : ℕ). walk p i q (suc m)) {x = suc (j + c)} {y = suc j + c} (omega arith)
-
-  planned-walk : halfPeriod x < n → planned x n ≡ walk p 0 (p .origin) (suc n)
-  unfolding plannedAt
-  planned-walk h =
-      up-to-landing (landingTick x n - 1) 0 (suc (halfPeriod x)) (p .origin) (omega arith)
+  planned-walk : planned x n ≡ walk p 0 (p .origin) (suc n)
+  planned-walk =
+      let after = ready-after ready in
+      ap (over (startVelocity x))
+      (chosen-in-regions g (displacement x n) (omega arith) (some-acceleration x n ready) (speed-range x n ready) (moves x n ready))
+      ∙ ap (λ (v : ℤ). over v (tabulate (velocityIn (p .regions)) 1 (landingTick x n - 1) ++ (p .regions .end ∷ []))) (planned-start p (omega arith))
+      ∙ up-to-landing p (landingTick x n - 1) 0 (suc (halfPeriod x)) (p .origin) (omega arith)
       ∙ ap (walk p 0 (p .origin)) {x = suc (landingTick x n - 1 + suc (halfPeriod x))} {y = suc n} (omega arith)
 
 -- ---- tick k of it
@@ -120,9 +124,9 @@ walk-at p zero i k d h = absurd (omega arith)
 walk-at p (suc c) i zero d h = ap (planTick p) {x = i} {y = i + zero} (omega arith)
 walk-at p (suc c) i (suc k) d h = walk-at p c (suc i) k d (omega arith) ∙ ap (planTick p) {x = suc i + k} {y = i + suc k} (omega arith)
 
-pub tick-is : (x : Axis) (n k : ℕ) → halfPeriod x < n → k ≤ n → tickAt (track n x) k ≡ planTick (planOf n x) k
+pub tick-is : (x : Axis) (n k : ℕ) → Ready x n → k ≤ n → tickAt (track n x) k ≡ planTick (planOf n x) k
 unfolding plannedPosition
-tick-is x n k h q =
-    ap (λ (l : List Tick). getD l k (earlier x 0)) (planned-walk x n h)
+tick-is x n k ready q =
+    ap (λ (l : List Tick). getD l k (earlier x 0)) (planned-walk x n ready)
     ∙ walk-at (planOf n x) (suc n) 0 k (earlier x 0) (omega arith)
     ∙ ap (planTick (planOf n x)) {x = 0 + k} {y = k} (omega arith)

@@ -1,27 +1,30 @@
 -- The axes of a mask that have passed refusals 4 to 7 and reach the arrival: each can be planned, and its plan is within the ranges.
 use mathlib.Core.Path.{_≡_, refl, sym, ap, ap₂, subst, _∙_}
-use Rattle.whole.proofs.Tests.{left, true-T}
 use mathlib.Core.Bool.{Bool, true, false}
 use mathlib.Core.List.{List, [], _∷_, _++_, map, append-assoc, append-nil}
-use Prim.Native.Nat.{ℕ, suc, _+_, _*_, _/_, _%_, _<_, _≤_}
+use Prim.Native.Nat.{ℕ, suc, _+_, _/_, _%_, _^_, _<_, _≤_}
 use native.Mathlib.Numerals.{add-one}
 use lib.ListN.{length, getD, set, take, drop}
 use lib.Seq.{take-suc-set, take-length, drop-cons, drop-length}
 use native.Mathlib.Omega.{arith}
-use lib.Dec.{eqb, leb, leb→le}
-use lib.IntN.{ℤ, natAbs}
+use lib.Dec.{T, eqb}
+use lib.IntN.{ℤ}
 use Rattle.model.specs.declared.Axis.{Axis}
-use Rattle.model.specs.Quantities.{fineSteps, speedLimit, halfPeriod, secondWeight}
-use Rattle.model.specs.Leg.{feasible, required, cruise, remainder}
-use Rattle.model.specs.Motion.{startPosition, startVelocity, landingAcceleration, leg, displacement, requiredSum, reachable}
+use Rattle.model.specs.Quantities.{halfPeriod, secondWeight}
+use Rattle.model.specs.Leg.{Leg, feasible, required}
+use Rattle.model.specs.Motion.{startPosition, landingAcceleration, leg, displacement, requiredSum, reachable}
 use Rattle.model.specs.Job.{JobAxis, setAxes, unsetAxis}
 use Rattle.model.specs.Outcome.{allReach}
 use Rattle.model.specs.Refusals.{lastTick, AllPassed, Ready}
 use Rattle.profile.specs.declared.Profile.{Profile}
+use Rattle.profile.specs.declared.Regions.{Regions}
 use Rattle.profile.specs.Profiles.{legOf}
+use Rattle.profile.specs.Regions.{chosenRegions}
+use Rattle.profile.proofs.ChosenRegions.{chosen-within, chosen-ranged}
 use Rattle.motion.specs.Motions.{profileFor}
-use Rattle.motion.proofs.ReadyAxis.{ready-feasible, ready-landed, ready-ranges}
-use Rattle.motion.proofs.ReadyAxis.{start-position-within, landing-acceleration-within, profile-ranged, cruise-within}
+use Rattle.model.proofs.ReadyAxis.{some-acceleration, speed-range, moves}
+use Rattle.motion.proofs.ReadyAxis.{ready-after, ready-feasible, ready-ranges}
+use Rattle.motion.proofs.ReadyAxis.{start-position-within, landing-acceleration-within, profile-ranged}
 use Rattle.rows.specs.declared.AxisPlan.{AxisPlan}
 use Rattle.rows.specs.Plans.{planOf, unsetPlan, planAt, axisPlans, setPlans, PlanRanges, AllRanged}
 
@@ -29,20 +32,31 @@ pub plan-ranges : {x : Axis} {n : ℕ} → Ready x n → PlanRanges (planOf n x)
 plan-ranges {x} {n} r =
     record {
       origin = record { within = omega (arith, start-position-within r .within) };
-      profile = profile-ranged r;
-      start = leb→le speed limit (left (leb speed limit) _ (true-T (ready-feasible r)));
-      end = ready-landed r;
-      cruise = record { within = omega (arith, cruise-within r .within) };
+      regions = chosen-ranged g d some steep slow can (profile-ranged r .ticks) (profile-ranged r .«acceleration_limit»);
+      some = some;
+      velocities = λ k h. record { within = omega (arith, chosen-within g d some steep slow can k h, slow) };
       acceleration = landing-acceleration-within r;
       «half_period» = ready-ranges r .«half_period»;
       «second_weight» = ready-ranges r .«second_weight»;
     }
   where
-    speed : ℕ
-    speed = natAbs (startVelocity x)
+    g : Leg
+    g = leg x n
 
-    limit : ℕ
-    limit = fineSteps * speedLimit x
+    d : ℤ
+    d = displacement x n
+
+    some : 0 < g .ticks
+    some = let after = ready-after r in omega arith
+
+    steep : 0 < g .accelerationLimit
+    steep = some-acceleration x n r
+
+    slow : g .speedLimit ≤ 2 ^ 37
+    slow = speed-range x n r
+
+    can : T (feasible g d)
+    can = moves x n r
 
 -- ---- the plan of one axis, from its parts
 
@@ -51,20 +65,15 @@ module _ (x : Axis) (n : ℕ) (f : Profile) (d : ℤ) (same : f ≡ profileFor x
   plan-feasible r = ap₂ (λ (g : Profile) (e : ℤ). feasible (legOf g) e) same way ∙ ready-feasible r
 
   -- a plan with the blend of the axis
-  abbrev planWith : ℤ → Profile → ℤ → ℕ → ℤ → AxisPlan
-  planWith o g v r a =
-      record { origin = o; profile = g; cruise = v; raised = r; acceleration = a; «half_period» = halfPeriod x; «second_weight» = secondWeight x }
+  abbrev planWith : ℤ → Regions → ℤ → AxisPlan
+  planWith o c a = record { origin = o; regions = c; acceleration = a; «half_period» = halfPeriod x; «second_weight» = secondWeight x }
 
-  pub plan-is : (o v a : ℤ) (r : ℕ) → o ≡ startPosition x → v ≡ cruise (legOf f) (required (legOf f) d) → a ≡ landingAcceleration x n
-      → r ≡ remainder (legOf f) (required (legOf f) d) → planWith o f v r a ≡ planOf n x
-  plan-is o v a r p q s k =
-      λ i. planWith (p i) (same i) (speed i) (raise i) (s i)
+  pub plan-is : (o : ℤ) (c : Regions) (a : ℤ) → o ≡ startPosition x → c ≡ chosenRegions (legOf f) (required (legOf f) d)
+      → a ≡ landingAcceleration x n → planWith o c a ≡ planOf n x
+  plan-is o c a p q s = λ i. planWith (p i) (velocities i) (s i)
     where
-      speed : v ≡ cruise (leg x n) (requiredSum x n)
-      speed = q ∙ ap₂ (λ (g : Profile) (e : ℤ). cruise (legOf g) (required (legOf g) e)) same way
-
-      raise : r ≡ remainder (leg x n) (requiredSum x n)
-      raise = k ∙ ap₂ (λ (g : Profile) (e : ℤ). remainder (legOf g) (required (legOf g) e)) same way
+      velocities : c ≡ chosenRegions (leg x n) (requiredSum x n)
+      velocities = q ∙ ap₂ (λ (g : Profile) (e : ℤ). chosenRegions (legOf g) (required (legOf g) e)) same way
 
 -- ---- a list of axes
 

@@ -1,17 +1,15 @@
 -- The plan of an axis for an arrival, and the plan of a job with the ranges in which the code does not overflow (paper 01, "Planned motion",
 -- and "It plans 1 to 6 axes").
-use Prim.Native.Nat.{ℕ, _/_, _%_, _^_, _≤_}
+use Prim.Native.Nat.{ℕ, _/_, _%_, _^_, _≤_, _<_}
 use Rattle.whole.specs.Ranges.{Within}
 use mathlib.Core.Bool.{true, false}
 use mathlib.Core.List.{List, [], _∷_}
 use lib.Dec.{eqb}
-use lib.IntN.{pos, natAbs}
+use lib.IntN.{pos}
 use Rattle.model.specs.declared.Axis.{Axis}
 use Rattle.model.specs.Quantities.{halfPeriod, secondWeight}
-use Rattle.model.specs.Leg.{cruise, remainder}
 use Rattle.model.specs.Motion.{leg, startPosition, landingAcceleration, requiredSum}
-use Rattle.profile.specs.Profiles.{Ranged}
-use Rattle.motion.specs.Motions.{profileFor}
+use Rattle.profile.specs.Regions.{chosenRegions, velocityIn, RegionsRanged}
 use Rattle.rows.specs.declared.AxisPlan.{AxisPlan}
 use Rattle.rows.specs.declared.Plan.{Plan}
 
@@ -20,9 +18,7 @@ abbrev pub planOf : ℕ → Axis → AxisPlan
 planOf n x =
     record {
       origin = startPosition x;
-      profile = profileFor x n;
-      cruise = cruise (leg x n) (requiredSum x n);
-      raised = remainder (leg x n) (requiredSum x n);
+      regions = chosenRegions (leg x n) (requiredSum x n);
       acceleration = landingAcceleration x n;
       «half_period» = halfPeriod x;
       «second_weight» = secondWeight x;
@@ -33,9 +29,8 @@ abbrev pub unsetPlan : AxisPlan
 unsetPlan =
     record {
       origin = pos 0;
-      profile = record { «speed_limit» = 0; «acceleration_limit» = 0; start = pos 0; end = pos 0; ticks = 0 };
-      cruise = pos 0;
-      raised = 0;
+      regions =
+          record { start = pos 0; rise = 0; up = pos 0; cruise = pos 0; raised = 0; end = pos 0; fall = 0; down = pos 0; ticks = 0 };
       acceleration = pos 0;
       «half_period» = 0;
       «second_weight» = 0;
@@ -67,10 +62,9 @@ plansOf plan = setPlans (plan .mask) (plan .axes)
 
 pub record PlanRanges (p : AxisPlan) : Type 0 where
   pub origin : Within (2 ^ 50) (p .origin)
-  pub profile : Ranged (p .profile)
-  pub start : natAbs (p .profile .start) ≤ p .profile .«speed_limit»
-  pub end : natAbs (p .profile .end) ≤ p .profile .«speed_limit»
-  pub cruise : Within (2 ^ 37) (p .cruise)
+  pub regions : RegionsRanged (p .regions)
+  pub some : 0 < p .regions .ticks
+  pub velocities : (k : ℕ) → k < p .regions .ticks → Within (2 ^ 37) (velocityIn (p .regions) k)
   pub acceleration : Within (2 ^ 24) (p .acceleration)
   pub «half_period» : p .«half_period» ≤ 256
   pub «second_weight» : p .«second_weight» ≤ 128

@@ -5,7 +5,6 @@ use mathlib.Core.List.{List, []}
 use lib.Dec.{eqb, ltb, leb}
 use lib.IntN.{ℤ}
 use lib.ListN.{length}
-use Rattle.model.specs.declared.Answer.{Answer}
 use Rattle.model.specs.Job.{setBits}
 use Rattle.model.specs.Refusals.{lastTick}
 use Rattle.model.specs.Outcome.{Outcome, cellsNeeded}
@@ -50,7 +49,3 @@ tableWithin mask n cells bytes = onlyIf (tableFits mask n (length cells) bytes) 
 
 unfoldable pub textWithin : Outcome → ℕ → List ℕ
 textWithin o bytes = onlyIf (textFits o bytes) (printed o)
-
--- an answer and the lent table
-abbrev pub outcomeOf : Answer → List ℤ → Outcome
-outcomeOf a cells = record { number = a .number; place = a .place; mask = a .mask; arrival = a .arrival; cells = cells }

@@ -1,7 +1,12 @@
 -- What the code that reads words from bytes computes at one place. Assumes nothing.
-use Prim.Native.Nat.{ℕ}
+use Prim.Native.Nat.{ℕ, _+_, _*_}
 use mathlib.Core.List.{List, [], _∷_}
+use lib.ListN.{getD}
 use Rattle.model.specs.Bytes.{littleEndian}
+
+-- the number of two bytes, the lower first
+abbrev pub pairAt : List ℕ → ℕ → ℕ
+pairAt bytes i = getD bytes i 0 + 256 * getD bytes (i + 1) 0
 
 -- the first of the words of the bytes
 unfoldable pub firstWord : List ℕ → ℕ

@@ -2,8 +2,6 @@
 // after it.
 use crate::numbers::put_labelled;
 use crate::numbers::put_number;
-use crate::numbers::put_signed;
-use crate::numbers::put_text;
 ghost use Prim.Native.Nat.{suc, _+_, _*_, _≤_};
 ghost use lib.ListN.{length};
 ghost use Rattle.whole.specs.Lists.{Room, Written, WrittenWithin};
@@ -15,8 +13,13 @@ fn put_cell(out: &mut [u8], at: usize, x: i64) -> usize
     requires { ⌜ Room (now out) at (cellText x) ⌝ }
     ensures { λ r. ⌜ Written (now (out .entry)) at (cellText x) (now (out .exit)) r ⌝ }
 {
-    let next = put_text(out, at, b" ");
-    put_signed(out, next, x)
+    let n = whole::size(x);
+    out[at] = b' ';
+    if x < 0 {
+        out[at + 1] = b'-';
+        return put_number(out, at + 2, n);
+    }
+    put_number(out, at + 1, n)
 }
 
 fn put_cells(out: &mut [u8], at: usize, cells: &[i64]) -> usize
@@ -42,7 +45,8 @@ fn put_row(out: &mut [u8], at: usize, tick: u32, cells: &[i64]) -> usize
 {
     let after_tick = put_number(out, at, tick as u64);
     let after_cells = put_cells(out, after_tick, cells);
-    put_text(out, after_cells, b"\n")
+    out[after_cells] = b'\n';
+    after_cells + 1
 }
 
 // The rows of ticks 0 to n, of `width` cells each.
@@ -70,7 +74,8 @@ pub(crate) fn put_arrival(out: &mut [u8], at: usize, n: u32) -> usize
     ensures { λ r. ⌜ Written (now (out .entry)) at (arrivalLine n) (now (out .exit)) r ⌝ }
 {
     let next = put_labelled(out, at, b"arrival ", n as u64);
-    put_text(out, next, b"\n")
+    out[next] = b'\n';
+    next + 1
 }
 
 pub(crate) fn put_refusal(
@@ -89,5 +94,6 @@ pub(crate) fn put_refusal(
     let after_place = put_labelled(out, after_number, b" place ", place as u64);
     let after_mask = put_labelled(out, after_place, b" axes ", mask as u64);
     let after_arrival = put_labelled(out, after_mask, b" arrival ", arrival as u64);
-    put_text(out, after_arrival, b"\n")
+    out[after_arrival] = b'\n';
+    after_arrival + 1
 }

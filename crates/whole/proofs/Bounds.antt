@@ -71,10 +71,6 @@ back-id {z} f = toZ-ofZ w64 z f
 pub back-ok : (z : ℤ) → mag z < 2 ^ hbits w64 → toZ w64 (ofZ w64 z) ≡ z
 back-ok z h = back-id (record { sfits = h })
 
--- and of a number whose range is known
-pub back-in : (n : ℕ) (z : ℤ) → Within n z → T (ltb n (2 ^ 63)) → toZ w64 (ofZ w64 z) ≡ z
-back-in n z w t = back-id (fits-of z n (w .within) t)
-
 -- ---- what code computes: the number, a bound on it, and whether each step on the way fits
 
 pub record Exact (z : ℤ) : Type 0 where
@@ -293,9 +289,6 @@ pub then-is : {n : ℕ} {z e f : ℤ} → Is n z e → e ≡ f → Is n z f
 then-is {n} h p = record { is = h .is ∙ p; within = subst (λ (x : ℤ). natAbs x ≤ n) p (h .within) }
 
 -- a test that is given back
-pub lt-is : {b : Bool} → (p : LtTest b) → T (p .ok) → b ≡ ltZ (p .l) (p .r)
-lt-is p t = p .is t
-
 pub le-is : {b : Bool} → (p : LeTest b) → T (p .ok) → b ≡ leZ (p .l) (p .r)
 le-is p t = p .is t
 

@@ -10,7 +10,7 @@ use mir.Syntax.{w64}
 use mir.Val.{ofZ}
 use Rattle.whole.specs.Integers.{least, greatest, clamp}
 use Rattle.whole.proofs.Tests.{T-true, T-false}
-use Rattle.whole.proofs.Differences.{whole, all₂, all₃, all₄}
+use Rattle.whole.proofs.Differences.{whole, all₃, all₄}
 
 -- ---- tests of order
 
@@ -20,7 +20,7 @@ le-yes x y h = T-true (leZ x y) (h .le)
 pub le-no : (x y : ℤ) → y <ℤ x → leZ x y ≡ false
 le-no x y h = T-false (leZ x y) (λ t. clashℤ h (leZ-yes t))
 
--- ---- the lesser and the greater: which of the two it is, and its bounds
+-- ---- the lesser and the greater: which of the two it is
 
 pub least-yes : (x y : ℤ) → x ≤ℤ y → x ≡ least x y
 least-yes x y h = sym (ap (λ (b : Bool). cond b x y) (le-yes x y h))
@@ -33,18 +33,6 @@ greatest-yes x y h = sym (ap (λ (b : Bool). cond b y x) (le-yes x y h))
 
 pub greatest-no : (x y : ℤ) → y <ℤ x → x ≡ greatest x y
 greatest-no x y h = sym (ap (λ (b : Bool). cond b y x) (le-no x y h))
-
-pub least-left : (x y : ℤ) → least x y ≤ℤ x
-least-left = all₂ _ (λ a b c d. simp whole (omega arith))
-
-pub least-above : (z x y : ℤ) → z ≤ℤ x → z ≤ℤ y → z ≤ℤ least x y
-least-above = all₃ _ (λ a b c d e f. simp whole (omega arith))
-
-pub greatest-left : (x y : ℤ) → x ≤ℤ greatest x y
-greatest-left = all₂ _ (λ a b c d. simp whole (omega arith))
-
-pub greatest-below : (x y z : ℤ) → x ≤ℤ z → y ≤ℤ z → greatest x y ≤ℤ z
-greatest-below = all₃ _ (λ a b c d e f. simp whole (omega arith))
 
 -- a number brought between two grows with it, by no more than it does
 pub clamp-mono : (low high x y : ℤ) → x ≤ℤ y → clamp low high x ≤ℤ clamp low high y

@@ -18,10 +18,10 @@ use Rattle.words.specs.ByIndex.{axisReading, withAxis, readOn, readAll}
 use Rattle.words.proofs.Reader.{on}
 use Rattle.words.proofs.AxisWords.{Follows, axis-follows}
 
-abbrev going : ℕ → List Axis → AxesReading
+abbrev pub going : ℕ → List Axis → AxesReading
 going at six = record { got = true; at = at; axes = six }
 
-abbrev stopped : ℕ → List Axis → AxesReading
+abbrev pub stopped : ℕ → List Axis → AxesReading
 stopped at six = record { got = false; at = at; axes = six }
 
 -- ---- the code's reading s, from six axes on, against the definitions' reading
@@ -31,7 +31,7 @@ Matches ws six s (got xs j vs) = (s .got ≡ true) × (s .at ≡ j) × (vs ≡ d
 Matches ws six s (wrong p) = (s .got ≡ false) × (s .at ≡ p)
 
 -- after a wrong word nothing is read
-stays : (ws : List ℕ) (n i m at : ℕ) (six : List Axis) → readAll ws n i m (stopped at six) ≡ stopped at six
+pub stays : (ws : List ℕ) (n i m at : ℕ) (six : List Axis) → readAll ws n i m (stopped at six) ≡ stopped at six
 unfolding readAll
 stays ws zero i m at six = refl
 stays ws (suc n) i m at six = stays ws n (suc i) (m / 2) at six
@@ -88,9 +88,6 @@ module _ (ws : List ℕ) (i m : ℕ) (s : AxesReading) where
 
   abbrev axisHere : AxisReading
   axisHere = axisReading (axis (s .at) (drop (s .at) ws))
-
-  pub turn-stopped : s .got ≡ false → s ≡ readOn ws i m s
-  turn-stopped e = sym (ap (λ (b : Bool). turn b (eqb (m % 2) 1) axisHere) e)
 
   going-on : (d : Bool) → s .got ≡ true → eqb (m % 2) 1 ≡ d → readOn ws i m s ≡ turn true d axisHere
   going-on d e f = ap (λ (b : Bool). turn b (eqb (m % 2) 1) axisHere) e ∙ ap (λ (b : Bool). turn true b axisHere) f

@@ -1,11 +1,18 @@
 use native.Mathlib.Omega.{arith}
-use lib.Count.{ones-le}
+use Prim.Native.Nat.{ℕ, _^_, _<_}
+use lib.Count.{ones, ones-le}
+use mir.Syntax.{w64}
+use mir.Val.{Fits}
 use Rattle.arrival.proofs.SetAxes.{ones-bits}
 use Rattle.arrival.proofs.axis_count.Statement.{statement}
 use Rattle.arrival.proofs.axis_count.Tie as tie
 
+-- a number of ones is small
+few : (m : ℕ) → m < 2 ^ 32 → Fits w64 (ones m)
+few m h = omega (arith, ones-le 32 m h)
+
 cast-result : tie.Need-cast-result
-cast-result c = omega (arith, ones-le 32 (c .args .mask) (c .fits .mask .fits))
+cast-result c = few _ (omega (arith, c .fits .mask .fits))
 
 returns : tie.Need-returns
 returns c = ones-bits 6 0 (c .args .mask) (c .pre)

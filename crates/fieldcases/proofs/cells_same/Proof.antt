@@ -1,17 +1,19 @@
--- `fieldcases::cells_same` is safe and ends: each turn takes one of the listed cells.
 use Prim.Native.Nat.{_-_, _≤_}
 use borrow.Author.Needs.{needs}
 use Rattle.fieldcases.proofs.cells_same.Statement.{statement}
 use Rattle.fieldcases.proofs.cells_same.Tie as tie
 
 abbrev Inv-loop : tie.InvT-loop
-Inv-loop text at₀ buffer count i₀ at i = i ≤ count
+Inv-loop text from buffer count at₀ i₀ at i = i ≤ count
 
 abbrev μ-loop : tie.MeasureT-loop
-μ-loop text at₀ buffer count i₀ at i = count - i
+μ-loop text from buffer count at₀ i₀ at i = count - i
 
-next-index-requires : tie.Need-next-index-requires Inv-loop μ-loop
-next-index-requires c κs = search needs
+nth-low-requires : tie.Need-nth-low-requires Inv-loop μ-loop
+nth-low-requires c κs = search needs
+
+after-requires : tie.Need-after-requires Inv-loop μ-loop
+after-requires c κs = search needs
 
 loop-holds : tie.Need-loop-holds Inv-loop μ-loop
 loop-holds c = search needs
@@ -21,6 +23,9 @@ cell-same-requires c κs = search needs
 
 returns : tie.Need-returns Inv-loop μ-loop
 returns c = search needs
+
+after-requires-2 : tie.Need-after-requires-2 Inv-loop μ-loop
+after-requires-2 c κs = search needs
 
 add-i : tie.Need-add-i Inv-loop μ-loop
 add-i c = search needs
@@ -40,10 +45,12 @@ cells-same-spec =
     (tie.spec
     Inv-loop
     μ-loop
-    next-index-requires
+    nth-low-requires
+    after-requires
     loop-holds
     cell-same-requires
     returns
+    after-requires-2
     add-i
     loop-less
     loop-again

@@ -1,12 +1,11 @@
--- `fieldcases::found` is safe and ends: each turn passes a byte of the text.
-use Prim.Native.Nat.{_-_}
-use borrow.Author.Needs.{needs}
 use lib.ListN.{length}
+use Prim.Native.Nat.{_-_, _≤_}
+use borrow.Author.Needs.{needs}
 use Rattle.fieldcases.proofs.found.Statement.{statement}
 use Rattle.fieldcases.proofs.found.Tie as tie
 
 abbrev Inv-loop : tie.InvT-loop
-Inv-loop text from byte i₀ i = Unit {0}
+Inv-loop text from byte i₀ i = from ≤ i
 
 abbrev μ-loop : tie.MeasureT-loop
 μ-loop text from byte i₀ i = length text - i

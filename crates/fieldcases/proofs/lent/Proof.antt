@@ -1,21 +1,23 @@
--- `fieldcases::lent` is safe: the cells that are lent are as many as the case says.
-use mathlib.Core.Path.{sym}
-use native.Mathlib.Omega.{arith}
 use lib.Seq.{length-take-le}
+use native.Mathlib.Omega.{arith}
+use mathlib.Core.Path.{sym}
 use borrow.Author.Needs.{needs}
 use Rattle.fieldcases.proofs.lent.Statement.{statement}
 use Rattle.fieldcases.proofs.lent.Tie as tie
 
-next-index-requires : tie.Need-next-index-requires
-next-index-requires c κs = search needs
+nth-low-requires : tie.Need-nth-low-requires
+nth-low-requires c κs = search needs
+
+cast-n : tie.Need-cast-n
+cast-n c = search needs
 
 slice-relend-prefix-planned : tie.Need-slice-relend-prefix-planned
 slice-relend-prefix-planned c = search needs
 
 slice-aggregate-planned : tie.Need-slice-aggregate-planned
 slice-aggregate-planned c =
-    let n = c .before .before .before in
-    sym (length-take-le (n .next-index .result) (n .before .before .before .args .buffer .now) (omega arith))
+    let n = c .before .before in
+    sym (length-take-le (n .nth-low .result) (n .before .before .args .buffer .now) (omega arith))
 
 planned-requires : tie.Need-planned-requires
 planned-requires c κs = search needs
@@ -39,7 +41,8 @@ pub lent-spec : {M : Type 1} → statement M
 lent-spec =
     tie.close
     (tie.spec
-    next-index-requires
+    nth-low-requires
+    cast-n
     slice-relend-prefix-planned
     slice-aggregate-planned
     planned-requires

@@ -1,23 +1,24 @@
--- `fieldcases::run` is safe and ends: the cases that came as expected are no more than those that were run.
 use mathlib.Core.Logic.{⊎-elim}
-use mathlib.Core.Path.{_≡_}
+use lib.ListN.{length}
 use Prim.Native.Nat.{_-_, _≤_}
 use borrow.Author.Needs.{needs}
-use lib.ListN.{length}
 use Rattle.fieldcases.proofs.run.Statement.{statement}
 use Rattle.fieldcases.proofs.run.Tie as tie
 
 abbrev Inv-loop : tie.InvT-loop
-Inv-loop text buffer₀ at₀ count right₀ done₀ buffer at right done = (right ≤ done) × (done ≤ count) × (length buffer ≡ length buffer₀)
+Inv-loop text count at₀ right₀ done₀ at right done = (right ≤ done) × (done ≤ count) × (at ≤ length text)
 
 abbrev μ-loop : tie.MeasureT-loop
-μ-loop text buffer₀ at₀ count right₀ done₀ buffer at right done = count - done
+μ-loop text count at₀ right₀ done₀ at right done = count - done
 
-next-index-requires : tie.Need-next-index-requires Inv-loop μ-loop
-next-index-requires c κs = search needs
+nth-low-requires : tie.Need-nth-low-requires Inv-loop μ-loop
+nth-low-requires c κs = search needs
 
 loop-holds : tie.Need-loop-holds Inv-loop μ-loop
 loop-holds c = search needs
+
+print-name-requires : tie.Need-print-name-requires Inv-loop μ-loop
+print-name-requires c κs = search needs
 
 run-case-requires : tie.Need-run-case-requires Inv-loop μ-loop
 run-case-requires c κs = search needs
@@ -37,9 +38,6 @@ loop-again c = ⊎-elim (λ w. search needs) (λ w. search needs) (c .if1 .came)
 print-count-requires : tie.Need-print-count-requires Inv-loop μ-loop
 print-count-requires c κs = search needs
 
-same-length : tie.Need-same-length Inv-loop μ-loop
-same-length c = search needs
-
 returns : tie.Need-returns Inv-loop μ-loop
 returns c = search needs
 
@@ -49,13 +47,13 @@ run-spec =
     (tie.spec
     Inv-loop
     μ-loop
-    next-index-requires
+    nth-low-requires
     loop-holds
+    print-name-requires
     run-case-requires
     add-right
     add-done
     loop-less
     loop-again
     print-count-requires
-    same-length
     returns)

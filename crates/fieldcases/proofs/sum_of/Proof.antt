@@ -1,7 +1,6 @@
--- `fieldcases::sum_of` is safe and ends: the sum stays below the prime, so nothing that is added to it wraps.
+use lib.ListN.{length}
 use Prim.Native.Nat.{_-_, _≤_, _<_}
 use borrow.Author.Needs.{needs}
-use lib.ListN.{length}
 use Rattle.fieldcases.proofs.sum_of.Statement.{statement}
 use Rattle.fieldcases.proofs.sum_of.Tie as tie
 

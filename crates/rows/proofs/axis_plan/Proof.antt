@@ -1,10 +1,14 @@
-use mathlib.Core.Path.{_≡_, ap, _∙_}
+use Prim.Native.Nat.{_<_}
+use mathlib.Core.Path.{_≡_, sym, ap, subst, _∙_}
 use Rattle.whole.proofs.Bounds.{exact, exactly, within}
 use borrow.Author.Needs.{needs}
 use lib.IntN.{ℤ, _-ℤ_}
 use mir.Syntax.{w64}
 use mir.Val.{toZ, ofZ}
 use Rattle.model.specs.Motion.{startPosition, displacement}
+use Rattle.model.proofs.ReadyAxis.{some-acceleration}
+use Rattle.profile.specs.declared.Profile.{Profile}
+use Rattle.motion.specs.Motions.{profileFor}
 use Rattle.motion.proofs.ReadyAxis.{ready-after, ready-landed}
 use Rattle.rows.proofs.ReadyAxes.{plan-feasible, plan-is}
 use Rattle.rows.proofs.axis_plan.Statement.{statement}
@@ -34,24 +38,32 @@ way d =
     let e : toZ w64 (ofZ w64 (d .displacement .result)) ≡ l .result .position -ℤ startPosition x = exactly (search exact depth 9) tt in
     e ∙ ap (λ (z : ℤ). z -ℤ startPosition x) (l .ensures .position .is)
 
-cruise-requires : tie.Need-cruise-requires
-cruise-requires c κs =
+-- the profile has some acceleration
+steep : (a : tie.Start) (f : Profile) → f ≡ profileFor (a .args .x) (a .args .n) → 0 < f .«acceleration_limit»
+steep a f e = subst (λ (p : Profile). 0 < p .«acceleration_limit») (sym e) (some-acceleration (a .args .x) (a .args .n) (a .pre))
+
+chosen-requires : tie.Need-chosen-requires
+chosen-requires c κs =
     let a = c .before .before .before in
-    let f = c .before .profile-of in
-    (f .ensures .ranged, (within (search exact depth 9) tt, plan-feasible (a .args .x) (a .args .n) (f .result) _ (f .ensures .is) (way c) (a .pre)))
+    let f = c .before .profile-of in (
+      f .ensures .ranged,
+      (
+        steep a (f .result) (f .ensures .is),
+        (within (search exact depth 9) tt, plan-feasible (a .args .x) (a .args .n) (f .result) _ (f .ensures .is) (way c) (a .pre)),
+      ),
+    )
 
 start-position-requires : tie.Need-start-position-requires
 start-position-requires c κs = search needs
 
 returns : tie.Need-returns
 returns c =
-    let d = c .before .before .before .before in
+    let d = c .before .before .before in
     let a = d .before .before .before in
     let l = d .before .before .landing-at .ensures in
     let f = d .before .profile-of in
-    let k = c .before .before .before .cruise .ensures in
-    plan-is (a .args .x) (a .args .n) (f .result) _ (f .ensures .is) (way d) _ _ _ _
-    (exactly (search exact depth 9) tt) (exactly (search exact depth 9) tt) (exactly (search exact depth 9) tt) (k .raised)
+    plan-is (a .args .x) (a .args .n) (f .result) _ (f .ensures .is) (way d) _ _ _
+    (exactly (search exact depth 9) tt) (c .before .before .chosen .ensures) (exactly (search exact depth 9) tt)
 
 pub axis-plan-spec : {M : Type 1} → statement M
 axis-plan-spec =
@@ -60,6 +72,6 @@ axis-plan-spec =
     landing-at-requires
     profile-of-requires
     displacement-requires
-    cruise-requires
+    chosen-requires
     start-position-requires
     returns)

@@ -1,6 +1,6 @@
-use mathlib.Core.Path.{sym, _∙_}
-use lib.IntN.{pos}
-use lib.ListN.{length-replicate}
+use Prim.Native.Nat.{_≤_}
+use lib.ListN.{length, length-replicate}
+use native.Mathlib.Omega.{arith}
 use Rattle.whole.proofs.Lists.{start-length, start-within}
 use Rattle.table.specs.Job.{jobText}
 use Rattle.table.proofs.Text.{whole-printed}
@@ -28,10 +28,11 @@ unfolding jobText
 returns c =
     let s = c .before .before .before .before .before .before .before .before .before .before in
     let r = c .before .before .before .before .before .before .run in
-    let a = c .before .before .answer-text in (
+    let a = c .before .before .answer-text in
+    let long = simp length-replicate at (r .kept .1 .0) in
+    let short : length (r .last .1 .0) ≤ 8192 = omega (arith, long) in (
       (start-within (a .kept .1 .1 .0) (a .ensures), start-length (a .ensures)),
-      whole-printed (r .result) (r .last .1 .0) _ (sym (r .kept .1 .0 ∙ length-replicate 8192 (pos 0))) (s .pre)
-          (r .ensures .fitted) (r .ensures .outcome) (a .ensures),
+      whole-printed (r .result) (r .last .1 .0) _ short (s .pre) (r .ensures .fitted) (r .ensures .outcome) (a .ensures),
     )
 
 pub put-job-spec : {M : Type 1} → statement M

@@ -5,17 +5,19 @@ use native.Mathlib.Omega.{arith}
 use native.Mathlib.Nat.{mul-add, mul-le-mul-left}
 use mathlib.Core.Path.{_≡_, sym, ap, _∙_, subst}
 use mathlib.Core.List.{List, _++_}
-use lib.IntN.{ℤ, pos, negsuc}
-use lib.ListN.{length, getD, take, drop, length-append, length-take, length-drop}
+use mathlib.Core.Bool.{true, false}
+use lib.IntN.{ℤ, pos, negsuc, natAbs}
+use lib.Signed.{ltZ}
+use lib.ListN.{length, getD, take, drop, set, length-set, length-append, length-take, length-drop}
 use mir.Syntax.{w64}
 use mir.Val.{SFits, toZ, ofZ}
 use mir.ValLaws.{toZ-ofZ}
 use Rattle.whole.specs.Lists.{upTo, Room, Written, WrittenWithin}
-use Rattle.whole.proofs.Lists.{flatten-upTo, turn-within, written-within, written-then, room-on}
+use Rattle.whole.proofs.Lists.{flatten-upTo, turn-within, written-within, written-one, written-then, room-front, room-then, room-on}
 use Rattle.model.specs.Refusals.{lastTick}
 use Rattle.text.specs.Printed.{ascii, decimal, signed, labelled, cellText, cellsText, rowLine, rowAt, arrivalLine, refusalLine}
 use Rattle.text.specs.Enough.{refusalBytes, cellsBytes, rowBytes}
-use Rattle.text.proofs.numbers.Laws.{decimal-most}
+use Rattle.text.proofs.numbers.Laws.{decimal-most, signed-below, signed-from}
 
 -- ---- the arrival line and a refusal
 
@@ -36,6 +38,63 @@ refusal-most number place mask arrival h q m a =
     let d₄ = decimal-most 9 arrival (omega arith) in
     simp length-append (omega arith)
 
+-- writing a refusal, part by part
+module _ (number place mask arrival : ℕ) {t : List ℕ} {i : ℕ} (h : Room t i (refusalLine number place mask arrival)) where
+  abbrev one : List ℕ
+  one = labelled (ascii "refused ") number
+
+  abbrev two : List ℕ
+  two = one ++ labelled (ascii " place ") place
+
+  abbrev three : List ℕ
+  three = two ++ labelled (ascii " axes ") mask
+
+  abbrev four : List ℕ
+  four = three ++ labelled (ascii " arrival ") arrival
+
+  room-four : Room t i four
+  unfolding refusalLine
+  room-four = room-front four (ascii "\n") h
+
+  room-three : Room t i three
+  room-three = room-front three _ room-four
+
+  room-two : Room t i two
+  room-two = room-front two _ room-three
+
+  pub number-room : Room t i one
+  number-room = room-front one _ room-two
+
+  module _ {u₁ : List ℕ} {j₁ : ℕ} (w₁ : Written t i one u₁ j₁) where
+    pub place-room : Room u₁ j₁ (labelled (ascii " place ") place)
+    place-room = room-then room-two w₁
+
+    module _ {u₂ : List ℕ} {j₂ : ℕ} (w₂ : Written u₁ j₁ (labelled (ascii " place ") place) u₂ j₂) where
+      done-two : Written t i two u₂ j₂
+      done-two = written-then room-two w₁ w₂
+
+      pub mask-room : Room u₂ j₂ (labelled (ascii " axes ") mask)
+      mask-room = room-then room-three done-two
+
+      module _ {u₃ : List ℕ} {j₃ : ℕ} (w₃ : Written u₂ j₂ (labelled (ascii " axes ") mask) u₃ j₃) where
+        done-three : Written t i three u₃ j₃
+        done-three = written-then room-three done-two w₃
+
+        pub arrival-room : Room u₃ j₃ (labelled (ascii " arrival ") arrival)
+        arrival-room = room-then room-four done-three
+
+        module _ {u₄ : List ℕ} {j₄ : ℕ} (w₄ : Written u₃ j₃ (labelled (ascii " arrival ") arrival) u₄ j₄) where
+          done-four : Written t i four u₄ j₄
+          done-four = written-then room-four done-three w₄
+
+          pub feed-index : j₄ < length u₄
+          unfolding refusalLine
+          feed-index = omega (arith, room-then {m = ascii "\n"} h done-four .room)
+
+          pub refusal-done : Written t i (refusalLine number place mask arrival) (set u₄ j₄ 10) (j₄ + 1)
+          unfolding refusalLine
+          refusal-done = written-then h done-four (written-one feed-index)
+
 -- ---- a cell
 
 signed-most : (z : ℤ) → SFits w64 z → length (signed z) ≤ 20
@@ -46,6 +105,49 @@ signed-most (negsuc n) f = omega (arith, decimal-most 18 (suc n) (omega (arith, 
 cell-most : (z : ℤ) → SFits w64 z → length (cellText z) ≤ 21
 unfolding cellText
 cell-most z f = omega (arith, signed-most z f)
+
+-- writing it, by its size n: a space, a sign where it is negative, and its digits. The room does not depend on what was stored.
+module _ (x : ℤ) {n i : ℕ} {t : List ℕ} (f : SFits w64 x) (e : n ≡ natAbs (toZ w64 (ofZ w64 x))) (h : Room t i (cellText x)) where
+  pub space-index : i < length t
+  unfolding cellText
+  space-index = omega (arith, h .room)
+
+  module _ (b : ltZ (toZ w64 (ofZ w64 x)) (pos 0) ≡ true) where
+    below : cellText x ≡ ascii " -" ++ decimal n
+    unfolding cellText labelled
+    below = ap (λ (l : List ℕ). ascii " " ++ l) (signed-below x f b e)
+
+    below-all : Room t i (ascii " -" ++ decimal n)
+    below-all = subst (Room t i) below h
+
+    pub sign-index : (p : ℕ) → i + 1 < length (set t i p)
+    sign-index p = omega (arith, below-all .room, length-set t i p)
+
+    pub below-room : (p q : ℕ) → Room (set (set t i p) (i + 1) q) (i + 2) (decimal n)
+    below-room p q = record { room = omega (arith, below-all .room, length-set t i p, length-set (set t i p) (i + 1) q) }
+
+    pub below-done : {v : List ℕ} {r : ℕ} → Written (set (set t i 32) (i + 1) 45) (i + 2) (decimal n) v r → Written t i (cellText x) v r
+    below-done {v} {r} y = subst (λ (l : List ℕ). Written t i l v r) (sym below) (written-then below-all both y)
+      where
+        sign : Written (set t i 32) (i + 1) (ascii "-") (set (set t i 32) (i + 1) 45) (i + 2)
+        sign = record { list = written-one (sign-index 32) .list; next = omega arith }
+
+        both : Written t i (ascii " -") (set (set t i 32) (i + 1) 45) (i + 2)
+        both = written-then {l = ascii " "} {m = ascii "-"} (room-front (ascii " -") (decimal n) below-all) (written-one space-index) sign
+
+  module _ (b : ltZ (toZ w64 (ofZ w64 x)) (pos 0) ≡ false) where
+    natural : cellText x ≡ ascii " " ++ decimal n
+    unfolding cellText
+    natural = ap (λ (l : List ℕ). ascii " " ++ l) (signed-from x f b e)
+
+    natural-all : Room t i (ascii " " ++ decimal n)
+    natural-all = subst (Room t i) natural h
+
+    pub natural-room : (p : ℕ) → Room (set t i p) (i + 1) (decimal n)
+    natural-room p = record { room = omega (arith, natural-all .room, length-set t i p) }
+
+    pub natural-done : {v : List ℕ} {r : ℕ} → Written (set t i 32) (i + 1) (decimal n) v r → Written t i (cellText x) v r
+    natural-done {v} {r} y = subst (λ (l : List ℕ). Written t i l v r) (sym natural) (written-then natural-all (written-one space-index) y)
 
 -- ---- the cells of a row
 
@@ -92,13 +194,12 @@ module _ (tick : ℕ) (cells : List ℤ) {t : List ℕ} {i : ℕ} (h : i + rowBy
       ends : k + 1 ≤ length t
       ends = omega (arith, tick-most tick q, w .next, x .most, x .written .next)
 
-      pub end-room : length v ≡ length t → Room v k (ascii "\n")
-      end-room e = record { room = omega (arith, ends) }
+      pub end-index : length v ≡ length t → k < length v
+      end-index e = omega (arith, ends)
 
-      pub row-done : {o : List ℕ} {r : ℕ} → Written v k (ascii "\n") o r
-          → WrittenWithin (rowBytes (length cells)) t i (rowLine tick cells) o r
+      pub row-done : length v ≡ length t → WrittenWithin (rowBytes (length cells)) t i (rowLine tick cells) (set v k 10) (k + 1)
       unfolding rowLine
-      row-done y = record { written = written-then (room-on (ascii "\n") ends both) both y; most = row-most }
+      row-done e = record { written = written-then (room-on (ascii "\n") ends both) both (written-one (end-index e)); most = row-most }
         where
           both : Written t i (decimal tick ++ cellsText cells) v k
           both = written-then (room-on (cellsText cells) (omega (arith, ends, x .written .next)) w) w (x .written)

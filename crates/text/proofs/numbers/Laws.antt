@@ -9,13 +9,14 @@ use mathlib.Core.List.{List, _++_}
 use lib.Dec.{ltb}
 use lib.IntN.{ℤ, pos, negsuc, natAbs}
 use lib.Signed.{ltZ}
-use lib.ListN.{length, set, length-append}
+use lib.ListN.{length, getD, take, set, length-append}
+use lib.Seq.{take-all}
 use borrow.Author.Tests.{lt-ltb, le-ltb, ltb-true, ltb-false}
 use mir.Syntax.{w64}
 use mir.Val.{SFits, toZ, ofZ}
 use mir.ValLaws.{toZ-ofZ}
 use Rattle.whole.specs.Lists.{Room, Written}
-use Rattle.whole.proofs.Lists.{written-one, written-then, room-front, room-then}
+use Rattle.whole.proofs.Lists.{written-nil, written-one, written-then, written-copy, room-front, room-then}
 use Rattle.text.specs.Printed.{ascii, digit, digits, decimal, signed, labelled}
 
 by-size : ℕ → ℕ → Bool → List ℕ
@@ -64,10 +65,6 @@ unfolding signed
 signed-natural (pos n) e = refl
 signed-natural (negsuc n) e = absurd (mathlib.Core.Bool.true≢false e)
 
--- a number that was passed on
-pub signed-passed : (x : ℤ) → SFits w64 x → signed (toZ w64 (ofZ w64 x)) ≡ signed x
-signed-passed x f = ap (λ (z : ℤ). signed z) (toZ-ofZ w64 x f)
-
 -- its text by its size n
 pub signed-below : (x : ℤ) {n : ℕ} → SFits w64 x → ltZ (toZ w64 (ofZ w64 x)) (pos 0) ≡ true → n ≡ natAbs (toZ w64 (ofZ w64 x))
     → signed x ≡ labelled (ascii "-") n
@@ -106,3 +103,34 @@ module _ {t : List ℕ} {i x : ℕ} (h : Room t i (decimal x)) where
   written-last {u} {j} q w =
       subst (λ (l : List ℕ). Written t i l (set u j (48 + x % 10)) (j + 1)) (sym (decimal-more x q))
       (written-then (room-last q) w (written-one (room-digit q w)))
+
+-- ---- writing a label, byte by byte, and a number after it
+
+module _ (label : List ℕ) (x : ℕ) {t : List ℕ} {i : ℕ} (h : Room t i (labelled label x)) where
+  label-room : Room t i label
+  unfolding labelled
+  label-room = room-front label (decimal x) h
+
+  pub label-index : {k : ℕ} → k < length label → i + k < length t
+  label-index q = omega (arith, label-room .room)
+
+  pub label-none : Written t i (take 0 label) t (i + 0)
+  label-none = record { list = written-nil {t = t} {i = i} (omega (arith, label-room .room)) .list; next = refl }
+
+  pub label-turn : {u : List ℕ} {k : ℕ} → k < length label → Written t i (take k label) u (i + k)
+      → Written t i (take (k + 1) label) (set u (i + k) (getD label k 0)) (i + (k + 1))
+  label-turn {u} {k} q w =
+      let copied = written-copy label k 0 label-room q w in
+      record { list = copied .list; next = omega (arith, copied .next) }
+
+  module _ {u : List ℕ} {k : ℕ} (q : length label ≤ k) (w : Written t i (take k label) u (i + k)) where
+    label-whole : Written t i label u (i + k)
+    label-whole = subst (λ (l : List ℕ). Written t i l u (i + k)) (take-all k label q) w
+
+    pub number-room : Room u (i + k) (decimal x)
+    unfolding labelled
+    number-room = room-then h label-whole
+
+    pub number-done : {v : List ℕ} {r : ℕ} → Written u (i + k) (decimal x) v r → Written t i (labelled label x) v r
+    unfolding labelled
+    number-done y = written-then h label-whole y

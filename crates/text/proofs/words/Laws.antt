@@ -1,14 +1,14 @@
 -- The words of bytes, one by one. Assumes nothing.
-use Prim.Native.Nat.{ℕ, zero, suc, _+_, _*_, _/_, _<_, _≤_}
+use Prim.Native.Nat.{ℕ, zero, suc, _+_, _*_, _/_, _<_, _≤_, min}
 use native.Mathlib.Omega.{arith}
 use mathlib.Core.Path.{_≡_, refl, sym, ap, _∙_, subst}
 use mathlib.Core.List.{List, [], _∷_}
-use lib.ListN.{length, getD, take, drop, set, length-drop}
-use lib.Seq.{drop-cons, drop-drop, take-all}
+use lib.ListN.{length, getD, take, drop, set, length-take, length-drop}
+use lib.Seq.{drop-cons, drop-drop, take-all, take-nil, getD-take}
 use Rattle.whole.specs.Lists.{Room, Written, WrittenAtStart}
 use Rattle.whole.proofs.Lists.{written-nil, written-copy}
 use Rattle.model.specs.Bytes.{littleEndian, wordsOf}
-use Rattle.text.specs.Words.{firstWord}
+use Rattle.text.specs.Words.{pairAt, firstWord}
 
 -- ---- the first word
 
@@ -27,6 +27,17 @@ word-four bytes i h =
     ∙ ap (λ (l : List ℕ). getD bytes (i + 1) 0 ∷ l)
     (next bytes (i + 2) (i + 3) (omega arith) (omega arith)
     ∙ ap (λ (l : List ℕ). getD bytes (i + 2) 0 ∷ l) (next bytes (i + 3) (i + 4) (omega arith) (omega arith))))))
+
+pub word-pairs : (bytes : List ℕ) (i : ℕ) {p q : ℕ} → i + 4 ≤ length bytes → p ≡ pairAt bytes i → q ≡ pairAt bytes (i + 2)
+    → p + 65536 * q ≡ firstWord (drop i bytes)
+word-pairs bytes i {p} {q} h e f =
+    let third : i + 2 + 1 ≡ i + 3 = omega arith in
+    let last = ap (λ (k : ℕ). getD bytes k 0) third in
+    joined (getD bytes i 0) (getD bytes (i + 1) 0) (getD bytes (i + 2) 0) (getD bytes (i + 2 + 1) 0) (getD bytes (i + 3) 0) e f last
+    ∙ word-four bytes i h
+  where
+    joined : (a b c d d' : ℕ) → p ≡ a + 256 * b → q ≡ c + 256 * d → d ≡ d' → p + 65536 * q ≡ littleEndian a b c d'
+    joined a b c d d' e f g = omega arith
 
 short : (l : List ℕ) → length l < 4 → firstWord l ≡ 0
 unfolding firstWord
@@ -70,32 +81,55 @@ words-at zero bytes = words-first bytes
 words-at (suc k) bytes =
     words-rest bytes k
     ∙ words-at k (drop 4 bytes)
-    ∙ ap firstWord (drop-drop (4 * k) 4 bytes ∙ ap (λ (n : ℕ). drop n bytes) (four-more k))
+    ∙ ap firstWord (drop-drop (4 * k) 4 bytes ∙ ap (λ (n : ℕ). drop n bytes) (four k))
   where
-    four-more : (k : ℕ) → 4 + 4 * k ≡ 4 * suc k
-    four-more k = omega arith
+    four : (k : ℕ) → 4 + 4 * k ≡ 4 * suc k
+    four k = omega arith
 
--- ---- writing the words, into a list that is long enough
+four-more : (n : ℕ) → 4 * suc n ≡ suc (suc (suc (suc (4 * n))))
+four-more n = omega arith
 
-module _ (bytes : List ℕ) {t : List ℕ} (h : length bytes ≤ 4 * length t) where
-  room : Room t 0 (wordsOf bytes)
-  room = record { room = omega (arith, words-length bytes) }
+none : (n : ℕ) → _≡_ {A = List ℕ} (0 ∷ []) (take (suc n) (0 ∷ []))
+none n = ap (λ (l : List ℕ). 0 ∷ l) (sym (take-nil n))
 
-  pub words-none : Written t 0 (take 0 (wordsOf bytes)) t 0
+-- the words of the first 4 n bytes are the first n words
+words-take : (n : ℕ) (bytes : List ℕ) → wordsOf (take (4 * n) bytes) ≡ take n (wordsOf bytes)
+unfolding wordsOf
+words-take zero bytes = refl
+words-take (suc n) [] = ap (λ (m : ℕ). wordsOf (take m [])) (four-more n)
+words-take (suc n) (a ∷ []) = ap (λ (m : ℕ). wordsOf (take m (a ∷ []))) (four-more n) ∙ none n
+words-take (suc n) (a ∷ b ∷ []) = ap (λ (m : ℕ). wordsOf (take m (a ∷ b ∷ []))) (four-more n) ∙ none n
+words-take (suc n) (a ∷ b ∷ c ∷ []) = ap (λ (m : ℕ). wordsOf (take m (a ∷ b ∷ c ∷ []))) (four-more n) ∙ none n
+words-take (suc n) (a ∷ b ∷ c ∷ d ∷ l) =
+    ap (λ (m : ℕ). wordsOf (take m (a ∷ b ∷ c ∷ d ∷ l))) (four-more n) ∙ ap (λ (ws : List ℕ). littleEndian a b c d ∷ ws) (words-take n l)
+
+-- ---- writing the words, as many as the list has entries for
+
+module _ (bytes t : List ℕ) where
+  abbrev pub kept : List ℕ
+  kept = take (length t) (wordsOf bytes)
+
+  kept-length : length kept ≡ min (length t) ((length bytes + 3) / 4)
+  kept-length = length-take (length t) (wordsOf bytes) ∙ ap (min (length t)) (words-length bytes)
+
+  room : Room t 0 kept
+  room = record { room = omega (arith, kept-length) }
+
+  pub words-none : Written t 0 (take 0 kept) t 0
   words-none = written-nil (omega arith)
 
-  pub words-turn : {u : List ℕ} {k w : ℕ} → k < (length bytes + 3) / 4 → w ≡ firstWord (drop (4 * k) bytes)
-      → Written t 0 (take k (wordsOf bytes)) u k → Written t 0 (take (k + 1) (wordsOf bytes)) (set u k w) (k + 1)
-  words-turn {u} {k} {w} q e x =
-      subst (λ (v : ℕ). Written t 0 (take (k + 1) (wordsOf bytes)) (set u k v) (k + 1)) (words-at k bytes ∙ sym e)
-      (written-copy (wordsOf bytes) k 0 room (omega (arith, words-length bytes)) x)
+  pub words-turn : {u : List ℕ} {k w : ℕ} → k < length t → 4 * k < length bytes → w ≡ firstWord (drop (4 * k) bytes)
+      → Written t 0 (take k kept) u k → Written t 0 (take (k + 1) kept) (set u k w) (k + 1)
+  words-turn {u} {k} {w} q l e x =
+      subst (λ (v : ℕ). Written t 0 (take (k + 1) kept) (set u k v) (k + 1))
+      (getD-take (length t) (wordsOf bytes) k 0 q ∙ words-at k bytes ∙ sym e)
+      (written-copy kept k 0 room (omega (arith, kept-length)) x)
 
-  pub words-done : {u : List ℕ} (k : ℕ) → k ≡ (length bytes + 3) / 4 → Written t 0 (take k (wordsOf bytes)) u k
-      → WrittenAtStart t (wordsOf bytes) u ((length bytes + 3) / 4)
-  words-done {u} k e x =
-      record {
-        written =
-            subst (λ (n : ℕ). Written t 0 (wordsOf bytes) u n) e
-            (subst (λ (m : List ℕ). Written t 0 m u k) (take-all k (wordsOf bytes) (omega (arith, words-length bytes))) x);
+  pub words-done : {u : List ℕ} (k : ℕ) → min (length t) ((length bytes + 3) / 4) ≤ k → Written t 0 (take k kept) u k
+      → WrittenAtStart t (wordsOf (take (4 * length t) bytes)) u k
+  words-done {u} k h x =
+      subst (λ (m : List ℕ). WrittenAtStart t m u k) (sym (words-take (length t) bytes))
+      (record {
+        written = subst (λ (m : List ℕ). Written t 0 m u k) (take-all k kept (omega (arith, kept-length))) x;
         most = omega (arith, room .room);
-      }
+      })

@@ -1,10 +1,10 @@
 -- `whole::size` meets its contract. Below 0 the code takes −(x + 1), which fits also where −x does not, and adds the one again.
 use mathlib.Core.Path.{_≡_, sym, ap, _∙_, subst}
 use mathlib.Core.Bool.{true}
-use Prim.Native.Nat.{_+_}
+use Prim.Native.Nat.{ℕ, _+_, _≤_}
 use native.Mathlib.Omega.{arith}
 use lib.IntN.{ℤ, pos, natAbs, _+ℤ_, _-ℤ_}
-use lib.Dec.{T}
+use lib.Dec.{T, lit≤}
 use lib.Signed.{ltZ, nonNeg, _≤ℤ_, _<ℤ_, ltZ-yes, ltZ-no}
 use mir.Syntax.{w64}
 use mir.Val.{SFits, Fits, toZ, ofZ}
@@ -14,11 +14,12 @@ use Rattle.whole.proofs.Bounds.{back-id, fits-holds, nonneg-cast}
 use Rattle.whole.proofs.size.Statement.{statement}
 use Rattle.whole.proofs.size.Tie as tie
 
-next-fits : (y : ℤ) → SFits w64 y → y <ℤ pos 0 → SFits w64 (y +ℤ pos 1)
-next-fits = all₁ _ (λ a b. simp whole (omega arith))
+-- what is added to a number below 0 is read off the code: the sum fits where it is at most 1, and its negative where it is 1
+next-fits : (k : ℕ) (y : ℤ) → SFits w64 y → y <ℤ pos 0 → k ≤ 1 → SFits w64 (y +ℤ pos k)
+next-fits k = all₁ _ (λ a b. simp whole (omega arith))
 
-turned-fits : (y z : ℤ) → z ≡ y +ℤ pos 1 → SFits w64 y → y <ℤ pos 0 → SFits w64 (pos 0 -ℤ z)
-turned-fits = all₂ _ (λ a b c d. simp whole (omega arith))
+turned-fits : (k : ℕ) (y z : ℤ) → z ≡ y +ℤ pos k → SFits w64 y → y <ℤ pos 0 → k ≤ 1 → 1 ≤ k → SFits w64 (pos 0 -ℤ z)
+turned-fits k = all₂ _ (λ a b c d. simp whole (omega arith))
 
 turned-nonneg : (y z w : ℤ) → z ≡ y +ℤ pos 1 → w ≡ pos 0 -ℤ z → y <ℤ pos 0 → pos 0 ≤ℤ w
 turned-nonneg = all₃ _ (λ a b c d e f. simp whole (omega arith))
@@ -44,11 +45,17 @@ module _ (x : ℤ) (f : SFits w64 x) where
     below : y <ℤ pos 0
     below = ltZ-yes (true-T t)
 
+    plus-fits : (k : ℕ) → k ≤ 1 → SFits w64 (y +ℤ pos k)
+    plus-fits k = next-fits k y y-fits below
+
+    minus-fits : (k : ℕ) → k ≤ 1 → 1 ≤ k → SFits w64 (pos 0 -ℤ toZ w64 (ofZ w64 (y +ℤ pos k)))
+    minus-fits k h = turned-fits k y (toZ w64 (ofZ w64 (y +ℤ pos k))) (back-id (plus-fits k h)) y-fits below h
+
     z-fits : SFits w64 (y +ℤ pos 1)
-    z-fits = next-fits y y-fits below
+    z-fits = plus-fits 1 (lit≤ tt)
 
     w-fits : SFits w64 (pos 0 -ℤ z)
-    w-fits = turned-fits y z (back-id z-fits) y-fits below
+    w-fits = minus-fits 1 (lit≤ tt) (lit≤ tt)
 
     w-cast : T (nonNeg w) × Fits w64 (natAbs w)
     w-cast = nonneg-cast w (turned-nonneg y z w (back-id z-fits) (back-id w-fits) below) (subst (SFits w64) (sym (back-id w-fits)) w-fits)
@@ -60,10 +67,10 @@ module _ (x : ℤ) (f : SFits w64 x) where
     w-more = record { fits = omega (arith, w-size, fits-holds x f) }
 
 add-result : tie.Need-add-result
-add-result c = z-fits (c .before .args .x) (c .before .fits .x) (c .if1 .taken)
+add-result c = plus-fits (c .before .args .x) (c .before .fits .x) (c .if1 .taken) _ (lit≤ tt)
 
 sub-result : tie.Need-sub-result
-sub-result c = w-fits (c .before .args .x) (c .before .fits .x) (c .if1 .taken)
+sub-result c = minus-fits (c .before .args .x) (c .before .fits .x) (c .if1 .taken) _ (lit≤ tt) (lit≤ tt)
 
 cast-result : tie.Need-cast-result
 cast-result c = w-cast (c .before .args .x) (c .before .fits .x) (c .if1 .taken)

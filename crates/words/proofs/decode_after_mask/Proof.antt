@@ -1,8 +1,8 @@
 use mathlib.Core.Path.{sym, _∙_}
 use borrow.Author.Tests.{not-true, not-false}
-use borrow.Author.Needs.{needs}
 use Rattle.words.proofs.JobWords.{no-asked, wrong-axis, no-end, left-over, whole-job}
 use Rattle.words.proofs.Reader.{there}
+use borrow.Author.Needs.{needs}
 use Rattle.words.proofs.decode_after_mask.Statement.{statement}
 use Rattle.words.proofs.decode_after_mask.Tie as tie
 
@@ -18,13 +18,10 @@ returns c =
     let kind = sym (c .before .before .is-kind .ensures) ∙ not-true _ (c .before .if1 .taken) in
     c .refused .ensures ∙ no-asked (a .words .now) (a .mask) kind
 
-shared-slice-read-payload : tie.Need-shared-slice-read-payload
-shared-slice-read-payload c =
-    let kind = sym (c .before .before .is-kind .ensures) ∙ not-false _ (c .before .if1 .left) in
-    there (c .before .before .before .before .args .words .now) 1 2 kind
-
 payload-requires : tie.Need-payload-requires
-payload-requires c κs = search needs
+payload-requires c κs =
+    let kind = sym (c .before .is-kind .ensures) ∙ not-false _ (c .if1 .left) in
+    there (c .before .before .before .args .words .now) 1 2 kind
 
 read-axes-requires : tie.Need-read-axes-requires
 read-axes-requires c κs = search needs
@@ -34,11 +31,11 @@ refused-requires-2 c κs = search needs
 
 returns-2 : tie.Need-returns-2
 returns-2 c =
-    let a = c .before .before .before .before .before .before .before .before .before .args in
+    let a = c .before .before .before .before .before .before .before .before .args in
     let k = c .before .before .before .before .payload in
     let s = c .before .before .before .read-axes in
-    let kind = c .before .before .before .before .before .before .before .is-kind .ensures in
-    let asked = sym kind ∙ not-false _ (c .before .before .before .before .before .before .if1 .left) in
+    let kind = c .before .before .before .before .before .before .is-kind .ensures in
+    let asked = sym kind ∙ not-false _ (c .before .before .before .before .before .if1 .left) in
     let wrong = not-true _ (c .before .if2 .taken) in
     c .refused2 .ensures ∙ wrong-axis (a .words .now) (a .mask) asked (k .result) (k .ensures) (s .result) (s .ensures .0) wrong
 
@@ -50,11 +47,11 @@ refused-requires-3 c κs = search needs
 
 returns-3 : tie.Need-returns-3
 returns-3 c =
-    let a = c .before .before .before .before .before .before .before .before .before .before .before .args in
+    let a = c .before .before .before .before .before .before .before .before .before .before .args in
     let k = c .before .before .before .before .before .before .payload in
     let s = c .before .before .before .before .before .read-axes in
-    let kind = c .before .before .before .before .before .before .before .before .before .is-kind .ensures in
-    let asked = sym kind ∙ not-false _ (c .before .before .before .before .before .before .before .before .if1 .left) in
+    let kind = c .before .before .before .before .before .before .before .before .is-kind .ensures in
+    let asked = sym kind ∙ not-false _ (c .before .before .before .before .before .before .before .if1 .left) in
     let got = not-false _ (c .before .before .before .if2 .left) in
     let end = sym (c .before .before .is-end .ensures) ∙ not-true _ (c .before .if3 .taken) in
     c .refused3 .ensures ∙ no-end (a .words .now) (a .mask) asked (k .result) (k .ensures) (s .result) (s .ensures .0) got end
@@ -70,11 +67,11 @@ refused-requires-4 c κs = search needs
 
 returns-4 : tie.Need-returns-4
 returns-4 c =
-    let a = c .before .before .before .before .before .before .before .before .before .before .before .before .args in
+    let a = c .before .before .before .before .before .before .before .before .before .before .before .args in
     let k = c .before .before .before .before .before .before .before .payload in
     let s = c .before .before .before .before .before .before .read-axes in
-    let kind = c .before .before .before .before .before .before .before .before .before .before .is-kind .ensures in
-    let asked = sym kind ∙ not-false _ (c .before .before .before .before .before .before .before .before .before .if1 .left) in
+    let kind = c .before .before .before .before .before .before .before .before .before .is-kind .ensures in
+    let asked = sym kind ∙ not-false _ (c .before .before .before .before .before .before .before .before .if1 .left) in
     let got = not-false _ (c .before .before .before .before .if2 .left) in
     let end = sym (c .before .before .before .is-end .ensures) ∙ not-false _ (c .before .before .if3 .left) in
     let more = c .before .if4 .taken in
@@ -83,11 +80,11 @@ returns-4 c =
 
 returns-5 : tie.Need-returns-5
 returns-5 c =
-    let a = c .before .before .before .before .before .before .before .before .before .before .before .before .args in
+    let a = c .before .before .before .before .before .before .before .before .before .before .before .args in
     let k = c .before .before .before .before .before .before .before .payload in
     let s = c .before .before .before .before .before .before .read-axes in
-    let kind = c .before .before .before .before .before .before .before .before .before .before .is-kind .ensures in
-    let asked = sym kind ∙ not-false _ (c .before .before .before .before .before .before .before .before .before .if1 .left) in
+    let kind = c .before .before .before .before .before .before .before .before .before .is-kind .ensures in
+    let asked = sym kind ∙ not-false _ (c .before .before .before .before .before .before .before .before .if1 .left) in
     let got = not-false _ (c .before .before .before .before .if2 .left) in
     let end = sym (c .before .before .before .is-end .ensures) ∙ not-false _ (c .before .before .if3 .left) in
     let last = c .before .if4 .left in
@@ -100,7 +97,6 @@ decode-after-mask-spec =
     is-kind-requires
     refused-requires
     returns
-    shared-slice-read-payload
     payload-requires
     read-axes-requires
     refused-requires-2

@@ -1,5 +1,8 @@
-use Rattle.whole.proofs.Lists.{room-front, room-then, written-then}
-use Rattle.text.specs.Printed.{arrivalLine}
+use Prim.Native.Nat.{_<_}
+use native.Mathlib.Omega.{arith}
+use lib.ListN.{length}
+use Rattle.whole.proofs.Lists.{room-front, room-then, written-one, written-then}
+use Rattle.text.specs.Printed.{ascii, arrivalLine}
 use borrow.Author.Needs.{needs}
 use Rattle.text.proofs.lines.put_arrival.Statement.{statement}
 use Rattle.text.proofs.lines.put_arrival.Tie as tie
@@ -11,14 +14,20 @@ put-labelled-requires : tie.Need-put-labelled-requires
 unfolding arrivalLine
 put-labelled-requires c κs = room-front _ _ (c .before .before .before .pre)
 
-slice-aggregate-put-text : tie.Need-slice-aggregate-put-text
-slice-aggregate-put-text c = search needs
-
-put-text-requires : tie.Need-put-text-requires
+-- the index of the line feed
+index : (c : tie.After-slice-known2) → c .before .before .put-labelled .result < length (c .before .before .put-labelled .last .0)
 unfolding arrivalLine
-put-text-requires c κs =
-    let labelled = c .before .before .before .before in
-    room-then (labelled .before .before .before .before .pre) (labelled .put-labelled .ensures)
+index c =
+    let labelled = c .before .before in
+    omega (arith, room-then {m = ascii "\n"} (labelled .before .before .before .before .pre) (labelled .put-labelled .ensures) .room)
+
+slice-write-out : tie.Need-slice-write-out
+slice-write-out c = index c
+
+add-result : tie.Need-add-result
+add-result c =
+    let labelled = c .before .before in
+    omega (arith, index c, labelled .put-labelled .kept .0, labelled .before .before .before .before .good .0 .0)
 
 same-length : tie.Need-same-length
 same-length c = search needs
@@ -26,9 +35,8 @@ same-length c = search needs
 returns : tie.Need-returns
 unfolding arrivalLine
 returns c =
-    let ended = c .before .before in
-    let labelled = ended .before .before .before .before .before in
-    written-then (labelled .before .before .before .before .pre) (labelled .put-labelled .ensures) (ended .put-text .ensures)
+    let labelled = c .before .before in
+    written-then (labelled .before .before .before .before .pre) (labelled .put-labelled .ensures) (written-one (index c))
 
 pub put-arrival-spec : {M : Type 1} → statement M
 put-arrival-spec =
@@ -36,7 +44,7 @@ put-arrival-spec =
     (tie.spec
     slice-aggregate-put-labelled
     put-labelled-requires
-    slice-aggregate-put-text
-    put-text-requires
+    slice-write-out
+    add-result
     same-length
     returns)

@@ -1,18 +1,15 @@
 use Prim.Native.Nat.{ℕ, _≤_}
-use mathlib.Core.List.{List}
 use native.Mathlib.Omega.{arith}
-use lib.ListN.{length}
-use Rattle.whole.specs.Lists.{Room}
-use Rattle.text.specs.Enough.{refusalBytes}
-use Rattle.text.proofs.lines.Laws.{refusal-most}
-use Rattle.whole.proofs.Lists.{room-front, room-then, written-then}
-use Rattle.text.specs.Printed.{refusalLine}
+use mathlib.Core.Path.{_∙_}
+use mathlib.Core.List.{List}
+use lib.ListN.{length, length-set}
 use borrow.Author.Needs.{needs}
+use Rattle.whole.specs.Lists.{Room}
+use Rattle.text.specs.Printed.{refusalLine}
+use Rattle.text.specs.Enough.{refusalBytes}
+use Rattle.text.proofs.lines.Laws as laws
 use Rattle.text.proofs.lines.put_refusal.Statement.{statement}
 use Rattle.text.proofs.lines.put_refusal.Tie as tie
-
-slice-aggregate-put-labelled : tie.Need-slice-aggregate-put-labelled
-slice-aggregate-put-labelled c = search needs
 
 abbrev line : tie.Start → List ℕ
 line s = let a = s .args in refusalLine (a .number) (a .place) (a .mask) (a .arrival)
@@ -21,84 +18,99 @@ line-most : (s : tie.Start) → length (line s) ≤ refusalBytes
 line-most s =
     let a = s .args in
     let f = s .fits in
-    refusal-most (a .number) (a .place) (a .mask) (a .arrival) (f .number .fits) (f .place .fits) (f .mask .fits) (f .arrival .fits)
+    laws.refusal-most (a .number) (a .place) (a .mask) (a .arrival) (f .number .fits) (f .place .fits) (f .mask .fits) (f .arrival .fits)
 
 space : (s : tie.Start) → Room (s .args .out .now) (s .args .at) (line s)
 space s = record { room = omega (arith, line-most s, s .pre) }
 
+slice-aggregate-put-labelled : tie.Need-slice-aggregate-put-labelled
+slice-aggregate-put-labelled c = search needs
+
 put-labelled-requires : tie.Need-put-labelled-requires
-unfolding refusalLine
 put-labelled-requires c κs =
-    room-front _ _ (room-front _ _ (room-front _ _ (room-front _ _ (space (c .before .before .before)))))
+    let s = c .before .before .before in
+    let a = s .args in
+    laws.number-room (a .number) (a .place) (a .mask) (a .arrival) (space s)
 
 slice-aggregate-put-labelled-2 : tie.Need-slice-aggregate-put-labelled-2
 slice-aggregate-put-labelled-2 c = search needs
 
 put-labelled-requires-2 : tie.Need-put-labelled-requires-2
-unfolding refusalLine
 put-labelled-requires-2 c κs =
     let first = c .before .before .before .before in
-    let two = room-front _ _ (room-front _ _ (room-front _ _ (space (first .before .before .before .before)))) in
-    room-then two (first .put-labelled .ensures)
+    let s = first .before .before .before .before in
+    let a = s .args in
+    laws.place-room (a .number) (a .place) (a .mask) (a .arrival) (space s) (first .put-labelled .ensures)
 
 slice-aggregate-put-labelled-3 : tie.Need-slice-aggregate-put-labelled-3
 slice-aggregate-put-labelled-3 c = search needs
 
 put-labelled-requires-3 : tie.Need-put-labelled-requires-3
-unfolding refusalLine
 put-labelled-requires-3 c κs =
     let second = c .before .before .before .before in
     let first = second .before .before .before .before .before in
-    let three = room-front _ _ (room-front _ _ (space (first .before .before .before .before))) in
-    room-then three (written-then (room-front _ _ three) (first .put-labelled .ensures) (second .put-labelled2 .ensures))
+    let s = first .before .before .before .before in
+    let a = s .args in
+    laws.mask-room (a .number) (a .place) (a .mask) (a .arrival) (space s) (first .put-labelled .ensures) (second .put-labelled2 .ensures)
 
 slice-aggregate-put-labelled-4 : tie.Need-slice-aggregate-put-labelled-4
 slice-aggregate-put-labelled-4 c = search needs
 
 put-labelled-requires-4 : tie.Need-put-labelled-requires-4
-unfolding refusalLine
 put-labelled-requires-4 c κs =
     let third = c .before .before .before .before in
     let second = third .before .before .before .before .before in
     let first = second .before .before .before .before .before in
-    let four = room-front _ _ (space (first .before .before .before .before)) in
-    let three = room-front _ _ four in
-    let two = written-then (room-front _ _ three) (first .put-labelled .ensures) (second .put-labelled2 .ensures) in
-    room-then four (written-then three two (third .put-labelled3 .ensures))
+    let s = first .before .before .before .before in
+    let a = s .args in
+    let one = first .put-labelled .ensures in
+    laws.arrival-room (a .number) (a .place) (a .mask) (a .arrival) (space s) one (second .put-labelled2 .ensures) (third .put-labelled3 .ensures)
 
-slice-aggregate-put-text : tie.Need-slice-aggregate-put-text
-slice-aggregate-put-text c = search needs
-
-put-text-requires : tie.Need-put-text-requires
-unfolding refusalLine
-put-text-requires c κs =
-    let fourth = c .before .before .before .before in
+slice-write-out : tie.Need-slice-write-out
+slice-write-out c =
+    let fourth = c .before .before in
     let third = fourth .before .before .before .before .before in
     let second = third .before .before .before .before .before in
     let first = second .before .before .before .before .before in
-    let all = space (first .before .before .before .before) in
-    let four = room-front _ _ all in
-    let three = room-front _ _ four in
-    let two = written-then (room-front _ _ three) (first .put-labelled .ensures) (second .put-labelled2 .ensures) in
-    room-then all (written-then four (written-then three two (third .put-labelled3 .ensures)) (fourth .put-labelled4 .ensures))
+    let s = first .before .before .before .before in
+    let a = s .args in
+    let one = first .put-labelled .ensures in
+    let two = second .put-labelled2 .ensures in
+    laws.feed-index (a .number) (a .place) (a .mask) (a .arrival) (space s) one two (third .put-labelled3 .ensures) (fourth .put-labelled4 .ensures)
+
+add-result : tie.Need-add-result
+add-result c =
+    let fourth = c .before .before in
+    let third = fourth .before .before .before .before .before in
+    let second = third .before .before .before .before .before in
+    let first = second .before .before .before .before .before in
+    let long = fourth .put-labelled4 .kept .0 ∙ third .put-labelled3 .kept .0 ∙ second .put-labelled2 .kept .0 ∙ first .put-labelled .kept .0 in
+    omega (arith, slice-write-out c, long, first .before .before .before .before .good .0 .0)
 
 same-length : tie.Need-same-length
-same-length c = search needs
-
-returns : tie.Need-returns
-unfolding refusalLine
-returns c =
-    let ended = c .before .before in
-    let fourth = ended .before .before .before .before .before in
+same-length c =
+    let fourth = c .before .before in
     let third = fourth .before .before .before .before .before in
     let second = third .before .before .before .before .before in
     let first = second .before .before .before .before .before in
-    let all = space (first .before .before .before .before) in
-    let four = room-front _ _ all in
-    let three = room-front _ _ four in
-    let two = written-then (room-front _ _ three) (first .put-labelled .ensures) (second .put-labelled2 .ensures) in
-    let labels = written-then four (written-then three two (third .put-labelled3 .ensures)) (fourth .put-labelled4 .ensures) in
-    record { written = written-then all labels (ended .put-text .ensures); most = line-most (first .before .before .before .before) }
+    length-set (fourth .put-labelled4 .last .0) (fourth .put-labelled4 .result) _
+    ∙ fourth .put-labelled4 .kept .0
+    ∙ third .put-labelled3 .kept .0
+    ∙ second .put-labelled2 .kept .0
+    ∙ first .put-labelled .kept .0
+
+returns : tie.Need-returns
+returns c =
+    let fourth = c .before .before in
+    let third = fourth .before .before .before .before .before in
+    let second = third .before .before .before .before .before in
+    let first = second .before .before .before .before .before in
+    let s = first .before .before .before .before in
+    let a = s .args in
+    let one = first .put-labelled .ensures in
+    let two = second .put-labelled2 .ensures in
+    let labels = laws.refusal-done (a .number) (a .place) (a .mask) (a .arrival) (space s) one two (third .put-labelled3 .ensures) (fourth .put-labelled4 .ensures) in
+    record { written = labels; most = line-most s }
 
 pub put-refusal-spec : {M : Type 1} → statement M
 put-refusal-spec =
@@ -112,7 +124,7 @@ put-refusal-spec =
     put-labelled-requires-3
     slice-aggregate-put-labelled-4
     put-labelled-requires-4
-    slice-aggregate-put-text
-    put-text-requires
+    slice-write-out
+    add-result
     same-length
     returns)

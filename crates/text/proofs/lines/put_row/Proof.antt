@@ -1,6 +1,7 @@
-use mathlib.Core.Path.{_∙_}
-use Rattle.text.proofs.lines.Laws.{tick-room, cells-room, end-room, row-done}
-use borrow.Author.Needs.{needs}
+use native.Mathlib.Omega.{arith}
+use mathlib.Core.Path.{_≡_, _∙_}
+use lib.ListN.{length, length-set}
+use Rattle.text.proofs.lines.Laws.{tick-room, cells-room, end-index, row-done}
 use Rattle.text.proofs.lines.put_row.Statement.{statement}
 use Rattle.text.proofs.lines.put_row.Tie as tie
 
@@ -15,29 +16,32 @@ put-cells-requires c κs =
     let s = ticked .before .before .before in
     cells-room (s .args .tick) (s .args .cells .now) (s .pre .1) (s .pre .0) (ticked .put-number .ensures) (ticked .put-number .kept .0)
 
-slice-aggregate-put-text : tie.Need-slice-aggregate-put-text
-slice-aggregate-put-text c = search needs
+-- the length is that of the buffer at entry
+long : (c : tie.After-slice-known3)
+    → length (c .before .before .put-cells .last .0) ≡ length (c .before .before .before .before .before .before .before .before .before .args .out .now)
+long c = c .before .before .put-cells .kept .0 ∙ c .before .before .before .before .before .before .put-number .kept .0
 
-put-text-requires : tie.Need-put-text-requires
-put-text-requires c κs =
-    let filled = c .before .before .before .before in
+slice-write-out : tie.Need-slice-write-out
+slice-write-out c =
+    let filled = c .before .before in
     let ticked = filled .before .before .before .before in
     let s = ticked .before .before .before in
     let a = s .args in
-    end-room (a .tick) (a .cells .now) (s .pre .1) (s .pre .0) (ticked .put-number .ensures) (filled .put-cells .ensures)
-    (filled .put-cells .kept .0 ∙ ticked .put-number .kept .0)
+    end-index (a .tick) (a .cells .now) (s .pre .1) (s .pre .0) (ticked .put-number .ensures) (filled .put-cells .ensures) (long c)
+
+add-result : tie.Need-add-result
+add-result c = omega (arith, slice-write-out c, long c, c .before .before .before .before .before .before .before .before .before .good .0 .0)
 
 same-length : tie.Need-same-length
-same-length c = search needs
+same-length c = length-set (c .before .before .put-cells .last .0) (c .before .before .put-cells .result) _ ∙ long c
 
 returns : tie.Need-returns
 returns c =
-    let ended = c .before .before in
-    let filled = ended .before .before .before .before .before in
+    let filled = c .before .before in
     let ticked = filled .before .before .before .before in
     let s = ticked .before .before .before in
     let a = s .args in
-    row-done (a .tick) (a .cells .now) (s .pre .1) (s .pre .0) (ticked .put-number .ensures) (filled .put-cells .ensures) (ended .put-text .ensures)
+    row-done (a .tick) (a .cells .now) (s .pre .1) (s .pre .0) (ticked .put-number .ensures) (filled .put-cells .ensures) (long c)
 
 pub put-row-spec : {M : Type 1} → statement M
 put-row-spec =
@@ -45,7 +49,7 @@ put-row-spec =
     (tie.spec
     put-number-requires
     put-cells-requires
-    slice-aggregate-put-text
-    put-text-requires
+    slice-write-out
+    add-result
     same-length
     returns)
