@@ -10,7 +10,8 @@ use lib.IntN.{ℤ}
 use borrow.Author.Tests.{eq-eqb}
 use Rattle.model.specs.declared.Axis.{Axis}
 use Rattle.model.specs.Job.{Job, JobAxis, setFrom, setAxes, typedJob, setBits}
-use Rattle.model.specs.Words.{Reading, Reader, got, wrong, _>>=_, field, axis, axes, ending, afterMask, kind, payload, goodMask, Decoded, noMask, badWord, job, decode}
+use Rattle.model.specs.Words.{Reading, Reader, got, wrong, _>>=_, field, axis, axes, ending}
+use Rattle.model.specs.Words.{afterMask, kind, payload, goodMask, Decoded, noMask, badWord, job, decode}
 use Rattle.model.specs.Outcome.{Outcome, Input, words, typed, call, refuse, jobOutcome}
 use Rattle.model.specs.Verdict.{MaskOutside, MaskWordWrong, CallVerdict, words1, words2, wordsJob, typed1, typedJobs}
 use Rattle.model.proofs.Masks.{Ascends, ascends-from}
@@ -60,11 +61,13 @@ before : {A B : Type 0} (m : Reader A) (f : A → Reader B) (i : ℕ) (ws : List
     → _>>=_ m f i ws ≡ got b k vs → Before m f i ws (got b k vs)
 before {A} {B} m f i ws b k vs = go (m i ws) refl
   where
-    go : (r : Reading A) → m i ws ≡ r → (elim r as (λ z. Reading B) [ got a j us ↦ f a j us | wrong p ↦ wrong p ]) ≡ got b k vs → Before m f i ws (got b k vs)
+    go : (r : Reading A) → m i ws ≡ r → (elim r as (λ z. Reading B) [ got a j us ↦ f a j us | wrong p ↦ wrong p ]) ≡ got b k vs
+        → Before m f i ws (got b k vs)
     go (got a j us) e q = record { value = a; index = j; rest = us; first = e; then = q }
     go (wrong p) e q = absurd (let z : _≡_ {A = ℕ} 0 1 = cc in omega arith)
 
-axes-ascend : (ns : List ℕ) (l i : ℕ) (ws : List ℕ) (xs : List JobAxis) (k : ℕ) (vs : List ℕ) → Rising l ns → axes ns i ws ≡ got xs k vs → Ascends l xs
+axes-ascend : (ns : List ℕ) (l i : ℕ) (ws : List ℕ) (xs : List JobAxis) (k : ℕ) (vs : List ℕ) → Rising l ns
+    → axes ns i ws ≡ got xs k vs → Ascends l xs
 axes-ascend [] l i ws xs k vs r e = let s : [] ≡ xs = cc in subst (Ascends l) s tt
 axes-ascend (n ∷ ns) l i ws xs k vs r e =
     let a = before axis (λ x. _>>=_ (axes ns) (λ ys i ws. got (record { number = n; axis = x } ∷ ys) i ws)) i ws xs k vs e in
@@ -120,7 +123,8 @@ not-kind a t e = subst (λ (b : Bool). T (not b)) (eq-eqb a 1 e) t
 word-wrong : (w : ℕ) (ws : List ℕ) → T (not (eqb (kind w) 1 && goodMask (payload w))) → MaskWordWrong (w ∷ ws)
 word-wrong w ws t = go (eqb (kind w) 1) (goodMask (payload w)) (not-kind (kind w)) (mask-outside (payload w)) t
   where
-    go : (a b : Bool) → (T (not a) → kind w ≡ 1 → ⊥) → (T (not b) → MaskOutside (payload w)) → T (not (a && b)) → (kind w ≡ 1 → ⊥) ⊎ MaskOutside (payload w)
+    go : (a b : Bool) → (T (not a) → kind w ≡ 1 → ⊥) → (T (not b) → MaskOutside (payload w)) → T (not (a && b))
+        → (kind w ≡ 1 → ⊥) ⊎ MaskOutside (payload w)
     go true b f g t = inr (g t)
     go false b f g t = inl (f tt)
 
@@ -138,7 +142,8 @@ by-reading lent w ws (got j i rest) e d = wordsJob (w ∷ ws) j d (verdict j len
 by-reading lent w ws (wrong p) e d = words2 (w ∷ ws) p d is-refusal
 
 by-mask : (lent : List ℤ) (w : ℕ) (ws : List ℕ) (b : Bool) → (T (not b) → MaskWordWrong (w ∷ ws))
-    → decode (w ∷ ws) ≡ (elim b as (λ z. Decoded) [ true ↦ elim (afterMask (payload w) 1 ws) [ got j i rest ↦ job j | wrong p ↦ badWord p ] | false ↦ noMask ])
+    → decode (w ∷ ws)
+    ≡ (elim b as (λ z. Decoded) [ true ↦ elim (afterMask (payload w) 1 ws) [ got j i rest ↦ job j | wrong p ↦ badWord p ] | false ↦ noMask ])
     → CallVerdict lent (elim (elim b as (λ z. Decoded) [
       | true ↦ elim (afterMask (payload w) 1 ws) [ got j i rest ↦ job j | wrong p ↦ badWord p ]
       | false ↦ noMask

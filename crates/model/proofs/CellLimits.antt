@@ -16,7 +16,8 @@ use Rattle.whole.proofs.Rounding.{nearest-half, half-size}
 use Rattle.model.specs.declared.Axis.{Axis}
 use Rattle.model.specs.Quantities.{fineSteps, speedLimit, accelerationLimit, halfPeriod, secondWeight, asMoving}
 use Rattle.model.specs.Leg.{Meets, chosen}
-use Rattle.model.specs.Motion.{Tick, run, changesFrom, leg, displacement, requiredSum, earlier, landingTick, startPosition, startVelocity, landingVelocity, landingAcceleration}
+use Rattle.model.specs.Motion.{Tick, run, changesFrom, leg, displacement, requiredSum}
+use Rattle.model.specs.Motion.{earlier, landingTick, startPosition, startVelocity, landingVelocity, landingAcceleration}
 use Rattle.model.specs.Rows.{track, tickAt, tickBack, blend}
 use Rattle.model.specs.Refusals.{Ready}
 use Rattle.model.proofs.PassedAxis.{target-acceleration}

@@ -14,13 +14,15 @@ use Rattle.model.specs.Rows.{track, blend, cells, table}
 use Rattle.model.specs.Job.{Job, JobAxis, axesOf, typedJob}
 use Rattle.model.specs.Words.{Decoded, noMask, badWord, job}
 use Rattle.model.specs.Motion.{reachable}
-use Rattle.model.specs.Demand.{tableIn, cellAt, positionCell, velocityCell, accelerationCell, Lands, Carries, SwayCancelled, sway, Demand3, Demand3Holds, CellLimits, CellLimitsHold, ExactStart, ExactStartHolds}
+use Rattle.model.specs.Demand.{tableIn, cellAt, positionCell, velocityCell, accelerationCell, Lands, Carries, SwayCancelled}
+use Rattle.model.specs.Demand.{sway, Demand3, Demand3Holds, CellLimits, CellLimitsHold, ExactStart, ExactStartHolds}
 use Rattle.model.specs.Outcome.{Outcome, Input, call, inputAxes, cellsNeeded}
 use Rattle.whole.proofs.Tests.{T-true}
 use Rattle.whole.proofs.Elements.{at-below, element}
 use Rattle.model.proofs.CellPlaces.{table-length, table-at}
 use Rattle.model.specs.Refusals.{Ready, AllPassed}
-use Rattle.model.specs.Verdict.{Among, IsArrival, Verdict, CallVerdict, words1, words2, wordsJob, typed1, typedJobs, accepted, refused3, refused4, refused5, refused6, refused7, refused8, refused9, refused10}
+use Rattle.model.specs.Verdict.{Among, IsArrival, Verdict, CallVerdict, words1, words2, wordsJob, typed1, typedJobs}
+use Rattle.model.specs.Verdict.{accepted, refused3, refused4, refused5, refused6, refused7, refused8, refused9, refused10}
 use Rattle.model.specs.Quantities.{speedLimit, accelerationLimit}
 use Rattle.model.proofs.CellLimits as L
 use Rattle.model.proofs.ExactStart as S

@@ -16,8 +16,10 @@ use Rattle.model.specs.declared.Axis.{Axis}
 use Rattle.model.specs.Motion.{Reachable, reachable}
 use Rattle.model.specs.Job.{Job, JobAxis, maskWhere}
 use Rattle.model.specs.Refusals.{lastTick, limitsRefused, blendRefused, valuesRefused, accelerationRefused, Passed, AllPassed}
-use Rattle.model.specs.Outcome.{Outcome, refuse, accept, allReach, leastFrom, leastArrival, reachesNone, firstAxis, cellsNeeded, filled, arrived, jobOutcome}
-use Rattle.model.specs.Verdict.{Refuses, Accepts, Among, NoneRefused, FirstRefused, Names, AllReachable, ReachesNone, IsArrival, Verdict, refused3, refused4, refused5, refused6, refused7, refused8, refused9, refused10, accepted}
+use Rattle.model.specs.Outcome.{Outcome, refuse, accept, allReach, leastFrom, leastArrival}
+use Rattle.model.specs.Outcome.{reachesNone, firstAxis, cellsNeeded, filled, arrived, jobOutcome}
+use Rattle.model.specs.Verdict.{Refuses, Accepts, Among, NoneRefused, FirstRefused, Names, AllReachable, ReachesNone, IsArrival, Verdict}
+use Rattle.model.specs.Verdict.{refused3, refused4, refused5, refused6, refused7, refused8, refused9, refused10, accepted}
 use Rattle.model.proofs.Masks.{Ascends, names}
 use Rattle.model.proofs.PassedAxis.{speed-limit, some-acceleration}
 use Rattle.model.proofs.Reaches.{reachable-is}
@@ -62,7 +64,8 @@ first-refused : (f : Axis → Bool) (l : List JobAxis) (i : ℕ) → firstAxis f
 first-refused f [] i e = absurd (none-some e)
 first-refused f (y ∷ l) i e = go (f (y .axis)) refl e (first-refused f l i)
   where
-    before : f (y .axis) ≡ false → (r : FirstRefused f l i) → (k : ℕ) (z : JobAxis) → k < suc (r .index) → getElem? (y ∷ l) k ≡ some z → f (z .axis) ≡ false
+    before : f (y .axis) ≡ false → (r : FirstRefused f l i) → (k : ℕ) (z : JobAxis) → k < suc (r .index) → getElem? (y ∷ l) k ≡ some z
+        → f (z .axis) ≡ false
     before p r zero z h e = let s : y ≡ z = cc in subst (λ (w : JobAxis). f (w .axis) ≡ false) s p
     before p r (suc k) z h e = r .before k z (omega arith) e
 
@@ -242,6 +245,7 @@ module _ (j : Job) (lent : List ℤ) (numbered : Ascends 0 (j .axes)) where
       let n₅ = none-refused blendRefused (j .axes) e₅ in
       by-option Q (firstAxis valuesRefused (j .axes)) _ _ (λ i e. refused6 i h n₄ n₅ (first-refused valuesRefused (j .axes) i e) is-refusal) (λ e₆.
       let n₆ = none-refused valuesRefused (j .axes) e₆ in
-      by-option Q (firstAxis accelerationRefused (j .axes)) _ _ (λ i e. refused7 i h n₄ n₅ n₆ (first-refused accelerationRefused (j .axes) i e) is-refusal) (λ e₇.
+      by-option Q (firstAxis accelerationRefused (j .axes)) _ _
+      (λ i e. refused7 i h n₄ n₅ n₆ (first-refused accelerationRefused (j .axes) i e) is-refusal) (λ e₇.
       arrived-is (j .asked) refl h (all-passed (j .axes) n₄ n₅ n₆ (none-refused accelerationRefused (j .axes) e₇)))))))
       (λ t. refused3 (nleb→lt (j .asked) lastTick t) is-refusal)

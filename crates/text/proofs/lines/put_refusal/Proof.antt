@@ -109,7 +109,9 @@ returns c =
     let a = s .args in
     let one = first .put-labelled .ensures in
     let two = second .put-labelled2 .ensures in
-    let labels = laws.refusal-done (a .number) (a .place) (a .mask) (a .arrival) (space s) one two (third .put-labelled3 .ensures) (fourth .put-labelled4 .ensures) in
+    let labels =
+    laws.refusal-done (a .number) (a .place) (a .mask) (a .arrival) (space s) one two (third .put-labelled3 .ensures)
+    (fourth .put-labelled4 .ensures) in
     record { written = labels; most = line-most s }
 
 pub put-refusal-spec : {M : Type 1} → statement M
