@@ -1,25 +1,19 @@
 -- Rule 5: the cruise found is the largest c from −256L to 256L whose sum does not exceed the required sum.
 use Prim.Native.Nat.{ℕ, zero, suc, _-_, _*_, _^_, _≤_}
 use mathlib.Core.Path.{_≡_, sym, subst}
-use mathlib.Core.Bool.{not}
 use mathlib.Core.Logic.{⊎-elim}
 use native.Mathlib.Omega.{arith}
 use native.Mathlib.Nat.{pow-succ'}
-use lib.Dec.{T}
 use lib.IntN.{ℤ, pos, negℤ, _+ℤ_}
 use lib.Signed.{leZ, _≤ℤ_, _<ℤ_, leZ-yes, ≤ℤ-refl, clashℤ}
 use Rattle.whole.specs.Integers.{sumTo}
 use Rattle.whole.proofs.Tests.{by-bool}
-use Rattle.whole.proofs.Differences.{whole, all₁, all₂, all₃, nle-PN, PN-lt}
+use Rattle.whole.proofs.Differences.{whole, all₁, all₂, all₃, le-fails}
 use Rattle.whole.proofs.Laws.{≤ℤ-trans, ≤ℤ-total, <ℤ-next}
 use Rattle.whole.proofs.Order.{clamp-mono}
 use Rattle.whole.proofs.Sums.{sum-mono}
 use Rattle.model.specs.Leg.{Leg, upper, lower, clamped, sumAt, fitsAt, climb, climbSteps, cruise, IsCruise}
 use Rattle.model.proofs.Envelopes.{lowest-sum}
-
--- a test that failed
-fails : (x y : ℤ) → T (not (leZ x y)) → y <ℤ x
-fails x y t = PN-lt (nle-PN x y t)
 
 pub sumAt-mono : (g : Leg) (c d : ℤ) → c ≤ℤ d → sumAt g c ≤ℤ sumAt g d
 sumAt-mono g c d h = sum-mono (clamped g c) (clamped g d) (g .ticks - 1) (λ k q. clamp-mono (lower g k) (upper g k) c d h)
@@ -42,8 +36,8 @@ module _ (g : Leg) (s : ℤ) where
       (λ t.
       by-bool (IsCruise g s) (fitsAt g s d) _ _
       (λ u. climb-is n d (higher (leZ-yes t) (leZ-yes u)))
-      (λ u. climb-is n c (same (λ e p q. exceeds e q (fails (sumAt g d) s u)))))
-      (λ t. climb-is n c (same (λ e p q. beyond e d L p (fails d L t))))
+      (λ u. climb-is n c (same (λ e p q. exceeds e q (le-fails u)))))
+      (λ t. climb-is n c (same (λ e p q. beyond e d L p (le-fails t))))
     where
       d : ℤ
       d = c +ℤ pos (2 ^ n)

@@ -66,10 +66,10 @@ module _ (g : Leg) where
   A = g .accelerationLimit
 
   -- what the start and the end allow at tick k: A k and A (T − k)
-  abbrev since : ℕ → ℕ
+  abbrev pub since : ℕ → ℕ
   since k = A * k
 
-  abbrev until : ℕ → ℕ
+  abbrev pub until : ℕ → ℕ
   until k = A * (g .ticks - k)
 
   since-next : (k : ℕ) → since (suc k) ≡ since k + A
@@ -81,7 +81,7 @@ module _ (g : Leg) where
       e : g .ticks - k ≡ suc (g .ticks - suc k)
       e = omega arith
 
-  since-until : (k : ℕ) → k ≤ g .ticks → since k + until k ≡ A * g .ticks
+  pub since-until : (k : ℕ) → k ≤ g .ticks → since k + until k ≡ A * g .ticks
   since-until k h = sym (mul-add A k (g .ticks - k)) ∙ ap (λ (n : ℕ). A * n) e
     where
       e : k + (g .ticks - k) ≡ g .ticks
@@ -115,10 +115,10 @@ pub record Joined (g : Leg) : Type 0 where
   pub apart : natAbs (g .end -ℤ g .start) ≤ g .accelerationLimit * g .ticks
 
 -- the envelopes of one tick: the speed limit l, the ends s and e, and what is allowed since the start and until the end
-abbrev highest : ℕ → ℕ → ℕ → ℤ → ℤ → ℤ
+abbrev pub highest : ℕ → ℕ → ℕ → ℤ → ℤ → ℤ
 highest l a b s e = least (pos l) (least (s +ℤ pos a) (e +ℤ pos b))
 
-abbrev lowest : ℕ → ℕ → ℕ → ℤ → ℤ → ℤ
+abbrev pub lowest : ℕ → ℕ → ℕ → ℤ → ℤ → ℤ
 lowest l a b s e = greatest (negℤ (pos l)) (greatest (s -ℤ pos a) (e -ℤ pos b))
 
 ordered : (l a b : ℕ) (s e : ℤ) → Within l s → Within l e → Within (a + b) (e -ℤ s) → lowest l a b s e ≤ℤ highest l a b s e
@@ -167,7 +167,7 @@ pub lowest-sum : (g : Leg) → sumAt g (negℤ (pos (g .speedLimit))) ≡ sumTo 
 lowest-sum g = sum-same (clamped g (negℤ (pos (g .speedLimit)))) (lower g) (g .ticks - 1) (λ k h. clamped-lowest g k)
 
 module _ (g : Leg) (j : Joined g) where
-  apart-at : (k : ℕ) → k ≤ g .ticks → Within (since g k + until g k) (g .end -ℤ g .start)
+  pub apart-at : (k : ℕ) → k ≤ g .ticks → Within (since g k + until g k) (g .end -ℤ g .start)
   apart-at k h = record { within = subst (λ (n : ℕ). natAbs (g .end -ℤ g .start) ≤ n) (sym (since-until g k h)) (j .apart) }
 
   start-within : Within (g .speedLimit) (g .start)

@@ -4,22 +4,21 @@
 use Prim.Native.Nat.{ℕ, suc, _+_, _-_, _*_, _/_, _≤_, _<_}
 use mathlib.Core.Path.{_≡_, refl, sym, ap, ap₂, subst, _∙_}
 use mathlib.Core.List.{[], _∷_}
-use mathlib.Core.Bool.{not}
 use mathlib.Core.Logic.{_⊎_, inl, inr, ⊎-elim}
 use native.Mathlib.Omega.{arith}
-use native.Mathlib.Nat.{add-comm, mul-comm, mul-assoc, mul-add, mul-suc, le-div-iff-mul-le, div-lt-iff-lt-mul}
-use lib.Dec.{T, leb}
+use native.Mathlib.Nat.{add-comm, mul-comm, mul-assoc, mul-suc, le-div-iff-mul-le, div-lt-iff-lt-mul}
+use lib.Dec.{leb}
 use lib.IntN.{ℤ, pos, negℤ, natAbs, _+ℤ_, _-ℤ_, _*ℤ_}
 use lib.Signed.{leZ, leZ-yes, _≤ℤ_, _<ℤ_, yes-nonNeg, pos-natAbs}
-use Rattle.whole.specs.Integers.{least, greatest, clamp}
+use Rattle.whole.specs.Integers.{clamp}
 use Rattle.whole.specs.Ranges.{Within}
-use Rattle.whole.proofs.Differences.{whole, all₁, all₂, all₃, all₄, nle-PN, PN-lt}
+use Rattle.whole.proofs.Differences.{whole, all₁, all₂, all₃, all₄, le-fails}
 use Rattle.whole.proofs.Laws.{≤ℤ-trans, sub-nonneg, natAbs-negpos}
 use Rattle.whole.proofs.Ring.{pol, same}
 use Rattle.whole.proofs.Order.{le-yes, le-no}
 use Rattle.whole.proofs.Tests.{by-bool, choice-yes, choice-no, leb-yes, leb-no, lt-or-le}
 use Rattle.model.specs.Leg.{Leg, clamped}
-use Rattle.model.proofs.Envelopes.{Joined}
+use Rattle.model.proofs.Envelopes.{Joined, since, until, since-until, highest, lowest, apart-at}
 use Rattle.profile.specs.Regions.{rampTicks, rampChange, meetingTick, bothRamps, rise, fall}
 
 -- c with every sign turned: x < y exactly where −y ≤ turned x
@@ -33,12 +32,6 @@ turn-back : (x y : ℤ) → negℤ y ≤ℤ turned x → x <ℤ y
 turn-back = all₂ _ (λ a b c d. simp whole (omega arith))
 
 -- ---- one tick: the speed limit l, the ends s and e, and how far a velocity may be from the one (a) and from the other (b)
-
-abbrev highest : ℕ → ℕ → ℕ → ℤ → ℤ → ℤ
-highest l a b s e = least (pos l) (least (s +ℤ pos a) (e +ℤ pos b))
-
-abbrev lowest : ℕ → ℕ → ℕ → ℤ → ℤ → ℤ
-lowest l a b s e = greatest (negℤ (pos l)) (greatest (s -ℤ pos a) (e -ℤ pos b))
 
 highest-swap : (l a b : ℕ) (s e : ℤ) → highest l b a e s ≡ highest l a b s e
 highest-swap l a b = all₂ _ (λ c d e f. simp whole (omega arith))
@@ -97,10 +90,6 @@ record Past (m : ℕ) (v c : ℤ) : Type 0 where
   above : (c +ℤ pos 1) ≤ℤ (v +ℤ pos m)
   below : (turned c +ℤ pos 1) ≤ℤ (negℤ v +ℤ pos m)
 
--- a test that failed
-fails : {x y : ℤ} → T (not (leZ x y)) → y <ℤ x
-fails {x} {y} t = PN-lt (nle-PN x y t)
-
 size-is : (z : ℤ) → pos 0 ≤ℤ z → pos (natAbs z) ≡ z
 size-is z h = pos-natAbs z (yes-nonNeg h)
 
@@ -143,7 +132,7 @@ module _ (a : ℕ) (some : 0 < a) where
   short j v c =
       by-bool (λ (n : ℕ). j ≤ n → Short (a * j) v c) (leZ v c) _ _
       (λ t h. inl (rises j (natAbs (c -ℤ v)) v c (leZ-yes t) (way-up v c (leZ-yes t)) h))
-      (λ t h. inr (rises j (natAbs (v -ℤ c -ℤ pos 1)) (negℤ v) (turned c) (turn c v (fails t)) (way-down v c (fails t)) h))
+      (λ t h. inr (rises j (natAbs (v -ℤ c -ℤ pos 1)) (negℤ v) (turned c) (turn c v (le-fails t)) (way-down v c (le-fails t)) h))
 
   past : (j : ℕ) (v c : ℤ) → rampTicks a v c < j → Past (a * j) v c
   unfolding rampTicks
@@ -156,8 +145,8 @@ module _ (a : ℕ) (some : 0 < a) where
       })
       (λ t h.
       record {
-        above = other-above (a * j) v c (fails t);
-        below = past-it (natAbs (v -ℤ c -ℤ pos 1)) (a * j) (negℤ v) (turned c) (way-down v c (fails t)) (passed h);
+        above = other-above (a * j) v c (le-fails t);
+        below = past-it (natAbs (v -ℤ c -ℤ pos 1)) (a * j) (negℤ v) (turned c) (way-down v c (le-fails t)) (passed h);
       })
 
 -- ---- on a ramp from s, beside one to e: a and b are their changes at a tick
@@ -257,34 +246,22 @@ module _ (g : Leg) (joined : Joined g) (some : 0 < g .accelerationLimit) (c : �
   abbrev e : ℤ
   e = g .end
 
-  -- how far a velocity may be from the start's, from the end's, and these from one another
-  abbrev since : ℕ → ℕ
-  since k = a * k
-
-  abbrev until : ℕ → ℕ
-  until k = a * (g .ticks - k)
-
+  -- how far the ends may be from one another
   abbrev apart : ℕ
   apart = a * g .ticks
-
-  since-until : (k : ℕ) → k ≤ g .ticks → since k + until k ≡ apart
-  since-until k h = sym (mul-add a k (g .ticks - k)) ∙ ap (λ (n : ℕ). a * n) {x = k + (g .ticks - k)} {y = g .ticks} (omega arith)
 
   whole-way : Within apart (e -ℤ s)
   whole-way = record { within = joined .apart }
 
-  near : (k : ℕ) → k ≤ g .ticks → Within (since k + until k) (e -ℤ s)
-  near k h = subst (λ (n : ℕ). Within n (e -ℤ s)) (sym (since-until k h)) whole-way
-
   -- ---- halves
 
-  twice : (k : ℕ) → k * (2 * a) ≡ since k + since k
+  twice : (k : ℕ) → k * (2 * a) ≡ since g k + since g k
   twice k = omega (arith, mul-comm k (2 * a), mul-assoc 2 a k)
 
-  before : {k x : ℕ} → k ≤ x / (2 * a) → since k + since k ≤ x
+  before : {k x : ℕ} → k ≤ x / (2 * a) → since g k + since g k ≤ x
   before {k} {x} h = omega (arith, le-div-iff-mul-le {k = 2 * a} {x = k} {y = x} (omega arith) .0 h, twice k)
 
-  after : {k x : ℕ} → x / (2 * a) < k → x < since k + since k
+  after : {k x : ℕ} → x / (2 * a) < k → x < since g k + since g k
   after {k} {x} h = omega (arith, div-lt-iff-lt-mul {k = 2 * a} {x = x} {y = k} (omega arith) .0 h, twice k)
 
   halved : (x : ℕ) → x ≤ apart + apart → x / (2 * a) ≤ g .ticks
@@ -312,11 +289,11 @@ module _ (g : Leg) (joined : Joined g) (some : 0 < g .accelerationLimit) (c : �
   pub down-late : downX / (2 * a) ≤ g .ticks
   down-late = halved downX (far-half downX apart e s (size-is _ down-some) (swapped apart s e whole-way))
 
-  up-is : (k : ℕ) → k ≤ g .ticks → pos upX ≡ e -ℤ s +ℤ pos (since k + until k)
-  up-is k h = size-is _ up-some ∙ ap (λ (n : ℕ). e -ℤ s +ℤ pos n) (sym (since-until k h))
+  up-is : (k : ℕ) → k ≤ g .ticks → pos upX ≡ e -ℤ s +ℤ pos (since g k + until g k)
+  up-is k h = size-is _ up-some ∙ ap (λ (n : ℕ). e -ℤ s +ℤ pos n) (sym (since-until g k h))
 
-  down-is : (k : ℕ) → k ≤ g .ticks → pos downX ≡ negℤ e -ℤ negℤ s +ℤ pos (since k + until k)
-  down-is k h = size-is _ down-some ∙ turns s e (pos apart) ∙ ap (λ (n : ℕ). negℤ e -ℤ negℤ s +ℤ pos n) (sym (since-until k h))
+  down-is : (k : ℕ) → k ≤ g .ticks → pos downX ≡ negℤ e -ℤ negℤ s +ℤ pos (since g k + until g k)
+  down-is k h = size-is _ down-some ∙ turns s e (pos apart) ∙ ap (λ (n : ℕ). negℤ e -ℤ negℤ s +ℤ pos n) (sym (since-until g k h))
     where
       turns : (s e z : ℤ) → s -ℤ e +ℤ z ≡ negℤ e -ℤ negℤ s +ℤ z
       turns s e z = same (s ∷ e ∷ z ∷ []) (search pol depth 20 fits 9000) tt
@@ -334,45 +311,46 @@ module _ (g : Leg) (joined : Joined g) (some : 0 < g .accelerationLimit) (c : �
     side : OneSide s e c
     side =
         let k = g .ticks - rampTicks a e c in
-        one-side (since k) (until k) s e c (near k (omega arith)) (short a some k s c (omega arith)) (short a some (g .ticks - k) e c (omega arith))
+        one-side (since g k) (until g k) s e c (apart-at g joined k (omega arith))
+        (short a some k s c (omega arith)) (short a some (g .ticks - k) e c (omega arith))
 
     -- at each tick one of them is short of c
-    one-short : (k : ℕ) → Short (since k) s c ⊎ Short (until k) e c
+    one-short : (k : ℕ) → Short (since g k) s c ⊎ Short (until g k) e c
     one-short k = ⊎-elim (λ (p : rampTicks a s c < k). inr (short a some (g .ticks - k) e c (omega arith)))
         (λ (p : k ≤ rampTicks a s c). inl (short a some k s c p)) (lt-or-le (rampTicks a s c) k)
 
-    one-up : (k : ℕ) → s ≤ℤ c → e ≤ℤ c → Under (since k) s c ⊎ Under (until k) e c
-    one-up k hs he = ⊎-elim (λ u. inl (short-up (since k) s c hs u)) (λ u. inr (short-up (until k) e c he u)) (one-short k)
+    one-up : (k : ℕ) → s ≤ℤ c → e ≤ℤ c → Under (since g k) s c ⊎ Under (until g k) e c
+    one-up k hs he = ⊎-elim (λ u. inl (short-up (since g k) s c hs u)) (λ u. inr (short-up (until g k) e c he u)) (one-short k)
 
     one-down : (k : ℕ) → negℤ s ≤ℤ turned c → negℤ e ≤ℤ turned c
-        → Under (since k) (negℤ s) (turned c) ⊎ Under (until k) (negℤ e) (turned c)
-    one-down k hs he = ⊎-elim (λ u. inl (short-down (since k) s c hs u)) (λ u. inr (short-down (until k) e c he u)) (one-short k)
+        → Under (since g k) (negℤ s) (turned c) ⊎ Under (until g k) (negℤ e) (turned c)
+    one-down k hs he = ⊎-elim (λ u. inl (short-down (since g k) s c hs u)) (λ u. inr (short-down (until g k) e c he u)) (one-short k)
 
     module _ (k : ℕ) (h : k ≤ g .ticks) where
-      meet-start : k ≤ meetingTick g c → OnRamp (since k) (until k) s e c
+      meet-start : k ≤ meetingTick g c → OnRamp (since g k) (until g k) s e c
       meet-start l = go side
         where
-          go : OneSide s e c → OnRamp (since k) (until k) s e c
+          go : OneSide s e c → OnRamp (since g k) (until g k) s e c
           go (inl p) =
               let half = before (subst (λ (n : ℕ). k ≤ n) (sym (meets-up (p .0))) l) in
-              inl (meet-before (since k) (until k) s e c (p .0) (before-half upX _ _ s e (up-is k h) half) (one-up k (p .0) (p .1)))
+              inl (meet-before (since g k) (until g k) s e c (p .0) (before-half upX _ _ s e (up-is k h) half) (one-up k (p .0) (p .1)))
           go (inr p) =
               let half = before (subst (λ (n : ℕ). k ≤ n) (sym (meets-down (turn-back c s (p .0)))) l) in
               inr
-              (meet-before (since k) (until k) (negℤ s) (negℤ e) (turned c) (p .0) (before-half downX _ _ (negℤ s) (negℤ e) (down-is k h) half)
+              (meet-before (since g k) (until g k) (negℤ s) (negℤ e) (turned c) (p .0) (before-half downX _ _ (negℤ s) (negℤ e) (down-is k h) half)
               (one-down k (p .0) (p .1)))
 
-      meet-end : meetingTick g c < k → OnRamp (until k) (since k) e s c
+      meet-end : meetingTick g c < k → OnRamp (until g k) (since g k) e s c
       meet-end l = go side
         where
-          go : OneSide s e c → OnRamp (until k) (since k) e s c
+          go : OneSide s e c → OnRamp (until g k) (since g k) e s c
           go (inl p) =
               let half = after (subst (λ (n : ℕ). n < k) (sym (meets-up (p .0))) l) in
-              inl (meet-after (since k) (until k) s e c (p .1) (after-half upX _ _ s e (up-is k h) half) (one-up k (p .0) (p .1)))
+              inl (meet-after (since g k) (until g k) s e c (p .1) (after-half upX _ _ s e (up-is k h) half) (one-up k (p .0) (p .1)))
           go (inr p) =
               let half = after (subst (λ (n : ℕ). n < k) (sym (meets-down (turn-back c s (p .0)))) l) in
               inr
-              (meet-after (since k) (until k) (negℤ s) (negℤ e) (turned c) (p .1) (after-half downX _ _ (negℤ s) (negℤ e) (down-is k h) half)
+              (meet-after (since g k) (until g k) (negℤ s) (negℤ e) (turned c) (p .1) (after-half downX _ _ (negℤ s) (negℤ e) (down-is k h) half)
               (one-down k (p .0) (p .1)))
 
     pub rise-meets : meetingTick g c ≡ rise g c
@@ -402,29 +380,29 @@ module _ (g : Leg) (joined : Joined g) (some : 0 < g .accelerationLimit) (c : �
 
   -- ---- the region of a tick
 
-  start-region : (k : ℕ) → k ≤ g .ticks → k ≤ rise g c → OnRamp (since k) (until k) s e c
+  start-region : (k : ℕ) → k ≤ g .ticks → k ≤ rise g c → OnRamp (since g k) (until g k) s e c
   start-region k h l = go (lt-or-le (bothRamps g c) (g .ticks))
     where
-      go : (bothRamps g c < g .ticks) ⊎ (g .ticks ≤ bothRamps g c) → OnRamp (since k) (until k) s e c
+      go : (bothRamps g c < g .ticks) ⊎ (g .ticks ≤ bothRamps g c) → OnRamp (since g k) (until g k) s e c
       go (inl p) =
           let r = rise-alone p in
-          alone (since k) (until k) s e c (short a some k s c (omega arith)) (past a some (g .ticks - k) e c (omega arith))
+          alone (since g k) (until g k) s e c (short a some k s c (omega arith)) (past a some (g .ticks - k) e c (omega arith))
       go (inr p) = let r = rise-meets p in meet-start p k h (omega arith)
 
-  end-region : (k : ℕ) → k ≤ g .ticks → rise g c < k → g .ticks ≤ k + fall g c → OnRamp (until k) (since k) e s c
+  end-region : (k : ℕ) → k ≤ g .ticks → rise g c < k → g .ticks ≤ k + fall g c → OnRamp (until g k) (since g k) e s c
   end-region k h l q = go (lt-or-le (bothRamps g c) (g .ticks))
     where
-      go : (bothRamps g c < g .ticks) ⊎ (g .ticks ≤ bothRamps g c) → OnRamp (until k) (since k) e s c
+      go : (bothRamps g c < g .ticks) ⊎ (g .ticks ≤ bothRamps g c) → OnRamp (until g k) (since g k) e s c
       go (inl p) =
           let r = rise-alone p in
           let f = fall-alone p in
-          alone (until k) (since k) e s c (short a some (g .ticks - k) e c (omega arith)) (past a some k s c (omega arith))
+          alone (until g k) (since g k) e s c (short a some (g .ticks - k) e c (omega arith)) (past a some k s c (omega arith))
       go (inr p) = let r = rise-meets p in meet-end p k h (omega arith)
 
-  level-region : (k : ℕ) → k ≤ g .ticks → rise g c < k → k + fall g c < g .ticks → Past (since k) s c × Past (until k) e c
+  level-region : (k : ℕ) → k ≤ g .ticks → rise g c < k → k + fall g c < g .ticks → Past (since g k) s c × Past (until g k) e c
   level-region k h l q = go (lt-or-le (bothRamps g c) (g .ticks))
     where
-      go : (bothRamps g c < g .ticks) ⊎ (g .ticks ≤ bothRamps g c) → Past (since k) s c × Past (until k) e c
+      go : (bothRamps g c < g .ticks) ⊎ (g .ticks ≤ bothRamps g c) → Past (since g k) s c × Past (until g k) e c
       go (inl p) =
           let r = rise-alone p in
           let f = fall-alone p in
@@ -438,16 +416,16 @@ module _ (g : Leg) (joined : Joined g) (some : 0 < g .accelerationLimit) (c : �
 
     pub on-start : (d : ℤ) → c ≤ℤ d → d ≤ℤ (c +ℤ pos 1) → k ≤ rise g c → clamped g d k ≡ s +ℤ pos k *ℤ rampChange a s c
     on-start d p q l =
-        ramp-value L (since k) (until k) s e c d a k refl (record { within = joined .start }) inside (near k h) p q (start-region k h l)
+        ramp-value L (since g k) (until g k) s e c d a k refl (record { within = joined .start }) inside (apart-at g joined k h) p q (start-region k h l)
 
     pub on-end : (d : ℤ) → c ≤ℤ d → d ≤ℤ (c +ℤ pos 1) → rise g c < k → g .ticks ≤ k + fall g c
         → clamped g d k ≡ e +ℤ pos (g .ticks - k) *ℤ rampChange a e c
     on-end d p q l m =
-        ap₂ (λ (x y : ℤ). clamp x y d) (lowest-swap L (until k) (since k) e s) (highest-swap L (until k) (since k) e s)
-        ∙ ramp-value L (until k) (since k) e s c d a (g .ticks - k) refl (record { within = joined .end }) inside far p q (end-region k h l m)
+        ap₂ (λ (x y : ℤ). clamp x y d) (lowest-swap L (until g k) (since g k) e s) (highest-swap L (until g k) (since g k) e s)
+        ∙ ramp-value L (until g k) (since g k) e s c d a (g .ticks - k) refl (record { within = joined .end }) inside far p q (end-region k h l m)
       where
-        far : Within (until k + since k) (s -ℤ e)
-        far = subst (λ (n : ℕ). Within n (s -ℤ e)) (add-comm (since k) (until k)) (swapped (since k + until k) s e (near k h))
+        far : Within (until g k + since g k) (s -ℤ e)
+        far = subst (λ (n : ℕ). Within n (s -ℤ e)) (add-comm (since g k) (until g k)) (swapped (since g k + until g k) s e (apart-at g joined k h))
 
     -- a ramp from above is past c
     back : (m : ℕ) (v c : ℤ) → (turned c +ℤ pos 1) ≤ℤ (negℤ v +ℤ pos m) → (v -ℤ pos m) ≤ℤ c
@@ -456,8 +434,8 @@ module _ (g : Leg) (joined : Joined g) (some : 0 < g .accelerationLimit) (c : �
     pub on-level : rise g c < k → k + fall g c < g .ticks → clamped g c k ≡ c
     on-level l q =
         let r = level-region k h l q in
-        level L (since k) (until k) s e c inside (lower-by c _ (r .0 .above)) (back (since k) s c (r .0 .below))
-        (lower-by c _ (r .1 .above)) (back (until k) e c (r .1 .below))
+        level L (since g k) (until g k) s e c inside (lower-by c _ (r .0 .above)) (back (since g k) s c (r .0 .below))
+        (lower-by c _ (r .1 .above)) (back (until g k) e c (r .1 .below))
       where
         lower-by : (x y : ℤ) → (x +ℤ pos 1) ≤ℤ y → x ≤ℤ y
         lower-by = all₂ _ (λ a b c d. simp whole (omega arith))
@@ -465,8 +443,8 @@ module _ (g : Leg) (joined : Joined g) (some : 0 < g .accelerationLimit) (c : �
     pub on-level-raised : rise g c < k → k + fall g c < g .ticks → c <ℤ pos L → clamped g (c +ℤ pos 1) k ≡ c +ℤ pos 1
     on-level-raised l q m =
         let r = level-region k h l q in
-        level L (since k) (until k) s e (c +ℤ pos 1) (more L c inside m)
-        (r .0 .above) (higher _ c (back (since k) s c (r .0 .below))) (r .1 .above) (higher _ c (back (until k) e c (r .1 .below)))
+        level L (since g k) (until g k) s e (c +ℤ pos 1) (more L c inside m)
+        (r .0 .above) (higher _ c (back (since g k) s c (r .0 .below))) (r .1 .above) (higher _ c (back (until g k) e c (r .1 .below)))
       where
         higher : (x y : ℤ) → x ≤ℤ y → x ≤ℤ (y +ℤ pos 1)
         higher = all₂ _ (λ a b c d. simp whole (omega arith))

@@ -18,7 +18,7 @@ use mir.ValLaws.{toZ-ofZ, toZ-pos}
 use Rattle.whole.specs.Integers.{least, greatest}
 use Rattle.whole.specs.Ranges.{Within, Is}
 use Rattle.whole.proofs.Tests.{left, right, true-T, false-T, eqb-no}
-use Rattle.whole.proofs.Differences.{nle-PN, PN-lt}
+use Rattle.whole.proofs.Differences.{le-fails}
 use Rattle.whole.proofs.Laws.{natAbs-negpos, natAbs-neg, natAbs-+, natAbs-*}
 
 -- ---- how far from 0
@@ -303,7 +303,7 @@ pub le-taken : {b : Bool} → b ≡ true → (p : LeTest b) → T (p .ok) → p 
 le-taken e p t = leZ-yes (true-T (sym (p .is t) ∙ e))
 
 pub le-left : {b : Bool} → b ≡ false → (p : LeTest b) → T (p .ok) → p .r <ℤ p .l
-le-left e p t = PN-lt (nle-PN (p .l) (p .r) (false-T (sym (p .is t) ∙ e)))
+le-left e p t = le-fails (false-T (sym (p .is t) ∙ e))
 
 -- bits are 0 where the number is
 pub bits-zero : (z : ℤ) → SFits w64 z → eqb (ofZ w64 z) 0 ≡ eqb (natAbs z) 0

@@ -94,6 +94,9 @@ nle-PN (pos a) (negsuc b) t = omega arith
 nle-PN (negsuc a) (pos b) t = absurd t
 nle-PN (negsuc a) (negsuc b) t = omega (arith, nleb→lt b a t)
 
+pub le-fails : {x y : ℤ} → T (not (leZ x y)) → y <ℤ x
+le-fails {x} {y} t = PN-lt (nle-PN x y t)
+
 -- ---- differences
 
 infixl 6 _⊖_

@@ -18,6 +18,21 @@ pub enum Reach {
     Anywhere,
 }
 
+/// The words of the paper's case C, as it prints them. The asked arrival is in word 1.
+pub const CASE_C: [u32; 11] = [
+    0x1000_0001,
+    0x2000_0004,
+    0x3000_0000,
+    0x4000_0000,
+    0x5000_000A,
+    0x6000_0001,
+    0x7000_0000,
+    0x8000_0080,
+    0x9000_0001,
+    0xA000_0000,
+    0xF000_0000,
+];
+
 const POSITION_LEAST: i64 = -134_217_728;
 const POSITION_GREATEST: i64 = 134_217_727;
 

@@ -123,21 +123,8 @@ fn field_cases() {
 
 #[test]
 fn the_words_of_case_c() {
-    let words = [
-        0x1000_0001,
-        0x2000_0004,
-        0x3000_0000,
-        0x4000_0000,
-        0x5000_000A,
-        0x6000_0001,
-        0x7000_0000,
-        0x8000_0080,
-        0x9000_0001,
-        0xA000_0000,
-        0xF000_0000,
-    ];
-    assert_eq!(jobs::words(&asked(one(to(1)), 4)), words);
-    let bytes: Vec<u8> = words.iter().flat_map(|word| word.to_le_bytes()).collect();
+    assert_eq!(jobs::words(&asked(one(to(1)), 4)), jobs::CASE_C);
+    let bytes: Vec<u8> = jobs::CASE_C.iter().flat_map(|word| word.to_le_bytes()).collect();
     let text = "arrival 4\n0 0 0 86\n1 43 86 -1\n2 129 85 0\n3 214 85 -85\n4 256 0 0\n";
     assert_eq!(reference::printed(&bytes), text);
 }

@@ -28,17 +28,18 @@ fn agrees(job: &Job, cells: usize) -> Answer {
     answer
 }
 
-#[test]
-fn every_signed_value_at_every_end() {
+/// Each of some fields at each of some values, on every axis: among six axes, and alone. `rows` of a table are lent to
+/// six axes and enough to one.
+fn at_every_end<T: Copy>(fields: usize, ends: &[T], with: fn(Axis, usize, T) -> Axis, asked: u32, rows: usize) {
     for axis in [FIXED, MOVING] {
         for i in 0..6 {
-            for j in 0..6 {
-                for value in SIGNED_ENDS {
-                    let mut job = Job { mask: 63, asked: 4_096, axes: [axis; 6] };
-                    job.axes[i] = with_signed(axis, j, value);
-                    agrees(&job, 3 * 6 * 20);
+            for j in 0..fields {
+                for &value in ends {
+                    let mut job = Job { mask: 63, asked, axes: [axis; 6] };
+                    job.axes[i] = with(axis, j, value);
+                    agrees(&job, 3 * 6 * rows);
                     job.mask = 1 << i;
-                    agrees(&job, 3 * 4_097);
+                    agrees(&job, 3 * (asked as usize + 1));
                 }
             }
         }
@@ -46,20 +47,13 @@ fn every_signed_value_at_every_end() {
 }
 
 #[test]
+fn every_signed_value_at_every_end() {
+    at_every_end(6, &SIGNED_ENDS, with_signed, 4_096, 20);
+}
+
+#[test]
 fn every_unsigned_value_at_every_end() {
-    for axis in [FIXED, MOVING] {
-        for i in 0..6 {
-            for j in 0..4 {
-                for value in UNSIGNED_ENDS {
-                    let mut job = Job { mask: 63, asked: 300, axes: [axis; 6] };
-                    job.axes[i] = with_unsigned(axis, j, value);
-                    agrees(&job, 3 * 6 * 301);
-                    job.mask = 1 << i;
-                    agrees(&job, 3 * 301);
-                }
-            }
-        }
-    }
+    at_every_end(4, &UNSIGNED_ENDS, with_unsigned, 300, 301);
 }
 
 #[test]
