@@ -4,19 +4,23 @@
  * From a job (starts, targets, limits, the pole's half period and damping) a call writes a table of position, velocity and
  * acceleration for each tick that lands exactly on the targets with the sway cancelled, or refuses with a number from 1 to 10.
  *
- * Link with libcapi.a (`rt staticlib capi` writes target/staticlib/libcapi.a, for x86-64 Linux). All that it takes from other
- * libraries is memcpy and memset.
+ * Link with libpolgamir, for x86-64 Linux: in the repository `tools/library` writes target/lib/libpolgamir.a, and
+ * `tools/install PREFIX` installs it, with a shared library and a file for pkg-config. All that it takes from other libraries is
+ * memcpy and memset.
  *
  * Units. Time is a whole number of ticks. Inputs are whole units, units per tick and units per tick squared. A cell is in fine
  * steps, 1/256 unit, per tick and per tick squared for velocities and accelerations.
  *
- * What is lent. `words`, `signed_values` and `unsigned_values` are read during the call and never written. An accepted call
- * writes the first 3 * axes * (arrival + 1) cells of `table` and no other; a refused call writes none. What stood in the table
- * has no effect. Nothing is kept after the call returns. A pointer is not null and is aligned for its type, also where its count
- * is 0, and `table` overlaps no other array that is lent to the same call.
+ * What is lent. `words` is read during the call and never written; a job passes by value. An accepted call writes the first
+ * 3 * axes * (arrival + 1) cells of `table` and no other; a refused call writes none. What stood in the table has no effect.
+ * Nothing is kept after the call returns. A pointer whose count is 0 is not looked at and may be null; any other is not null and
+ * is aligned for its type, and `table` and `words` do not overlap.
  *
  * Threads. The library has no state, takes no lock, allocates no memory and makes no system call. Any number of threads may call
- * it at the same time, each with a table of its own. A call takes about 30 kB of stack.
+ * it at the same time, each with a table of its own.
+ *
+ * Stack and time. A call takes up to 4,400 bytes of stack, its job among them. The longest call, a search over six axes that ends
+ * in refusal 9, takes 0.1 to 0.2 s of a 2.5 GHz core; with an arrival asked for the longest takes 2 ms.
  */
 #ifndef POLGAMIR_H
 #define POLGAMIR_H
@@ -28,17 +32,35 @@
 extern "C" {
 #endif
 
+/* The version of this header. */
+#define POLGAMIR_VERSION_MAJOR 0
+#define POLGAMIR_VERSION_MINOR 1
+#define POLGAMIR_VERSION_PATCH 0
+#define POLGAMIR_VERSION (1000000 * POLGAMIR_VERSION_MAJOR + 1000 * POLGAMIR_VERSION_MINOR + POLGAMIR_VERSION_PATCH)
+
+/*
+ * The version of the library, as POLGAMIR_VERSION counts it. A library of another version may lay out its structs otherwise: call
+ * it only where this equals POLGAMIR_VERSION.
+ */
+uint32_t polgamir_version(void);
+
 /* A job has at most this many axes, numbered from 0. */
 #define POLGAMIR_AXES 6
 
 /* The latest arrival. */
 #define POLGAMIR_LATEST_ARRIVAL 4096
 
+/* The fine steps of a unit. */
+#define POLGAMIR_FINE_STEPS 256
+
 /* The cells that the largest table needs: 3 * 6 * (4096 + 1). A table of this size is never refused by number 10. */
 #define POLGAMIR_MOST_CELLS 73746
 
+/* Enough bytes of stack for a call, also where the loader binds memcpy during the first one. */
+#define POLGAMIR_STACK 8192
+
 /*
- * What a call returns.
+ * The numbers that a call returns.
  *
  * An accepted job returns number 0, place 0, its own mask and its arrival N. A refusal returns its number, a place, an axis mask
  * and an arrival; fields not named below are 0. The numbers, in checking order; each is checked over all axes, lowest first,
@@ -60,8 +82,44 @@ extern "C" {
  * L is the speed limit, 1 to 1,048,576; M the acceleration limit, 1 to 65,536; h the half period, 0 to 256 ticks, 0 meaning no
  * blend; B the second weight, 1 to 128. A place that is an axis is the axis's number, 0 to 5.
  */
+enum polgamir_number {
+    POLGAMIR_ACCEPTED = 0,
+    POLGAMIR_REFUSED_MASK = 1,
+    POLGAMIR_REFUSED_WORDS = 2,
+    POLGAMIR_REFUSED_ASKED_ARRIVAL = 3,
+    POLGAMIR_REFUSED_LIMITS = 4,
+    POLGAMIR_REFUSED_BLEND = 5,
+    POLGAMIR_REFUSED_START_OR_TARGET = 6,
+    POLGAMIR_REFUSED_ACCELERATING_TARGET = 7,
+    POLGAMIR_REFUSED_NOT_REACHABLE = 8,
+    POLGAMIR_REFUSED_NO_COMMON_ARRIVAL = 9,
+    POLGAMIR_REFUSED_TABLE_TOO_SHORT = 10
+};
+
+/* What a number says, in a sentence without its full stop. */
+static inline const char *polgamir_refusal_text(uint32_t number)
+{
+    switch (number) {
+    case POLGAMIR_ACCEPTED: return "the job is accepted";
+    case POLGAMIR_REFUSED_MASK: return "the mask names no axis, or one above 5";
+    case POLGAMIR_REFUSED_WORDS: return "a word is of a wrong kind, lacking or left over";
+    case POLGAMIR_REFUSED_ASKED_ARRIVAL: return "the asked arrival is above 4096";
+    case POLGAMIR_REFUSED_LIMITS: return "the speed limit is not 1 to 1048576, or the acceleration limit is not 1 to 65536";
+    case POLGAMIR_REFUSED_BLEND: return "the half period is not 0 to 256, or the second weight is not 1 to 128";
+    case POLGAMIR_REFUSED_START_OR_TARGET:
+        return "a velocity is above the speed limit, the target acceleration is above the acceleration limit, the target tick is "
+               "more than 4096 ticks from tick 0, or a position is not -134217728 to 134217727";
+    case POLGAMIR_REFUSED_ACCELERATING_TARGET: return "the target accelerates while the swing of its pole shrinks";
+    case POLGAMIR_REFUSED_NOT_REACHABLE: return "not every axis can arrive at the asked tick";
+    case POLGAMIR_REFUSED_NO_COMMON_ARRIVAL: return "no tick from 1 to 4096 suits every axis";
+    case POLGAMIR_REFUSED_TABLE_TOO_SHORT: return "the table is too short for rows 0 to the arrival";
+    default: return "a number that this header does not have";
+    }
+}
+
+/* What a call returns. */
 typedef struct polgamir_answer {
-    uint32_t number;  /* 0 where the job is accepted, else the refusal's number */
+    uint32_t number;  /* a polgamir_number: 0 where the job is accepted, else the refusal's number */
     uint32_t mask;    /* bit i stands for axis i */
     uint64_t place;   /* a word's index or an axis's number */
     uint32_t arrival; /* the arrival tick N */
@@ -71,6 +129,18 @@ typedef struct polgamir_answer {
  * The table of an accepted job. Rows run 0 to N; within a row the axes of the mask ascend, each as position, velocity,
  * acceleration. With `axes` the number of ones in the mask, row k of the axis that is the j-th of the set bits (from 0) is
  * table[3 * (axes * k + j)], table[3 * (axes * k + j) + 1], table[3 * (axes * k + j) + 2].
+ *
+ * How to follow it. Row k is where the head is at tick k, how fast it moves then, and the acceleration that it keeps until tick
+ * k + 1. A row carried on by one tick, to position + velocity + acceleration / 2 and velocity + acceleration, misses the position
+ * and the velocity of the next row by at most 3/2 fine steps each: cells are rounded to the nearest, and the misses do not add up
+ * where each tick starts from its own row. Row 0 has the start's position and velocity exactly, row N the target's position,
+ * velocity and acceleration at tick N. No velocity cell exceeds 256 * L in size and no acceleration cell 256 * M.
+ *
+ * After row N the head goes on with its target: uniformly where the target is fixed, with the acceleration of row N where it
+ * moves. On a pole that swings as was entered the motion then leaves no sway but that of the cells' rounding.
+ *
+ * How long it is. A call with 0 cells writes nothing and returns refusal 10 with N, or the refusal that the job gets with any
+ * table; 3 * axes * (N + 1) cells are then enough, and POLGAMIR_MOST_CELLS for every job.
  */
 
 /*
@@ -84,22 +154,41 @@ typedef struct polgamir_answer {
 polgamir_answer polgamir_plan_words(const uint32_t *words, size_t word_count, int64_t *table, size_t table_cells);
 
 /*
- * Plans the job that typed values give, and writes its table to the `table_cells` cells at `table`.
- *
- * mask             bit i is set where axis i takes part: 1 to 63
- * asked            0 for the least arrival, or the arrival asked for, 1 to 4,096
- * signed_values    six for each axis, those of axis i from 6 * i on:
- *                  0 start position, 1 start velocity, 2 target position, 3 target velocity,
- *                  4 target acceleration, 5 target tick (4 and 5 are looked at only where the target moves)
- * unsigned_values  five for each axis, those of axis i from 5 * i on:
- *                  0 speed limit L, 1 acceleration limit M, 2 half period h, 3 second weight B,
- *                  4 target kind: 0 for a fixed target, any other number for a moving one
- *
  * A fixed target is a position and a velocity, to hold at arrival and go on uniformly. A moving target has its position, velocity
- * and acceleration at the target tick. The values of an axis that is not in the mask are never looked at.
+ * and acceleration at the target tick.
  */
-polgamir_answer polgamir_plan_typed(uint32_t mask, uint32_t asked, const int64_t signed_values[36],
-                                    const uint32_t unsigned_values[30], int64_t *table, size_t table_cells);
+enum polgamir_target_kind {
+    POLGAMIR_FIXED = 0,
+    POLGAMIR_MOVING = 1
+};
+
+/* An axis. */
+typedef struct polgamir_axis {
+    int64_t start_position;
+    int64_t start_velocity;
+    int64_t target_position;
+    int64_t target_velocity;
+    int64_t target_acceleration; /* this and the target tick are looked at only where the target moves */
+    int64_t target_tick;
+    uint32_t target_kind;        /* a polgamir_target_kind: 0 for a fixed target, any other number for a moving one */
+    uint32_t speed_limit;        /* L */
+    uint32_t acceleration_limit; /* M */
+    uint32_t half_period;        /* h */
+    uint32_t second_weight;      /* B */
+} polgamir_axis;
+
+/*
+ * A job. `polgamir_job job = {0};` is a job with no axis and the least arrival, to be filled in. What is left at 0 in an axis of the
+ * mask is a start or a target of 0 at rest, a fixed target and no blend; its limits and its second weight have to be said.
+ */
+typedef struct polgamir_job {
+    uint32_t mask;                     /* bit i is set where axis i takes part: 1 to 63 */
+    uint32_t asked;                    /* 0 for the least arrival, or the arrival asked for, 1 to 4,096 */
+    polgamir_axis axes[POLGAMIR_AXES]; /* an axis that is not in the mask is never looked at */
+} polgamir_job;
+
+/* Plans a job, and writes its table to the `table_cells` cells at `table`. Its refusals are 1 and 3 to 10. */
+polgamir_answer polgamir_plan_job(polgamir_job job, int64_t *table, size_t table_cells);
 
 #ifdef __cplusplus
 }

@@ -11,7 +11,7 @@ mod plain;
 
 use std::hint::black_box;
 
-use outside::library;
+use outside::library::{self, CJob};
 use outside::reference::{Axis, Job, Target, UNSET};
 
 /// An axis from rest to rest.
@@ -67,8 +67,8 @@ fn rounds<const N: usize>(calls: [(&Job, usize); N]) -> Vec<Round<N>> {
         std::array::from_fn(|i| {
             let (job, cells) = calls[i];
             let lent = &mut table[..cells];
-            let (signed, unsigned) = library::flat(&job.axes, 0);
-            let proved = || library::plan_flat(job.mask, job.asked, &signed, &unsigned, black_box(&mut *lent)).arrival;
+            let laid_out = CJob::of(job, 0);
+            let proved = || library::plan_c_job(laid_out, black_box(&mut *lent)).arrival;
             let proved = batch(counts[i], proved);
             let plain = || plain::plan(job, black_box(&mut *lent)).arrival;
             (proved, batch(counts[i], plain))

@@ -24,8 +24,8 @@ static unsigned axes_of(uint32_t mask)
 static void show(polgamir_answer answer, const int64_t *table)
 {
     if (answer.number != 0) {
-        printf("refused %" PRIu32 " place %" PRIu64 " axes %" PRIu32 " arrival %" PRIu32 "\n", answer.number, answer.place,
-               answer.mask, answer.arrival);
+        printf("refused %" PRIu32 " place %" PRIu64 " axes %" PRIu32 " arrival %" PRIu32 ": %s\n", answer.number, answer.place,
+               answer.mask, answer.arrival, polgamir_refusal_text(answer.number));
         return;
     }
     printf("arrival %" PRIu32 "\n", answer.arrival);
@@ -43,39 +43,41 @@ static void show(polgamir_answer answer, const int64_t *table)
 
 int main(void)
 {
+    /* The library is the one that this header is of. */
+    if (polgamir_version() != POLGAMIR_VERSION) {
+        fprintf(stderr, "the library is of version %" PRIu32 ", not %d\n", polgamir_version(), POLGAMIR_VERSION);
+        return 1;
+    }
+
     static int64_t table[CELLS];
-    int64_t signed_values[36] = {0};
-    uint32_t unsigned_values[30] = {0};
+    polgamir_job job = {0};
+    job.mask = 1u << 0 | 1u << 3;
 
     /* Axis 0: from rest at 0 to rest at 6, on a pole whose swing has a half period of 3 ticks and keeps half its size. */
-    signed_values[0] = 0;     /* start position */
-    signed_values[1] = 0;     /* start velocity */
-    signed_values[2] = 6;     /* target position */
-    signed_values[3] = 0;     /* target velocity */
-    unsigned_values[0] = 10;  /* speed limit */
-    unsigned_values[1] = 1;   /* acceleration limit */
-    unsigned_values[2] = 3;   /* half period */
-    unsigned_values[3] = 85;  /* second weight: B/A = 85/171, the part of the swing that is left after a half period */
-    unsigned_values[4] = 0;   /* a fixed target */
+    job.axes[0].target_kind = POLGAMIR_FIXED;
+    job.axes[0].target_position = 6;
+    job.axes[0].speed_limit = 10;
+    job.axes[0].acceleration_limit = 1;
+    job.axes[0].half_period = 3;
+    job.axes[0].second_weight = 85; /* B/A = 85/171, the part of the swing that is left after a half period */
 
-    /* Axis 3: meets a target that is at 2 at tick 4 and moves one unit a tick; no blend. */
-    signed_values[6 * 3 + 0] = 0;
-    signed_values[6 * 3 + 1] = 0;
-    signed_values[6 * 3 + 2] = 2;
-    signed_values[6 * 3 + 3] = 1;
-    signed_values[6 * 3 + 4] = 0; /* target acceleration */
-    signed_values[6 * 3 + 5] = 4; /* target tick */
-    unsigned_values[5 * 3 + 0] = 10;
-    unsigned_values[5 * 3 + 1] = 1;
-    unsigned_values[5 * 3 + 2] = 0;
-    unsigned_values[5 * 3 + 3] = 128;
-    unsigned_values[5 * 3 + 4] = 1; /* a moving target */
+    /* Axis 3: from rest at 0 it meets a target that is at 2 at tick 4 and moves one unit a tick; no blend. */
+    job.axes[3].target_kind = POLGAMIR_MOVING;
+    job.axes[3].target_position = 2;
+    job.axes[3].target_velocity = 1;
+    job.axes[3].target_tick = 4;
+    job.axes[3].speed_limit = 10;
+    job.axes[3].acceleration_limit = 1;
+    job.axes[3].second_weight = 128;
 
-    uint32_t mask = 1u << 0 | 1u << 3;
-    show(polgamir_plan_typed(mask, 0, signed_values, unsigned_values, table, CELLS), table);
+    /* With no table the answer says the arrival, and so how many cells to lend: 3 for each axis and each of rows 0 to N. */
+    polgamir_answer answer = polgamir_plan_job(job, NULL, 0);
+    printf("cells %" PRIu32 "\n", 3 * axes_of(job.mask) * (answer.arrival + 1));
+    show(polgamir_plan_job(job, table, CELLS), table);
 
     /* The same job asked to arrive at tick 4: the mask says that axis 0 cannot. */
-    show(polgamir_plan_typed(mask, 4, signed_values, unsigned_values, table, CELLS), table);
+    job.asked = 4;
+    show(polgamir_plan_job(job, table, CELLS), table);
 
     /* One axis from words: from rest at 0 to rest at 1, asked to arrive at tick 4. */
     static const uint32_t words[] = {

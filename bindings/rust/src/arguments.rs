@@ -4,54 +4,66 @@ use std::ffi::OsString;
 use std::fmt;
 use std::path::PathBuf;
 
+use polgamir::MOST_CELLS;
+
 /// The help text of the whole command.
 pub const HELP: &str = "\
 Motion tables for a head on a swaying pole, planned by a proved library.
 
 Usage:
-  polgamir plan  [--plain | --units] [--cells COUNT] SHEET
-  polgamir words [--bytes] [-o FILE] SHEET
-  polgamir show  [--bytes | --hex] WORDS
-  polgamir plot  -o FILE.svg SHEET
+  polgamir plan  [--plain | --units] [--cells COUNT] [-o FILE] JOB
+  polgamir words [--bytes] [-o FILE] JOB
+  polgamir show  [--bytes | --hex] [-o FILE] WORDS
+  polgamir plot  -o FILE.svg JOB
   polgamir --help | --version
 
-plan    Plans a set-up sheet. Prints the arrival, then the table: for each tick and each axis the position,
-        velocity and acceleration in fine steps of 1/256 unit. A job that cannot be planned prints its refusal
-        and what to turn on the sheet.
+plan    Plans a job. Prints the arrival, then the table: for each tick and each axis the position, velocity and
+        acceleration in fine steps of 1/256 unit. A job that cannot be planned prints its refusal and what to turn
+        on the sheet.
           --units        print units in place of fine steps; exact, with eight decimals
           --plain        print as the table program does: the cells alone, or the refusal's line alone
-          --cells COUNT  lend a table of so many cells (the table program has 8192); else it is large enough
-words   Writes the job words of a sheet, in hexadecimal.
+          --cells COUNT  lend a table of so many cells, up to 73746 (the table program has 8192); else it is
+                         large enough
+words   Writes the job's words, in hexadecimal.
           --bytes        write bytes, each word little-endian, as the table program reads them
-          -o FILE        write to a file
 show    Reads job words, hexadecimal text or bytes, and prints their set-up sheet.
           --bytes        take the file as bytes
           --hex          take the file as text
-plot    Draws the plan: position, velocity, acceleration with their limits, and the sway of the pole beside the
-        sway that the same job would leave without the blend.
-          -o FILE.svg    the picture
+plot    Draws the plan: position, velocity, acceleration with their limits and the target's, and the sway of the
+        pole beside the sway that the same job would leave without the blend.
 
-A SHEET or WORDS of `-` is standard input. docs/SHEET.md describes the set-up sheet.
+A JOB is a set-up sheet, which docs/SHEET.md describes, or a file of job words. `-` in place of a file to read is
+standard input. `-o FILE` writes to a file, `-o -` to standard output; a refusal is always printed. After `--`
+everything is a file's name.
 
 Exit status: 0 done; 1 the planner refuses the job; 2 a wrong sheet, wrong words, wrong usage, or a file that
-cannot be read or written.
+cannot be read; 3 the output cannot be written.
 ";
+
+/// What is asked for, and where it goes.
+#[derive(Debug, PartialEq, Eq)]
+pub struct Request {
+    /// What is asked for.
+    pub task: Task,
+    /// The file to write; `None` is standard output.
+    pub output: Option<PathBuf>,
+}
 
 /// What is asked for.
 #[derive(Debug, PartialEq, Eq)]
-pub enum Request {
+pub enum Task {
     /// Print the help text.
     Help,
     /// Print the version.
     Version,
-    /// Plan a sheet and print its table.
-    Plan { sheet: PathBuf, form: TableForm, cells: Option<usize> },
-    /// Write the job words of a sheet.
-    Words { sheet: PathBuf, bytes: bool, output: Option<PathBuf> },
+    /// Plan a job and print its table.
+    Plan { job: PathBuf, form: TableForm, cells: Option<usize> },
+    /// Write the words of a job.
+    Words { job: PathBuf, bytes: bool },
     /// Print the sheet of job words; `None` tells bytes from text by itself.
     Show { words: PathBuf, bytes: Option<bool> },
-    /// Draw the plan of a sheet.
-    Plot { sheet: PathBuf, output: PathBuf },
+    /// Draw the plan of a job.
+    Plot { job: PathBuf },
 }
 
 /// How a table is printed.
@@ -79,35 +91,32 @@ impl std::error::Error for Usage {}
 
 impl Request {
     /// Reads a command line without the program's own name.
-    pub fn read(arguments: &[OsString]) -> Result<Request, Box<dyn std::error::Error>> {
-        let is = |argument: &OsString, names: &[&str]| names.iter().any(|name| argument == name);
+    pub fn read(arguments: &[OsString]) -> Result<Request, Usage> {
         let Some((first, rest)) = arguments.split_first() else {
-            return Err(Usage("expected plan, words, show or plot".into()).into());
+            return Err(Usage("expected plan, words, show or plot".into()));
         };
-        if is(first, &["help"]) || arguments.iter().any(|argument| is(argument, &["-h", "--help"])) {
-            return Ok(Request::Help);
-        }
-        if is(first, &["-V", "--version"]) {
-            return Ok(Request::Version);
-        }
         let mut rest = Rest::sort(rest)?;
-        let request = match first.to_str() {
+        let task = match first.to_str() {
+            Some("help" | "-h" | "--help") => Task::Help,
+            Some("-V" | "--version") => Task::Version,
+            _ if rest.flag("-h") || rest.flag("--help") => Task::Help,
             Some("plan") => rest.plan()?,
             Some("words") => rest.words()?,
             Some("show") => rest.show()?,
             Some("plot") => rest.plot()?,
-            _ => {
-                return Err(
-                    Usage(format!("expected plan, words, show or plot, found `{}`", first.to_string_lossy())).into()
-                )
-            }
+            _ => return Err(Usage(format!("expected plan, words, show or plot, found `{}`", first.to_string_lossy()))),
         };
+        if matches!(task, Task::Help | Task::Version) {
+            return Ok(Request { task, output: None });
+        }
+        let output = rest.output.take().filter(|file| file != "-").map(PathBuf::from);
         rest.is_spent()?;
-        Ok(request)
+        Ok(Request { task, output })
     }
 }
 
 /// The arguments after the command's name, sorted into options and files.
+#[derive(Default)]
 struct Rest {
     flags: Vec<String>,
     output: Option<OsString>,
@@ -116,26 +125,31 @@ struct Rest {
 }
 
 impl Rest {
-    /// Sorts arguments.
+    /// Sorts arguments. `--` ends the options: what follows are files.
     fn sort(arguments: &[OsString]) -> Result<Rest, Usage> {
-        let mut rest = Rest { flags: Vec::new(), output: None, cells: None, files: Vec::new() };
+        let mut rest = Rest::default();
         let mut arguments = arguments.iter();
         while let Some(argument) = arguments.next() {
             match argument.to_str() {
-                Some(option @ ("-o" | "--cells")) => {
-                    let Some(value) = arguments.next() else {
-                        return Err(Usage(format!("expected a value after `{option}`")));
-                    };
-                    let place = if option == "-o" { &mut rest.output } else { &mut rest.cells };
-                    if place.replace(value.clone()).is_some() {
-                        return Err(Usage(format!("expected `{option}` once")));
-                    }
-                }
+                Some("--") => rest.files.extend(arguments.by_ref().cloned()),
+                Some(option @ ("-o" | "--cells")) => rest.take_value(option, arguments.next())?,
                 Some(flag) if flag.starts_with('-') && flag != "-" => rest.flags.push(flag.into()),
                 _ => rest.files.push(argument.clone()),
             }
         }
         Ok(rest)
+    }
+
+    /// Takes the value of an option.
+    fn take_value(&mut self, option: &str, value: Option<&OsString>) -> Result<(), Usage> {
+        let Some(value) = value else {
+            return Err(Usage(format!("expected a value after `{option}`")));
+        };
+        let place = if option == "-o" { &mut self.output } else { &mut self.cells };
+        match place.replace(value.clone()) {
+            None => Ok(()),
+            Some(_) => Err(Usage(format!("expected `{option}` once"))),
+        }
     }
 
     /// Takes a flag, if it was given.
@@ -162,56 +176,53 @@ impl Rest {
         }
     }
 
-    fn plan(&mut self) -> Result<Request, Usage> {
+    /// Takes the number of cells to lend, up to those of the largest table.
+    fn cells(&mut self) -> Result<Option<usize>, Usage> {
+        let Some(given) = self.cells.take() else {
+            return Ok(None);
+        };
+        let count = given.to_str().and_then(|count| count.parse().ok()).filter(|&count| count <= MOST_CELLS);
+        let found = given.to_string_lossy();
+        count
+            .map(Some)
+            .ok_or_else(|| Usage(format!("expected a number from 0 to {MOST_CELLS} after `--cells`, found `{found}`")))
+    }
+
+    fn plan(&mut self) -> Result<Task, Usage> {
         let form = match self.one_of("--plain", "--units")? {
             (true, _) => TableForm::Plain,
             (_, true) => TableForm::Units,
             _ => TableForm::FineSteps,
         };
-        let cells = match self.cells.take() {
-            None => None,
-            Some(count) => match count.to_str().and_then(|count| count.parse().ok()) {
-                Some(count) => Some(count),
-                None => {
-                    return Err(Usage(format!(
-                        "expected a number after `--cells`, found `{}`",
-                        count.to_string_lossy()
-                    )))
-                }
-            },
-        };
-        Ok(Request::Plan { sheet: self.file("sheet")?, form, cells })
+        let cells = self.cells()?;
+        Ok(Task::Plan { job: self.file("sheet")?, form, cells })
     }
 
-    fn words(&mut self) -> Result<Request, Usage> {
+    fn words(&mut self) -> Result<Task, Usage> {
         let bytes = self.flag("--bytes");
-        let output = self.output.take().map(PathBuf::from);
-        Ok(Request::Words { sheet: self.file("sheet")?, bytes, output })
+        Ok(Task::Words { job: self.file("sheet")?, bytes })
     }
 
-    fn show(&mut self) -> Result<Request, Usage> {
+    fn show(&mut self) -> Result<Task, Usage> {
         let bytes = match self.one_of("--bytes", "--hex")? {
             (true, _) => Some(true),
             (_, true) => Some(false),
             _ => None,
         };
-        Ok(Request::Show { words: self.file("file of words")?, bytes })
+        Ok(Task::Show { words: self.file("file of words")?, bytes })
     }
 
-    fn plot(&mut self) -> Result<Request, Usage> {
-        match self.output.take() {
-            Some(output) => Ok(Request::Plot { sheet: self.file("sheet")?, output: output.into() }),
-            None => Err(Usage("expected `-o FILE.svg` for the picture".into())),
+    fn plot(&mut self) -> Result<Task, Usage> {
+        match self.output {
+            Some(_) => Ok(Task::Plot { job: self.file("sheet")? }),
+            None => Err(Usage("expected `-o FILE.svg` for the picture, or `-o -` for standard output".into())),
         }
     }
 
     /// Whether every argument has been taken.
     fn is_spent(&self) -> Result<(), Usage> {
-        if let Some(flag) = self.flags.first() {
-            return Err(Usage(format!("`{flag}` is no option of this command")));
-        }
-        match (&self.output, &self.cells) {
-            (Some(_), _) => Err(Usage("`-o` is no option of this command".into())),
+        match (self.flags.first(), &self.cells) {
+            (Some(flag), _) => Err(Usage(format!("`{flag}` is no option of this command"))),
             (_, Some(_)) => Err(Usage("`--cells` is no option of this command".into())),
             _ => Ok(()),
         }

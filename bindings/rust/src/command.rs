@@ -1,18 +1,20 @@
-//! The commands: what each reads, and what it prints.
+//! The commands: what each reads, and what it gives.
 
+mod content;
+mod files;
+mod refusal;
 mod table;
 mod words;
 
-use std::error::Error;
-use std::io::Read;
+use std::fmt;
 use std::path::Path;
-use std::{fmt, fs, io};
 
 use polgamir::sheet::Sheet;
-use polgamir::{Axis, Job, PayloadError, Refusal, WordKind};
+use polgamir::{Job, PayloadError};
 
-use crate::arguments::{Request, TableForm, HELP};
+use crate::arguments::{Request, TableForm, Task, Usage, HELP};
 use crate::picture;
+use files::{about, FileError};
 
 /// What a command has to print, and its exit status: 0, or 1 for a refusal.
 pub struct Done {
@@ -34,130 +36,94 @@ impl Done {
     }
 }
 
-/// What went wrong with a file.
+/// Why a command cannot be done.
 #[derive(Debug)]
-struct FileError {
-    file: String,
-    cause: String,
+pub enum Failure {
+    /// The command line cannot be followed.
+    Usage(Usage),
+    /// A file cannot be read, or holds no job.
+    Input(FileError),
+    /// The output cannot be written.
+    Output(FileError),
 }
 
-impl fmt::Display for FileError {
+impl Failure {
+    /// The exit status.
+    pub fn status(&self) -> u8 {
+        match self {
+            Failure::Usage(_) | Failure::Input(_) => 2,
+            Failure::Output(_) => 3,
+        }
+    }
+
+    /// Standard output that cannot be written.
+    pub fn of_standard_output(cause: impl fmt::Display) -> Failure {
+        Failure::Output(FileError { file: "standard output".into(), cause: cause.to_string() })
+    }
+}
+
+impl fmt::Display for Failure {
     fn fmt(&self, f: &mut fmt::Formatter<'_>) -> fmt::Result {
-        write!(f, "{}: {}", self.file, self.cause)
-    }
-}
-
-impl Error for FileError {}
-
-/// An error about a file.
-fn about(file: &Path, cause: impl fmt::Display) -> FileError {
-    let file = if is_standard(file) { "standard input".into() } else { file.display().to_string() };
-    FileError { file, cause: cause.to_string() }
-}
-
-/// Does what is asked.
-pub fn run(request: &Request) -> Result<Done, Box<dyn Error>> {
-    match request {
-        Request::Help => Ok(Done::well(HELP)),
-        Request::Version => Ok(Done::well(concat!("polgamir ", env!("CARGO_PKG_VERSION"), "\n"))),
-        Request::Plan { sheet, form, cells } => plan(&read_sheet(sheet)?, *form, *cells),
-        Request::Words { sheet, bytes, output } => words_of(sheet, *bytes, output.as_deref()),
-        Request::Show { words, bytes } => show(words, *bytes),
-        Request::Plot { sheet, output } => plot(sheet, output),
-    }
-}
-
-/// Whether a file's name stands for standard input.
-fn is_standard(file: &Path) -> bool {
-    file.as_os_str() == "-"
-}
-
-/// The bytes of a file or of standard input.
-fn read(file: &Path) -> Result<Vec<u8>, FileError> {
-    if !is_standard(file) {
-        return fs::read(file).map_err(|error| about(file, error));
-    }
-    let mut bytes = Vec::new();
-    match io::stdin().read_to_end(&mut bytes) {
-        Ok(_) => Ok(bytes),
-        Err(error) => Err(about(file, error)),
-    }
-}
-
-/// Writes a file.
-fn write(file: &Path, bytes: &[u8]) -> Result<(), FileError> {
-    fs::write(file, bytes).map_err(|error| FileError { file: file.display().to_string(), cause: error.to_string() })
-}
-
-/// The set-up sheet of a file.
-fn read_sheet(file: &Path) -> Result<Sheet, FileError> {
-    let text = String::from_utf8(read(file)?).map_err(|error| about(file, error))?;
-    text.parse().map_err(|error| about(file, error))
-}
-
-/// Plans a sheet and prints its table or its refusal.
-fn plan(sheet: &Sheet, form: TableForm, cells: Option<usize>) -> Result<Done, Box<dyn Error>> {
-    let mut cells = vec![0; cells.unwrap_or(sheet.job.enough_cells())];
-    Ok(match polgamir::plan(&sheet.job, &mut cells) {
-        Ok(accepted) => Done::well(table::print(sheet, &accepted, form)),
-        Err(refusal) if form == TableForm::Plain => Done::refused(refusal.printed_line() + "\n"),
-        Err(refusal) => Done::refused(explained(sheet, &refusal)),
-    })
-}
-
-/// A refusal with its sentence, and the lines of the sheet that it is about.
-fn explained(sheet: &Sheet, refusal: &Refusal) -> String {
-    let mut text = format!("{}\n{refusal}\n", refusal.printed_line());
-    if matches!(refusal, Refusal::AskedArrival | Refusal::NotReachable { .. }) {
-        if let Some(line) = sheet.line_of(None, WordKind::Arrival) {
-            text += &format!("line {line}: arrival {}\n", sheet.job.arrival.number());
+        match self {
+            Failure::Usage(usage) => usage.fmt(f),
+            Failure::Input(error) | Failure::Output(error) => error.fmt(f),
         }
     }
-    for axis in refusal.axis().into_iter().chain(refusal.mask().axes()) {
-        let entries = sheet.job.axes[axis].iter().flat_map(Axis::entries);
-        for (entry, value) in entries.filter(|(entry, _)| concerns(refusal).contains(entry)) {
-            if let Some(line) = sheet.line_of(Some(axis), entry) {
-                text += &format!("line {line}: {}: {} {value}\n", sheet.axis_title(axis), entry.name());
-            }
-        }
-    }
-    text
 }
 
-/// The entries of an axis that a refusal is about.
-fn concerns(refusal: &Refusal) -> &'static [WordKind] {
-    use WordKind::*;
-    match refusal {
-        Refusal::Limits { .. } | Refusal::NotReachable { .. } => &[SpeedLimit, AccelerationLimit],
-        Refusal::Blend { .. } => &[HalfPeriod, SecondWeight],
-        Refusal::AcceleratingTarget { .. } => &[HalfPeriod, SecondWeight, TargetAcceleration],
-        Refusal::NoCommonArrival { .. } => &[SpeedLimit, AccelerationLimit, StartPosition, TargetPosition],
-        Refusal::StartOrTarget { .. } => &[
-            SpeedLimit,
-            AccelerationLimit,
-            StartPosition,
-            StartVelocity,
-            TargetPosition,
-            TargetVelocity,
-            TargetAcceleration,
-            TargetTick,
-        ],
-        _ => &[],
+impl From<Usage> for Failure {
+    fn from(usage: Usage) -> Failure {
+        Failure::Usage(usage)
     }
 }
 
-/// Writes the job words of a sheet.
-fn words_of(file: &Path, bytes: bool, output: Option<&Path>) -> Result<Done, Box<dyn Error>> {
-    let sheet = read_sheet(file)?;
-    let job_words = sheet.job.to_words().map_err(|error| about(file, too_large(&sheet, &error)))?;
-    let text = if bytes { words::bytes_of(&job_words) } else { words::hexadecimal_of(&job_words).into_bytes() };
-    match output {
-        None => Ok(Done::well(text)),
-        Some(output) => {
-            write(output, &text)?;
+/// Does what is asked. What was asked for goes to the file that is named, if one is; a refusal is always to be printed.
+pub fn run(request: &Request) -> Result<Done, Failure> {
+    let done = done(&request.task).map_err(Failure::Input)?;
+    match &request.output {
+        Some(file) if done.status == 0 => {
+            files::write(file, &done.output).map_err(Failure::Output)?;
             Ok(Done::well(""))
         }
+        _ => Ok(done),
     }
+}
+
+/// What a task gives.
+fn done(task: &Task) -> Result<Done, FileError> {
+    match task {
+        Task::Help => Ok(Done::well(HELP)),
+        Task::Version => Ok(Done::well(concat!("polgamir ", env!("CARGO_PKG_VERSION"), "\n"))),
+        Task::Plan { job, form, cells } => Ok(plan(&read_job(job)?, *form, *cells)),
+        Task::Words { job, bytes } => words_of(job, *bytes),
+        Task::Show { words, bytes } => show(words, *bytes),
+        Task::Plot { job } => plot(job),
+    }
+}
+
+/// The job of a file: a set-up sheet, or job words, whose sheet has no lines.
+fn read_job(file: &Path) -> Result<Sheet, FileError> {
+    content::job_of(&files::read(file)?).map_err(|cause| about(file, cause))
+}
+
+/// Plans a job and prints its table or its refusal.
+fn plan(sheet: &Sheet, form: TableForm, cells: Option<usize>) -> Done {
+    let mut cells = vec![0; cells.unwrap_or(sheet.job.enough_cells())];
+    match polgamir::plan(&sheet.job, &mut cells) {
+        Ok(accepted) => Done::well(table::print(sheet, &accepted, form)),
+        Err(refusal) if form == TableForm::Plain => Done::refused(refusal.printed_line() + "\n"),
+        Err(refusal) => Done::refused(refusal::explained(sheet, &refusal)),
+    }
+}
+
+/// Writes the words of a job.
+fn words_of(file: &Path, bytes: bool) -> Result<Done, FileError> {
+    let sheet = read_job(file)?;
+    let job_words = sheet.job.to_words().map_err(|error| about(file, too_large(&sheet, &error)))?;
+    Ok(match bytes {
+        true => Done::well(words::bytes_of(&job_words)),
+        false => Done::well(words::hexadecimal_of(&job_words)),
+    })
 }
 
 /// What is said of a number that fits no job word, with its line.
@@ -172,25 +138,21 @@ fn too_large(sheet: &Sheet, error: &PayloadError) -> String {
 }
 
 /// Prints the set-up sheet of job words.
-fn show(file: &Path, bytes: Option<bool>) -> Result<Done, Box<dyn Error>> {
-    let content = read(file)?;
-    let job_words = words::read(&content, bytes).map_err(|error| about(file, error))?;
+fn show(file: &Path, bytes: Option<bool>) -> Result<Done, FileError> {
+    let job_words = content::words_of(&files::read(file)?, bytes).map_err(|cause| about(file, cause))?;
     let job = Job::from_words(&job_words).map_err(|error| about(file, error))?;
     Ok(Done::well(Sheet::from(job).to_string()))
 }
 
-/// Draws the plan of a sheet.
-fn plot(file: &Path, output: &Path) -> Result<Done, Box<dyn Error>> {
-    let sheet = read_sheet(file)?;
+/// Draws the plan of a job.
+fn plot(file: &Path) -> Result<Done, FileError> {
+    let sheet = read_job(file)?;
     let title = match file.file_stem() {
-        Some(stem) if !is_standard(file) => stem.to_string_lossy().into_owned(),
+        Some(stem) if !files::is_standard(file) => stem.to_string_lossy().into_owned(),
         _ => "plan".into(),
     };
-    match picture::draw(&title, &sheet) {
-        Err(refusal) => Ok(Done::refused(explained(&sheet, &refusal))),
-        Ok(drawing) => {
-            write(output, drawing.as_bytes())?;
-            Ok(Done::well(""))
-        }
-    }
+    Ok(match picture::draw(&title, &sheet) {
+        Ok(drawing) => Done::well(drawing),
+        Err(refusal) => Done::refused(refusal::explained(&sheet, &refusal)),
+    })
 }

@@ -106,6 +106,7 @@ impl From<u32> for Arrival {
 /// assert_eq!(job.mask(), 1);
 /// ```
 #[derive(Debug, Clone, Copy, PartialEq, Eq, Hash, Default)]
+#[non_exhaustive]
 pub struct Job {
     /// When to arrive.
     pub arrival: Arrival,

@@ -1,16 +1,16 @@
 //! Motion tables for a scanner head on a swaying pole, planned by a proved library.
 //!
 //! A [`Job`] says for each axis where it starts, what it is to land on, its limits, and the half period and damping of the pole
-//! under it. [`plan()`] writes a table of position, velocity and acceleration for each tick that lands every axis exactly on its
-//! target at one common tick with the sway cancelled, or refuses with a number from 1 to 10, a [`Refusal`]. What the library
-//! promises of its answers is proved for every job; this crate is a thin, safe layer above it, without state and without
-//! dependencies.
+//! under it. [`Job::plan`] gives a table of position, velocity and acceleration for each tick that lands every axis exactly on
+//! its target at one common tick with the sway cancelled, or refuses with a number from 1 to 10, a [`Refusal`]. [`plan()`] does
+//! the same in lent memory and allocates nothing. What the library promises of its answers is proved for every job; this crate
+//! is a thin, safe layer above it, without state and without dependencies.
 //!
 //! Time is a whole number of ticks. Inputs are whole units, units per tick and units per tick². The cells of a table are in
 //! fine steps, 1/256 unit.
 //!
 //! ```
-//! use polgamir::{plan, Axis, Job, Refusal, RestPoint, Target};
+//! use polgamir::{Axis, Job, Refusal, RestPoint, Target};
 //!
 //! let pan = Axis {
 //!     start: RestPoint { position: 0, velocity: 0 },
@@ -20,18 +20,16 @@
 //!     second_weight: 128,
 //!     target: Target::still(4),
 //! };
-//! let job = Job::earliest().with_axis(0, pan);
-//! let mut table = vec![0; job.enough_cells()];
-//! let accepted = plan(&job, &mut table)?;
-//! assert_eq!(accepted.arrival(), 4);
-//! for row in accepted.rows() {
+//! let plan = Job::earliest().with_axis(0, pan).plan()?;
+//! assert_eq!(plan.arrival(), 4);
+//! for row in &plan {
 //!     for (axis, motion) in row.axes() {
 //!         println!("tick {} axis {axis}: {} units", row.tick(), motion.position_in_units());
 //!     }
 //! }
 //!
 //! // Tick 3 is too soon, and the refusal says which axes cannot make it.
-//! let refusal = plan(&Job::arriving_at(3).with_axis(0, pan), &mut table).unwrap_err();
+//! let refusal = Job::arriving_at(3).with_axis(0, pan).plan().unwrap_err();
 //! assert_eq!(refusal.printed_line(), "refused 8 place 0 axes 1 arrival 0");
 //! # Ok::<(), Refusal>(())
 //! ```
@@ -46,13 +44,17 @@ mod job;
 #[allow(unsafe_code)]
 mod library;
 mod plan;
+mod range;
 mod refusal;
+mod rows;
 pub mod sheet;
 mod words;
 
 pub use job::{Arrival, Axis, Job, RestPoint, State, Target};
-pub use plan::{cells_needed, in_units, plan, plan_words, Accepted, Motion, Row, MOST_CELLS};
-pub use refusal::{AxisMask, Refusal, SheetLine};
+pub use plan::{cells_needed, plan, plan_words, Accepted, Plan, MOST_CELLS};
+pub use range::OutOfRange;
+pub use refusal::{AxisMask, Refusal};
+pub use rows::{in_units, Motion, Row, Rows};
 pub use words::{PayloadError, WordError, WordFault, WordKind};
 
 /// A job has at most this many axes, numbered from 0.

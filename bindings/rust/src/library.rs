@@ -1,6 +1,8 @@
 //! The calls of the proved library: the only place with `unsafe`.
 
+use crate::job::{Axis, Job, RestPoint, State, Target};
 use crate::refusal::Answer;
+use crate::AXES;
 
 /// `polgamir_answer` of `include/polgamir.h`, field by field.
 #[repr(C)]
@@ -11,17 +13,41 @@ struct CAnswer {
     arrival: u32,
 }
 
+/// `polgamir_axis`, field by field.
+#[repr(C)]
+#[derive(Clone, Copy, Default)]
+struct CAxis {
+    start_position: i64,
+    start_velocity: i64,
+    target_position: i64,
+    target_velocity: i64,
+    target_acceleration: i64,
+    target_tick: i64,
+    target_kind: u32,
+    speed_limit: u32,
+    acceleration_limit: u32,
+    half_period: u32,
+    second_weight: u32,
+}
+
+/// `polgamir_job`, field by field.
+#[repr(C)]
+struct CJob {
+    mask: u32,
+    asked: u32,
+    axes: [CAxis; AXES],
+}
+
+/// `POLGAMIR_FIXED`.
+const FIXED: u32 = 0;
+
+/// `POLGAMIR_MOVING`.
+const MOVING: u32 = 1;
+
 extern "C" {
     fn polgamir_plan_words(words: *const u32, word_count: usize, table: *mut i64, table_cells: usize) -> CAnswer;
 
-    fn polgamir_plan_typed(
-        mask: u32,
-        asked: u32,
-        signed_values: *const [i64; 36],
-        unsigned_values: *const [u32; 30],
-        table: *mut i64,
-        table_cells: usize,
-    ) -> CAnswer;
+    fn polgamir_plan_job(job: CJob, table: *mut i64, table_cells: usize) -> CAnswer;
 }
 
 impl From<CAnswer> for Answer {
@@ -31,27 +57,89 @@ impl From<CAnswer> for Answer {
     }
 }
 
+impl From<&Axis> for CAxis {
+    fn from(axis: &Axis) -> CAxis {
+        let (target_kind, target) = match axis.target {
+            Target::Fixed(RestPoint { position, velocity }) => {
+                (FIXED, State { position, velocity, ..State::default() })
+            }
+            Target::Moving(state) => (MOVING, state),
+        };
+        CAxis {
+            start_position: axis.start.position,
+            start_velocity: axis.start.velocity,
+            target_position: target.position,
+            target_velocity: target.velocity,
+            target_acceleration: target.acceleration,
+            target_tick: target.tick,
+            target_kind,
+            speed_limit: axis.speed_limit,
+            acceleration_limit: axis.acceleration_limit,
+            half_period: axis.half_period,
+            second_weight: axis.second_weight,
+        }
+    }
+}
+
+impl From<&Job> for CJob {
+    fn from(job: &Job) -> CJob {
+        let mut axes = [CAxis::default(); AXES];
+        for (number, axis) in job.entered() {
+            axes[number] = axis.into();
+        }
+        CJob { mask: job.mask(), asked: job.arrival.number(), axes }
+    }
+}
+
 /// Plans a job from its words.
 pub(crate) fn plan_words(words: &[u32], table: &mut [i64]) -> Answer {
-    // SAFETY: both pointers come from slices with these lengths, so they are not null, aligned and valid for the whole
-    // call, to read for `words` and to write for `table`; the borrows keep them from overlapping. The library keeps
-    // neither pointer after it returns, has no state, and does not unwind.
+    // SAFETY: both pointers come from slices with these lengths, so they are aligned and valid for the whole call, to
+    // read for `words` and to write for `table`; the borrows keep them from overlapping. The library keeps neither
+    // pointer after it returns, has no state, and does not unwind.
     let answer = unsafe { polgamir_plan_words(words.as_ptr(), words.len(), table.as_mut_ptr(), table.len()) };
     answer.into()
 }
 
-/// Plans a job from typed values, laid out as `include/polgamir.h` says.
-pub(crate) fn plan_typed(
-    mask: u32,
-    asked: u32,
-    signed_values: &[i64; 36],
-    unsigned_values: &[u32; 30],
-    table: &mut [i64],
-) -> Answer {
-    // SAFETY: the arrays have the 36 and 30 entries that the library reads, and the table's pointer and length are those
-    // of one slice; all are valid for the whole call, and the borrows keep the table from overlapping the arrays. The
-    // library keeps no pointer after it returns, has no state, and does not unwind.
-    let answer =
-        unsafe { polgamir_plan_typed(mask, asked, signed_values, unsigned_values, table.as_mut_ptr(), table.len()) };
+/// Plans a job from typed values.
+pub(crate) fn plan_job(job: &Job, table: &mut [i64]) -> Answer {
+    // SAFETY: the job passes by value in the header's layout, and the table's pointer and length are those of one slice,
+    // valid to write for the whole call. The library keeps no pointer after it returns, has no state, and does not unwind.
+    let answer = unsafe { polgamir_plan_job(job.into(), table.as_mut_ptr(), table.len()) };
     answer.into()
+}
+
+#[cfg(test)]
+mod tests {
+    use super::{CAnswer, CAxis, CJob};
+    use std::mem::{offset_of, size_of};
+
+    /// The layout that the header's structs have on x86-64; `tests/c/interface.c` holds the header to the same numbers.
+    #[test]
+    fn the_layout_is_the_header_s() {
+        let answer = [
+            offset_of!(CAnswer, number),
+            offset_of!(CAnswer, mask),
+            offset_of!(CAnswer, place),
+            offset_of!(CAnswer, arrival),
+            size_of::<CAnswer>(),
+        ];
+        assert_eq!(answer, [0, 4, 8, 16, 24]);
+        let axis = [
+            offset_of!(CAxis, start_position),
+            offset_of!(CAxis, start_velocity),
+            offset_of!(CAxis, target_position),
+            offset_of!(CAxis, target_velocity),
+            offset_of!(CAxis, target_acceleration),
+            offset_of!(CAxis, target_tick),
+            offset_of!(CAxis, target_kind),
+            offset_of!(CAxis, speed_limit),
+            offset_of!(CAxis, acceleration_limit),
+            offset_of!(CAxis, half_period),
+            offset_of!(CAxis, second_weight),
+            size_of::<CAxis>(),
+        ];
+        assert_eq!(axis, [0, 8, 16, 24, 32, 40, 48, 52, 56, 60, 64, 72]);
+        let job = [offset_of!(CJob, mask), offset_of!(CJob, asked), offset_of!(CJob, axes), size_of::<CJob>()];
+        assert_eq!(job, [0, 4, 8, 440]);
+    }
 }

@@ -1,6 +1,7 @@
-//! The picture of a plan: for each axis position, velocity and acceleration with their limits, and the sway of the pole beside
-//! the sway that the same job would leave without the blend.
+//! The picture of a plan: for each axis position, velocity and acceleration with their limits, the target's beside them and how
+//! both go on after arrival, and the sway of the pole beside the sway that the same job would leave without the blend.
 
+mod course;
 mod page;
 mod panel;
 mod scale;
@@ -8,12 +9,13 @@ mod svg;
 mod sway;
 
 use polgamir::sheet::Sheet;
-use polgamir::{Arrival, Axis, Job, Motion, Refusal, Target};
+use polgamir::{Arrival, Axis, Job, Refusal, Row};
 
+use course::{Course, Moment};
 use page::{Page, Stack};
 use panel::{Panel, Ticks};
 use scale::quantity;
-use svg::stroke;
+use svg::{stroke, Stroke};
 use sway::{Point, Pole};
 
 /// Draws the plan of a sheet.
@@ -46,18 +48,26 @@ fn heading(title: &str, sheet: &Sheet, arrival: u32) -> String {
     }
 }
 
+/// What the sway of a picture is.
+const SWAY: &str =
+    "Sway: how far the top of the pole is from upright, in the axis's units. The pole has the entered half period \
+                    and weight, is at rest at tick 0 and is driven by the table's accelerations.";
+
+/// What is left of it.
+const LEFT: &str =
+    "Left: the greatest sway from arrival on, measured from where the pole comes to rest. The exact plan leaves 0, \
+                    which is proved; rounding its cells to 1/256 unit leaves the rest.";
+
 /// What the picture compares; `None` stands for a job without sway.
 fn caption(unblended: Option<&Result<Planned, Refusal>>) -> String {
     let Some(unblended) = unblended else {
         return "No axis has a half period, so no sway is drawn.".into();
     };
-    let sway = "Sway: that of a pole with the entered half period and weight, at rest at tick 0 and driven by the table's \
-                accelerations. Remaining: the greatest sway from arrival on, measured from where the pole comes to rest.";
     let comparison = match unblended {
         Ok(unblended) => format!("which arrives at tick {}", unblended.arrival),
         Err(refusal) => format!("which is refused with {} and not drawn", refusal.number()),
     };
-    format!("{sway} Without the blend: the same job planned with half period 0 on every axis, {comparison}.")
+    format!("{SWAY} {LEFT} Without the blend: the same job planned with half period 0 on every axis, {comparison}.")
 }
 
 /// The job with half period 0 on every axis.
@@ -78,34 +88,24 @@ fn time_after(job: &Job, arrival: u32) -> u32 {
     }
 }
 
-/// A planned job: its arrival and each axis's motion at ticks 0 to arrival.
+/// A planned job: its arrival and each axis's rows.
 struct Planned {
     arrival: u32,
-    motions: [Vec<Motion>; polgamir::AXES],
+    rows: [Vec<Moment>; polgamir::AXES],
 }
 
 impl Planned {
     /// Plans a job.
     fn of(job: &Job) -> Result<Planned, Refusal> {
-        let mut table = vec![0; job.enough_cells()];
-        let accepted = polgamir::plan(job, &mut table)?;
-        let mut motions: [Vec<Motion>; polgamir::AXES] = Default::default();
-        for row in accepted.rows() {
-            for (axis, motion) in row.axes() {
-                motions[axis].push(motion);
-            }
-        }
-        Ok(Planned { arrival: accepted.arrival(), motions })
+        let plan = job.plan()?;
+        let of_axis = |axis: usize| move |row: Row| row.axis(axis).as_ref().map(Moment::of_row);
+        let rows = std::array::from_fn(|axis| plan.rows().filter_map(of_axis(axis)).collect());
+        Ok(Planned { arrival: plan.arrival(), rows })
     }
 
     /// The accelerations of an axis in units per tick².
     fn accelerations(&self, number: usize) -> Vec<f64> {
-        self.motions[number].iter().map(Motion::acceleration_in_units).collect()
-    }
-
-    /// A quantity of an axis over the ticks.
-    fn curve(&self, number: usize, quantity: impl Fn(&Motion) -> f64) -> Vec<Point> {
-        self.motions[number].iter().enumerate().map(|(tick, motion)| (tick as f64, quantity(motion))).collect()
+        self.rows[number].iter().map(|row| row.acceleration).collect()
     }
 }
 
@@ -119,10 +119,15 @@ fn pole_of(axis: &Axis) -> String {
 
 /// The panels of an axis; that of the sway only where the axis has a half period.
 fn panels_of(number: usize, axis: &Axis, planned: &Planned, unblended: Option<&Planned>, ticks: Ticks) -> Vec<Panel> {
+    let course = |quantity: fn(Moment) -> f64| Course::of(&planned.rows[number], &axis.target, ticks, quantity);
     let mut panels = vec![
-        position_panel(axis, planned.curve(number, Motion::position_in_units), ticks),
-        velocity_panel(axis, planned.curve(number, Motion::velocity_in_units)),
-        acceleration_panel(axis, planned.curve(number, Motion::acceleration_in_units)),
+        position_panel(course(|moment| moment.position)),
+        limited_panel("velocity, units/tick", axis.speed_limit, course(|moment| moment.velocity)),
+        limited_panel(
+            "acceleration, units/tick²",
+            axis.acceleration_limit,
+            stepped(course(|moment| moment.acceleration)),
+        ),
     ];
     if let Some(pole) = Pole::of(axis) {
         let without = unblended.map(|unblended| unblended.accelerations(number));
@@ -131,60 +136,45 @@ fn panels_of(number: usize, axis: &Axis, planned: &Planned, unblended: Option<&P
     panels
 }
 
-/// The position of a target at a tick, for a job with an arrival.
-fn target_position(target: &Target, arrival: u32, tick: u32) -> f64 {
-    match *target {
-        Target::Fixed(point) => point.position as f64 + point.velocity as f64 * (f64::from(tick) - f64::from(arrival)),
-        Target::Moving(state) => {
-            let since = f64::from(tick) - state.tick as f64;
-            state.position as f64 + state.velocity as f64 * since + state.acceleration as f64 * since * since / 2.0
-        }
-    }
+/// The curves of a course, the target's at the top, where it shows on that of the plan.
+fn curves_of(course: Course) -> Vec<(Vec<Point>, Stroke)> {
+    vec![(course.plan, stroke::PLAN), (course.after, stroke::PLAN_AFTER), (course.target, stroke::TARGET)]
 }
 
-/// The panel of the position, with the target's.
-fn position_panel(axis: &Axis, position: Vec<Point>, ticks: Ticks) -> Panel {
-    let target: Vec<Point> =
-        (0..=ticks.last).map(|tick| (f64::from(tick), target_position(&axis.target, ticks.arrival, tick))).collect();
-    let after_arrival = target.iter().skip(ticks.arrival as usize);
-    let range = panel::range_of(position.iter().chain(after_arrival).map(|&(_, value)| value));
-    let curves = vec![(position, stroke::PLAN), (target, stroke::TARGET)];
-    Panel { name: "position, units", remark: String::new(), range, limits: Vec::new(), curves }
+/// The panel of the position.
+fn position_panel(course: Course) -> Panel {
+    let range = panel::range_of(course.shown());
+    Panel { name: "position, units", remark: String::new(), range, limits: Vec::new(), curves: curves_of(course) }
 }
 
-/// The panel of the velocity, with its limits.
-fn velocity_panel(axis: &Axis, velocity: Vec<Point>) -> Panel {
-    limited_panel("velocity, units/tick", axis.speed_limit, velocity.clone(), velocity)
-}
-
-/// The panel of the acceleration, with its limits: each row's acceleration holds until the next.
-fn acceleration_panel(axis: &Axis, acceleration: Vec<Point>) -> Panel {
+/// A course in steps: each row's acceleration holds until the next.
+fn stepped(course: Course) -> Course {
     let mut steps = Vec::new();
-    for pair in acceleration.windows(2) {
+    for pair in course.plan.windows(2) {
         steps.extend([pair[0], (pair[1].0, pair[0].1)]);
     }
-    steps.extend(acceleration.last());
-    limited_panel("acceleration, units/tick²", axis.acceleration_limit, acceleration, steps)
+    steps.extend(course.plan.last());
+    Course { plan: steps, ..course }
 }
 
-/// A panel of values with limits; a remark says the limit where it is too far off to be drawn.
-fn limited_panel(name: &'static str, limit: u32, values: Vec<Point>, curve: Vec<Point>) -> Panel {
+/// A panel of a course with limits; a remark says the limit where it is too far off to be drawn.
+fn limited_panel(name: &'static str, limit: u32, course: Course) -> Panel {
     let limit = f64::from(limit);
-    let range = panel::range_within(values.iter().map(|&(_, value)| value), limit);
+    let range = panel::range_within(course.shown(), limit);
     let shown = range.0 <= -limit || range.1 >= limit;
     let place = if shown { "" } else { ", off the scale" };
     let remark = format!("limit ±{}{place}", scale::label(limit, 1.0));
-    Panel { name, remark, range, limits: vec![-limit, limit], curves: vec![(curve, stroke::PLAN)] }
+    Panel { name, remark, range, limits: vec![-limit, limit], curves: curves_of(course) }
 }
 
 /// The panel of the sway, beside that without the blend, whose arrival is an upright line.
 fn sway_panel(pole: Pole, accelerations: &[f64], without_blend: Option<&[f64]>, ticks: Ticks) -> Panel {
     let sway = pole.sway(accelerations, ticks.last);
-    let mut remark = format!("remaining {}", quantity(sway.remaining));
+    let mut remark = format!("left {}, exact plan 0", quantity(sway.remaining));
     let mut curves = vec![(sway.curve, stroke::PLAN)];
     if let Some(accelerations) = without_blend {
         let without = pole.sway(accelerations, ticks.last);
-        remark += &format!("; without the blend {}", quantity(without.remaining));
+        remark += &format!("; without blend {}", quantity(without.remaining));
         curves.insert(0, (without.curve, stroke::UNBLENDED));
     }
     let range = panel::range_of(curves.iter().flat_map(|(curve, _)| curve).map(|&(_, value)| value));

@@ -1,9 +1,10 @@
-//! The calls for a table, and the table's rows.
+//! The calls for a table, and the table that they give.
 
-use crate::job::{Axis, Job, RestPoint, State, Target};
+use crate::job::Job;
 use crate::library;
 use crate::refusal::{Answer, AxisMask, Refusal};
-use crate::{AXES, FINE_STEPS, LATEST_ARRIVAL};
+use crate::rows::{Row, Rows};
+use crate::{AXES, LATEST_ARRIVAL};
 
 /// The cells of a table with a number of axes and an arrival: 3 × axes × (arrival + 1), or the greatest `usize` where that is
 /// more than a `usize` holds.
@@ -24,14 +25,7 @@ pub const MOST_CELLS: usize = cells_needed(AXES as u32, LATEST_ARRIVAL);
 ///
 /// The first refusal in the order of their numbers, of those from 1 to 10 except 2, which only words can get.
 pub fn plan<'t>(job: &Job, table: &'t mut [i64]) -> Result<Accepted<'t>, Refusal> {
-    let mut signed_values = [0; 6 * AXES];
-    let mut unsigned_values = [0; 5 * AXES];
-    for (number, axis) in job.entered() {
-        signed_values[6 * number..][..6].copy_from_slice(&signed_values_of(axis));
-        unsigned_values[5 * number..][..5].copy_from_slice(&unsigned_values_of(axis));
-    }
-    let asked = job.arrival.number();
-    let answer = library::plan_typed(job.mask(), asked, &signed_values, &unsigned_values, table);
+    let answer = library::plan_job(job, table);
     Accepted::from_answer(answer, table)
 }
 
@@ -43,26 +37,6 @@ pub fn plan<'t>(job: &Job, table: &'t mut [i64]) -> Result<Accepted<'t>, Refusal
 pub fn plan_words<'t>(words: &[u32], table: &'t mut [i64]) -> Result<Accepted<'t>, Refusal> {
     let answer = library::plan_words(words, table);
     Accepted::from_answer(answer, table)
-}
-
-/// The signed numbers of an axis in the order of the C interface.
-fn signed_values_of(axis: &Axis) -> [i64; 6] {
-    let RestPoint { position: start, velocity: start_velocity } = axis.start;
-    match axis.target {
-        Target::Fixed(RestPoint { position, velocity }) => [start, start_velocity, position, velocity, 0, 0],
-        Target::Moving(State { position, velocity, acceleration, tick }) => {
-            [start, start_velocity, position, velocity, acceleration, tick]
-        }
-    }
-}
-
-/// The unsigned numbers of an axis in the order of the C interface.
-fn unsigned_values_of(axis: &Axis) -> [u32; 5] {
-    let target_kind = match axis.target {
-        Target::Fixed(_) => 0,
-        Target::Moving(_) => 1,
-    };
-    [axis.speed_limit, axis.acceleration_limit, axis.half_period, axis.second_weight, target_kind]
 }
 
 /// An accepted job: its arrival, and its table in the lent cells.
@@ -99,78 +73,134 @@ impl<'t> Accepted<'t> {
         self.cells
     }
 
-    /// The rows of ticks 0 to arrival.
-    pub fn rows(&self) -> impl ExactSizeIterator<Item = Row<'t>> + Clone + 't {
+    /// The row of a tick, or `None` past the arrival.
+    pub fn row(&self, tick: u32) -> Option<Row<'t>> {
         let mask = self.mask;
         let width = 3 * mask.0.count_ones() as usize;
-        self.cells.chunks_exact(width).enumerate().map(move |(tick, cells)| Row { tick: tick as u32, mask, cells })
+        let cells = self.cells.chunks_exact(width).nth(tick as usize)?;
+        Some(Row { tick, mask, cells })
+    }
+
+    /// The rows of ticks 0 to arrival.
+    pub fn rows(&self) -> Rows<'t> {
+        Rows::of(*self)
     }
 }
 
-/// The row of one tick.
-#[derive(Debug, Clone, Copy, PartialEq, Eq)]
-pub struct Row<'t> {
-    tick: u32,
+/// `for` walks the rows of ticks 0 to arrival.
+impl<'t> IntoIterator for Accepted<'t> {
+    type Item = Row<'t>;
+    type IntoIter = Rows<'t>;
+
+    fn into_iter(self) -> Rows<'t> {
+        self.rows()
+    }
+}
+
+/// `for` walks the rows of ticks 0 to arrival.
+impl<'t> IntoIterator for &Accepted<'t> {
+    type Item = Row<'t>;
+    type IntoIter = Rows<'t>;
+
+    fn into_iter(self) -> Rows<'t> {
+        self.rows()
+    }
+}
+
+/// An accepted job with a table of its own: what [`Job::plan`] gives.
+#[derive(Debug, Clone, PartialEq, Eq)]
+pub struct Plan {
+    arrival: u32,
     mask: AxisMask,
-    cells: &'t [i64],
+    cells: Vec<i64>,
 }
 
-impl<'t> Row<'t> {
-    /// The row's tick.
-    pub const fn tick(&self) -> u32 {
-        self.tick
+impl Plan {
+    /// The plan as one that borrows its table.
+    pub fn accepted(&self) -> Accepted<'_> {
+        Accepted { arrival: self.arrival, mask: self.mask, cells: &self.cells }
     }
 
-    /// The row's cells: for each axis from the lowest up its position, velocity and acceleration in fine steps.
-    pub const fn cells(&self) -> &'t [i64] {
+    /// The tick at which every axis is on its target.
+    pub const fn arrival(&self) -> u32 {
+        self.arrival
+    }
+
+    /// The axes of the job.
+    pub const fn axes(&self) -> AxisMask {
+        self.mask
+    }
+
+    /// The table: row after row, in each row the axes from the lowest up, for each its position, velocity and acceleration in
+    /// fine steps.
+    pub fn cells(&self) -> &[i64] {
+        &self.cells
+    }
+
+    /// The row of a tick, or `None` past the arrival.
+    pub fn row(&self, tick: u32) -> Option<Row<'_>> {
+        self.accepted().row(tick)
+    }
+
+    /// The rows of ticks 0 to arrival.
+    pub fn rows(&self) -> Rows<'_> {
+        self.accepted().rows()
+    }
+
+    /// The table's cells, to keep.
+    pub fn into_cells(self) -> Vec<i64> {
         self.cells
     }
+}
 
-    /// The motion of each axis from the lowest up, with the axis's number.
-    pub fn axes(&self) -> impl Iterator<Item = (usize, Motion)> + 't {
-        self.mask.axes().zip(self.cells.chunks_exact(3).map(Motion::from_cells))
-    }
+/// `for` walks the rows of ticks 0 to arrival.
+impl<'p> IntoIterator for &'p Plan {
+    type Item = Row<'p>;
+    type IntoIter = Rows<'p>;
 
-    /// The motion of an axis, or `None` where the job does not have that axis.
-    pub fn axis(&self, number: usize) -> Option<Motion> {
-        self.axes().find_map(|(axis, motion)| (axis == number).then_some(motion))
+    fn into_iter(self) -> Rows<'p> {
+        self.rows()
     }
 }
 
-/// Position, velocity and acceleration of one axis at one tick, in fine steps: 1/256 unit, per tick, per tick².
-#[derive(Debug, Clone, Copy, PartialEq, Eq, Hash)]
-pub struct Motion {
-    /// Position in fine steps.
-    pub position: i64,
-    /// Velocity in fine steps per tick.
-    pub velocity: i64,
-    /// Acceleration in fine steps per tick².
-    pub acceleration: i64,
-}
-
-impl Motion {
-    /// The motion of three cells.
-    fn from_cells(cells: &[i64]) -> Motion {
-        Motion { position: cells[0], velocity: cells[1], acceleration: cells[2] }
+impl Job {
+    /// Plans this job into a table of its own. [`plan()`] is the call for lent memory.
+    ///
+    /// ```
+    /// # use polgamir::{Axis, Job, Refusal, RestPoint, Target};
+    /// # let start = RestPoint { position: 0, velocity: 0 };
+    /// # let target = Target::still(4);
+    /// # let pan = Axis { start, speed_limit: 10, acceleration_limit: 1, half_period: 0, second_weight: 128, target };
+    /// let plan = Job::earliest().with_axis(0, pan).plan()?;
+    /// for row in plan.rows().rev() {
+    ///     println!("tick {}: {:?}", row.tick(), row.axis(0));
+    /// }
+    /// assert_eq!(plan.row(4).and_then(|row| row.axis(0)).map(|pan| pan.position), Some(4 * 256));
+    /// # Ok::<(), Refusal>(())
+    /// ```
+    ///
+    /// # Errors
+    ///
+    /// As [`plan()`], except 10: the table is as long as it needs to be.
+    pub fn plan(&self) -> Result<Plan, Refusal> {
+        let mut cells = vec![0; self.enough_cells()];
+        let Accepted { arrival, mask, cells: written } = plan(self, &mut cells)?;
+        let written = written.len();
+        cells.truncate(written);
+        cells.shrink_to_fit();
+        Ok(Plan { arrival, mask, cells })
     }
 
-    /// Position in units.
-    pub fn position_in_units(&self) -> f64 {
-        in_units(self.position)
+    /// The arrival that this job's table would have; no table is written.
+    ///
+    /// # Errors
+    ///
+    /// As [`Job::plan`].
+    pub fn arrival_found(&self) -> Result<u32, Refusal> {
+        match plan(self, &mut []) {
+            Ok(accepted) => Ok(accepted.arrival()),
+            Err(Refusal::TableTooShort { arrival }) => Ok(arrival),
+            Err(refusal) => Err(refusal),
+        }
     }
-
-    /// Velocity in units per tick.
-    pub fn velocity_in_units(&self) -> f64 {
-        in_units(self.velocity)
-    }
-
-    /// Acceleration in units per tick².
-    pub fn acceleration_in_units(&self) -> f64 {
-        in_units(self.acceleration)
-    }
-}
-
-/// Fine steps as units. No cell of a table is past 2^52 fine steps in size, and up to there the result is exact.
-pub fn in_units(fine_steps: i64) -> f64 {
-    fine_steps as f64 / FINE_STEPS as f64
 }

@@ -1,4 +1,4 @@
-//! The refusals, numbers 1 to 10, with what to look at on the set-up sheet.
+//! The refusals: a variant for each number, in checking order, each with its sentence.
 
 use std::fmt;
 
@@ -46,68 +46,20 @@ impl fmt::Display for AxisMask {
     }
 }
 
-/// A line of the set-up sheet that a crew goes through before the first sighting.
-#[derive(Debug, Clone, Copy, PartialEq, Eq, Hash)]
-pub enum SheetLine {
-    /// The pole's half period and damping.
-    TapThePole,
-    /// The limits of the motors.
-    EnterLimits,
-    /// Where each axis is, and where it is to be.
-    EnterStartAndTarget,
-    /// The common arrival.
-    ReadTheArrival,
-    /// The refusal, where there is one.
-    ReadTheRefusal,
-}
-
-impl SheetLine {
-    /// The lines in the order of the sheet.
-    pub const ALL: [SheetLine; 5] = [
-        SheetLine::TapThePole,
-        SheetLine::EnterLimits,
-        SheetLine::EnterStartAndTarget,
-        SheetLine::ReadTheArrival,
-        SheetLine::ReadTheRefusal,
-    ];
-
-    /// The line as it stands on the sheet.
-    pub const fn text(self) -> &'static str {
-        match self {
-            SheetLine::TapThePole => "tap the pole, note the half period and how far each swing shrinks",
-            SheetLine::EnterLimits => "enter speed and acceleration limits for each axis",
-            SheetLine::EnterStartAndTarget => "enter start and target, still or moving",
-            SheetLine::ReadTheArrival => "read the arrival tick before the first sighting",
-            SheetLine::ReadTheRefusal => "read any refusal number",
-        }
-    }
-
-    /// What the line is there to catch.
-    pub const fn catches(self) -> &'static str {
-        match self {
-            SheetLine::TapThePole => "a blend tuned for another pole",
-            SheetLine::EnterLimits => "a table that the motors cannot follow",
-            SheetLine::EnterStartAndTarget => "a head that starts with a jump",
-            SheetLine::ReadTheArrival => "pan arriving while tilt still travels",
-            SheetLine::ReadTheRefusal => "a guess taken for a plan",
-        }
-    }
-}
-
 /// Why a job has no table. A refused call writes nothing.
 ///
-/// As text it is a sentence that says what is wrong, which line of the set-up sheet to look at, and what to turn:
+/// As text it is a sentence that speaks of the job's fields:
 ///
 /// ```
 /// use polgamir::Refusal;
 ///
 /// assert_eq!(
 ///     Refusal::Blend { axis: 1 }.to_string(),
-///     "refused with 5: the half period of axis 1 is not 0 to 256 ticks, or its weight is not 1 to 128; \
-///      look at the sheet's line \"tap the pole, note the half period and how far each swing shrinks\": \
-///      tap again and enter both for axis 1"
+///     "refused with 5: on axis 1 `half_period` is outside 0 to 256, or `second_weight` outside 1 to 128"
 /// );
 /// ```
+///
+/// [`Axis::out_of_range`](crate::Axis::out_of_range) tells which number is at fault in 4, 5 and 6.
 #[derive(Debug, Clone, Copy, PartialEq, Eq, Hash)]
 #[non_exhaustive]
 pub enum Refusal {
@@ -248,89 +200,49 @@ impl Refusal {
         }
     }
 
-    /// The line of the set-up sheet to look at.
-    pub const fn sheet_line(&self) -> SheetLine {
-        match self {
-            Refusal::Blend { .. } => SheetLine::TapThePole,
-            Refusal::Mask | Refusal::Limits { .. } => SheetLine::EnterLimits,
-            Refusal::StartOrTarget { .. } | Refusal::AcceleratingTarget { .. } | Refusal::NoCommonArrival { .. } => {
-                SheetLine::EnterStartAndTarget
-            }
-            Refusal::AskedArrival | Refusal::NotReachable { .. } | Refusal::TableTooShort { .. } => {
-                SheetLine::ReadTheArrival
-            }
-            Refusal::Words { .. } | Refusal::Other { .. } => SheetLine::ReadTheRefusal,
-        }
-    }
-
     /// The line that the table program prints, as `refused 8 place 0 axes 1 arrival 0`.
     pub fn printed_line(&self) -> String {
         let (number, place, mask, arrival) = (self.number(), self.place(), self.mask().0, self.arrival());
         format!("refused {number} place {place} axes {mask} arrival {arrival}")
     }
 
-    /// What is wrong.
+    /// What is wrong, without the number.
     fn write_cause(&self, f: &mut fmt::Formatter<'_>) -> fmt::Result {
         match self {
-            Refusal::Mask => write!(f, "the job names no axis, or one above {}", AXES - 1),
-            Refusal::Words { index } => write!(f, "word {index} of the job is of a wrong kind, lacking or left over"),
-            Refusal::AskedArrival => write!(f, "the asked arrival is above {LATEST_ARRIVAL}"),
+            Refusal::Mask => write!(f, "the axis mask is absent, 0 or above 63: a job has at least one of the axes 0 to 5"),
+            Refusal::Words { index } => write!(
+                f,
+                "word {index} is of a kind not allowed there, lacking or left over, or it ends the job with a payload \
+                 other than 0"
+            ),
+            Refusal::AskedArrival => write!(f, "`arrival` asks for a tick above {LATEST_ARRIVAL}"),
             Refusal::Limits { axis } => write!(
                 f,
-                "the speed limit of axis {axis} is not 1 to 1048576, or its acceleration limit is not 1 to 65536"
+                "on axis {axis} `speed_limit` is outside 1 to 1048576, or `acceleration_limit` outside 1 to 65536"
             ),
             Refusal::Blend { axis } => {
-                write!(f, "the half period of axis {axis} is not 0 to 256 ticks, or its weight is not 1 to 128")
+                write!(f, "on axis {axis} `half_period` is outside 0 to 256, or `second_weight` outside 1 to 128")
             }
             Refusal::StartOrTarget { axis } => write!(
                 f,
-                "on axis {axis} the start or target velocity is above the speed limit, the target acceleration is above \
-                 the acceleration limit, the target tick is more than 4096 ticks from tick 0, or a position is not \
+                "on axis {axis} a `velocity` of `start` or `target` exceeds `speed_limit` in size, the target's \
+                 `acceleration` exceeds `acceleration_limit`, its `tick` exceeds 4096, or a `position` is outside \
                  -134217728 to 134217727"
             ),
-            Refusal::AcceleratingTarget { axis } => {
-                write!(f, "the target of axis {axis} accelerates while the swing of its pole shrinks")
-            }
-            Refusal::NotReachable { axes } => write!(f, "{axes} cannot arrive at the asked tick"),
+            Refusal::AcceleratingTarget { axis } => write!(
+                f,
+                "on axis {axis} the target's `acceleration` is not 0, while `half_period` is not 0 and `second_weight` is \
+                 not 128"
+            ),
+            Refusal::NotReachable { axes } => write!(f, "{axes} cannot arrive at the tick that `arrival` asks for"),
             Refusal::NoCommonArrival { axes } if axes.is_empty() => {
                 write!(f, "each axis can arrive, but no tick from 1 to {LATEST_ARRIVAL} suits all of them")
             }
             Refusal::NoCommonArrival { axes } => write!(f, "{axes} can arrive at no tick from 1 to {LATEST_ARRIVAL}"),
             Refusal::TableTooShort { arrival } => {
-                write!(f, "the arrival is tick {arrival}, and the lent table is too short for rows 0 to {arrival}")
+                write!(f, "the arrival is {arrival}, and the lent table has fewer than 3 cells for each axis and row")
             }
-            Refusal::Other { number, .. } => write!(f, "the planner refuses by a number, {number}, that has no name here"),
-        }
-    }
-
-    /// What to turn.
-    fn write_remedy(&self, f: &mut fmt::Formatter<'_>) -> fmt::Result {
-        match self {
-            Refusal::Mask => write!(f, "enter at least one of the axes 0 to {}", AXES - 1),
-            Refusal::Words { .. } => f.write_str("nothing was planned; write the words again from the sheet"),
-            Refusal::AskedArrival => write!(f, "ask for a tick from 1 to {LATEST_ARRIVAL}, or for the earliest"),
-            Refusal::Limits { axis } => write!(f, "enter both for axis {axis}, as its motor allows"),
-            Refusal::Blend { axis } => write!(f, "tap again and enter both for axis {axis}"),
-            Refusal::StartOrTarget { axis } => {
-                write!(f, "enter where axis {axis} is and goes, within what its limits allow")
-            }
-            Refusal::AcceleratingTarget { axis } => {
-                write!(f, "enter target acceleration 0 for axis {axis}, or weight 128 where the swing does not shrink")
-            }
-            Refusal::NotReachable { .. } => f.write_str(
-                "ask for the earliest arrival or another tick, not always a later one, \
-                 or raise limits as far as the motors allow",
-            ),
-            Refusal::NoCommonArrival { axes } if axes.is_empty() => {
-                f.write_str("change a moving target or a start, or raise limits as far as the motors allow")
-            }
-            Refusal::NoCommonArrival { .. } => {
-                f.write_str("bring start and target nearer, or raise limits as far as the motors allow")
-            }
-            Refusal::TableTooShort { arrival } => {
-                write!(f, "lend 3 cells for each axis and each of {} rows", arrival + 1)
-            }
-            Refusal::Other { .. } => f.write_str("nothing was planned; look the number up in the library's header"),
+            Refusal::Other { number, .. } => write!(f, "the library refuses by a number, {number}, that has no name here"),
         }
     }
 }
@@ -338,9 +250,7 @@ impl Refusal {
 impl fmt::Display for Refusal {
     fn fmt(&self, f: &mut fmt::Formatter<'_>) -> fmt::Result {
         write!(f, "refused with {}: ", self.number())?;
-        self.write_cause(f)?;
-        write!(f, "; look at the sheet's line \"{}\": ", self.sheet_line().text())?;
-        self.write_remedy(f)
+        self.write_cause(f)
     }
 }
 

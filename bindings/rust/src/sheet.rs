@@ -20,6 +20,7 @@
 //! # Ok::<(), polgamir::sheet::SheetError>(())
 //! ```
 
+mod line;
 mod reading;
 
 use std::fmt;
@@ -27,6 +28,8 @@ use std::fmt;
 use crate::job::{Arrival, Axis, Job, RestPoint, Target};
 use crate::words::WordKind;
 use crate::AXES;
+
+pub use line::SheetLine;
 
 /// A job with what its sheet says beside it: the names of the axes, and the lines that the entries stand on.
 #[derive(Debug, Clone, PartialEq, Eq, Default)]

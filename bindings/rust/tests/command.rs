@@ -1,65 +1,12 @@
-//! The command `polgamir`: what it prints, and its exit statuses.
+//! The command `polgamir`: what each of its commands prints and draws.
 
 mod common;
 
-use std::io::Write;
-use std::path::{Path, PathBuf};
-use std::process::{Command, Output, Stdio};
-use std::{env, fs};
+use std::fs;
+use std::path::Path;
 
+use common::command::{folder, printed, run, run_with, scratch, sheet, told};
 use common::CASE_C_TABLE;
-
-/// The repository's folder of a name.
-fn folder(name: &str) -> PathBuf {
-    Path::new(env!("CARGO_MANIFEST_DIR")).join("../..").join(name)
-}
-
-/// A sheet of the repository.
-fn sheet(name: &str) -> String {
-    folder("sheets").join(name).with_extension("sheet").to_str().expect("a path of letters").into()
-}
-
-/// A file for a test to write.
-fn scratch(name: &str) -> String {
-    Path::new(env!("CARGO_TARGET_TMPDIR")).join(name).to_str().expect("a path of letters").into()
-}
-
-/// Runs the command with arguments and standard input.
-fn run_with(arguments: &[&str], input: &[u8]) -> Output {
-    let mut child = Command::new(env!("CARGO_BIN_EXE_polgamir"))
-        .args(arguments)
-        .stdin(Stdio::piped())
-        .stdout(Stdio::piped())
-        .stderr(Stdio::piped())
-        .spawn()
-        .expect("the command starts");
-    // A command that does not read its input may end before it is written.
-    let _ = child.stdin.take().expect("its input").write_all(input);
-    child.wait_with_output().expect("the command ends")
-}
-
-/// Runs the command with arguments.
-fn run(arguments: &[&str]) -> Output {
-    run_with(arguments, b"")
-}
-
-/// Standard output and the exit status.
-fn printed(output: &Output) -> (String, Option<i32>) {
-    (String::from_utf8_lossy(&output.stdout).into(), output.status.code())
-}
-
-/// What is said on standard error, of a run that ends with 2 and prints nothing.
-fn told(output: &Output) -> String {
-    assert_eq!(printed(output), (String::new(), Some(2)));
-    String::from_utf8_lossy(&output.stderr).into()
-}
-
-/// The text of case C's sheet with a change.
-fn changed_case_c(from: &str, to: &str) -> String {
-    let text = fs::read_to_string(sheet("case-c")).expect("the sheet of case C");
-    assert!(text.contains(from), "{from}");
-    text.replace(from, to)
-}
 
 #[test]
 fn plan_prints_the_arrival_and_aligned_columns() {
@@ -106,30 +53,27 @@ fn plan_prints_each_axis_by_its_name() {
     assert!(lines[4..].iter().all(|line| line.len() == lines[4].len()), "{text}");
 }
 
+/// A file of job words is planned, drawn and turned into words as its sheet is.
 #[test]
-fn plan_prints_refusals_and_ends_with_1() {
-    let expected = "\
-refused 8 place 0 axes 1 arrival 0
-refused with 8: axis 0 cannot arrive at the asked tick; look at the sheet's line \"read the arrival tick before the first \
-sighting\": ask for the earliest arrival or another tick, not always a later one, or raise limits as far as the motors allow
-line 3: arrival 3
-line 8: axis 0: speed limit 10
-line 9: axis 0: acceleration limit 1
-";
-    assert_eq!(printed(&run(&["plan", &sheet("too-soon")])), (expected.into(), Some(1)));
+fn job_words_are_taken_for_a_sheet() {
+    let job = folder("jobs").join("common-arrival.job").to_str().expect("letters").to_string();
+    let expected = fs::read_to_string(folder("jobs").join("common-arrival.txt")).expect("its text");
+    assert_eq!(printed(&run(&["plan", "--plain", &job])), (expected.clone(), Some(0)));
+    let text = run(&["words", &job]).stdout;
+    assert_eq!(text, run(&["words", &sheet("common-arrival")]).stdout);
+    assert_eq!(printed(&run_with(&["plan", "--plain", "-"], &text)), (expected, Some(0)));
+    assert!(printed(&run(&["plot", "-o", "-", &job])).0.starts_with("<svg "));
 
-    let heavy = changed_case_c("weight               128", "weight 129");
-    let (text, status) = printed(&run_with(&["plan", "-"], heavy.as_bytes()));
-    assert_eq!(status, Some(1));
+    let refused = printed(&run(&["plan", folder("jobs").join("too-soon.job").to_str().expect("letters")]));
     assert!(
-        text.starts_with("refused 5 place 0 axes 0 arrival 0\nrefused with 5: the half period of axis 0"),
-        "{text}"
+        refused.0.ends_with("\narrival 3\naxis 0: speed limit 10\naxis 0: acceleration limit 1\n"),
+        "{}",
+        refused.0
     );
-
-    let (text, status) = printed(&run(&["plan", "--cells", "14", &sheet("case-c")]));
-    assert_eq!(status, Some(1));
-    assert!(text.starts_with("refused 10 place 0 axes 0 arrival 4\n"), "{text}");
-    assert_eq!(run(&["plan", "--cells", "15", &sheet("case-c")]).status.code(), Some(0));
+    assert_eq!(
+        told(&run_with(&["plan", "-"], b"10000001 30000000")),
+        "polgamir: standard input: word 1: expected kind 2 (arrival), found kind 3 (30000000)\n"
+    );
 }
 
 #[test]
@@ -185,6 +129,20 @@ fn show_tells_the_word_at_fault() {
 }
 
 #[test]
+fn show_tells_what_a_text_is() {
+    let expected = "a set-up sheet: `polgamir plan` plans it, `polgamir words` writes its job words";
+    let told_of = |input: &[u8]| told(&run_with(&["show", "-"], input));
+    let text = fs::read(sheet("case-c")).expect("the sheet of case C");
+    assert_eq!(told_of(&text), format!("polgamir: standard input: expected job words, found {expected}\n"));
+    for arguments in [&["plan", "--plain"][..], &["plan"], &["plan", "--units"]] {
+        let table = run(&[arguments, &[&sheet("case-c")]].concat()).stdout;
+        assert_eq!(told_of(&table), "polgamir: standard input: expected job words, found a printed table\n");
+    }
+    let refusal = run(&["plan", &sheet("too-soon")]).stdout;
+    assert_eq!(told_of(&refusal), "polgamir: standard input: expected job words, found a printed refusal\n");
+}
+
+#[test]
 fn plot_draws_a_picture() {
     for (name, panels) in [("case-c", 3), ("pan-tilt-stem", 8), ("six-axes", 23)] {
         let file = scratch(name) + ".svg";
@@ -201,57 +159,18 @@ fn plot_draws_a_picture() {
     assert!(!Path::new(&file).exists(), "a refused job has no picture");
 }
 
-#[test]
-fn wrong_sheets_end_with_2() {
-    let wrong = changed_case_c("speed limit          10", "speed limit          ten");
-    for command in ["plan", "words"] {
-        assert_eq!(
-            told(&run_with(&[command, "-"], wrong.as_bytes())),
-            "polgamir: standard input: line 8: expected a whole number of units per tick from 1 to 1048576 after \
-             `speed limit`, found `ten`\n"
-        );
-    }
-    let far = changed_case_c("target position      1", "target position      134217728");
-    assert_eq!(
-        told(&run_with(&["words", "-"], far.as_bytes())),
-        "polgamir: standard input: line 13: expected a number from -134217728 to 134217727 after `target position`, for \
-         its job word, found `134217728`\n"
-    );
-    assert!(told(&run(&["plan", &scratch("no-such.sheet")])).contains("no-such.sheet: "));
-    assert!(told(&run(&["plot", &sheet("case-c"), "-o", &scratch("no-such-folder/x.svg")])).contains("x.svg: "));
-    assert!(told(&run_with(&["plan", "-"], &[0xFF])).contains("utf-8"));
+/// The texts of a picture: title, numbers, remarks, caption.
+fn texts_of(picture: &str) -> Vec<&str> {
+    picture.lines().filter(|line| line.starts_with("<text") || line.starts_with("<desc")).collect()
 }
 
+/// The pictures of the repository are what the command draws.
 #[test]
-fn wrong_usage_ends_with_2() {
-    let case_c = sheet("case-c");
-    for arguments in [
-        &[][..],
-        &["draw"],
-        &["plan"],
-        &["plan", &case_c, &case_c],
-        &["plan", "--bytes", &case_c],
-        &["plan", "--plain", "--units", &case_c],
-        &["plan", "--cells", "many", &case_c],
-        &["plan", &case_c, "--cells"],
-        &["words", "--cells", "5", &case_c],
-        &["show", "-o", "x", &case_c],
-        &["plot", &case_c],
-        &["plot", &case_c, "-o", "x", "-o", "y"],
-    ] {
-        let text = told(&run(arguments));
-        assert!(text.ends_with("; `polgamir --help` lists what can be asked\n"), "{arguments:?}: {text}");
+fn pictures_are_up_to_date() {
+    for name in ["pan-tilt-stem", "cable-carriage", "common-arrival"] {
+        let picture = fs::read_to_string(folder("docs/pictures").join(name).with_extension("svg")).expect("a picture");
+        let (drawn, _) = printed(&run(&["plot", "-o", "-", &sheet(name)]));
+        assert_eq!(texts_of(&picture), texts_of(&drawn), "{name}");
+        assert!(texts_of(&picture).len() > 20, "{name}");
     }
-}
-
-#[test]
-fn help_is_given() {
-    for arguments in [&["--help"][..], &["help"], &["-h"], &["plan", "--help"]] {
-        let (text, status) = printed(&run(arguments));
-        assert_eq!(status, Some(0));
-        for command in ["plan", "words", "show", "plot", "Exit status"] {
-            assert!(text.contains(command), "{command}");
-        }
-    }
-    assert_eq!(printed(&run(&["--version"])), (concat!("polgamir ", env!("CARGO_PKG_VERSION"), "\n").into(), Some(0)));
 }

@@ -1,99 +1,93 @@
-//! The refusals' sentences, and the line of the set-up sheet that each names.
+//! The refusals' sentences, and the line of the set-up sheet that each leads to.
 
-use polgamir::{AxisMask, Refusal, SheetLine};
+mod common;
 
-/// Every refusal with its number, its printed line, its sheet line and its sentence without the sheet line.
-fn all() -> Vec<(Refusal, &'static str, SheetLine, &'static str, &'static str)> {
+use common::{field_axis, Random};
+use polgamir::sheet::SheetLine;
+use polgamir::{Arrival, Axis, AxisMask, Job, Refusal, Target};
+
+/// Every refusal in checking order, with its printed line, its sheet line and its sentence.
+fn all() -> Vec<(Refusal, &'static str, SheetLine, &'static str)> {
     use SheetLine::{EnterLimits, EnterStartAndTarget, ReadTheArrival, ReadTheRefusal, TapThePole};
     vec![
         (
             Refusal::Mask,
             "refused 1 place 0 axes 0 arrival 0",
             EnterLimits,
-            "refused with 1: the job names no axis, or one above 5",
-            "enter at least one of the axes 0 to 5",
+            "refused with 1: the axis mask is absent, 0 or above 63: a job has at least one of the axes 0 to 5",
         ),
         (
             Refusal::Words { index: 7 },
             "refused 2 place 7 axes 0 arrival 0",
             ReadTheRefusal,
-            "refused with 2: word 7 of the job is of a wrong kind, lacking or left over",
-            "nothing was planned; write the words again from the sheet",
+            "refused with 2: word 7 is of a kind not allowed there, lacking or left over, or it ends the job with a \
+             payload other than 0",
         ),
         (
             Refusal::AskedArrival,
             "refused 3 place 1 axes 0 arrival 0",
             ReadTheArrival,
-            "refused with 3: the asked arrival is above 4096",
-            "ask for a tick from 1 to 4096, or for the earliest",
+            "refused with 3: `arrival` asks for a tick above 4096",
         ),
         (
             Refusal::Limits { axis: 2 },
             "refused 4 place 2 axes 0 arrival 0",
             EnterLimits,
-            "refused with 4: the speed limit of axis 2 is not 1 to 1048576, or its acceleration limit is not 1 to 65536",
-            "enter both for axis 2, as its motor allows",
+            "refused with 4: on axis 2 `speed_limit` is outside 1 to 1048576, or `acceleration_limit` outside 1 to 65536",
         ),
         (
             Refusal::Blend { axis: 0 },
             "refused 5 place 0 axes 0 arrival 0",
             TapThePole,
-            "refused with 5: the half period of axis 0 is not 0 to 256 ticks, or its weight is not 1 to 128",
-            "tap again and enter both for axis 0",
+            "refused with 5: on axis 0 `half_period` is outside 0 to 256, or `second_weight` outside 1 to 128",
         ),
         (
             Refusal::StartOrTarget { axis: 5 },
             "refused 6 place 5 axes 0 arrival 0",
             EnterStartAndTarget,
-            "refused with 6: on axis 5 the start or target velocity is above the speed limit, the target acceleration is \
-             above the acceleration limit, the target tick is more than 4096 ticks from tick 0, or a position is not \
+            "refused with 6: on axis 5 a `velocity` of `start` or `target` exceeds `speed_limit` in size, the target's \
+             `acceleration` exceeds `acceleration_limit`, its `tick` exceeds 4096, or a `position` is outside \
              -134217728 to 134217727",
-            "enter where axis 5 is and goes, within what its limits allow",
         ),
         (
             Refusal::AcceleratingTarget { axis: 1 },
             "refused 7 place 1 axes 0 arrival 0",
             EnterStartAndTarget,
-            "refused with 7: the target of axis 1 accelerates while the swing of its pole shrinks",
-            "enter target acceleration 0 for axis 1, or weight 128 where the swing does not shrink",
+            "refused with 7: on axis 1 the target's `acceleration` is not 0, while `half_period` is not 0 and \
+             `second_weight` is not 128",
         ),
         (
             Refusal::NotReachable { axes: AxisMask(0b100101) },
             "refused 8 place 0 axes 37 arrival 0",
             ReadTheArrival,
-            "refused with 8: axes 0, 2 and 5 cannot arrive at the asked tick",
-            "ask for the earliest arrival or another tick, not always a later one, or raise limits as far as the motors allow",
+            "refused with 8: axes 0, 2 and 5 cannot arrive at the tick that `arrival` asks for",
         ),
         (
             Refusal::NoCommonArrival { axes: AxisMask(0b10) },
             "refused 9 place 0 axes 2 arrival 0",
             EnterStartAndTarget,
             "refused with 9: axis 1 can arrive at no tick from 1 to 4096",
-            "bring start and target nearer, or raise limits as far as the motors allow",
         ),
         (
             Refusal::NoCommonArrival { axes: AxisMask(0) },
             "refused 9 place 0 axes 0 arrival 0",
             EnterStartAndTarget,
             "refused with 9: each axis can arrive, but no tick from 1 to 4096 suits all of them",
-            "change a moving target or a start, or raise limits as far as the motors allow",
         ),
         (
             Refusal::TableTooShort { arrival: 4 },
             "refused 10 place 0 axes 0 arrival 4",
             ReadTheArrival,
-            "refused with 10: the arrival is tick 4, and the lent table is too short for rows 0 to 4",
-            "lend 3 cells for each axis and each of 5 rows",
+            "refused with 10: the arrival is 4, and the lent table has fewer than 3 cells for each axis and row",
         ),
     ]
 }
 
 #[test]
-fn sentences_name_the_sheet_line() {
-    for (refusal, printed, line, cause, remedy) in all() {
+fn sentences_speak_of_fields() {
+    for (refusal, printed, line, sentence) in all() {
         assert_eq!(refusal.printed_line(), printed);
-        assert_eq!(refusal.sheet_line(), line);
-        let sentence = format!("{cause}; look at the sheet's line \"{}\": {remedy}", line.text());
+        assert_eq!(SheetLine::after(&refusal), line);
         assert_eq!(refusal.to_string(), sentence);
     }
 }
@@ -120,4 +114,65 @@ fn every_sheet_line_says_what_it_catches() {
     for line in SheetLine::ALL {
         assert!(!line.text().is_empty() && !line.catches().is_empty());
     }
+}
+
+/// The first of the refusals 4, 5 and 6 that a job's ranges call for, and its axis.
+fn called_for(job: &Job) -> Option<Refusal> {
+    let of = |number: u32| {
+        let at_fault = |axis: &Axis| axis.out_of_range().any(|fault| fault.refusal_number() == number);
+        job.entered().find(|(_, axis)| at_fault(axis)).map(|(axis, _)| axis)
+    };
+    let limits = of(4).map(|axis| Refusal::Limits { axis });
+    let blend = of(5).map(|axis| Refusal::Blend { axis });
+    limits.or(blend).or(of(6).map(|axis| Refusal::StartOrTarget { axis }))
+}
+
+/// The ranges are the planner's: it refuses with 4, 5 or 6 exactly where a number is outside its range, at that axis.
+#[test]
+fn the_planner_keeps_the_same_ranges() {
+    let mut random = Random(0x4A6E_5EED_0000_0011);
+    let mut refused = [0; 7];
+    for round in 0..20000 {
+        let mut job = random.plannable_job();
+        job.arrival = Arrival::from(1);
+        for axis in job.axes.iter_mut().flatten() {
+            if round % 4 == 0 {
+                put_at_an_end(axis, &mut random);
+            }
+        }
+        let called_for = called_for(&job);
+        if let Some(refusal) = called_for {
+            refused[refusal.number() as usize] += 1;
+            assert_eq!(job.arrival_found(), Err(refusal), "{job:?}");
+        } else if let Err(refusal) = job.arrival_found() {
+            assert!(![4, 5, 6].contains(&refusal.number()), "{job:?}");
+        }
+    }
+    assert!(refused[4] > 100 && refused[5] > 100 && refused[6] > 100, "{refused:?}");
+}
+
+/// Sets one number of an axis to an end of its range, or one past it.
+fn put_at_an_end(axis: &mut Axis, random: &mut Random) {
+    let entries: Vec<_> = axis.entries().map(|(entry, _)| entry).collect();
+    let entry = entries[random.between(0, entries.len() as i64 - 1) as usize];
+    let (least, greatest) = axis.range_of(entry).into_inner();
+    let past = random.between(0, 1);
+    let value = if random.once_in(2) { greatest + past } else { least - past };
+    let job = Job::earliest().with_axis(0, *axis);
+    let mut words = job.to_words().expect("numbers that fit");
+    let index = 2 + entries.iter().position(|&other| other == entry).expect("an entry of the axis");
+    words[index] = entry.number() << 28 | (value as u32 & 0x0FFF_FFFF);
+    let (low, high) = entry.payload_range();
+    if (low..=high).contains(&value) {
+        *axis = Job::from_words(&words).expect("the same kinds").axes[0].expect("axis 0");
+    }
+}
+
+#[test]
+fn positions_past_the_range_are_at_fault() {
+    let axis = field_axis(Target::still(i64::MIN));
+    let faults: Vec<_> = axis.out_of_range().collect();
+    assert_eq!(faults.len(), 1);
+    assert_eq!((faults[0].value, faults[0].refusal_number()), (i64::MIN, 6));
+    assert_eq!(faults[0].range, -134_217_728..=134_217_727);
 }

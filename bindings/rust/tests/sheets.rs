@@ -76,6 +76,20 @@ fn targets_may_be_still_flying_or_moving() {
     assert_eq!(sheet.job.arrival, Arrival::Earliest);
 }
 
+/// A byte order mark, spaces that do not break and the minus signs of editors are read.
+#[test]
+fn typographic_text_is_read() {
+    let text = CASE_C.join("\r\n").replace("speed limit 10", "speed\u{A0}limit\u{2003}10");
+    for minus in ['-', '\u{2212}', '\u{2013}', '\u{2010}', '\u{2011}'] {
+        let text = format!("\u{FEFF}{}", text.replace("target position 1", &format!("target position {minus}1")));
+        let sheet: Sheet = text.parse().expect("a good sheet");
+        assert_eq!(sheet.job.axes[0], Some(field_axis(Target::still(-1))), "{minus:?}");
+        assert_eq!(sheet.line_of(None, WordKind::Arrival), Some(1));
+    }
+    assert!(read_with(10, "target position \u{2212}-1").is_err());
+    assert!(read_with(10, "target position \u{2212}").is_err());
+}
+
 /// Numbers that the planner refuses are its own to refuse, so that its number and sentence are what a crew reads.
 #[test]
 fn numbers_out_of_range_are_left_to_the_planner() {
@@ -106,7 +120,7 @@ fn wrong_entries_are_told_with_their_line() {
         "line 3: expected a whole number of ticks from 0 to 256 after `half period`, found the end of the line",
         "line 4: expected a whole number from 1 to 128 after `weight`, found `1.5`",
         "line 8: expected a whole number of units per tick after `start velocity`, found `0 0`",
-        "line 9: expected `still`, `moving` or `flying` after `target`, found `soon`",
+        "line 9: expected `still`, `flying` or `moving` after `target`, found `soon`",
         "line 1: expected `earliest` or a tick from 1 to 4096 after `arrival`, found `0`",
         "line 1: expected `earliest` or a tick from 1 to 4096 after `arrival`, found the end of the line",
         "line 2: expected an axis number from 0 to 5 after `axis`, found `6`",
@@ -146,7 +160,7 @@ fn entries_that_stand_twice_or_not_at_all_are_told_with_their_line() {
     assert_eq!(told_with(4, ""), "line 2: expected `weight` for axis 0, found none among its lines");
     assert_eq!(
         told_with(9, ""),
-        "line 2: expected `target still` or `target moving` for axis 0, found none among its lines"
+        "line 2: expected `target still`, `target flying` or `target moving` for axis 0, found none among its lines"
     );
     let moving = "target moving\ntarget velocity 1\ntarget acceleration 0";
     assert_eq!(told_with(9, moving), "line 2: expected `target tick` for axis 0, found none among its lines");

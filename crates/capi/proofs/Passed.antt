@@ -1,21 +1,12 @@
--- What the proofs of the exported calls share: a signed number stored in a field is what it was, and a promise goes over to an equal
--- answer and to equal axes.
-use Prim.Native.Nat.{ℕ, _<_, _^_}
-use mathlib.Core.Path.{_≡_, sym, subst, _∙_}
+-- What the proofs of the exported calls share: a promise goes over to an equal answer and to equal axes.
+use Prim.Native.Nat.{ℕ}
+use mathlib.Core.Path.{_≡_, sym, subst}
 use mathlib.Core.List.{List}
 use lib.IntN.{ℤ}
-use mir.Syntax.{w64}
-use lib.Signed.{mag}
-use mir.Val.{toZ, ofZ, hbits}
-use mir.ValLaws.{toZ-ofZ}
 use Rattle.model.specs.declared.Answer.{Answer}
 use Rattle.model.specs.declared.Axis.{Axis}
 use Rattle.model.specs.Outcome.{Input, typed}
 use Rattle.planner.specs.Promise.{Promise}
-
--- a number that fits, stored as an i64, is the number that it is known to be
-pub stored : {z e : ℤ} → mag z < 2 ^ hbits w64 → z ≡ e → toZ w64 (ofZ w64 z) ≡ e
-stored {z} fits same = toZ-ofZ w64 z (record { sfits = fits }) ∙ same
 
 pub for-answer : {q : Input} {entry exit : List ℤ} {r s : Answer} → s ≡ r → Promise q entry r exit → Promise q entry s exit
 for-answer {q} {entry} {exit} same kept = subst (λ (a : Answer). Promise q entry a exit) (sym same) kept

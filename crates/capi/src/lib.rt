@@ -1,15 +1,15 @@
 // The planner's calls for programs in C and Rust, as include/polgamir.h declares them. Each keeps the promise of the planner's call that it
-// makes, whatever it is given. A slice is a pointer and a count to C, an array of a fixed length a pointer.
+// makes, whatever it is given. A slice is a pointer and a count to C; a struct passes by value.
 use model::Answer;
 use model::Axis;
 use model::RestPoint;
 use model::State;
 use model::Target;
 ghost use mathlib.Core.Path.{_≡_};
-ghost use Prim.Native.Nat.{_<_};
+ghost use mathlib.Core.List.{map};
 ghost use Rattle.model.specs.Outcome as Input;
 ghost use Rattle.planner.specs.Promise.{Promise};
-ghost use Rattle.capi.specs.Flat.{signedAt, unsignedAt, targetAt, axisAt, axesAt, answerOf};
+ghost use Rattle.capi.specs.Jobs.{startOf, fixedOf, movingOf, targetOf, axisOf, jobOf, answerOf};
 
 // What a call gives back, laid out as the header's `polgamir_answer`.
 #[repr(C)]
@@ -18,6 +18,30 @@ pub struct PolgamirAnswer {
     pub mask: u32,
     pub place: usize,
     pub arrival: u32,
+}
+
+// An axis, laid out as the header's `polgamir_axis`. The target is fixed where its kind is 0, else it moves.
+#[repr(C)]
+pub struct PolgamirAxis {
+    pub start_position: i64,
+    pub start_velocity: i64,
+    pub target_position: i64,
+    pub target_velocity: i64,
+    pub target_acceleration: i64,
+    pub target_tick: i64,
+    pub target_kind: u32,
+    pub speed_limit: u32,
+    pub acceleration_limit: u32,
+    pub half_period: u32,
+    pub second_weight: u32,
+}
+
+// A job, laid out as the header's `polgamir_job`.
+#[repr(C)]
+pub struct PolgamirJob {
+    pub mask: u32,
+    pub asked: u32,
+    pub axes: [PolgamirAxis; 6],
 }
 
 // The planner's answer in the header's layout.
@@ -32,75 +56,87 @@ fn returned(r: Answer) -> PolgamirAnswer
     }
 }
 
-// Signed number j of axis i.
-fn signed_at(values: &[i64; 36], i: usize, j: usize) -> i64
-    requires { ⌜ (i < 6) × (j < 6) ⌝ }
-    ensures { λ r. ⌜ r ≡ signedAt (now (values .entry)) i j ⌝ }
-{
-    values[6 * i + j]
-}
+// ---- an axis
 
-// Unsigned number j of axis i.
-fn unsigned_at(values: &[u32; 30], i: usize, j: usize) -> u32
-    requires { ⌜ (i < 6) × (j < 5) ⌝ }
-    ensures { λ r. ⌜ r ≡ unsignedAt (now (values .entry)) i j ⌝ }
+fn start_of(a: PolgamirAxis) -> RestPoint
+    ensures { λ r. ⌜ r ≡ startOf a ⌝ }
 {
-    values[5 * i + j]
-}
-
-// The target of axis i, fixed where the kind is 0.
-fn target_at(values: &[i64; 36], kind: u32, i: usize) -> Target
-    requires { ⌜ i < 6 ⌝ }
-    ensures { λ r. ⌜ r ≡ targetAt (now (values .entry)) kind i ⌝ }
-{
-    let position = signed_at(values, i, 2);
-    let velocity = signed_at(values, i, 3);
-    if kind == 0 {
-        return Target::Fixed(RestPoint {
-            position: position,
-            velocity: velocity,
-        });
+    RestPoint {
+        position: a.start_position,
+        velocity: a.start_velocity,
     }
-    Target::Moving(State {
-        position: position,
-        velocity: velocity,
-        acceleration: signed_at(values, i, 4),
-        tick: signed_at(values, i, 5),
-    })
 }
 
-// Axis i.
-fn axis_at(signed: &[i64; 36], unsigned: &[u32; 30], i: usize) -> Axis
-    requires { ⌜ i < 6 ⌝ }
-    ensures { λ r. ⌜ r ≡ axisAt (now (signed .entry)) (now (unsigned .entry)) i ⌝ }
+fn fixed_of(a: PolgamirAxis) -> RestPoint
+    ensures { λ r. ⌜ r ≡ fixedOf a ⌝ }
 {
-    let start = RestPoint {
-        position: signed_at(signed, i, 0),
-        velocity: signed_at(signed, i, 1),
-    };
-    let target = target_at(signed, unsigned_at(unsigned, i, 4), i);
+    RestPoint {
+        position: a.target_position,
+        velocity: a.target_velocity,
+    }
+}
+
+fn moving_of(a: PolgamirAxis) -> State
+    ensures { λ r. ⌜ r ≡ movingOf a ⌝ }
+{
+    State {
+        position: a.target_position,
+        velocity: a.target_velocity,
+        acceleration: a.target_acceleration,
+        tick: a.target_tick,
+    }
+}
+
+fn target_of(a: PolgamirAxis) -> Target
+    ensures { λ r. ⌜ r ≡ targetOf a ⌝ }
+{
+    if a.target_kind == 0 {
+        let point = fixed_of(a);
+        return Target::Fixed(point);
+    }
+    let state = moving_of(a);
+    Target::Moving(state)
+}
+
+fn axis_of(a: PolgamirAxis) -> Axis
+    ensures { λ r. ⌜ r ≡ axisOf a ⌝ }
+{
+    let start = start_of(a);
+    let target = target_of(a);
     Axis {
         start: start,
-        speed_limit: unsigned_at(unsigned, i, 0),
-        acceleration_limit: unsigned_at(unsigned, i, 1),
-        half_period: unsigned_at(unsigned, i, 2),
-        second_weight: unsigned_at(unsigned, i, 3),
+        speed_limit: a.speed_limit,
+        acceleration_limit: a.acceleration_limit,
+        half_period: a.half_period,
+        second_weight: a.second_weight,
         target: target,
     }
 }
 
-// All six axes.
-fn axes_at(signed: &[i64; 36], unsigned: &[u32; 30]) -> [Axis; 6]
-    ensures { λ r. ⌜ r ≡ axesAt (now (signed .entry)) (now (unsigned .entry)) ⌝ }
+fn axes_of(list: [PolgamirAxis; 6]) -> [Axis; 6]
+    ensures { λ r. ⌜ r ≡ map axisOf list ⌝ }
 {
-    [
-        axis_at(signed, unsigned, 0),
-        axis_at(signed, unsigned, 1),
-        axis_at(signed, unsigned, 2),
-        axis_at(signed, unsigned, 3),
-        axis_at(signed, unsigned, 4),
-        axis_at(signed, unsigned, 5),
-    ]
+    let front = list[0];
+    let first = axis_of(front);
+    let mut axes = [first; 6];
+    let mut i: usize = 0;
+    while i < 6 {
+        let entry = list[i];
+        let next = axis_of(entry);
+        axes[i] = next;
+        i += 1;
+    }
+    axes
+}
+
+// ---- the calls
+
+// The version of the library, 1,000,000 * major + 1,000 * minor + patch, as the header it belongs to says.
+#[no_mangle]
+pub extern "C" fn polgamir_version() -> u32
+    ensures { λ r. ⌜ r ≡ 1000 ⌝ }
+{
+    1000
 }
 
 // Plans the job that the words hold and writes its rows into the table.
@@ -113,20 +149,14 @@ pub extern "C" fn polgamir_plan_words(words: &[u32], table: &mut [i64]) -> Polga
     returned(planner::plan_words(words, table))
 }
 
-// Plans the axes that the mask names, whose values stand in the two arrays, and writes their rows into the table. The asked arrival is a
-// tick from 1 to 4,096, or 0 for the least that every axis reaches. The values of the other axes are not looked at.
+// Plans the axes of a job that its mask names and writes their rows into the table. The asked arrival is a tick from 1 to 4,096, or 0 for
+// the least that every axis reaches. The other axes are not looked at.
 // Gives back what the call for words gives; its refusals are 1 and 3 to 10.
 #[no_mangle]
-pub extern "C" fn polgamir_plan_typed(
-    mask: u32,
-    asked: u32,
-    signed: &[i64; 36],
-    unsigned: &[u32; 30],
-    table: &mut [i64],
-) -> PolgamirAnswer
-    ensures { λ r. ⌜ Promise (Input.typed mask asked (axesAt (now (signed .entry)) (now (unsigned .entry))))
-        (now (table .entry)) (answerOf r) (now (table .exit)) ⌝ }
+pub extern "C" fn polgamir_plan_job(job: PolgamirJob, table: &mut [i64]) -> PolgamirAnswer
+    ensures { λ r. ⌜ Promise (jobOf job) (now (table .entry)) (answerOf r) (now (table .exit)) ⌝ }
 {
-    let axes = axes_at(signed, unsigned);
-    returned(planner::plan_typed(mask, asked, axes, table))
+    let list = job.axes;
+    let axes = axes_of(list);
+    returned(planner::plan_typed(job.mask, job.asked, axes, table))
 }

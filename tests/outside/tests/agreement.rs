@@ -3,7 +3,7 @@
 //! are compared.
 
 use outside::jobs::{self, Reach};
-use outside::library;
+use outside::library::{self, CJob};
 use outside::random::Random;
 use outside::reference::{self, Answer, Job};
 
@@ -70,13 +70,13 @@ impl Comparison {
         }
         self.lend(cells);
         let unread = self.random.word() as i64;
-        let (signed, mut unsigned) = library::flat(&job.axes, unread);
-        for i in 0..6 {
-            if unsigned[5 * i + 4] != 0 {
-                unsigned[5 * i + 4] = self.random.pick(&[1, 2, 1 << 31, u32::MAX]);
+        let mut laid_out = CJob::of(job, unread);
+        for axis in &mut laid_out.axes {
+            if axis.target_kind != 0 {
+                axis.target_kind = self.random.pick(&[1, 2, 1 << 31, u32::MAX]);
             }
         }
-        let got = library::plan_flat(job.mask, job.asked, &signed, &unsigned, &mut self.got);
+        let got = library::plan_c_job(laid_out, &mut self.got);
         let want = job.plan(&mut self.want);
         self.compare(got, want, job);
     }

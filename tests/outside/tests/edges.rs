@@ -2,7 +2,7 @@
 //! length about the cells needed.
 
 use outside::jobs::{with_signed, with_unsigned, SIGNED_ENDS, UNSIGNED_ENDS};
-use outside::library;
+use outside::library::{self, CJob};
 use outside::reference::{Answer, Axis, Job, Target, UNSET};
 
 const FIXED: Axis = Axis {
@@ -142,13 +142,14 @@ fn the_largest_table() {
 fn any_number_but_zero_is_a_moving_target() {
     let mut axes = [UNSET; 6];
     axes[2] = MOVING;
-    let (signed, mut unsigned) = library::flat(&axes, 0);
+    let job = Job { mask: 4, asked: 0, axes };
     let mut want = vec![0; 60];
-    let answer = Job { mask: 4, asked: 0, axes }.plan(&mut want);
+    let answer = job.plan(&mut want);
     for kind in [1, 2, 256, 65_536, 1 << 31, u32::MAX] {
-        unsigned[5 * 2 + 4] = kind;
+        let mut laid_out = CJob::of(&job, 0);
+        laid_out.axes[2].target_kind = kind;
         let mut got = vec![0; 60];
-        assert_eq!(library::plan_flat(4, 0, &signed, &unsigned, &mut got), answer);
+        assert_eq!(library::plan_c_job(laid_out, &mut got), answer);
         assert_eq!(got, want);
     }
 }

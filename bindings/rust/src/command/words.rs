@@ -23,18 +23,8 @@ pub fn hexadecimal_of(words: &[u32]) -> String {
     text + "\n"
 }
 
-/// The words of a file's content. Where `bytes` is `None`, a content with a byte that no text has is taken as bytes; the
-/// bytes of a job always have one, for its first word has two zero bytes.
-pub fn read(content: &[u8], bytes: Option<bool>) -> Result<Vec<u32>, String> {
-    let is_text = |byte: &u8| byte.is_ascii_graphic() || byte.is_ascii_whitespace();
-    match bytes.unwrap_or(!content.iter().all(is_text)) {
-        true => from_bytes(content),
-        false => from_hexadecimal(&String::from_utf8_lossy(content)),
-    }
-}
-
 /// The words of little-endian bytes.
-fn from_bytes(content: &[u8]) -> Result<Vec<u32>, String> {
+pub fn from_bytes(content: &[u8]) -> Result<Vec<u32>, String> {
     let words = content.chunks_exact(4);
     match words.remainder() {
         [] => Ok(words.map(|word| u32::from_le_bytes([word[0], word[1], word[2], word[3]])).collect()),
@@ -43,7 +33,7 @@ fn from_bytes(content: &[u8]) -> Result<Vec<u32>, String> {
 }
 
 /// The words of hexadecimal text; `#` begins a comment.
-fn from_hexadecimal(text: &str) -> Result<Vec<u32>, String> {
+pub fn from_hexadecimal(text: &str) -> Result<Vec<u32>, String> {
     let mut words = Vec::new();
     for (index, line) in text.lines().enumerate() {
         for word in line.split('#').next().unwrap_or_default().split_whitespace() {

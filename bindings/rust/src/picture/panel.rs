@@ -155,8 +155,8 @@ pub fn range_of(values: impl Iterator<Item = f64>) -> (f64, f64) {
 /// A range around values and 0 that shows a limit on each side where the values come near it.
 pub fn range_within(values: impl Iterator<Item = f64>, limit: f64) -> (f64, f64) {
     let (least, greatest) = extremes(values.chain([0.0]));
-    let upper = if greatest > 0.4 * limit { limit } else { greatest };
-    let lower = if least < -0.4 * limit { -limit } else { least };
+    let upper = if greatest > 0.4 * limit { greatest.max(limit) } else { greatest };
+    let lower = if least < -0.4 * limit { least.min(-limit) } else { least };
     if upper == lower {
         return (-1.12 * limit, 1.12 * limit);
     }
@@ -257,6 +257,7 @@ mod tests {
     fn ranges_show_near_limits_only() {
         assert_eq!(range_within([0.0, 9.0].into_iter(), 10.0), (-1.0, 11.0));
         assert_eq!(range_within([0.0, 1.0].into_iter(), 1000.0), (-0.1, 1.1));
+        assert_eq!(range_within([0.0, 20.0].into_iter(), 10.0), (-2.0, 22.0));
         assert_eq!(range_of([5.0].into_iter()), (4.0, 6.0));
     }
 }

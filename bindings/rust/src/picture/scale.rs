@@ -50,11 +50,14 @@ pub fn label(value: f64, step: f64) -> String {
 
 /// A quantity in a sentence, with three significant digits and at most three decimals.
 pub fn quantity(value: f64) -> String {
-    if value == 0.0 {
-        return "0.000".into();
+    match value.abs() {
+        size if size < 1e-9 => "0".into(),
+        size if size < 5e-4 => "<0.001".into(),
+        size => {
+            let decimals = (2.0 - size.log10().floor()).clamp(0.0, 3.0) as usize;
+            grouped(&format!("{value:.decimals$}"))
+        }
     }
-    let decimals = (2.0 - value.abs().log10().floor()).clamp(0.0, 3.0) as usize;
-    grouped(&format!("{value:.decimals$}"))
 }
 
 /// A printed number with commas between its thousands, and a minus sign in place of a hyphen.
@@ -95,7 +98,7 @@ mod tests {
         assert_eq!(label(-0.0, 0.5), "0.0");
         assert_eq!(quantity(0.012345), "0.012");
         assert_eq!(quantity(-1234.5), "−1,234");
-        assert_eq!(quantity(0.0), "0.000");
+        assert_eq!((quantity(0.0), quantity(0.0004)), ("0".into(), "<0.001".into()));
     }
 
     #[test]

@@ -41,6 +41,8 @@ pub mod stroke {
 
     /// The plan.
     pub const PLAN: Stroke = Stroke { colour: colour::PLAN, width: 1.8, dashes: "" };
+    /// The plan after arrival.
+    pub const PLAN_AFTER: Stroke = Stroke { width: 1.2, ..PLAN };
     /// The same job without the blend.
     pub const UNBLENDED: Stroke = Stroke { colour: colour::UNBLENDED, width: 1.5, dashes: "6 3" };
     /// The arrival of the same job without the blend.

@@ -12,13 +12,34 @@ impl FromStr for Sheet {
 
     fn from_str(text: &str) -> Result<Sheet, SheetError> {
         let mut reading = Reading::default();
+        let text = text.strip_prefix(BYTE_ORDER_MARK).unwrap_or(text);
         for (index, line) in text.lines().enumerate() {
             reading.line = index + 1;
             let entry = line.split('#').next().unwrap_or_default();
-            let words: Vec<&str> = entry.split([' ', '\t', '\r', ':', '=']).filter(|word| !word.is_empty()).collect();
+            let words: Vec<&str> = entry.split(separates).filter(|word| !word.is_empty()).collect();
             reading.take(&words)?;
         }
         reading.finish()
+    }
+}
+
+/// What some editors put before a text.
+const BYTE_ORDER_MARK: char = '\u{FEFF}';
+
+/// The signs that editors put in place of a hyphen: minus, en dash, hyphen, hyphen that does not break.
+const MINUS_SIGNS: [char; 4] = ['\u{2212}', '\u{2013}', '\u{2010}', '\u{2011}'];
+
+/// Whether a character stands between the words of a line.
+fn separates(character: char) -> bool {
+    character.is_whitespace() || matches!(character, ':' | '=')
+}
+
+/// A whole number, below zero with a hyphen or any other minus sign.
+fn whole_number(word: &str) -> Option<i64> {
+    match word.strip_prefix(MINUS_SIGNS) {
+        Some(size) if size.starts_with(|digit: char| digit.is_ascii_digit()) => format!("-{size}").parse().ok(),
+        Some(_) => None,
+        None => word.parse().ok(),
     }
 }
 
@@ -191,7 +212,7 @@ impl Draft {
             return fault(line, expected, format!("another beside that of line {}", first.line));
         }
         let number = match value {
-            [word] if kind.is_signed() => word.parse::<i64>().ok(),
+            [word] if kind.is_signed() => whole_number(word),
             [word] => word.parse::<u32>().ok().map(i64::from),
             _ => None,
         };
@@ -213,7 +234,7 @@ impl Draft {
             _ => None,
         };
         let Some(kind) = kind else {
-            return fault(line, "`still`, `moving` or `flying` after `target`", quoted(value));
+            return fault(line, "`still`, `flying` or `moving` after `target`", quoted(value));
         };
         self.target = Some((kind, line));
         Ok(())
@@ -222,7 +243,7 @@ impl Draft {
     /// The axis with all its entries.
     fn axis(&self) -> Result<Axis, SheetError> {
         let Some((target, target_line)) = self.target else {
-            return self.lacks("`target still` or `target moving`");
+            return self.lacks("`target still`, `target flying` or `target moving`");
         };
         if let Some(entry) = self.entries.iter().find(|entry| !target.has(entry.kind)) {
             let name = entry.kind.name();

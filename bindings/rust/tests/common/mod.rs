@@ -1,6 +1,8 @@
-//! What the tests share: the field cases' axis, and random numbers that are the same in every run.
+//! What the tests share: the field cases' axis, runs of the command, and random numbers that are the same in every run.
 
 #![allow(dead_code)]
+
+pub mod command;
 
 use polgamir::{Axis, Job, RestPoint, State, Target};
 

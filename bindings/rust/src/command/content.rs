@@ -1,0 +1,94 @@
+//! What a file holds: a set-up sheet, or job words as bytes or as hexadecimal text.
+
+use polgamir::sheet::Sheet;
+use polgamir::Job;
+
+use super::words;
+
+/// What a file's content looks like.
+#[derive(Debug, Clone, Copy, PartialEq, Eq)]
+enum Form {
+    /// Job words as bytes. They always have a zero byte, for the first word has two; a text has none.
+    Bytes,
+    /// Job words as hexadecimal text: the first word is a number.
+    Hexadecimal,
+    /// Other text.
+    Text,
+}
+
+impl Form {
+    /// The form of a content.
+    fn of(content: &[u8]) -> Form {
+        if content.contains(&0) && !is_wide(content) {
+            return Form::Bytes;
+        }
+        match words::from_hexadecimal(first_word(&String::from_utf8_lossy(content))) {
+            Ok(words) if !words.is_empty() => Form::Hexadecimal,
+            _ => Form::Text,
+        }
+    }
+}
+
+/// Whether a content is text of two bytes for each character, by its byte order mark.
+fn is_wide(content: &[u8]) -> bool {
+    content.starts_with(&[0xFF, 0xFE]) || content.starts_with(&[0xFE, 0xFF])
+}
+
+/// The words of a text's lines, without comments.
+fn words_in(text: &str) -> impl Iterator<Item = impl Iterator<Item = &str>> {
+    let text = text.strip_prefix('\u{FEFF}').unwrap_or(text);
+    let lines = text.lines().map(|line| line.split('#').next().unwrap_or_default().split_whitespace());
+    lines.filter(|words| words.clone().next().is_some())
+}
+
+/// The first word of a text.
+fn first_word(text: &str) -> &str {
+    words_in(text).flatten().next().unwrap_or_default()
+}
+
+/// The text of a content.
+fn text_of(content: &[u8]) -> Result<&str, String> {
+    match std::str::from_utf8(content) {
+        Ok(text) => Ok(text.strip_prefix('\u{FEFF}').unwrap_or(text)),
+        Err(_) if is_wide(content) => Err("this is text in utf-16; save it as utf-8".into()),
+        Err(error) => Err(error.to_string()),
+    }
+}
+
+/// The job of a content, a set-up sheet or job words.
+pub fn job_of(content: &[u8]) -> Result<Sheet, String> {
+    let job_words = match Form::of(content) {
+        Form::Text => return text_of(content)?.parse().map_err(|error: polgamir::sheet::SheetError| error.to_string()),
+        Form::Bytes => words::from_bytes(content)?,
+        Form::Hexadecimal => words::from_hexadecimal(text_of(content)?)?,
+    };
+    Job::from_words(&job_words).map(Sheet::from).map_err(|error| error.to_string())
+}
+
+/// The job words of a content; where `bytes` is `None`, the content tells by itself whether it is bytes.
+pub fn words_of(content: &[u8], bytes: Option<bool>) -> Result<Vec<u32>, String> {
+    if bytes.unwrap_or(Form::of(content) == Form::Bytes) {
+        return words::from_bytes(content);
+    }
+    let text = text_of(content)?;
+    match other_text(text) {
+        None => words::from_hexadecimal(text),
+        Some(what) => Err(format!("expected job words, found {what}")),
+    }
+}
+
+/// What a text is that holds no job words, where it can be told.
+fn other_text(text: &str) -> Option<&'static str> {
+    let mut first_words = words_in(text).filter_map(|mut words| words.next());
+    match first_words.next()?.to_ascii_lowercase().trim_end_matches([':', '=']) {
+        "refused" => Some("a printed refusal"),
+        "arrival" if first_words.next().is_some_and(is_below_a_printed_arrival) => Some("a printed table"),
+        "arrival" | "axis" => Some("a set-up sheet: `polgamir plan` plans it, `polgamir words` writes its job words"),
+        _ => None,
+    }
+}
+
+/// Whether a line's first word is one that follows the arrival of a printed table: `in` units or fine steps, or tick 0.
+fn is_below_a_printed_arrival(word: &str) -> bool {
+    word == "in" || word == "0"
+}

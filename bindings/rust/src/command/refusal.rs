@@ -1,0 +1,163 @@
+//! A refusal in the words of the set-up sheet: what is wrong, what to turn, and the lines that it is about.
+
+use polgamir::sheet::{Sheet, SheetLine};
+use polgamir::{Arrival, AxisMask, Refusal, WordKind, AXES, LATEST_ARRIVAL};
+
+/// The refusal's line as the table program prints it, what is wrong, which line of the crew's sheet to look at and what to turn,
+/// and the file's lines.
+pub fn explained(sheet: &Sheet, refusal: &Refusal) -> String {
+    let look_at = SheetLine::after(refusal).text();
+    let (cause, remedy) = (cause(sheet, refusal), remedy(sheet, refusal));
+    let mut text = format!("{}\n{cause}\nlook at \"{look_at}\": {remedy}\n", refusal.printed_line());
+    for line in lines(sheet, refusal) {
+        text += &(line + "\n");
+    }
+    text
+}
+
+/// Axes by their titles: `axis 0 pan`, `axis 0 pan and axis 1 tilt`.
+fn titles(sheet: &Sheet, axes: AxisMask) -> String {
+    let titles: Vec<String> = axes.axes().map(|axis| sheet.axis_title(axis)).collect();
+    match titles.split_last() {
+        None => "no axis".into(),
+        Some((only, [])) => only.clone(),
+        Some((last, before)) => format!("{} and {last}", before.join(", ")),
+    }
+}
+
+/// What is wrong.
+fn cause(sheet: &Sheet, refusal: &Refusal) -> String {
+    let title = refusal.axis().map(|axis| sheet.axis_title(axis)).unwrap_or_default();
+    match refusal {
+        Refusal::Mask => "the job has no axis".into(),
+        Refusal::Words { index } => format!("word {index} of the job is of a wrong kind, lacking or left over"),
+        Refusal::AskedArrival => format!("the asked arrival is above {LATEST_ARRIVAL}"),
+        Refusal::Limits { .. } => format!("a limit of {title} is outside its range"),
+        Refusal::Blend { .. } => format!("the half period or weight of {title} is outside its range"),
+        Refusal::StartOrTarget { .. } => format!("start or target of {title} is outside its range"),
+        Refusal::AcceleratingTarget { .. } => {
+            format!("the target of {title} accelerates while the swing of its pole shrinks")
+        }
+        Refusal::NotReachable { axes } => {
+            let asked = sheet.job.arrival.number();
+            format!("{} cannot arrive at tick {asked}; {}", titles(sheet, *axes), arrivals_that_do(sheet))
+        }
+        Refusal::NoCommonArrival { axes } if axes.is_empty() => {
+            format!("each axis can arrive, but no tick from 1 to {LATEST_ARRIVAL} suits all of them")
+        }
+        Refusal::NoCommonArrival { axes } => {
+            format!("{} can arrive at no tick from 1 to {LATEST_ARRIVAL}", titles(sheet, *axes))
+        }
+        Refusal::TableTooShort { arrival } => {
+            let needed = polgamir::cells_needed(sheet.job.mask().count_ones(), *arrival);
+            format!("the arrival is tick {arrival}, and its table needs {needed} cells")
+        }
+        other => other.to_string(),
+    }
+}
+
+/// What to turn.
+fn remedy(sheet: &Sheet, refusal: &Refusal) -> String {
+    match refusal {
+        Refusal::Mask => format!("enter at least one of the axes 0 to {}", AXES - 1),
+        Refusal::Words { .. } => "write the words again from the sheet".into(),
+        Refusal::AskedArrival => format!("ask for a tick from 1 to {LATEST_ARRIVAL}, or for the earliest"),
+        Refusal::Limits { .. } => "enter what the motor allows, within the range".into(),
+        Refusal::Blend { .. } => "tap again and enter what the pole does".into(),
+        Refusal::StartOrTarget { .. } => "enter where the axis is and goes, within what its limits allow".into(),
+        Refusal::AcceleratingTarget { .. } => {
+            "enter target acceleration 0, or weight 128 where the swing does not shrink".into()
+        }
+        Refusal::NotReachable { .. } if least_arrival(sheet).is_some() => {
+            "ask for such a tick or for the earliest, or raise limits as far as the motors allow".into()
+        }
+        Refusal::NotReachable { .. } | Refusal::NoCommonArrival { .. } => {
+            "bring start and target nearer, change a moving target, or raise limits as far as the motors allow".into()
+        }
+        Refusal::TableTooShort { .. } => "give `--cells` that many, or leave it out".into(),
+        _ => "nothing was planned".into(),
+    }
+}
+
+/// The least arrival of a job, whatever it asks for.
+fn least_arrival(sheet: &Sheet) -> Option<u32> {
+    let mut job = sheet.job;
+    job.arrival = Arrival::Earliest;
+    job.arrival_found().ok()
+}
+
+/// The least arrival after the one that a job asks for.
+fn next_arrival(sheet: &Sheet) -> Option<u32> {
+    let mut job = sheet.job;
+    (job.arrival.number() + 1..=LATEST_ARRIVAL).find(|&tick| {
+        job.arrival = Arrival::from(tick);
+        job.arrival_found().is_ok()
+    })
+}
+
+/// Which arrivals would do in place of the asked one.
+fn arrivals_that_do(sheet: &Sheet) -> String {
+    let asked = sheet.job.arrival.number();
+    match (least_arrival(sheet), next_arrival(sheet)) {
+        (None, _) => format!("no tick from 1 to {LATEST_ARRIVAL} would do"),
+        (Some(least), _) if least > asked => format!("the least arrival that would do is tick {least}"),
+        (Some(least), None) => format!("the least arrival that would do is tick {least}, and none after {asked}"),
+        (Some(least), Some(next)) => {
+            format!("the least arrival that would do is tick {least}, and the next after {asked} is tick {next}")
+        }
+    }
+}
+
+/// The lines that a refusal is about.
+fn lines(sheet: &Sheet, refusal: &Refusal) -> Vec<String> {
+    let mut lines = Vec::new();
+    if matches!(refusal, Refusal::AskedArrival | Refusal::NotReachable { .. }) {
+        let place = place(sheet, None, WordKind::Arrival);
+        lines.push(format!("{place}arrival {}", sheet.job.arrival.number()));
+    }
+    for number in refusal.axis().into_iter().chain(refusal.mask().axes()) {
+        lines.extend(guilty_lines(sheet, number, refusal.number()));
+        lines.extend(concerned_lines(sheet, number, concerns(refusal)));
+    }
+    lines
+}
+
+/// Where an entry stands, where its sheet was read from lines.
+fn place(sheet: &Sheet, axis: Option<usize>, entry: WordKind) -> String {
+    sheet.line_of(axis, entry).map(|line| format!("line {line}: ")).unwrap_or_default()
+}
+
+/// The entries of an axis that are outside their ranges, of those that a refusal's number speaks of.
+fn guilty_lines(sheet: &Sheet, number: usize, refusal: u32) -> Vec<String> {
+    let faults = sheet.job.axes[number].iter().flat_map(|axis| axis.out_of_range());
+    let faults = faults.filter(|fault| fault.refusal_number() == refusal);
+    let told = faults.map(|fault| {
+        let (place, title) = (place(sheet, Some(number), fault.entry), sheet.axis_title(number));
+        let (least, greatest) = fault.range.into_inner();
+        format!("{place}{title}: {} {}, expected {least} to {greatest}", fault.entry.name(), fault.value)
+    });
+    told.collect()
+}
+
+/// The entries of an axis that have a part in a refusal.
+fn concerned_lines(sheet: &Sheet, number: usize, concerned: &[WordKind]) -> Vec<String> {
+    let entries = sheet.job.axes[number].iter().flat_map(|axis| axis.entries());
+    let told = entries.filter(|(entry, _)| concerned.contains(entry)).filter_map(|(entry, value)| {
+        // A still target's velocity has no line of its own.
+        let has_line = sheet.line_of(None, WordKind::Arrival).is_none() || sheet.line_of(Some(number), entry).is_some();
+        let place = place(sheet, Some(number), entry);
+        has_line.then(|| format!("{place}{}: {} {value}", sheet.axis_title(number), entry.name()))
+    });
+    told.collect()
+}
+
+/// The entries of an axis that have a part in a refusal which no single entry is at fault for.
+fn concerns(refusal: &Refusal) -> &'static [WordKind] {
+    use WordKind::*;
+    match refusal {
+        Refusal::NotReachable { .. } => &[SpeedLimit, AccelerationLimit],
+        Refusal::AcceleratingTarget { .. } => &[HalfPeriod, SecondWeight, TargetAcceleration],
+        Refusal::NoCommonArrival { .. } => &[SpeedLimit, AccelerationLimit, StartPosition, TargetPosition],
+        _ => &[],
+    }
+}

@@ -1,0 +1,84 @@
+//! The command `polgamir` where the planner refuses: what it says, and the lines that it names.
+
+mod common;
+
+use common::command::{changed_case_c, printed, run, run_with, sheet};
+
+/// What is printed of a sheet that the planner refuses.
+fn refused(text: &str) -> String {
+    let (text, status) = printed(&run_with(&["plan", "-"], text.as_bytes()));
+    assert_eq!(status, Some(1));
+    text
+}
+
+#[test]
+fn plan_prints_refusals_and_ends_with_1() {
+    let expected = "\
+refused 8 place 0 axes 1 arrival 0
+axis 0 cannot arrive at tick 3; the least arrival that would do is tick 4
+look at \"read the arrival tick before the first sighting\": ask for such a tick or for the earliest, or raise limits as \
+far as the motors allow
+line 3: arrival 3
+line 8: axis 0: speed limit 10
+line 9: axis 0: acceleration limit 1
+";
+    assert_eq!(printed(&run(&["plan", &sheet("too-soon")])), (expected.into(), Some(1)));
+
+    let expected = "\
+refused 5 place 0 axes 0 arrival 0
+the half period or weight of axis 0 is outside its range
+look at \"tap the pole, note the half period and how far each swing shrinks\": tap again and enter what the pole does
+line 7: axis 0: weight 129, expected 1 to 128
+";
+    assert_eq!(refused(&changed_case_c("weight               128", "weight 129")), expected);
+
+    let (text, status) = printed(&run(&["plan", "--cells", "14", &sheet("case-c")]));
+    assert_eq!(status, Some(1));
+    assert!(text.starts_with("refused 10 place 0 axes 0 arrival 4\n"), "{text}");
+    assert!(text.contains("its table needs 15 cells\n"), "{text}");
+    assert_eq!(run(&["plan", "--cells", "15", &sheet("case-c")]).status.code(), Some(0));
+}
+
+/// Refusal 6 names the line at fault, each cause of its own.
+#[test]
+fn refusal_6_names_the_guilty_line() {
+    let moving = "target moving\ntarget velocity 0\ntarget acceleration 0\ntarget tick 0\ntarget position 1";
+    let still = "target               still\n  target position      1";
+    for (from, to, line) in [
+        ("start velocity       0", "start velocity -11", "line 11: axis 0: start velocity -11, expected -10 to 10"),
+        (
+            still,
+            &moving.replace("velocity 0", "velocity 11"),
+            "line 13: axis 0: target velocity 11, expected -10 to 10",
+        ),
+        (still, &moving.replace("ration 0", "ration -2"), "line 14: axis 0: target acceleration -2, expected -1 to 1"),
+        (still, &moving.replace("tick 0", "tick 4097"), "line 15: axis 0: target tick 4097, expected -4096 to 4096"),
+        (
+            "start position       0",
+            "start position 134217728",
+            "line 10: axis 0: start position 134217728, expected -134217728 to 134217727",
+        ),
+    ] {
+        let text = refused(&changed_case_c(from, to));
+        assert!(text.starts_with("refused 6 place 0 axes 0 arrival 0\n"), "{text}");
+        assert_eq!(text.lines().skip(3).collect::<Vec<_>>(), [line]);
+    }
+}
+
+/// Refusal 8 says which arrivals would do. The numbers are those of cases F and L.
+#[test]
+fn refusal_8_says_the_least_arrival_that_would_do() {
+    let flying = "target flying\ntarget velocity 10\ntarget position 10";
+    let case_f = changed_case_c("target               still\n  target position      1", flying);
+    let case_f = case_f.replace("start velocity       0", "start velocity 10").replace("limit          10", "limit 20");
+    let second_line = |text: &str| refused(text).lines().nth(1).map(String::from);
+    for (asked, told) in [
+        ("2", "axis 0 cannot arrive at tick 2; the least arrival that would do is tick 1, and the next after 2 is tick 39"),
+        ("38", "axis 0 cannot arrive at tick 38; the least arrival that would do is tick 1, and the next after 38 is tick 39"),
+    ] {
+        assert_eq!(second_line(&case_f.replace("arrival 4", &format!("arrival {asked}"))).as_deref(), Some(told));
+    }
+    let far = changed_case_c("target position      1", "target position 100000000");
+    let told = "axis 0 cannot arrive at tick 4; no tick from 1 to 4096 would do";
+    assert_eq!(second_line(&far).as_deref(), Some(told));
+}

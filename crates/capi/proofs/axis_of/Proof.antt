@@ -1,0 +1,28 @@
+-- `axis_of` gives the axis that its struct stands for, field by field.
+use borrow.Author.Needs.{needs}
+use Rattle.capi.specs.Jobs.{axisOf}
+use Rattle.capi.proofs.axis_of.Statement.{statement}
+use Rattle.capi.proofs.axis_of.Tie as tie
+
+start-of-requires : tie.Need-start-of-requires
+start-of-requires c κs = search needs
+
+target-of-requires : tie.Need-target-of-requires
+target-of-requires c κs = search needs
+
+returns : tie.Need-returns
+unfolding axisOf
+returns c =
+    let a = c .before .before .args .a in
+    λ i.
+    record {
+      start = c .before .start-of .ensures i;
+      «speed_limit» = a .«speed_limit»;
+      «acceleration_limit» = a .«acceleration_limit»;
+      «half_period» = a .«half_period»;
+      «second_weight» = a .«second_weight»;
+      target = c .target-of .ensures i;
+    }
+
+pub axis-of-spec : {M : Type 1} → statement M
+axis-of-spec = tie.close (tie.spec start-of-requires target-of-requires returns)

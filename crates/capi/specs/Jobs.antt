@@ -1,0 +1,57 @@
+-- What the structs of include/polgamir.h stand for.
+use mathlib.Core.Bool.{cond}
+use mathlib.Core.List.{map}
+use lib.Dec.{eqb}
+use Rattle.model.specs.Outcome.{Input, typed}
+use Rattle.model.specs.declared.Answer.{Answer}
+use Rattle.model.specs.declared.Axis.{Axis}
+use Rattle.model.specs.declared.RestPoint.{RestPoint}
+use Rattle.model.specs.declared.State.{State}
+use Rattle.model.specs.declared.Target.{Target}
+use Rattle.model.specs.declared.Target.the-variants.{Fixed, Moving}
+use Rattle.capi.specs.declared.PolgamirAnswer.{PolgamirAnswer}
+use Rattle.capi.specs.declared.PolgamirAxis.{PolgamirAxis}
+use Rattle.capi.specs.declared.PolgamirJob.{PolgamirJob}
+
+-- ---- an axis
+
+abbrev pub startOf : PolgamirAxis → RestPoint
+startOf a = record { position = a .«start_position»; velocity = a .«start_velocity» }
+
+abbrev pub fixedOf : PolgamirAxis → RestPoint
+fixedOf a = record { position = a .«target_position»; velocity = a .«target_velocity» }
+
+abbrev pub movingOf : PolgamirAxis → State
+movingOf a =
+    record {
+      position = a .«target_position»;
+      velocity = a .«target_velocity»;
+      acceleration = a .«target_acceleration»;
+      tick = a .«target_tick»;
+    }
+
+-- fixed where its kind is 0, moving where it is any other number
+unfoldable pub targetOf : PolgamirAxis → Target
+targetOf a = cond (eqb (a .«target_kind») 0) (Fixed (fixedOf a)) (Moving (movingOf a))
+
+unfoldable pub axisOf : PolgamirAxis → Axis
+axisOf a =
+    record {
+      start = startOf a;
+      «speed_limit» = a .«speed_limit»;
+      «acceleration_limit» = a .«acceleration_limit»;
+      «half_period» = a .«half_period»;
+      «second_weight» = a .«second_weight»;
+      target = targetOf a;
+    }
+
+-- ---- a job
+
+abbrev pub jobOf : PolgamirJob → Input
+jobOf j = typed (j .mask) (j .asked) (map axisOf (j .axes))
+
+-- ---- an answer
+
+-- the planner's answer that C's holds
+abbrev pub answerOf : PolgamirAnswer → Answer
+answerOf r = record { number = r .number; place = r .place; mask = r .mask; arrival = r .arrival }

@@ -1,0 +1,159 @@
+/*
+ * What a call takes of the stack, and how long the longest ones take: the figures of include/polgamir.h, measured. Each call runs on a
+ * stack that is painted before; how far down the paint is gone says what it took. No call recurses, so a few jobs that take every way
+ * through the library will do. They run twice, because a loader may bind memcpy on the first run's stack.
+ * Prints the figures, and returns 0 where each is at most what the header says.
+ */
+#define _GNU_SOURCE
+#include <inttypes.h>
+#include <stdbool.h>
+#include <stdio.h>
+#include <string.h>
+#include <time.h>
+#include <ucontext.h>
+
+#include "polgamir.h"
+
+#define PAINT 0xA5
+
+/* The bytes that the header says a call takes by itself. */
+#define OWN_STACK 4400
+
+/* Seconds of processor time, some times what the header says of a 2.5 GHz core: room for a slower or a busy machine, not for another order. */
+#define LONGEST_SEARCH 1.0
+#define LONGEST_ASKED 0.01
+
+static unsigned char stack[65536] __attribute__((aligned(16)));
+static int64_t table[POLGAMIR_MOST_CELLS];
+static ucontext_t outside, inside;
+
+/* The call that is measured: a job, or words where there are some. */
+static polgamir_job job;
+static uint32_t words[64];
+static size_t word_count;
+static polgamir_answer answer;
+
+static void plan_words(void)
+{
+    answer = polgamir_plan_words(words, word_count, table, POLGAMIR_MOST_CELLS);
+}
+
+static void plan_job(void)
+{
+    answer = polgamir_plan_job(job, table, POLGAMIR_MOST_CELLS);
+}
+
+static double seconds(void)
+{
+    struct timespec now;
+    clock_gettime(CLOCK_THREAD_CPUTIME_ID, &now);
+    return (double)now.tv_sec + 1e-9 * (double)now.tv_nsec;
+}
+
+/* The greatest figures of one run. */
+static size_t most_stack;
+static double longest_search, longest_asked;
+static int failures;
+
+/* Makes the call on the painted stack. */
+static void measure(const char *what, uint32_t number)
+{
+    memset(stack, PAINT, sizeof stack);
+    getcontext(&inside);
+    inside.uc_stack.ss_sp = stack;
+    inside.uc_stack.ss_size = sizeof stack;
+    inside.uc_link = &outside;
+    makecontext(&inside, word_count != 0 ? plan_words : plan_job, 0);
+    double begun = seconds();
+    swapcontext(&outside, &inside);
+    double took = seconds() - begun;
+    size_t untouched = 0;
+    while (untouched < sizeof stack && stack[untouched] == PAINT) {
+        untouched++;
+    }
+    size_t used = sizeof stack - untouched;
+    most_stack = used > most_stack ? used : most_stack;
+    double *longest = job.asked == 0 ? &longest_search : &longest_asked;
+    *longest = took > *longest ? took : *longest;
+    if (answer.number != number) {
+        fprintf(stderr, "%s: %" PRIu32 " and not %" PRIu32 "\n", what, answer.number, number);
+        failures++;
+    }
+}
+
+/* An axis from rest at 0 to rest at a position. */
+static polgamir_axis to(int64_t position, uint32_t speed_limit, uint32_t acceleration_limit, uint32_t half_period)
+{
+    polgamir_axis axis = {0};
+    axis.target_position = position;
+    axis.speed_limit = speed_limit;
+    axis.acceleration_limit = acceleration_limit;
+    axis.half_period = half_period;
+    axis.second_weight = 128;
+    return axis;
+}
+
+/* The same job from words, with positions from 0 up. */
+static void as_words(void)
+{
+    word_count = 0;
+    words[word_count++] = 0x10000000 | job.mask;
+    words[word_count++] = 0x20000000 | job.asked;
+    for (unsigned i = 0; i < POLGAMIR_AXES; i++) {
+        words[word_count++] = 0x30000000;
+        words[word_count++] = 0x40000000;
+        words[word_count++] = 0x50000000 | job.axes[i].speed_limit;
+        words[word_count++] = 0x60000000 | job.axes[i].acceleration_limit;
+        words[word_count++] = 0x70000000 | job.axes[i].half_period;
+        words[word_count++] = 0x80000000 | job.axes[i].second_weight;
+        words[word_count++] = 0x90000000 | (uint32_t)job.axes[i].target_position;
+        words[word_count++] = 0xA0000000;
+    }
+    words[word_count++] = 0xF0000000;
+}
+
+/* The job, six axes alike but for their positions, typed and from words. */
+static void both(const char *what, uint32_t asked, polgamir_axis axis, uint32_t number)
+{
+    job.mask = 63;
+    job.asked = asked;
+    for (unsigned i = 0; i < POLGAMIR_AXES; i++) {
+        job.axes[i] = axis;
+        job.axes[i].target_position += i;
+    }
+    word_count = 0;
+    measure(what, number);
+    as_words();
+    measure(what, number);
+    word_count = 0;
+}
+
+/* Every way through the library, and the longest calls. Gives back the most stack that a call took. */
+static size_t run(void)
+{
+    most_stack = 0;
+    longest_search = longest_asked = 0;
+    both("a short table", 0, to(56, 10, 1, 4), 0);
+    both("a late arrival", 0, to(2950000, 1000, 1, 40), 0);
+    both("the largest table", 4096, to(70, 1048576, 1, 256), 0);
+    both("an arrival too soon", 9, to(2950000, 1000, 1, 40), 8);
+    both("an asked arrival out of reach", 4096, to(134217000, 32768, 1, 0), 8);
+    both("a bad limit", 0, to(56, 0, 1, 4), 4);
+    both("out of reach at a low speed", 0, to(100000000, 1, 1, 0), 9);
+    both("out of reach at a high speed", 0, to(134217000, 32000, 1, 0), 9);
+    for (unsigned i = 0; i < POLGAMIR_AXES - 1; i++) {
+        job.axes[i] = to(0, 1048576, 65536, 0);
+    }
+    measure("out of reach for the last axis", 9);
+    return most_stack;
+}
+
+int main(void)
+{
+    size_t first = run();
+    size_t own = run();
+    printf("stack %zu bytes, on the first run %zu; longest search %.3f s, longest call with an asked arrival %.4f s\n", own, first,
+           longest_search, longest_asked);
+    bool kept = own <= OWN_STACK && first <= POLGAMIR_STACK && longest_search <= LONGEST_SEARCH && longest_asked <= LONGEST_ASKED;
+    return kept && failures == 0 ? 0 : 1;
+}

@@ -1,0 +1,202 @@
+/*
+ * include/polgamir.h and the library that it is linked with: every field is where the library reads it, a null pointer with count 0
+ * will do, the numbers have their texts, and both have one version. The answers that are asked for stand in the header's list of
+ * refusals. Prints nothing and returns 0 where all of it holds.
+ */
+#include <inttypes.h>
+#include <stdbool.h>
+#include <stdio.h>
+#include <string.h>
+
+#include "polgamir.h"
+
+/* ---- the layout on x86-64, by number */
+
+#define AT(type, field, offset) _Static_assert(offsetof(type, field) == (offset), #type "." #field)
+AT(polgamir_answer, number, 0);
+AT(polgamir_answer, mask, 4);
+AT(polgamir_answer, place, 8);
+AT(polgamir_answer, arrival, 16);
+_Static_assert(sizeof(polgamir_answer) == 24, "polgamir_answer");
+AT(polgamir_axis, start_position, 0);
+AT(polgamir_axis, start_velocity, 8);
+AT(polgamir_axis, target_position, 16);
+AT(polgamir_axis, target_velocity, 24);
+AT(polgamir_axis, target_acceleration, 32);
+AT(polgamir_axis, target_tick, 40);
+AT(polgamir_axis, target_kind, 48);
+AT(polgamir_axis, speed_limit, 52);
+AT(polgamir_axis, acceleration_limit, 56);
+AT(polgamir_axis, half_period, 60);
+AT(polgamir_axis, second_weight, 64);
+_Static_assert(sizeof(polgamir_axis) == 72, "polgamir_axis");
+AT(polgamir_job, mask, 0);
+AT(polgamir_job, asked, 4);
+AT(polgamir_job, axes, 8);
+_Static_assert(sizeof(polgamir_job) == 440, "polgamir_job");
+_Static_assert(POLGAMIR_MOST_CELLS == 3 * POLGAMIR_AXES * (POLGAMIR_LATEST_ARRIVAL + 1), "POLGAMIR_MOST_CELLS");
+
+/* ---- what is asked for */
+
+static int failures;
+
+static void expect(bool holds, const char *what, unsigned axis)
+{
+    if (!holds) {
+        fprintf(stderr, "axis %u: %s\n", axis, what);
+        failures++;
+    }
+}
+
+/* The answer has this number, place and mask. */
+static bool is(polgamir_answer answer, uint32_t number, uint64_t place, uint32_t mask)
+{
+    return answer.number == number && answer.place == place && answer.mask == mask;
+}
+
+#define CELLS 3000
+static int64_t table[CELLS];
+
+/* A job of one axis, no two values of which are the same; what its other axes hold is of no effect. It lands at tick 300. */
+static polgamir_job distinct(unsigned axis)
+{
+    polgamir_job job;
+    memset(&job, 0x81, sizeof job);
+    job.mask = 1u << axis;
+    job.asked = 300;
+    job.axes[axis] = (polgamir_axis){
+        .start_position = -701,
+        .start_velocity = 11,
+        .target_position = 902,
+        .target_velocity = -13,
+        .target_acceleration = 0,
+        .target_tick = 287,
+        .target_kind = POLGAMIR_MOVING,
+        .speed_limit = 5003,
+        .acceleration_limit = 207,
+        .half_period = 17,
+        .second_weight = 97,
+    };
+    return job;
+}
+
+/* The job is refused with this number, for this axis where the number names one. */
+static void refused(const char *what, unsigned axis, polgamir_job job, uint32_t number)
+{
+    bool names_axis = number >= 4 && number <= 7;
+    uint32_t mask = number == 8 ? 1u << axis : 0;
+    memset(table, 0x55, sizeof table);
+    expect(is(polgamir_plan_job(job, table, CELLS), number, names_axis ? axis : number == 3, mask), what, axis);
+    for (size_t cell = 0; cell < CELLS; cell++) {
+        expect(table[cell] == 0x5555555555555555, "a refused call writes no cell", axis);
+    }
+}
+
+static bool accepted(polgamir_job job)
+{
+    return polgamir_plan_job(job, table, CELLS).number == 0;
+}
+
+/* Row 0 is the start, row 300 the target 13 ticks after its own tick, as an accepted call writes them. */
+static void reads_the_ends(unsigned axis)
+{
+    polgamir_job job = distinct(axis);
+    memset(table, 0x55, sizeof table);
+    polgamir_answer answer = polgamir_plan_job(job, table, CELLS);
+    expect(is(answer, 0, 0, 1u << axis) && answer.arrival == 300, "accepted", axis);
+    expect(table[0] == 256 * -701, "start position", axis);
+    expect(table[1] == 256 * 11, "start velocity", axis);
+    expect(table[3 * 300] == 256 * (902 - 13 * 13), "target position and tick", axis);
+    expect(table[3 * 300 + 1] == 256 * -13, "target velocity", axis);
+    expect(table[3 * 300 + 2] == 0, "target acceleration", axis);
+    expect(table[3 * 301] == 0x5555555555555555, "no cell after the last row", axis);
+    job.axes[axis].target_kind = POLGAMIR_FIXED;
+    expect(accepted(job) && table[3 * 300] == 256 * 902, "a fixed target has no tick", axis);
+    job = distinct(axis);
+    job.axes[axis].target_acceleration = 3;
+    job.axes[axis].second_weight = 128;
+    expect(accepted(job) && table[3 * 300 + 2] == 256 * 3, "an accelerating target", axis);
+    expect(table[3 * 300 + 1] == 256 * (-13 + 3 * 13), "an accelerating target's velocity", axis);
+}
+
+/* One field at a time is taken past its range, by the names of the fields: the refusal list says which number it gets. */
+static void reads_the_limits(unsigned axis)
+{
+#define WITH(field, value, number)                                                  \
+    do {                                                                            \
+        polgamir_job changed = distinct(axis);                                      \
+        changed.axes[axis].field = (value);                                         \
+        refused(#field " = " #value, axis, changed, number);                        \
+    } while (0)
+    WITH(speed_limit, 0, 4);
+    WITH(speed_limit, 1048577, 4);
+    WITH(acceleration_limit, 0, 4);
+    WITH(acceleration_limit, 65537, 4);
+    WITH(half_period, 257, 5);
+    WITH(second_weight, 0, 5);
+    WITH(second_weight, 129, 5);
+    WITH(start_position, 134217728, 6);
+    WITH(start_velocity, 5004, 6);
+    WITH(start_velocity, -5004, 6);
+    WITH(target_position, -134217729, 6);
+    WITH(target_velocity, 5004, 6);
+    WITH(target_acceleration, 208, 6);
+    WITH(target_tick, 4097, 6);
+    WITH(target_tick, -4097, 6);
+    WITH(target_acceleration, 207, 7);
+#undef WITH
+    polgamir_job job = distinct(axis);
+    job.asked = 4097;
+    refused("asked = 4097", axis, job, 3);
+    job.asked = 17; /* the half period: an arrival is later */
+    refused("asked = half_period", axis, job, 8);
+    job.mask = 1u << (axis + 6);
+    refused("mask", axis, job, 1);
+    job = distinct(axis);
+    job.axes[axis].target_acceleration = 208;
+    job.axes[axis].target_tick = 4097;
+    job.axes[axis].target_kind = POLGAMIR_FIXED;
+    expect(accepted(job), "a fixed target's acceleration and tick are not looked at", axis);
+}
+
+/* A null pointer with count 0: no words, no cells, and neither. */
+static void takes_null(void)
+{
+    expect(is(polgamir_plan_words(NULL, 0, table, CELLS), 1, 0, 0), "no words", 0);
+    expect(is(polgamir_plan_words(NULL, 0, NULL, 0), 1, 0, 0), "no words and no cells", 0);
+    static const uint32_t words[] = {
+        0x10000001, 0x20000004, 0x30000000, 0x40000000, 0x5000000A, 0x60000001,
+        0x70000000, 0x80000080, 0x90000001, 0xA0000000, 0xF0000000,
+    };
+    polgamir_answer answer = polgamir_plan_words(words, sizeof words / sizeof words[0], NULL, 0);
+    expect(is(answer, 10, 0, 0) && answer.arrival == 4, "words and no cells", 0);
+    for (unsigned axis = 0; axis < POLGAMIR_AXES; axis++) {
+        answer = polgamir_plan_job(distinct(axis), NULL, 0);
+        expect(is(answer, 10, 0, 0) && answer.arrival == 300, "a job and no cells", axis);
+    }
+    polgamir_job empty = {0};
+    expect(is(polgamir_plan_job(empty, NULL, 0), 1, 0, 0), "a job with no axis", 0);
+}
+
+/* Every number has a text of its own. */
+static void has_texts(void)
+{
+    for (uint32_t number = 0; number <= POLGAMIR_REFUSED_TABLE_TOO_SHORT + 1; number++) {
+        for (uint32_t other = 0; other < number; other++) {
+            expect(strcmp(polgamir_refusal_text(number), polgamir_refusal_text(other)) != 0, "two numbers with one text", other);
+        }
+    }
+    expect(polgamir_refusal_text(11) == polgamir_refusal_text(UINT32_MAX), "a number above the last", 0);
+}
+
+int main(void)
+{
+    expect(polgamir_version() == POLGAMIR_VERSION, "the library's version is the header's", 0);
+    for (unsigned axis = 0; axis < POLGAMIR_AXES; axis++) {
+        reads_the_ends(axis);
+        reads_the_limits(axis);
+    }
+    takes_null();
+    has_texts();
+    return failures == 0 ? 0 : 1;
+}
