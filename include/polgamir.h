@@ -2,7 +2,7 @@
  * Polgamir: motion tables for a head on a swaying pole.
  *
  * From a job (starts, targets, limits, the pole's half period and damping) a call writes a table of position, velocity and
- * acceleration for each tick that lands exactly on the targets with the sway cancelled, or refuses with a number from 1 to 10.
+ * acceleration for each tick that lands exactly on the targets with the sway cancelled, or refuses with a number from 1 to 11.
  *
  * Link with libpolgamir, for x86-64 Linux: in the repository `tools/library` writes target/lib/libpolgamir.a, and
  * `tools/install PREFIX` installs it, with a shared library and a file for pkg-config. All that it takes from other libraries is
@@ -19,8 +19,9 @@
  * Threads. The library has no state, takes no lock, allocates no memory and makes no system call. Any number of threads may call
  * it at the same time, each with a table of its own.
  *
- * Stack and time. A call takes up to 4,400 bytes of stack, its job among them. The longest call, a search over six axes that ends
- * in refusal 9, takes 0.1 to 0.2 s of a 2.5 GHz core; with an arrival asked for the longest takes 2 ms.
+ * Stack and time. A call for a table takes up to 8,000 bytes of stack, its job among them, and a tour up to 20,000. The longest
+ * search, over six axes to refusal 9, takes 0.1 to 0.2 s of a 2.5 GHz core, and a tour has one search a leg; with an arrival asked
+ * for the longest call takes 2 ms.
  */
 #ifndef POLGAMIR_H
 #define POLGAMIR_H
@@ -56,8 +57,8 @@ uint32_t polgamir_version(void);
 /* The cells that the largest table needs: 3 * 6 * (4096 + 1). A table of this size is never refused by number 10. */
 #define POLGAMIR_MOST_CELLS 73746
 
-/* Enough bytes of stack for a call, also where the loader binds memcpy during the first one. */
-#define POLGAMIR_STACK 8192
+/* Enough bytes of stack for a call for a table, also where the loader binds memcpy during the first one. */
+#define POLGAMIR_STACK 12288
 
 /*
  * The numbers that a call returns.
@@ -77,7 +78,10 @@ uint32_t polgamir_version(void);
  *  7  The target accelerates while h is not 0 and B is not 128; the place is the axis.
  *  8  The asked arrival is not reachable for every axis; the mask names those for which it is not.
  *  9  No common arrival is asked for and none exists in 1 to 4,096; the mask, perhaps 0, names axes that alone reach none.
- * 10  The lent table has fewer than 3 * axes * (N + 1) cells; the arrival is N.
+ * 10  The lent table has fewer than 3 * axes * (N + 1) cells; the arrival is N. Of a tour: the lent list is shorter than the stops;
+ *     the place is the number of stops.
+ * 11  A tour has more than 64 stops; the place is 64. Or a dwell is above 4,096; the place is the first such stop. Checked before a
+ *     tour's legs, so before 1; only a tour gets it.
  *
  * L is the speed limit, 1 to 1,048,576; M the acceleration limit, 1 to 65,536; h the half period, 0 to 256 ticks, 0 meaning no
  * blend; B the second weight, 1 to 128. A place that is an axis is the axis's number, 0 to 5.
@@ -93,7 +97,8 @@ enum polgamir_number {
     POLGAMIR_REFUSED_ACCELERATING_TARGET = 7,
     POLGAMIR_REFUSED_NOT_REACHABLE = 8,
     POLGAMIR_REFUSED_NO_COMMON_ARRIVAL = 9,
-    POLGAMIR_REFUSED_TABLE_TOO_SHORT = 10
+    POLGAMIR_REFUSED_TABLE_TOO_SHORT = 10,
+    POLGAMIR_REFUSED_STOPS = 11
 };
 
 /* What a number says, in a sentence without its full stop. */
@@ -112,7 +117,8 @@ static inline const char *polgamir_refusal_text(uint32_t number)
     case POLGAMIR_REFUSED_ACCELERATING_TARGET: return "the target accelerates while the swing of its pole shrinks";
     case POLGAMIR_REFUSED_NOT_REACHABLE: return "not every axis can arrive at the asked tick";
     case POLGAMIR_REFUSED_NO_COMMON_ARRIVAL: return "no tick from 1 to 4096 suits every axis";
-    case POLGAMIR_REFUSED_TABLE_TOO_SHORT: return "the table is too short for rows 0 to the arrival";
+    case POLGAMIR_REFUSED_TABLE_TOO_SHORT: return "the table is too short for rows 0 to the arrival, or the list for a tour's stops";
+    case POLGAMIR_REFUSED_STOPS: return "a tour has more than 64 stops, or a dwell above 4096";
     default: return "a number that this header does not have";
     }
 }
@@ -189,6 +195,58 @@ typedef struct polgamir_job {
 
 /* Plans a job, and writes its table to the `table_cells` cells at `table`. Its refusals are 1 and 3 to 10. */
 polgamir_answer polgamir_plan_job(polgamir_job job, int64_t *table, size_t table_cells);
+
+/* A tour has at most this many stops, and a dwell at most this many ticks. */
+#define POLGAMIR_MOST_STOPS 64
+#define POLGAMIR_LONGEST_DWELL 4096
+
+/* A stop of a tour: where each axis is to rest, and for how many ticks, 0 to 4,096. */
+typedef struct polgamir_stop {
+    int64_t positions[POLGAMIR_AXES];
+    uint32_t dwell;
+} polgamir_stop;
+
+/* The limits and the blend of an axis: L, M, h and B as above. */
+typedef struct polgamir_limits {
+    uint32_t speed_limit;
+    uint32_t acceleration_limit;
+    uint32_t half_period;
+    uint32_t second_weight;
+} polgamir_limits;
+
+/* What a tour has besides its stops. */
+typedef struct polgamir_tour {
+    uint32_t mask;                           /* bit i is set where axis i takes part: 1 to 63 */
+    int64_t start[POLGAMIR_AXES];            /* where each axis starts, at rest */
+    polgamir_limits limits[POLGAMIR_AXES];   /* the same for all legs */
+} polgamir_tour;
+
+/*
+ * What a call for a tour returns: number 0 with the tour's mask and its total, place 0 and arrival 0; or a refusal's number, with
+ * the place, mask and arrival that it names, and total 0. Fields that are not named are 0.
+ */
+typedef struct polgamir_tour_answer {
+    uint32_t number;
+    uint32_t mask;
+    uint64_t place;
+    uint32_t arrival;
+    uint32_t total;
+} polgamir_tour_answer;
+
+/*
+ * Plans a tour: the leg to each of `stop_count` stops is a job of its own, from rest where the last leg ended, after its dwell, to
+ * rest at the stop, that seeks its least arrival. Writes each stop's arrival, counted from the tour's start, to the first entries
+ * of the `list_entries` at `arrivals`; later entries stay. The total is the last arrival plus its dwell.
+ *
+ * Refusals, in checking order: 11; then leg after leg the first of 1, 4, 5, 6 and 9 that its job gets, with that number, mask and
+ * arrival and with the stop as place, also where the number's own place is an axis; then 10. A refused tour writes nothing.
+ * No stops: number 0 and total 0, and the answer's mask is 0; nothing else is read.
+ *
+ * A leg's table is that of a job with its start, its target at rest, these limits and 0 asked: `arrivals` then has its last tick.
+ * `stops` is read during the call and never written; it does not overlap `arrivals`.
+ */
+polgamir_tour_answer polgamir_plan_tour(polgamir_tour tour, const polgamir_stop *stops, size_t stop_count, uint32_t *arrivals,
+                                        size_t list_entries);
 
 #ifdef __cplusplus
 }

@@ -12,7 +12,7 @@ mod plain;
 use std::hint::black_box;
 
 use outside::library::{self, CJob};
-use outside::reference::{Axis, Job, Target, UNSET};
+use outside::reference::{Axis, Job, Stop, Target, Tour, UNSET};
 
 /// An axis from rest to rest.
 fn axis(speed_limit: u32, acceleration_limit: u32, half_period: u32, second_weight: u32, position: i64) -> Axis {
@@ -93,7 +93,7 @@ fn fastest<const N: usize>(rounds: impl Iterator<Item = [f64; N]>) -> [f64; N] {
 /// The time of one call of the library, after which both sides must have given the same answer and the same cells.
 fn once(job: &Job, lent: &mut [i64]) -> f64 {
     let start = now();
-    let answer = library::plan_typed(job.mask, job.asked, &job.axes, lent);
+    let answer = library::plan_typed(job, lent);
     let took = now() - start;
     let written = lent.to_vec();
     lent.fill(0);
@@ -119,7 +119,7 @@ fn cells_of(job: &Job, arrival: u32) -> usize {
 /// Prints the line of a whole call, and answers its arrival.
 fn whole(name: &str, job: &Job) -> u32 {
     let mut table = vec![0; 3 * 6 * 4_097];
-    let answer = library::plan_typed(job.mask, job.asked, &job.axes, &mut table);
+    let answer = library::plan_typed(job, &mut table);
     let [(proved, plain)] = time([(job, table.len())]);
     let what =
         if answer.number == 0 { format!("{} rows", answer.arrival + 1) } else { format!("refused {}", answer.number) };
@@ -160,6 +160,42 @@ fn rows_alone(name: &str, axes: u32, arrival: u32) {
     println!("| {name} | {} rows | {proved:.1} | {plain:.1} | {:.2} |", arrival + 1, proved / plain);
 }
 
+/// A tour of 64 stops of six axes. The legs take about 70 ticks each.
+fn many_stops() -> (Tour, Vec<Stop>) {
+    let axes = six().map(|axis| Axis { speed_limit: 1_000, acceleration_limit: 20, half_period: 12, ..axis });
+    let stop =
+        |i: i64| Stop { positions: std::array::from_fn(|axis| (i % 2) * (9_000 + 500 * axis as i64)), dwell: 50 };
+    (Tour { mask: 63, axes }, (1..=64).map(stop).collect())
+}
+
+/// The plain answers to the legs of a tour one after the other, with no table lent: the last arrival.
+fn plain_tour(tour: &Tour, stops: &[Stop]) -> u32 {
+    let mut from = [0; 6];
+    let mut tick = 0;
+    for stop in stops {
+        tick += plain::plan(&tour.leg(&from, &stop.positions), &mut []).arrival + stop.dwell;
+        from = stop.positions;
+    }
+    tick
+}
+
+/// Prints the line of a tour. Both sides must give the same total.
+fn tour(name: &str) {
+    let (tour, stops) = many_stops();
+    let mut arrivals = [0; 64];
+    let total = library::plan_tour(&tour, &stops, &mut arrivals).expect("the tour is accepted");
+    assert_eq!(plain_tour(&tour, &stops), total);
+    let rounds: Vec<(f64, f64)> = (0..41)
+        .map(|_| {
+            let proved = batch(20, || library::plan_tour(&tour, &stops, black_box(&mut arrivals)).unwrap_or(0));
+            (proved, batch(20, || plain_tour(&tour, black_box(&stops))))
+        })
+        .collect();
+    let least = |side: fn(&(f64, f64)) -> f64| rounds.iter().map(side).min_by(f64::total_cmp).unwrap_or(f64::NAN);
+    let (proved, plain) = (least(|times| times.0), least(|times| times.1));
+    println!("| {name} | total {total} | {proved:.0} | {plain:.0} | {:.2} |", proved / plain);
+}
+
 fn main() {
     let short = one(axis(10, 1, 4, 100, 56));
     let long = one(axis(100, 1, 40, 128, 185_900));
@@ -192,4 +228,8 @@ fn main() {
     rows_alone("one axis", 1, 1_999);
     rows_alone("one axis", 1, 4_096);
     rows_alone("six axes", 6, 4_096);
+    println!();
+    println!("| a tour | outcome | library, ns | plain Rust, ns | ratio |");
+    println!("|---|---|---|---|---|");
+    tour("64 stops, six axes");
 }

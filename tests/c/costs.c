@@ -16,8 +16,9 @@
 
 #define PAINT 0xA5
 
-/* The bytes that the header says a call takes by itself. */
-#define OWN_STACK 4400
+/* The bytes that the header says a call takes by itself, for a job and for a tour. */
+#define JOB_STACK 8000
+#define TOUR_STACK 20000
 
 /* Seconds of processor time, some times what the header says of a 2.5 GHz core: room for a slower or a busy machine, not for another order. */
 #define LONGEST_SEARCH 1.0
@@ -32,6 +33,9 @@ static polgamir_job job;
 static uint32_t words[64];
 static size_t word_count;
 static polgamir_answer answer;
+static polgamir_tour tour;
+static polgamir_stop stops[POLGAMIR_MOST_STOPS];
+static uint32_t arrivals[POLGAMIR_MOST_STOPS];
 
 static void plan_words(void)
 {
@@ -41,6 +45,12 @@ static void plan_words(void)
 static void plan_job(void)
 {
     answer = polgamir_plan_job(job, table, POLGAMIR_MOST_CELLS);
+}
+
+static void plan_tour(void)
+{
+    polgamir_tour_answer toured = polgamir_plan_tour(tour, stops, POLGAMIR_MOST_STOPS, arrivals, POLGAMIR_MOST_STOPS);
+    answer = (polgamir_answer){.number = toured.number, .mask = toured.mask, .place = toured.place, .arrival = toured.arrival};
 }
 
 static double seconds(void)
@@ -55,15 +65,15 @@ static size_t most_stack;
 static double longest_search, longest_asked;
 static int failures;
 
-/* Makes the call on the painted stack. */
-static void measure(const char *what, uint32_t number)
+/* Makes a call on the painted stack and gives back the seconds that it took. */
+static double on_paint(const char *what, void (*call)(void), uint32_t number)
 {
     memset(stack, PAINT, sizeof stack);
     getcontext(&inside);
     inside.uc_stack.ss_sp = stack;
     inside.uc_stack.ss_size = sizeof stack;
     inside.uc_link = &outside;
-    makecontext(&inside, word_count != 0 ? plan_words : plan_job, 0);
+    makecontext(&inside, call, 0);
     double begun = seconds();
     swapcontext(&outside, &inside);
     double took = seconds() - begun;
@@ -73,12 +83,19 @@ static void measure(const char *what, uint32_t number)
     }
     size_t used = sizeof stack - untouched;
     most_stack = used > most_stack ? used : most_stack;
-    double *longest = job.asked == 0 ? &longest_search : &longest_asked;
-    *longest = took > *longest ? took : *longest;
     if (answer.number != number) {
         fprintf(stderr, "%s: %" PRIu32 " and not %" PRIu32 "\n", what, answer.number, number);
         failures++;
     }
+    return took;
+}
+
+/* The same for the job, or for the words where there are some. */
+static void measure(const char *what, uint32_t number)
+{
+    double took = on_paint(what, word_count != 0 ? plan_words : plan_job, number);
+    double *longest = job.asked == 0 ? &longest_search : &longest_asked;
+    *longest = took > *longest ? took : *longest;
 }
 
 /* An axis from rest at 0 to rest at a position. */
@@ -148,12 +165,29 @@ static size_t run(void)
     return most_stack;
 }
 
+/* A tour of 64 stops over six axes, out and back. Gives back the stack that it took. */
+static size_t run_tour(void)
+{
+    tour.mask = 63;
+    for (unsigned i = 0; i < POLGAMIR_AXES; i++) {
+        tour.limits[i] = (polgamir_limits){.speed_limit = 10, .acceleration_limit = 1, .half_period = 4, .second_weight = 128};
+        for (unsigned j = 0; j < POLGAMIR_MOST_STOPS; j++) {
+            stops[j].positions[i] = j % 2 == 0 ? 56 + i : 0;
+        }
+    }
+    most_stack = 0;
+    on_paint("a tour", plan_tour, 0);
+    return most_stack;
+}
+
 int main(void)
 {
     size_t first = run();
     size_t own = run();
-    printf("stack %zu bytes, on the first run %zu; longest search %.3f s, longest call with an asked arrival %.4f s\n", own, first,
-           longest_search, longest_asked);
-    bool kept = own <= OWN_STACK && first <= POLGAMIR_STACK && longest_search <= LONGEST_SEARCH && longest_asked <= LONGEST_ASKED;
+    size_t toured = run_tour();
+    printf("stack %zu bytes, on the first run %zu, of a tour %zu; longest search %.3f s, longest call with an asked arrival %.4f s\n", own,
+           first, toured, longest_search, longest_asked);
+    bool kept = own <= JOB_STACK && first <= POLGAMIR_STACK && toured <= TOUR_STACK && longest_search <= LONGEST_SEARCH
+                && longest_asked <= LONGEST_ASKED;
     return kept && failures == 0 ? 0 : 1;
 }

@@ -34,6 +34,24 @@ AT(polgamir_job, mask, 0);
 AT(polgamir_job, asked, 4);
 AT(polgamir_job, axes, 8);
 _Static_assert(sizeof(polgamir_job) == 440, "polgamir_job");
+AT(polgamir_stop, positions, 0);
+AT(polgamir_stop, dwell, 48);
+_Static_assert(sizeof(polgamir_stop) == 56, "polgamir_stop");
+AT(polgamir_limits, speed_limit, 0);
+AT(polgamir_limits, acceleration_limit, 4);
+AT(polgamir_limits, half_period, 8);
+AT(polgamir_limits, second_weight, 12);
+_Static_assert(sizeof(polgamir_limits) == 16, "polgamir_limits");
+AT(polgamir_tour, mask, 0);
+AT(polgamir_tour, start, 8);
+AT(polgamir_tour, limits, 56);
+_Static_assert(sizeof(polgamir_tour) == 152, "polgamir_tour");
+AT(polgamir_tour_answer, number, 0);
+AT(polgamir_tour_answer, mask, 4);
+AT(polgamir_tour_answer, place, 8);
+AT(polgamir_tour_answer, arrival, 16);
+AT(polgamir_tour_answer, total, 20);
+_Static_assert(sizeof(polgamir_tour_answer) == 24, "polgamir_tour_answer");
 _Static_assert(POLGAMIR_MOST_CELLS == 3 * POLGAMIR_AXES * (POLGAMIR_LATEST_ARRIVAL + 1), "POLGAMIR_MOST_CELLS");
 
 /* ---- what is asked for */
@@ -181,12 +199,37 @@ static void takes_null(void)
 /* Every number has a text of its own. */
 static void has_texts(void)
 {
-    for (uint32_t number = 0; number <= POLGAMIR_REFUSED_TABLE_TOO_SHORT + 1; number++) {
+    for (uint32_t number = 0; number <= POLGAMIR_REFUSED_STOPS + 1; number++) {
         for (uint32_t other = 0; other < number; other++) {
             expect(strcmp(polgamir_refusal_text(number), polgamir_refusal_text(other)) != 0, "two numbers with one text", other);
         }
     }
-    expect(polgamir_refusal_text(11) == polgamir_refusal_text(UINT32_MAX), "a number above the last", 0);
+    expect(polgamir_refusal_text(POLGAMIR_REFUSED_STOPS + 1) == polgamir_refusal_text(UINT32_MAX), "a number above the last", 0);
+}
+
+/* A tour of one axis, whose legs and refusals are worked out by hand: from 0, with L = 10, M = 1 and no blend, 4 units take 4 ticks. */
+static void tours(unsigned axis)
+{
+    polgamir_tour tour = {.mask = 1u << axis};
+    tour.limits[axis] = (polgamir_limits){.speed_limit = 10, .acceleration_limit = 1, .half_period = 0, .second_weight = 128};
+    polgamir_stop stops[3] = {{.dwell = 3}, {.dwell = 5}, {.dwell = 4097}};
+    stops[0].positions[axis] = 4;
+    uint32_t list[3] = {7, 7, 7};
+    polgamir_tour_answer answer = polgamir_plan_tour(tour, stops, 2, list, 3);
+    expect(answer.number == 0 && answer.place == 0 && answer.mask == 1u << axis && answer.total == 16, "a tour's total", axis);
+    expect(list[0] == 4 && list[1] == 11 && list[2] == 7, "a tour's arrivals; later entries stay", axis);
+    answer = polgamir_plan_tour(tour, stops, 2, list, 1);
+    expect(answer.number == 10 && answer.place == 2 && answer.mask == 0, "a list that is too short", axis);
+    answer = polgamir_plan_tour(tour, stops, 3, list, 3);
+    expect(answer.number == 11 && answer.place == 2, "a dwell that is too long", axis);
+    tour.start[axis] = 4;
+    answer = polgamir_plan_tour(tour, stops, 1, list, 3);
+    expect(answer.number == 0 && list[0] == 1, "a leg of no way takes a tick", axis);
+    tour.limits[axis].half_period = 257;
+    answer = polgamir_plan_tour(tour, stops, 1, list, 3);
+    expect(answer.number == 5 && answer.place == 0, "a leg's own refusal, with the stop as place", axis);
+    answer = polgamir_plan_tour(tour, NULL, 0, NULL, 0);
+    expect(answer.number == 0 && answer.mask == 0 && answer.total == 0, "a tour of no stops", axis);
 }
 
 int main(void)
@@ -195,6 +238,7 @@ int main(void)
     for (unsigned axis = 0; axis < POLGAMIR_AXES; axis++) {
         reads_the_ends(axis);
         reads_the_limits(axis);
+        tours(axis);
     }
     takes_null();
     has_texts();

@@ -1,84 +1,16 @@
-"""The cases that the program `fieldcases` runs, in groups.
+"""The cases that are run against the reference, in groups.
 
-A case is a name, an input (job words, or a mask, an asked arrival and six
-typed axes) and a number of lent cells. What is expected of it is never
-written here: the reference computes it.
+`groups` gives those that the program `fieldcases` runs. What is expected of a
+case is never written here: the reference computes it.
 """
 
 import random
-from typing import List, NamedTuple, Optional
+from typing import List
 
-from reference import Axis, Job, RestPoint, State, encode
-
-LOWEST, HIGHEST = -2 ** 63, 2 ** 63 - 1     # the ends of a 64-bit signed number
-MOST = 2 ** 32 - 1                          # the end of a 32-bit unsigned one
-
-REST = RestPoint(0, 0)
-UNSET = Axis(REST, 0, 0, 0, 0, REST)        # a typed axis off the mask
-DEFAULT = Axis(REST, 10, 1, 0, 128, REST)   # 'unless said' of the field cases
-
-
-class Case(NamedTuple):
-    name: str
-    words: Optional[List[int]]  # or, where None:
-    mask: int
-    asked: int
-    axes: List[Axis]            # six
-    lent: int
-
-
-class Group(NamedTuple):
-    name: str
-    about: str                  # a sentence that stands above its cases
-    cases: List[Case]
-
-
-def axis(**changes) -> Axis:
-    """The default axis, changed: start=(p, v), target=(p, v) or (p, v, a, t)."""
-    if 'start' in changes:
-        changes['start'] = RestPoint(*changes['start'])
-    if 'target' in changes:
-        target = changes['target']
-        changes['target'] = RestPoint(*target) if len(target) == 2 else State(*target)
-    return DEFAULT._replace(**changes)
-
-
-def to(position: int, **changes) -> Axis:
-    return axis(target=(position, 0), **changes)
-
-
-def by_words(name: str, words: List[int], lent: int = 24) -> Case:
-    return Case(name, words, 0, 0, [UNSET] * 6, lent)
-
-
-def by_values(name: str, mask: int, asked: int, axes: List[Axis], lent: int = 24) -> Case:
-    return Case(name, None, mask, asked, axes, lent)
-
-
-def placed(axes) -> dict:
-    """Axes by bit: a list stands at bits 0, 1, .."""
-    return axes if isinstance(axes, dict) else dict(enumerate(axes))
-
-
-def mask_of(axes: dict) -> int:
-    return sum(1 << bit for bit in axes)
-
-
-def words_of(axes, asked: int = 0) -> List[int]:
-    axes = placed(axes)
-    return encode(Job(mask_of(axes), asked, axes))
-
-
-def job(name: str, axes, asked: int = 0, lent: int = 24) -> Case:
-    """A job by its words."""
-    return by_words(name, words_of(axes, asked), lent)
-
-
-def typed(name: str, axes, asked: int = 0, lent: int = 24, others: Axis = UNSET) -> Case:
-    """A job by typed values; `others` stands on the bits off the mask."""
-    axes = placed(axes)
-    return by_values(name, mask_of(axes), asked,
-                     [axes.get(bit, others) for bit in range(6)], lent)
+from builders import (HIGHEST, LOWEST, MOST, UNSET, DEFAULT, Case, Group, axis, by_values, by_words,
+                      job, mask_of, placed, to, typed, words_of)
+from reference import Axis, RestPoint, State
+from tourcases import drawn_tours, tours
 
 
 # --- Field cases and traps -------------------------------------------------

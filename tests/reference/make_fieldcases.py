@@ -17,6 +17,7 @@ from typing import List, NamedTuple, Tuple
 
 import cases
 from reference import Answer, Axis, plan_typed, plan_words
+from tourcases import TourCase, drawn_tours, tours
 
 CRATE = os.path.join(os.path.dirname(os.path.abspath(__file__)), '../../crates/fieldcases')
 BUFFER = 73760                  # the cells of the program's buffer
@@ -43,7 +44,9 @@ def sum_of(buffer: List[int]) -> int:
     return total
 
 
-def expected(case: cases.Case) -> Expected:
+def expected(case) -> Expected:
+    if isinstance(case, TourCase):
+        return expected_tour(case)
     lent = [UNTOUCHED] * case.lent
     if case.words is not None:
         answer, cells = plan_words(case.words, lent)
@@ -58,6 +61,8 @@ def listed(e: Expected) -> List[int]:
     those of row 1, of a row in the middle and of the last row, for the first
     axis and for the last; and the first cell after the table."""
     answer = e.outcome.answer
+    if isinstance(e.case, TourCase):
+        return tour_listed(len(e.case.lent) + 1)
     if answer.number != 0:
         return []
     width = 3 * bin(answer.mask).count('1')
@@ -72,6 +77,24 @@ def listed(e: Expected) -> List[int]:
     return indices + [need] * (need < BUFFER)
 
 
+def tour_listed(need: int) -> List[int]:
+    """The list, or of a long one the ends, the total and the cell after it."""
+    return (list(range(need)) if need <= 18 else [0, 1, need - 3, need - 2, need - 1]) + [need]
+
+
+def expected_tour(case: TourCase) -> Expected:
+    """The cells are the list as the call leaves it, and the total. What the
+    papers leave free is 0, but for the mask of an accepted tour with stops,
+    which is its own."""
+    answer = case.answer
+    mask = case.tour.mask if answer.number == 0 and case.tour.stops else 0
+    full = Answer(answer.number, answer.place or 0, mask if answer.mask is None else answer.mask,
+                  answer.arrival or 0)
+    buffer = case.left + [answer.total or 0]
+    buffer += [UNTOUCHED] * (BUFFER - len(buffer))
+    return Expected(case, Outcome(full, sum_of(buffer)), buffer)
+
+
 # --- The input of the program ----------------------------------------------
 
 def axis_line(axis: Axis) -> str:
@@ -81,9 +104,29 @@ def axis_line(axis: Axis) -> str:
         axis.second_weight, len(target), ' '.join(map(str, target)))
 
 
+def tour_lines(case: TourCase) -> List[str]:
+    """A tour: its mask, its six axes and its stops. It is lent a cell more than
+    its list, for the total."""
+    stops = case.tour.stops
+    axes = [' axis %d limits %d %d pole %d %d' % axis for axis in case.tour.axes]
+    return (['"%s" lent %d route mask %d' % (case.name, len(case.lent) + 1, case.tour.mask)] + axes
+            + [' stops %d' % len(stops)]
+            + [' stop %s dwell %d' % (' '.join(map(str, s.positions)), s.dwell) for s in stops])
+
+
 def case_lines(e: Expected, shown: Outcome, cells: List[Tuple[int, int]]) -> List[str]:
     """A case: its name, the cells lent, its input, and what it expects."""
     case = e.case
+    if isinstance(case, TourCase):
+        lines = tour_lines(case)
+    else:
+        lines = job_lines(case)
+    lines.append(' number %d place %d axes %d arrival %d sum %d' % (*shown.answer, shown.sum))
+    pairs = ['%d: %d' % cell for cell in cells]
+    return lines + [', '.join([' cells %d' % len(cells)] + pairs)]
+
+
+def job_lines(case: cases.Case) -> List[str]:
     head = '"%s" lent %d' % (case.name, case.lent)
     if case.words is not None:
         words = ['%08X' % word for word in case.words]
@@ -93,9 +136,7 @@ def case_lines(e: Expected, shown: Outcome, cells: List[Tuple[int, int]]) -> Lis
         listed = sum(1 << bit for bit in range(6) if case.axes[bit] != cases.UNSET)
         lines = ['%s typed mask %d asked %d listed %d' % (head, case.mask, case.asked, listed)]
         lines += [axis_line(axis) for axis in case.axes if axis != cases.UNSET]
-    lines.append(' number %d place %d axes %d arrival %d sum %d' % (*shown.answer, shown.sum))
-    pairs = ['%d: %d' % cell for cell in cells]
-    return lines + [', '.join([' cells %d' % len(cells)] + pairs)]
+    return lines
 
 
 # --- Its expected output ---------------------------------------------------
@@ -169,6 +210,15 @@ def write(folder: str, pair: Tuple[str, str]) -> None:
             out.write(text)
 
 
+def tour_groups() -> List[cases.Group]:
+    return [cases.Group('tours', 'Tours of stops.', tours()),
+            cases.Group('drawn tours', 'Random tours, each third damaged.', drawn_tours())]
+
+
+def drawn_groups(seed: int, count: int) -> List[cases.Group]:
+    return [cases.drawn(seed, count), cases.Group('drawn tours', 'Random tours.', drawn_tours(seed, count))]
+
+
 def is_stored(folder: str, pair: Tuple[str, str]) -> bool:
     def stored(name: str) -> str:
         with open(os.path.join(folder, name)) as kept:
@@ -178,9 +228,9 @@ def is_stored(folder: str, pair: Tuple[str, str]) -> bool:
 
 def main(words: List[str]) -> int:
     if words[:1] == ['--drawn'] and len(words) == 4:
-        write(words[3], texts([cases.drawn(int(words[1]), int(words[2]))]))
+        write(words[3], texts(drawn_groups(int(words[1]), int(words[2]))))
         return 0
-    pair = texts(cases.groups(), wrong_on_purpose())
+    pair = texts(cases.groups() + tour_groups(), wrong_on_purpose())
     if words == ['--check']:
         same = is_stored(CRATE, pair)
         print('as stored' if same else 'not as stored')

@@ -1,8 +1,9 @@
 #!/usr/bin/env python3
 """An independent reference of the planner: paper 01 in exact whole numbers.
 
-It is written from the paper alone and shares nothing with the Rattle code.
-Every section names the rule of the paper that it follows.
+It is written from the papers alone and shares nothing with the Rattle code.
+Every section names the rule of paper 01, or the request of paper 02, that it
+follows. A tour of stops is in `tour.py`.
 
     python3 reference.py < job       the table program: job words in, text out
     python3 reference.py --selftest  the paper's cases, and checks by definition
@@ -446,12 +447,20 @@ def plan_words(words: List[int], lent: List[int]) -> Outcome:
     return plan_job(job, lent)
 
 
-def plan_typed(mask: int, asked: int, axes: List[Axis], lent: List[int]) -> Outcome:
-    """The same from typed values: six axes, those off the mask never looked at."""
+def typed_job(mask: int, asked: int, axes: List[Axis]) -> Job:
+    """The job of typed values: six axes, those off the mask never looked at."""
     if not mask_is_good(mask):
-        return Answer(1), list(lent)
-    used = {bit: axes[bit] for bit in range(AXES) if mask >> bit & 1}
-    return plan_job(Job(mask, asked, used), lent)
+        raise Refused(Answer(1))
+    return Job(mask, asked, {bit: axes[bit] for bit in range(AXES) if mask >> bit & 1})
+
+
+def plan_typed(mask: int, asked: int, axes: List[Axis], lent: List[int]) -> Outcome:
+    """The same from typed values."""
+    try:
+        job = typed_job(mask, asked, axes)
+    except Refused as refused:
+        return refused.answer, list(lent)
+    return plan_job(job, lent)
 
 
 def printed(answer: Answer, cells: List[int]) -> str:

@@ -1,8 +1,9 @@
 """The reference against the paper: `python3 reference.py --selftest`.
 
-Three parts: the paper's field cases, traps, settled readings and ranges as
-numbers; the planning functions against their definitions, by trying every
-list; and demand 3 of the paper over random jobs.
+The papers' field cases, traps, settled readings and ranges as numbers; the
+planning functions against their definitions, by trying every list; demand 3 of
+the paper over random jobs; and the calls beside planning, each against the
+single jobs that it stands for.
 """
 
 import itertools
@@ -11,8 +12,12 @@ import sys
 from fractions import Fraction
 
 import reference as ref
+import tourcases
 from cases import CHASING, DEFAULT, F, F_TO_30, UNSET, axis, mask_of, placed, random_axis, to
 from reference import Answer
+from tour import Tour, TourAnswer
+from tourcases import BASE, random_tour, single, stop
+
 
 def plan(axes, asked=0, lent=8192):
     """The outcome for axes given as a list (bits from 0 on) or by bit. It is
@@ -261,6 +266,53 @@ def random_jobs(rng, count=80):
     assert accepted > count // 4, 'too few jobs were accepted to say anything'
 
 
+# --- A tour of stops (request 2.1) -----------------------------------------
+
+def tour_gives(what, case, arrivals, total):
+    same(what, (case.answer.number, case.answer.total), (0, total))
+    same(what + ', list', case.left, arrivals + case.lent[len(arrivals):])
+
+
+def tour_refuses(what, case, number, place, mask=0, arrival=0):
+    same(what, case.answer, TourAnswer(number, place, mask, arrival))
+    same(what + ', list', case.left, case.lent)
+
+
+def tour_readings():
+    tour_gives('no stops', tourcases.case('', Tour(99, [BASE] * 6, []), lent=0), [], 0)
+    tour_refuses('11 before the mask', single('', [stop(4, 4097)], mask=0), 11, 0)
+    tour_refuses('the mask', single('', [stop(4)], mask=0), 1, 0)
+    tour_refuses('the place is the stop', tourcases.several(
+        '', {2: BASE._replace(speed_limit=0)}, [stop(4)]), 4, 0)
+    far = [stop(100000000), stop(2 ** 40)]
+    tour_refuses('one leg after the other', single('', far, speed_limit=1), 9, 0, mask=1)
+    far = [stop(4), stop(100000000)]
+    tour_refuses('legs before the list', single('', far, lent=1, speed_limit=1), 9, 1, mask=1)
+    tour_gives('out and back', single('', [stop(4, 3), stop(0, 5)]), [4, 11], 16)
+    tour_gives('a leg of no way', single('', [stop(4, 5), stop(4), stop(0, 7)]), [4, 10, 14], 21)
+    tour_gives('no way, half period 5', single('', [stop(0, 1)], half_period=5), [6], 7)
+    tour_refuses('a short list', single('', [stop(4), stop(0)], lent=1), 10, 2)
+    tour_refuses('65 stops', single('', [stop(4, 4097)] * 65, lent=65), 11, 64)
+    tour_refuses('the first long dwell', single('', [stop(4), stop(0, 4097), stop(4, 4097)]), 11, 1)
+    tour_gives('64 stops of a dwell of 4,096', single('', [stop(0, 4096)] * 64, lent=64),
+               [4097 * k + 1 for k in range(64)], 4097 * 64)
+
+
+def legs_are_single_jobs(rng, count=40):
+    """Every leg by a call for its table, the times added up here."""
+    for _ in range(count):
+        tour = random_tour(rng)
+        here, clock, arrivals = [one.start for one in tour.axes], 0, []
+        for positions, dwell in tour.stops:
+            axes = [ref.Axis(ref.RestPoint(here[i], 0), *tour.axes[i][1:], ref.RestPoint(positions[i], 0))
+                    for i in range(6)]
+            answer, _ = ref.plan_typed(tour.mask, 0, axes, [7] * 73746)
+            same('a leg of a random tour', answer.number, 0)
+            arrivals.append(clock + answer.arrival)
+            here, clock = positions, arrivals[-1] + dwell
+        tour_gives('a random tour', tourcases.case('', tour, len(arrivals) + 1), arrivals, clock)
+
+
 def main():
     rng = random.Random(1)
     field_cases()
@@ -269,7 +321,9 @@ def main():
     ranges()
     definitions(rng)
     random_jobs(rng)
-    print('reference: field cases, traps, settled readings, ranges, definitions, demand 3: ok')
+    tour_readings()
+    legs_are_single_jobs(rng)
+    print('reference: field cases, traps, settled readings, ranges, definitions, demand 3, tours: ok')
     return 0
 
 

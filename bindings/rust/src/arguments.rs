@@ -14,7 +14,8 @@ Usage:
   polgamir plan  [--plain | --units] [--cells COUNT] [-o FILE] JOB
   polgamir words [--bytes] [-o FILE] JOB
   polgamir show  [--bytes | --hex] [-o FILE] WORDS
-  polgamir plot  -o FILE.svg JOB
+  polgamir tour  [--tables] [--plain | --units] [-o FILE] TOUR
+  polgamir plot  -o FILE.svg JOB | TOUR
   polgamir --help | --version
 
 plan    Plans a job. Prints the arrival, then the table: for each tick and each axis the position, velocity and
@@ -29,10 +30,14 @@ words   Writes the job's words, in hexadecimal.
 show    Reads job words, hexadecimal text or bytes, and prints their set-up sheet.
           --bytes        take the file as bytes
           --hex          take the file as text
+tour    Plans a tour of stops. Prints the total and each stop's arrival, in ticks from the tour's start.
+          --tables       print also the table of each leg, whose ticks count from its own start
+          --units        print the tables in units
+          --plain        print numbers alone: the total, then for each stop its number and arrival
 plot    Draws the plan: position, velocity, acceleration with their limits and the target's, and the sway of the
-        pole beside the sway that the same job would leave without the blend.
+        pole beside the sway that the same job would leave without the blend. Of a tour it draws the timeline.
 
-A JOB is a set-up sheet, which docs/SHEET.md describes, or a file of job words. `-` in place of a file to read is
+A JOB is a set-up sheet, which docs/SHEET.md describes, or a file of job words. A TOUR is a sheet with stops. `-` in place of a file to read is
 standard input. `-o FILE` writes to a file, `-o -` to standard output; a refusal is always printed. After `--`
 everything is a file's name.
 
@@ -62,8 +67,10 @@ pub enum Task {
     Words { job: PathBuf, bytes: bool },
     /// Print the sheet of job words; `None` tells bytes from text by itself.
     Show { words: PathBuf, bytes: Option<bool> },
-    /// Draw the plan of a job.
-    Plot { job: PathBuf },
+    /// Plan a tour and print its arrivals, and the tables of its legs where they are asked for.
+    Tour { sheet: PathBuf, form: TableForm, tables: bool },
+    /// Draw the plan of a job or a tour.
+    Plot { setup: PathBuf },
 }
 
 /// How a table is printed.
@@ -93,7 +100,7 @@ impl Request {
     /// Reads a command line without the program's own name.
     pub fn read(arguments: &[OsString]) -> Result<Request, Usage> {
         let Some((first, rest)) = arguments.split_first() else {
-            return Err(Usage("expected plan, words, show or plot".into()));
+            return Err(Usage("expected plan, words, show, tour or plot".into()));
         };
         let mut rest = Rest::sort(rest)?;
         let task = match first.to_str() {
@@ -103,8 +110,14 @@ impl Request {
             Some("plan") => rest.plan()?,
             Some("words") => rest.words()?,
             Some("show") => rest.show()?,
+            Some("tour") => rest.tour()?,
             Some("plot") => rest.plot()?,
-            _ => return Err(Usage(format!("expected plan, words, show or plot, found `{}`", first.to_string_lossy()))),
+            _ => {
+                return Err(Usage(format!(
+                    "expected plan, words, show, tour or plot, found `{}`",
+                    first.to_string_lossy()
+                )))
+            }
         };
         if matches!(task, Task::Help | Task::Version) {
             return Ok(Request { task, output: None });
@@ -188,12 +201,17 @@ impl Rest {
             .ok_or_else(|| Usage(format!("expected a number from 0 to {MOST_CELLS} after `--cells`, found `{found}`")))
     }
 
-    fn plan(&mut self) -> Result<Task, Usage> {
-        let form = match self.one_of("--plain", "--units")? {
+    /// Takes how a table is to be printed.
+    fn form(&mut self) -> Result<TableForm, Usage> {
+        Ok(match self.one_of("--plain", "--units")? {
             (true, _) => TableForm::Plain,
             (_, true) => TableForm::Units,
             _ => TableForm::FineSteps,
-        };
+        })
+    }
+
+    fn plan(&mut self) -> Result<Task, Usage> {
+        let form = self.form()?;
         let cells = self.cells()?;
         Ok(Task::Plan { job: self.file("sheet")?, form, cells })
     }
@@ -212,9 +230,14 @@ impl Rest {
         Ok(Task::Show { words: self.file("file of words")?, bytes })
     }
 
+    fn tour(&mut self) -> Result<Task, Usage> {
+        let (form, tables) = (self.form()?, self.flag("--tables"));
+        Ok(Task::Tour { sheet: self.file("sheet")?, form, tables })
+    }
+
     fn plot(&mut self) -> Result<Task, Usage> {
         match self.output {
-            Some(_) => Ok(Task::Plot { job: self.file("sheet")? }),
+            Some(_) => Ok(Task::Plot { setup: self.file("sheet")? }),
             None => Err(Usage("expected `-o FILE.svg` for the picture, or `-o -` for standard output".into())),
         }
     }

@@ -4,12 +4,13 @@ mod content;
 mod files;
 mod refusal;
 mod table;
+mod tour;
 mod words;
 
 use std::fmt;
 use std::path::Path;
 
-use polgamir::sheet::Sheet;
+use polgamir::sheet::{Setup, Sheet};
 use polgamir::{Job, PayloadError};
 
 use crate::arguments::{Request, TableForm, Task, Usage, HELP};
@@ -97,7 +98,11 @@ fn done(task: &Task) -> Result<Done, FileError> {
         Task::Plan { job, form, cells } => Ok(plan(&read_job(job)?, *form, *cells)),
         Task::Words { job, bytes } => words_of(job, *bytes),
         Task::Show { words, bytes } => show(words, *bytes),
-        Task::Plot { job } => plot(job),
+        Task::Tour { sheet, form, tables } => {
+            let sheet = content::tour_of(&files::read(sheet)?).map_err(|cause| about(sheet, cause))?;
+            Ok(tour::planned(&sheet, *form, *tables))
+        }
+        Task::Plot { setup } => plot(setup),
     }
 }
 
@@ -144,15 +149,18 @@ fn show(file: &Path, bytes: Option<bool>) -> Result<Done, FileError> {
     Ok(Done::well(Sheet::from(job).to_string()))
 }
 
-/// Draws the plan of a job.
+/// Draws the plan of a job, or the timeline of a tour.
 fn plot(file: &Path) -> Result<Done, FileError> {
-    let sheet = read_job(file)?;
+    let setup = content::setup_of(&files::read(file)?).map_err(|cause| about(file, cause))?;
     let title = match file.file_stem() {
         Some(stem) if !files::is_standard(file) => stem.to_string_lossy().into_owned(),
         _ => "plan".into(),
     };
-    Ok(match picture::draw(&title, &sheet) {
-        Ok(drawing) => Done::well(drawing),
-        Err(refusal) => Done::refused(refusal::explained(&sheet, &refusal)),
-    })
+    let drawing = match &setup {
+        Setup::Job(sheet) => picture::draw(&title, sheet).map_err(|refusal| refusal::explained(sheet, &refusal)),
+        Setup::Tour(sheet) => {
+            picture::draw_tour(&title, sheet).map_err(|refusal| refusal::explained_tour(sheet, &refusal))
+        }
+    };
+    Ok(drawing.map_or_else(Done::refused, Done::well))
 }

@@ -2,7 +2,7 @@
 //!
 //! A [`Job`] says for each axis where it starts, what it is to land on, its limits, and the half period and damping of the pole
 //! under it. [`Job::plan`] gives a table of position, velocity and acceleration for each tick that lands every axis exactly on
-//! its target at one common tick with the sway cancelled, or refuses with a number from 1 to 10, a [`Refusal`]. [`plan()`] does
+//! its target at one common tick with the sway cancelled, or refuses with a number from 1 to 11, a [`Refusal`]. [`plan()`] does
 //! the same in lent memory and allocates nothing. What the library promises of its answers is proved for every job; this crate
 //! is a thin, safe layer above it, without state and without dependencies.
 //!
@@ -34,6 +34,9 @@
 //! # Ok::<(), Refusal>(())
 //! ```
 //!
+//! A [`Tour`] takes the head over a row of [`Stop`]s, one after the other, resting at each: [`Tour::plan`] gives the arrivals, and
+//! [`Tour::leg`] the job whose plan is the table of a leg.
+//!
 //! Jobs can also be read from set-up sheets ([`sheet::Sheet`]), and written to and read from job words ([`Job::to_words`],
 //! [`Job::from_words`]).
 
@@ -48,6 +51,7 @@ mod range;
 mod refusal;
 mod rows;
 pub mod sheet;
+mod tour;
 mod words;
 
 pub use job::{Arrival, Axis, Job, RestPoint, State, Target};
@@ -55,6 +59,7 @@ pub use plan::{cells_needed, plan, plan_words, Accepted, Plan, MOST_CELLS};
 pub use range::OutOfRange;
 pub use refusal::{AxisMask, Refusal};
 pub use rows::{in_units, Motion, Row, Rows};
+pub use tour::{Schedule, Stop, Tour, TourAxis, TourRefusal, LONGEST_DWELL, MOST_STOPS};
 pub use words::{PayloadError, WordError, WordFault, WordKind};
 
 /// A job has at most this many axes, numbered from 0.

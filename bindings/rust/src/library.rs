@@ -2,6 +2,7 @@
 
 use crate::job::{Axis, Job, RestPoint, State, Target};
 use crate::refusal::Answer;
+use crate::tour::{Stop, Tour, TourAxis};
 use crate::AXES;
 
 /// `polgamir_answer` of `include/polgamir.h`, field by field.
@@ -38,6 +39,34 @@ struct CJob {
     axes: [CAxis; AXES],
 }
 
+/// `polgamir_limits`, field by field.
+#[repr(C)]
+#[derive(Clone, Copy, Default)]
+struct CLimits {
+    speed_limit: u32,
+    acceleration_limit: u32,
+    half_period: u32,
+    second_weight: u32,
+}
+
+/// `polgamir_tour`, field by field.
+#[repr(C)]
+struct CTour {
+    mask: u32,
+    start: [i64; AXES],
+    limits: [CLimits; AXES],
+}
+
+/// `polgamir_tour_answer`, field by field.
+#[repr(C)]
+struct CTourAnswer {
+    number: u32,
+    mask: u32,
+    place: u64,
+    arrival: u32,
+    total: u32,
+}
+
 /// `POLGAMIR_FIXED`.
 const FIXED: u32 = 0;
 
@@ -48,6 +77,14 @@ extern "C" {
     fn polgamir_plan_words(words: *const u32, word_count: usize, table: *mut i64, table_cells: usize) -> CAnswer;
 
     fn polgamir_plan_job(job: CJob, table: *mut i64, table_cells: usize) -> CAnswer;
+
+    fn polgamir_plan_tour(
+        tour: CTour,
+        stops: *const Stop,
+        stop_count: usize,
+        arrivals: *mut u32,
+        arrival_count: usize,
+    ) -> CTourAnswer;
 }
 
 impl From<CAnswer> for Answer {
@@ -91,6 +128,24 @@ impl From<&Job> for CJob {
     }
 }
 
+impl From<&TourAxis> for CLimits {
+    fn from(axis: &TourAxis) -> CLimits {
+        let &TourAxis { speed_limit, acceleration_limit, half_period, second_weight, .. } = axis;
+        CLimits { speed_limit, acceleration_limit, half_period, second_weight }
+    }
+}
+
+impl From<&Tour> for CTour {
+    fn from(tour: &Tour) -> CTour {
+        let mut settings = CTour { mask: tour.mask(), start: [0; AXES], limits: [CLimits::default(); AXES] };
+        for (number, axis) in tour.entered() {
+            settings.start[number] = axis.start;
+            settings.limits[number] = axis.into();
+        }
+        settings
+    }
+}
+
 /// Plans a job from its words.
 pub(crate) fn plan_words(words: &[u32], table: &mut [i64]) -> Answer {
     // SAFETY: both pointers come from slices with these lengths, so they are aligned and valid for the whole call, to
@@ -108,9 +163,19 @@ pub(crate) fn plan_job(job: &Job, table: &mut [i64]) -> Answer {
     answer.into()
 }
 
+/// Plans a tour over its stops, and gives its answer and its total.
+pub(crate) fn plan_tour(tour: &Tour, stops: &[Stop], arrivals: &mut [u32]) -> (Answer, u32) {
+    // SAFETY: the tour passes by value in the header's layout, which `Stop` has too. Both pointers come from slices with these
+    // lengths, so they are aligned and valid for the whole call, to read for `stops` and to write for `arrivals`; the borrows
+    // keep them from overlapping. The library keeps neither pointer after it returns, has no state, and does not unwind.
+    let CTourAnswer { number, mask, place, arrival, total } =
+        unsafe { polgamir_plan_tour(tour.into(), stops.as_ptr(), stops.len(), arrivals.as_mut_ptr(), arrivals.len()) };
+    (Answer { number, place, mask, arrival }, total)
+}
+
 #[cfg(test)]
 mod tests {
-    use super::{CAnswer, CAxis, CJob};
+    use super::{CAnswer, CAxis, CJob, CLimits, CTour, CTourAnswer, Stop};
     use std::mem::{offset_of, size_of};
 
     /// The layout that the header's structs have on x86-64; `tests/c/interface.c` holds the header to the same numbers.
@@ -141,5 +206,30 @@ mod tests {
         assert_eq!(axis, [0, 8, 16, 24, 32, 40, 48, 52, 56, 60, 64, 72]);
         let job = [offset_of!(CJob, mask), offset_of!(CJob, asked), offset_of!(CJob, axes), size_of::<CJob>()];
         assert_eq!(job, [0, 4, 8, 440]);
+    }
+    /// The same of what a tour has.
+    #[test]
+    fn the_layout_of_a_tour_is_the_header_s() {
+        let limits = [
+            offset_of!(CLimits, speed_limit),
+            offset_of!(CLimits, acceleration_limit),
+            offset_of!(CLimits, half_period),
+            offset_of!(CLimits, second_weight),
+            size_of::<CLimits>(),
+        ];
+        assert_eq!(limits, [0, 4, 8, 12, 16]);
+        let tour = [offset_of!(CTour, mask), offset_of!(CTour, start), offset_of!(CTour, limits), size_of::<CTour>()];
+        assert_eq!(tour, [0, 8, 56, 152]);
+        let stop = [offset_of!(Stop, positions), offset_of!(Stop, dwell), size_of::<Stop>()];
+        assert_eq!(stop, [0, 48, 56]);
+        let answer = [
+            offset_of!(CTourAnswer, number),
+            offset_of!(CTourAnswer, mask),
+            offset_of!(CTourAnswer, place),
+            offset_of!(CTourAnswer, arrival),
+            offset_of!(CTourAnswer, total),
+            size_of::<CTourAnswer>(),
+        ];
+        assert_eq!(answer, [0, 4, 8, 16, 20, 24]);
     }
 }

@@ -1,4 +1,4 @@
-//! The command `polgamir`: plans set-up sheets, turns them into job words and back, and draws plans.
+//! The command `polgamir`: plans set-up sheets of jobs and tours, turns them into job words and back, and draws plans.
 //!
 //! Exit status: 0 where it did what was asked, 1 where the planner refuses the job, 2 for a wrong sheet, wrong words, wrong
 //! usage or a file that cannot be read, 3 where the output cannot be written.

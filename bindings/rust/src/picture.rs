@@ -7,16 +7,19 @@ mod panel;
 mod scale;
 mod svg;
 mod sway;
+mod tour;
 
 use polgamir::sheet::Sheet;
 use polgamir::{Arrival, Axis, Job, Refusal, Row};
 
-use course::{Course, Moment};
-use page::{Page, Stack};
-use panel::{Panel, Ticks};
+use course::{Course, Moment, Ticks};
+use page::{Page, Sample, Stack};
+use panel::{Mark, Panel, Span, Timeline};
 use scale::quantity;
-use svg::{stroke, Stroke};
+use svg::{colour, stroke, Stroke};
 use sway::{Point, Pole};
+
+pub use tour::draw_tour;
 
 /// Draws the plan of a sheet.
 pub fn draw(title: &str, sheet: &Sheet) -> Result<String, Refusal> {
@@ -33,11 +36,35 @@ pub fn draw(title: &str, sheet: &Sheet) -> Result<String, Refusal> {
     let page = Page {
         title: heading(title, sheet, planned.arrival),
         stacks: stacks.collect(),
-        compares: compared.is_some(),
+        columns: page::columns_for(sheet.job.entered().count()),
+        legend: legend(compared.is_some()),
         caption: caption(unblended.as_ref()),
-        ticks,
+        time: timeline(ticks),
     };
     Ok(page.draw())
+}
+
+/// The arrival and the time after it.
+fn timeline(ticks: Ticks) -> Timeline {
+    Timeline {
+        last: ticks.last,
+        spans: vec![Span { from: ticks.arrival, to: ticks.last, colour: colour::AFTER }],
+        marks: vec![Mark { tick: ticks.arrival, label: format!("arrival {}", ticks.arrival) }],
+    }
+}
+
+/// What the lines of a job's picture stand for; the last of them only where the picture compares.
+fn legend(compares: bool) -> Vec<(&'static str, Sample)> {
+    let mut legend = vec![
+        ("plan", Sample::Line(stroke::PLAN)),
+        ("target", Sample::Line(stroke::TARGET)),
+        ("limit", Sample::Line(stroke::LIMIT)),
+    ];
+    if compares {
+        legend.push(("sway without the blend, and its arrival", Sample::Line(stroke::UNBLENDED)));
+    }
+    legend.push(("after arrival", Sample::Area(colour::AFTER)));
+    legend
 }
 
 /// The title of the picture.
@@ -157,14 +184,10 @@ fn stepped(course: Course) -> Course {
     Course { plan: steps, ..course }
 }
 
-/// A panel of a course with limits; a remark says the limit where it is too far off to be drawn.
+/// A panel of a course with limits.
 fn limited_panel(name: &'static str, limit: u32, course: Course) -> Panel {
-    let limit = f64::from(limit);
-    let range = panel::range_within(course.shown(), limit);
-    let shown = range.0 <= -limit || range.1 >= limit;
-    let place = if shown { "" } else { ", off the scale" };
-    let remark = format!("limit ±{}{place}", scale::label(limit, 1.0));
-    Panel { name, remark, range, limits: vec![-limit, limit], curves: curves_of(course) }
+    let (range, limits, remark) = panel::limited(course.shown(), limit);
+    Panel { name, remark, range, limits, curves: curves_of(course) }
 }
 
 /// The panel of the sway, beside that without the blend, whose arrival is an upright line.

@@ -1,4 +1,4 @@
-//! The set-up sheet: a job as a person writes it, one entry to a line. The format's page is `docs/SHEET.md`.
+//! The set-up sheet: a job or a tour as a person writes it, one entry to a line. The format's page is `docs/SHEET.md`.
 //!
 //! ```
 //! use polgamir::sheet::Sheet;
@@ -20,54 +20,54 @@
 //! # Ok::<(), polgamir::sheet::SheetError>(())
 //! ```
 
+mod draft;
 mod line;
+mod notes;
 mod reading;
+mod text;
+mod tour;
 
 use std::fmt;
 
 use crate::job::{Arrival, Axis, Job, RestPoint, Target};
 use crate::words::WordKind;
-use crate::AXES;
 
 pub use line::SheetLine;
+use notes::Notes;
+pub use tour::TourSheet;
+
+/// What a text asks for: a job, or where it has `stop` lines a tour.
+#[derive(Debug, Clone, PartialEq, Eq)]
+pub enum Setup {
+    /// The sheet of a job.
+    Job(Sheet),
+    /// The sheet of a tour.
+    Tour(TourSheet),
+}
 
 /// A job with what its sheet says beside it: the names of the axes, and the lines that the entries stand on.
 #[derive(Debug, Clone, PartialEq, Eq, Default)]
 pub struct Sheet {
     /// The job that the sheet asks for.
     pub job: Job,
-    names: [Option<String>; AXES],
-    lines: Vec<EntryLine>,
-}
-
-/// The line of an entry.
-#[derive(Debug, Clone, Copy, PartialEq, Eq)]
-struct EntryLine {
-    /// The axis, or `None` for an entry of the whole job.
-    axis: Option<usize>,
-    entry: WordKind,
-    /// The line, from 1.
-    line: usize,
+    notes: Notes,
 }
 
 impl Sheet {
     /// The name that the sheet gives to an axis.
     pub fn axis_name(&self, number: usize) -> Option<&str> {
-        self.names.get(number)?.as_deref()
+        self.notes.axis_name(number)
     }
 
     /// The line, from 1, that an entry of an axis stands on, or with `None` that of the whole job's [`WordKind::Arrival`]. A
     /// sheet that was not read from text has no lines.
     pub fn line_of(&self, axis: Option<usize>, entry: WordKind) -> Option<usize> {
-        self.lines.iter().find(|line| line.axis == axis && line.entry == entry).map(|line| line.line)
+        self.notes.line_of(axis, entry)
     }
 
     /// What to call an axis: `axis 0`, or `axis 0 pan` where the sheet names it.
     pub fn axis_title(&self, number: usize) -> String {
-        match self.axis_name(number) {
-            Some(name) => format!("axis {number} {name}"),
-            None => format!("axis {number}"),
-        }
+        self.notes.axis_title(number)
     }
 }
 
@@ -191,8 +191,13 @@ fn write_axis(f: &mut fmt::Formatter<'_>, axis: &Axis) -> fmt::Result {
             writeln!(f, "  {:19} {}", "target", kind.name())?;
         }
         for (_, value) in axis.entries().filter(|&(word, _)| word == entry) {
-            writeln!(f, "  {:19} {value:<11} # {}", entry.name(), remark(entry))?;
+            write_entry(f, entry, value)?;
         }
     }
     Ok(())
+}
+
+/// Writes an entry with its remark.
+fn write_entry(f: &mut fmt::Formatter<'_>, entry: WordKind, value: i64) -> fmt::Result {
+    writeln!(f, "  {:19} {value:<11} # {}", entry.name(), remark(entry))
 }

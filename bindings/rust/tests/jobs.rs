@@ -1,9 +1,10 @@
-//! The examples of the repository: each job of `jobs/` is its sheet's, and its text is what the table program prints.
+//! The examples of the repository: each job of `jobs/` is its sheet's, and its text is what the table program prints. A tour has a
+//! sheet alone.
 
 use std::fs;
 use std::path::{Path, PathBuf};
 
-use polgamir::sheet::Sheet;
+use polgamir::sheet::{Setup, Sheet};
 use polgamir::{plan_words, Job};
 
 /// The cells that the table program lends.
@@ -27,6 +28,11 @@ fn names(folder_name: &str, ending: &str) -> Vec<String> {
     names
 }
 
+/// The text of a sheet.
+fn sheet_text(name: &str) -> String {
+    fs::read_to_string(folder("sheets").join(name).with_extension("sheet")).expect("a sheet")
+}
+
 /// What the table program prints for words.
 fn printed(words: &[u32]) -> String {
     let mut table = [0; PROGRAM_CELLS];
@@ -45,11 +51,12 @@ fn printed(words: &[u32]) -> String {
 #[test]
 fn every_job_is_its_sheets_and_prints_its_text() {
     let jobs = names("jobs", "job");
-    assert_eq!(jobs, names("sheets", "sheet"));
+    let of_a_job = |name: &String| matches!(sheet_text(name).parse(), Ok(Setup::Job(_)));
+    assert_eq!(jobs, names("sheets", "sheet").into_iter().filter(of_a_job).collect::<Vec<_>>());
     assert_eq!(jobs, names("jobs", "txt"));
     assert!(jobs.len() >= 6);
     for name in jobs {
-        let sheet = fs::read_to_string(folder("sheets").join(&name).with_extension("sheet")).expect("a sheet");
+        let sheet = sheet_text(&name);
         let bytes = fs::read(folder("jobs").join(&name).with_extension("job")).expect("a job");
         let text = fs::read_to_string(folder("jobs").join(&name).with_extension("txt")).expect("a text");
         let job = sheet.parse::<Sheet>().expect("a good sheet").job;
@@ -58,6 +65,14 @@ fn every_job_is_its_sheets_and_prints_its_text() {
         assert_eq!(Job::from_words(&words), Ok(job), "{name}");
         assert!(bytes.len() <= PROGRAM_BYTES, "{name}");
         assert_eq!(printed(&words), text, "{name}");
+    }
+}
+
+/// Every sheet can be read.
+#[test]
+fn every_sheet_is_a_job_or_a_tour() {
+    for name in names("sheets", "sheet") {
+        assert!(sheet_text(&name).parse::<Setup>().is_ok(), "{name}");
     }
 }
 

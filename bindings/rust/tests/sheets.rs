@@ -135,11 +135,11 @@ fn wrong_entries_are_told_with_their_line() {
 fn unknown_and_misplaced_entries_are_told_with_their_line() {
     assert_eq!(
         told_with(3, "half perod 0"),
-        "line 3: expected `arrival`, `axis`, `target` or one of: half period, weight, speed limit, acceleration limit, \
+        "line 3: expected `arrival`, `axis`, `stop`, `target` or one of: half period, weight, speed limit, acceleration limit, \
          start position, start velocity, target position, target velocity, target acceleration, target tick, \
          found `half perod 0`"
     );
-    assert_eq!(told_with(2, "weight 128"), "line 2: expected `arrival` or `axis`, found `weight 128`");
+    assert_eq!(told_with(2, "weight 128"), "line 2: expected `arrival`, `axis` or `stop`, found `weight 128`");
     assert_eq!(
         told_with(10, "target position 1\ntarget velocity 2"),
         "line 11: expected no `target velocity`, found `target velocity` beside `target still` of line 9"
@@ -166,7 +166,7 @@ fn entries_that_stand_twice_or_not_at_all_are_told_with_their_line() {
     assert_eq!(told_with(9, moving), "line 2: expected `target tick` for axis 0, found none among its lines");
     assert_eq!(
         told_with(1, "# no arrival"),
-        "line 10: expected `arrival earliest` or `arrival` with a tick, found the end of the sheet"
+        "line 10: expected `arrival earliest`, `arrival` with a tick, or the `stop` of a tour, found the end of the sheet"
     );
     let told = read(&["arrival 4"]).expect_err("no axis").to_string();
     assert_eq!(told, "line 1: expected at least one of `axis 0` to `axis 5`, found the end of the sheet");

@@ -3,12 +3,17 @@
 //
 // The cases come as text on standard input: tests/reference/README.md says how it is made and what a case looks like. Where
 // a number is looked for, every byte that begins none is passed over, so the words between the numbers are for readers, but
-// for three letters: the input begins with `words` or `typed`, and the outcome that is expected with `number`.
+// for four letters: the input begins with `words`, `typed` or `route`, and the outcome that is expected with `number`.
 use model::Answer;
 use model::Axis;
+use model::AxisLimits;
 use model::RestPoint;
 use model::State;
+use model::Stop;
 use model::Target;
+use model::TourAnswer;
+use model::TourSettings;
+use tour::StopRow;
 ghost use mathlib.Core.Path.{_≡_};
 ghost use Prim.Native.Nat.{_≤_, _<_};
 ghost use lib.ListN.{length};
@@ -16,6 +21,9 @@ ghost use Rattle.io.specs.Counts.{Counts};
 
 // What every cell of the buffer holds before a call.
 const UNTOUCHED: i64 = -1234567890123;
+
+// What every entry of a list of arrivals holds before a call.
+const UNWRITTEN: u32 = 987654321;
 
 // The prime 2^31 - 1, below which the sum over the buffer stays.
 const PRIME: u64 = 2147483647;
@@ -198,8 +206,139 @@ fn plan_typed(text: &[u8], from: usize, table: &mut [i64]) -> Answer {
     planner::plan_typed(mask, asked, axes, table)
 }
 
+// The limits and the blend of an axis of a tour, which come after its start.
+fn limits_at(text: &[u8], from: usize) -> AxisLimits {
+    AxisLimits {
+        speed_limit: nth_low(text, from, 1),
+        acceleration_limit: nth_low(text, from, 2),
+        half_period: nth_low(text, from, 3),
+        second_weight: nth_low(text, from, 4),
+    }
+}
+
+// The settings of a tour: its mask, and five numbers for each of the six axes.
+fn settings_at(text: &[u8], from: usize) -> TourSettings {
+    let unset = limits_at(text, text.len());
+    let mut limits = [unset; 6];
+    let mut start = [0i64; 6];
+    let mut at = after(text, from, 1);
+    let mut i: usize = 0;
+    while i < 6 {
+        let axis = limits_at(text, at);
+        limits[i] = axis;
+        start[i] = nth(text, at, 0);
+        at = after(text, at, 5);
+        i += 1;
+    }
+    TourSettings {
+        mask: nth_low(text, from, 0),
+        start: start,
+        limits: limits,
+    }
+}
+
+// The stop whose numbers come next: six positions and a dwell.
+fn stop_at(text: &[u8], from: usize) -> Stop {
+    Stop {
+        positions: [
+            nth(text, from, 0),
+            nth(text, from, 1),
+            nth(text, from, 2),
+            nth(text, from, 3),
+            nth(text, from, 4),
+            nth(text, from, 5),
+        ],
+        dwell: nth_low(text, from, 6),
+    }
+}
+
+// The stops of a tour: their count, and so many.
+fn stops_at(text: &[u8], from: usize) -> StopRow {
+    let count = nth_low(text, from, 0) as usize;
+    let mut row = tour::empty_row(count);
+    let mut at = after(text, from, 1);
+    let mut i: usize = 0;
+    while i < count {
+        let stop = stop_at(text, at);
+        let next = tour::with_stop(row, i, stop);
+        row = next;
+        at = after(text, at, 7);
+        i += 1;
+    }
+    row
+}
+
+// A call for a tour with a list of arrivals.
+fn routed(text: &[u8], from: usize, list: &mut [u32]) -> TourAnswer {
+    let settings = settings_at(text, from);
+    let row = stops_at(text, after(text, from, 31));
+    tour::tour_of_row(settings, row, list)
+}
+
+// The same with the first entries of a list, as many as are asked for.
+fn routed_within(text: &[u8], from: usize, n: usize, list: &mut [u32]) -> TourAnswer {
+    if n <= list.len() {
+        return routed(text, from, &mut list[..n]);
+    }
+    routed(text, from, list)
+}
+
+// Entry i of a list of arrivals, of whose entries n are lent; after these the total.
+fn entry_at(list: &[u32], n: usize, total: u32, i: usize) -> u32 {
+    if i < n {
+        if i < list.len() {
+            return list[i];
+        }
+    }
+    total
+}
+
+// Writes the entries that are lent and the total over the cells.
+fn put_list(list: &[u32], n: usize, total: u32, table: &mut [i64]) {
+    let mut i: usize = 0;
+    while i < table.len() {
+        let entry = entry_at(list, n, total, i) as i64;
+        table[i] = entry;
+        i += 1;
+    }
+}
+
+// The room for a list of arrivals.
+fn list_buffer() -> [u32; 80]
+    ensures { λ r. ⌜ 80 ≡ length r ⌝ }
+{
+    [UNWRITTEN; 80]
+}
+
+// One less; 0 has none.
+fn one_less(cells: usize) -> usize {
+    if cells == 0 {
+        return 0;
+    }
+    cells - 1
+}
+
+// A call for a tour. The cells that are lent take its list of arrivals as the call leaves it, and the last of them its total.
+fn plan_route(text: &[u8], from: usize, table: &mut [i64]) -> Answer {
+    let n = one_less(table.len());
+    let mut list = list_buffer();
+    let r = routed_within(text, from, n, &mut list);
+    put_list(&list, n, r.total, table);
+    Answer {
+        number: r.number,
+        place: r.place,
+        mask: r.mask,
+        arrival: r.arrival,
+    }
+}
+
 // The call of a case, with the cells that it is lent.
 fn planned(text: &[u8], from: usize, table: &mut [i64]) -> Answer {
+    if found(text, from, b'r') < found(text, from, b't') {
+        if found(text, from, b'r') < found(text, from, b'w') {
+            return plan_route(text, from, table);
+        }
+    }
     if found(text, from, b'w') < found(text, from, b't') {
         return plan_words(text, from, table);
     }
@@ -428,10 +567,10 @@ fn run(text: &[u8]) {
 }
 
 // Room for the text; what is longer is not read.
-fn text_buffer() -> [u8; 131072]
-    ensures { λ r. ⌜ 131072 ≡ length r ⌝ }
+fn text_buffer() -> [u8; 262144]
+    ensures { λ r. ⌜ 262144 ≡ length r ⌝ }
 {
-    [0; 131072]
+    [0; 262144]
 }
 
 // The buffer of which a case is lent the first cells: six axes to tick 4,096 need 73,746.

@@ -34,6 +34,10 @@ refused r k p m a lent o e h f =
       fitted = λ z. absurd (h (sym (ap (λ (s : Answer). s .number) e) ∙ z));
     }
 
+-- the stage's own answer, where it is a refusal
+pub ended : (r : Answer) (lent : List ℤ) (o : Outcome) → (r .number ≡ 0 → ⊥) → outcomeOf r lent ≡ o → Gives o r lent
+ended r lent o h e = record { outcome = e; fitted = λ z. absurd (h z) }
+
 pub onward : (o o' : Outcome) (r : Answer) (exit : List ℤ) → o ≡ o' → Gives o r exit → Gives o' r exit
 onward o o' r exit e g = subst (λ (q : Outcome). Gives q r exit) e g
 

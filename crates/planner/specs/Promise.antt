@@ -1,6 +1,6 @@
 -- What the two calls for a table promise, `plan_words` and `plan_typed`. Neither asks anything of its caller: any words, any typed values
 -- and any lent table will do.
-use Prim.Native.Nat.{_<_, _≤_}
+use Prim.Native.Nat.{ℕ, _<_, _≤_}
 use mathlib.Core.Path.{_≡_}
 use mathlib.Core.List.{List}
 use lib.IntN.{ℤ}
@@ -8,8 +8,9 @@ use lib.ListN.{length}
 use Rattle.model.specs.declared.Answer.{Answer}
 use Rattle.model.specs.Job.{setBits}
 use Rattle.model.specs.Refusals.{lastTick}
-use Rattle.model.specs.Outcome.{Input, outcomeOf, call, inputAxes, cellsNeeded}
+use Rattle.model.specs.Outcome.{Input, outcomeOf, call, inputAxes, cellsNeeded, answerOfTyped}
 use Rattle.model.specs.Demand.{Demand3}
+use Rattle.model.specs.declared.Axis.{Axis}
 
 -- the rows are in the lent table: a caller may walk them by the mask and the arrival of the answer
 pub record Fitted (r : Answer) (exit : List ℤ) : Type 0 where
@@ -26,3 +27,8 @@ pub record Promise (q : Input) (entry : List ℤ) (r : Answer) (exit : List ℤ)
   -- an accepted job meets demand 3: all its axes land on their targets, its rows carry on to one another, and the sway is cancelled
   pub demand3 : r .number ≡ 0 → Demand3 (inputAxes q) (r .arrival) exit
   pub fitted : r .number ≡ 0 → Fitted r exit
+
+-- what `answer_typed` promises: the answer of a call with typed values before refusal 10
+pub record Answered (m asked : ℕ) (six : List Axis) (r : Answer) : Type 0 where
+  pub is : r ≡ answerOfTyped m asked six
+  pub last : r .arrival ≤ lastTick

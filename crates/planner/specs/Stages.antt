@@ -10,7 +10,7 @@ use Rattle.model.specs.declared.Axis.{Axis}
 use Rattle.model.specs.declared.Answer.{Answer}
 use Rattle.model.specs.Job.{Job, JobAxis}
 use Rattle.model.specs.Refusals.{AllPassed, lastTick}
-use Rattle.model.specs.Outcome.{Outcome, outcomeOf, firstAxis, axisRefusals}
+use Rattle.model.specs.Outcome.{Outcome, outcomeOf, firstAxis, axisRefusals, allReach, filled, jobOutcome}
 use Rattle.motion.specs.Motions.{refusalTest}
 use Rattle.planner.specs.declared.Refusal.{Refusal}
 use Rattle.planner.specs.declared.FirstAxis.{FirstAxis}
@@ -21,6 +21,18 @@ use Rattle.planner.specs.Promise.{Fitted}
 pub record Gives (o : Outcome) (r : Answer) (exit : List ℤ) : Type 0 where
   pub outcome : outcomeOf r exit ≡ o
   pub fitted : r .number ≡ 0 → Fitted r exit
+
+-- The stage before refusal 10, for a job whose mask is allowed: the answer to the job, whatever table is lent, so long as it has room.
+pub record Settled (j : Job) (r : Answer) : Type 0 where
+  -- a refusal ends the call and leaves the table as it was
+  pub refused : (r .number ≡ 0 → ⊥) → (lent : List ℤ) → outcomeOf r lent ≡ jobOutcome j lent
+  pub not-ten : r .number ≡ 10 → ⊥
+  pub last : r .arrival ≤ lastTick
+  -- number 0: refusal 10 or the table come next
+  pub found : r .number ≡ 0 → (lent : List ℤ) → filled j (r .arrival) lent ≡ jobOutcome j lent
+  pub accepted : r .number ≡ 0 → r ≡ record { number = 0; place = 0; mask = j .mask; arrival = r .arrival }
+  pub passed : r .number ≡ 0 → AllPassed (j .axes)
+  pub reached : r .number ≡ 0 → allReach (j .axes) (r .arrival) ≡ true
 
 -- ---- refusals 3 to 7
 

@@ -4,6 +4,7 @@
 pub mod jobs;
 pub mod leg;
 pub mod library;
+pub mod plain;
 pub mod random;
 pub mod reference;
 pub mod swing;

@@ -1,6 +1,6 @@
 //! The calls of the static library, as include/polgamir.h declares them.
 
-use crate::reference::{Answer, Axis, Job, Target};
+use crate::reference::{Answer, Axis, Job, Stop, Target, Tour, Toured};
 
 /// `polgamir_answer`.
 #[repr(C)]
@@ -44,11 +44,14 @@ extern "C" {
 }
 
 impl CAxis {
-    /// An axis in C's layout. The two values that a fixed target does not have are filled with `unread`.
-    fn of(axis: &Axis, unread: i64) -> CAxis {
+    /// An axis in C's layout. A value that it does not have is `fill`; so is the kind of a moving target, unless that is 0.
+    fn of(axis: &Axis, fill: u64) -> CAxis {
+        let (unread, moving) = (fill as i64, (fill as u32).max(1));
         let (target_position, target_velocity, target_acceleration, target_tick, target_kind) = match axis.target {
             Target::Fixed { position, velocity } => (position, velocity, unread, unread, 0),
-            Target::Moving { position, velocity, acceleration, tick } => (position, velocity, acceleration, tick, 1),
+            Target::Moving { position, velocity, acceleration, tick } => {
+                (position, velocity, acceleration, tick, moving)
+            }
         };
         CAxis {
             start_position: axis.start_position,
@@ -67,9 +70,9 @@ impl CAxis {
 }
 
 impl CJob {
-    /// A job in C's layout. The two values that a fixed target does not have are filled with `unread`.
-    pub fn of(job: &Job, unread: i64) -> CJob {
-        CJob { mask: job.mask, asked: job.asked, axes: std::array::from_fn(|i| CAxis::of(&job.axes[i], unread)) }
+    /// A job in C's layout, with `fill` where nothing is looked at.
+    pub fn of(job: &Job, fill: u64) -> CJob {
+        CJob { mask: job.mask, asked: job.asked, axes: job.axes.map(|axis| CAxis::of(&axis, fill)) }
     }
 }
 
@@ -88,12 +91,82 @@ pub fn plan_words(words: &[u32], table: &mut [i64]) -> Answer {
     answer(unsafe { polgamir_plan_words(words.as_ptr(), words.len(), table.as_mut_ptr(), table.len()) })
 }
 
-/// Plans a job in C's layout.
+/// Plans from typed values in C's layout.
 pub fn plan_c_job(job: CJob, table: &mut [i64]) -> Answer {
     answer(unsafe { polgamir_plan_job(job, table.as_mut_ptr(), table.len()) })
 }
 
+/// Plans from typed values, with `fill` where nothing is looked at.
+pub fn plan_filled(job: &Job, fill: u64, table: &mut [i64]) -> Answer {
+    plan_c_job(CJob::of(job, fill), table)
+}
+
 /// Plans from typed values.
-pub fn plan_typed(mask: u32, asked: u32, axes: &[Axis; 6], table: &mut [i64]) -> Answer {
-    plan_c_job(CJob::of(&Job { mask, asked, axes: *axes }, 0), table)
+pub fn plan_typed(job: &Job, table: &mut [i64]) -> Answer {
+    plan_filled(job, 0, table)
+}
+
+/// `polgamir_limits`: limits and blend of an axis of a tour.
+#[repr(C)]
+struct CLimits {
+    speed_limit: u32,
+    acceleration_limit: u32,
+    half_period: u32,
+    second_weight: u32,
+}
+
+/// `polgamir_tour`.
+#[repr(C)]
+struct CTour {
+    mask: u32,
+    start: [i64; 6],
+    limits: [CLimits; 6],
+}
+
+/// `polgamir_stop`.
+#[repr(C)]
+struct CStop {
+    positions: [i64; 6],
+    dwell: u32,
+}
+
+/// `polgamir_tour_answer`.
+#[repr(C)]
+struct CTourAnswer {
+    number: u32,
+    mask: u32,
+    place: u64,
+    arrival: u32,
+    total: u32,
+}
+
+extern "C" {
+    fn polgamir_plan_tour(
+        settings: CTour,
+        stops: *const CStop,
+        stop_count: usize,
+        arrivals: *mut u32,
+        arrival_count: usize,
+    ) -> CTourAnswer;
+}
+
+/// Plans a tour.
+pub fn plan_tour(tour: &Tour, stops: &[Stop], list: &mut [u32]) -> Toured {
+    let settings = CTour {
+        mask: tour.mask,
+        start: tour.axes.map(|axis| axis.start_position),
+        limits: tour.axes.map(|axis| CLimits {
+            speed_limit: axis.speed_limit,
+            acceleration_limit: axis.acceleration_limit,
+            half_period: axis.half_period,
+            second_weight: axis.second_weight,
+        }),
+    };
+    let raw: Vec<CStop> = stops.iter().map(|stop| CStop { positions: stop.positions, dwell: stop.dwell }).collect();
+    let CTourAnswer { number, mask, place, arrival, total } =
+        unsafe { polgamir_plan_tour(settings, raw.as_ptr(), raw.len(), list.as_mut_ptr(), list.len()) };
+    match number {
+        0 => Ok(total),
+        _ => Err(Answer { number, place, mask, arrival }),
+    }
 }

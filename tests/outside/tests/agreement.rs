@@ -3,7 +3,7 @@
 //! are compared.
 
 use outside::jobs::{self, Reach};
-use outside::library::{self, CJob};
+use outside::library;
 use outside::random::Random;
 use outside::reference::{self, Answer, Job};
 
@@ -69,14 +69,8 @@ impl Comparison {
             return;
         }
         self.lend(cells);
-        let unread = self.random.word() as i64;
-        let mut laid_out = CJob::of(job, unread);
-        for axis in &mut laid_out.axes {
-            if axis.target_kind != 0 {
-                axis.target_kind = self.random.pick(&[1, 2, 1 << 31, u32::MAX]);
-            }
-        }
-        let got = library::plan_c_job(laid_out, &mut self.got);
+        let fill = self.random.word();
+        let got = library::plan_filled(job, fill, &mut self.got);
         let want = job.plan(&mut self.want);
         self.compare(got, want, job);
     }

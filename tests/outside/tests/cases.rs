@@ -3,46 +3,14 @@
 
 use outside::jobs;
 use outside::library;
+use outside::plain::{after, asked, flying, job, one, to, PLAIN};
 use outside::reference::{self, Answer, Axis, Job, Target, UNSET};
-
-/// L = 10, M = 1, h = 0, B = 128, start 0 at rest.
-const PLAIN: Axis = Axis {
-    start_position: 0,
-    start_velocity: 0,
-    speed_limit: 10,
-    acceleration_limit: 1,
-    half_period: 0,
-    second_weight: 128,
-    target: Target::Fixed { position: 0, velocity: 0 },
-};
-
-fn to(position: i64) -> Axis {
-    Axis { target: Target::Fixed { position, velocity: 0 }, ..PLAIN }
-}
-
-fn after(position: i64, velocity: i64, acceleration: i64, tick: i64) -> Axis {
-    Axis { target: Target::Moving { position, velocity, acceleration, tick }, ..PLAIN }
-}
-
-fn one(axis: Axis) -> Job {
-    job(&[axis])
-}
-
-fn job(axes: &[Axis]) -> Job {
-    let mut all = [UNSET; 6];
-    all[..axes.len()].copy_from_slice(axes);
-    Job { mask: (1 << axes.len()) - 1, asked: 0, axes: all }
-}
-
-fn asked(job: Job, asked: u32) -> Job {
-    Job { asked, ..job }
-}
 
 /// The answer of all four calls, which agree, and the first axis's rows where it is accepted.
 fn outcome(job: Job, cells: usize) -> (Answer, Vec<[i64; 3]>) {
     let tables = &mut [vec![7; cells], vec![7; cells], vec![7; cells], vec![7; cells]];
     let answers = [
-        library::plan_typed(job.mask, job.asked, &job.axes, &mut tables[0]),
+        library::plan_typed(&job, &mut tables[0]),
         library::plan_words(&jobs::words(&job), &mut tables[1]),
         job.plan(&mut tables[2]),
         reference::plan_words(&jobs::words(&job), &mut tables[3]),
@@ -84,11 +52,6 @@ fn velocities(job: Job) -> Vec<i64> {
 
 fn accelerations(job: Job) -> Vec<i64> {
     column(job, 2)
-}
-
-/// Case F's axis.
-fn flying(position: i64) -> Axis {
-    Axis { speed_limit: 20, start_velocity: 10, target: Target::Fixed { position, velocity: 10 }, ..PLAIN }
 }
 
 #[test]

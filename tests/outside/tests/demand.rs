@@ -73,7 +73,7 @@ fn run(seed: u64, reach: Reach, count: usize, lists: usize) -> [usize; 3] {
             continue;
         }
         let answer = if random.once_in(2) {
-            library::plan_typed(job.mask, job.asked, &job.axes, &mut table)
+            library::plan_typed(&job, &mut table)
         } else {
             library::plan_words(&jobs::words(&job), &mut table)
         };

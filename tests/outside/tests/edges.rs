@@ -2,7 +2,7 @@
 //! length about the cells needed.
 
 use outside::jobs::{with_signed, with_unsigned, SIGNED_ENDS, UNSIGNED_ENDS};
-use outside::library::{self, CJob};
+use outside::library;
 use outside::reference::{Answer, Axis, Job, Target, UNSET};
 
 const FIXED: Axis = Axis {
@@ -22,7 +22,7 @@ const MOVING: Axis = Axis { target: Target::Moving { position: 7, velocity: 3, a
 fn agrees(job: &Job, cells: usize) -> Answer {
     let mut got: Vec<i64> = (0..cells as i64).map(|i| !i).collect();
     let mut want = got.clone();
-    let answer = library::plan_typed(job.mask, job.asked, &job.axes, &mut got);
+    let answer = library::plan_typed(job, &mut got);
     assert_eq!(answer, job.plan(&mut want), "{job:?}");
     assert!(got == want, "{job:?}");
     answer
@@ -145,11 +145,9 @@ fn any_number_but_zero_is_a_moving_target() {
     let job = Job { mask: 4, asked: 0, axes };
     let mut want = vec![0; 60];
     let answer = job.plan(&mut want);
-    for kind in [1, 2, 256, 65_536, 1 << 31, u32::MAX] {
-        let mut laid_out = CJob::of(&job, 0);
-        laid_out.axes[2].target_kind = kind;
+    for kind in [1, 2, 256, 65_536, 1 << 31, u64::from(u32::MAX)] {
         let mut got = vec![0; 60];
-        assert_eq!(library::plan_c_job(laid_out, &mut got), answer);
+        assert_eq!(library::plan_filled(&job, kind, &mut got), answer);
         assert_eq!(got, want);
     }
 }
@@ -164,7 +162,7 @@ fn many_threads_at_once() {
             scope.spawn(|| {
                 for _ in 0..20 {
                     let mut got = vec![0; want.len()];
-                    assert_eq!(library::plan_typed(job.mask, job.asked, &job.axes, &mut got), answer);
+                    assert_eq!(library::plan_typed(&job, &mut got), answer);
                     assert_eq!(got, want);
                 }
             });

@@ -1,6 +1,6 @@
 //! What a file holds: a set-up sheet, or job words as bytes or as hexadecimal text.
 
-use polgamir::sheet::Sheet;
+use polgamir::sheet::{Setup, Sheet, SheetError, TourSheet};
 use polgamir::Job;
 
 use super::words;
@@ -55,14 +55,33 @@ fn text_of(content: &[u8]) -> Result<&str, String> {
     }
 }
 
-/// The job of a content, a set-up sheet or job words.
-pub fn job_of(content: &[u8]) -> Result<Sheet, String> {
+/// What a content asks for: a set-up sheet, of a job or of a tour, or job words.
+pub fn setup_of(content: &[u8]) -> Result<Setup, String> {
     let job_words = match Form::of(content) {
-        Form::Text => return text_of(content)?.parse().map_err(|error: polgamir::sheet::SheetError| error.to_string()),
+        Form::Text => return text_of(content)?.parse().map_err(|error: SheetError| error.to_string()),
         Form::Bytes => words::from_bytes(content)?,
         Form::Hexadecimal => words::from_hexadecimal(text_of(content)?)?,
     };
-    Job::from_words(&job_words).map(Sheet::from).map_err(|error| error.to_string())
+    let job = Job::from_words(&job_words).map_err(|error| error.to_string())?;
+    Ok(Setup::Job(Sheet::from(job)))
+}
+
+/// The job of a content, a set-up sheet or job words.
+pub fn job_of(content: &[u8]) -> Result<Sheet, String> {
+    match setup_of(content)? {
+        Setup::Job(sheet) => Ok(sheet),
+        Setup::Tour(_) => {
+            Err("expected a job, found a tour: `polgamir tour` plans it, `polgamir plot` draws it".into())
+        }
+    }
+}
+
+/// The tour of a content.
+pub fn tour_of(content: &[u8]) -> Result<TourSheet, String> {
+    match setup_of(content)? {
+        Setup::Tour(sheet) => Ok(sheet),
+        Setup::Job(_) => Err("expected a tour, with `stop` lines, found a job: `polgamir plan` plans it".into()),
+    }
 }
 
 /// The job words of a content; where `bytes` is `None`, the content tells by itself whether it is bytes.

@@ -1,7 +1,7 @@
 //! A refusal in the words of the set-up sheet: what is wrong, what to turn, and the lines that it is about.
 
-use polgamir::sheet::{Sheet, SheetLine};
-use polgamir::{Arrival, AxisMask, Refusal, WordKind, AXES, LATEST_ARRIVAL};
+use polgamir::sheet::{Sheet, SheetLine, TourSheet};
+use polgamir::{Arrival, AxisMask, Refusal, TourRefusal, WordKind, AXES, LATEST_ARRIVAL, LONGEST_DWELL, MOST_STOPS};
 
 /// The refusal's line as the table program prints it, what is wrong, which line of the crew's sheet to look at and what to turn,
 /// and the file's lines.
@@ -13,6 +13,34 @@ pub fn explained(sheet: &Sheet, refusal: &Refusal) -> String {
         text += &(line + "\n");
     }
     text
+}
+
+/// The same of a tour: a leg's refusal is that of its job, whose positions are those of the stops.
+pub fn explained_tour(sheet: &TourSheet, refusal: &TourRefusal) -> String {
+    let line = |stop: usize| sheet.line_of_stop(stop).map(|line| format!("line {line}: ")).unwrap_or_default();
+    let printed = refusal.printed_line();
+    let look_at = SheetLine::EnterStartAndTarget.text();
+    match *refusal {
+        TourRefusal::Leg { stop, refusal } => {
+            let leg = sheet.leg(stop).unwrap_or_default();
+            let explained = explained(&leg, &refusal);
+            let (_, explained) = explained.split_once('\n').unwrap_or_default();
+            format!("{printed}\nthe leg to stop {stop} has no plan: {explained}")
+        }
+        TourRefusal::Stops { stop: MOST_STOPS } => format!(
+            "{printed}\nthere are {} stops, and a tour has at most {MOST_STOPS}\nlook at \"{look_at}\": enter the later \
+             stops as a tour of their own\n{}the first stop too many\n",
+            sheet.stops.len(),
+            line(MOST_STOPS)
+        ),
+        TourRefusal::Stops { stop } => format!(
+            "{printed}\nthe dwell of stop {stop} is above {LONGEST_DWELL}\nlook at \"{look_at}\": enter a dwell from 0 to \
+             {LONGEST_DWELL}\n{}stop {stop}: dwell {}\n",
+            line(stop),
+            sheet.stops[stop].dwell
+        ),
+        other => format!("{printed}\n{other}\n"),
+    }
 }
 
 /// Axes by their titles: `axis 0 pan`, `axis 0 pan and axis 1 tilt`.

@@ -69,7 +69,7 @@ fn titles(sheet: &Sheet, accepted: &Accepted, widths: &[usize]) -> String {
 }
 
 /// Appends a line of cells, each to the right of its column, two spaces apart.
-fn push_line<'c>(text: &mut String, widths: &[usize], cells: impl Iterator<Item = &'c str>) {
+pub fn push_line<'c>(text: &mut String, widths: &[usize], cells: impl Iterator<Item = &'c str>) {
     for (index, (cell, width)) in cells.zip(widths).enumerate() {
         let gap = if index == 0 { "" } else { "  " };
         let _ = write!(text, "{gap}{cell:>width$}");

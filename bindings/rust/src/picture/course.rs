@@ -2,8 +2,16 @@
 
 use polgamir::{Motion, RestPoint, State, Target};
 
-use super::panel::Ticks;
 use super::sway::Point;
+
+/// The ticks of a plan.
+#[derive(Debug, Clone, Copy)]
+pub struct Ticks {
+    /// The arrival.
+    pub arrival: u32,
+    /// The last tick drawn.
+    pub last: u32,
+}
 
 /// Position, velocity and acceleration at a tick, in units.
 #[derive(Debug, Clone, Copy, PartialEq)]

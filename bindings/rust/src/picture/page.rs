@@ -1,7 +1,7 @@
 //! The page: title, legend, the axes' stacks of panels, caption.
 
-use super::panel::{self, Panel, Place, Ticks};
-use super::svg::{colour, stroke, Anchor, Drawing, Type};
+use super::panel::{self, Panel, Place, Timeline};
+use super::svg::{Anchor, Drawing, Stroke, Type};
 
 /// The margin of the page.
 const MARGIN: f64 = 24.0;
@@ -18,12 +18,32 @@ pub struct Page {
     pub title: String,
     /// The axes.
     pub stacks: Vec<Stack>,
-    /// Whether a sway without the blend is drawn.
-    pub compares: bool,
+    /// The number of stacks side by side, and the width of their plots.
+    pub columns: (usize, f64),
+    /// What each line and each area stands for.
+    pub legend: Vec<(&'static str, Sample)>,
     /// What the picture shows, below it.
     pub caption: String,
     /// The ticks that are drawn.
-    pub ticks: Ticks,
+    pub time: Timeline,
+}
+
+/// A sample of what a legend tells.
+#[derive(Debug, Clone, Copy)]
+pub enum Sample {
+    /// A line.
+    Line(Stroke),
+    /// An area of a colour.
+    Area(&'static str),
+}
+
+/// The number of stacks side by side, and the width of their plots, for the axes of one job.
+pub fn columns_for(stacks: usize) -> (usize, f64) {
+    match stacks {
+        1 => (1, 680.0),
+        2 | 4 => (2, 440.0),
+        _ => (3, 330.0),
+    }
 }
 
 /// The panels of one axis, one above the other.
@@ -43,42 +63,33 @@ impl Stack {
     }
 
     /// Draws the stack, its heading at the top and its plots of a width at the left.
-    fn draw(&self, drawing: &mut Drawing, left: f64, top: f64, width: f64, ticks: Ticks) {
+    fn draw(&self, drawing: &mut Drawing, left: f64, top: f64, width: f64, time: &Timeline) {
         let room = width - Type::LABEL.width_of(&self.pole) - 8.0;
         drawing.text(left, top + 14.0, Anchor::Start, Type::HEADING, &shortened(&self.title, room));
         drawing.text(left + width, top + 14.0, Anchor::End, Type::LABEL, &self.pole);
         for (index, panel) in self.panels.iter().enumerate() {
             let top = top + HEADING + panel::ABOVE + index as f64 * (panel::ABOVE + panel::HEIGHT);
             let last = index + 1 == self.panels.len();
-            panel.draw(drawing, Place { left, top, width }, ticks, index == 0, last);
+            panel.draw(drawing, Place { left, top, width }, time, index == 0, last);
         }
     }
 }
 
 impl Page {
-    /// The number of stacks side by side, and the width of their plots.
-    fn columns(&self) -> (usize, f64) {
-        match self.stacks.len() {
-            1 => (1, 680.0),
-            2 | 4 => (2, 440.0),
-            _ => (3, 330.0),
-        }
-    }
-
     /// Draws the page.
     pub fn draw(&self) -> String {
-        let (columns, plot_width) = self.columns();
+        let (columns, plot_width) = self.columns;
         let labels =
             self.stacks.iter().flat_map(|stack| &stack.panels).map(Panel::label_width).fold(0.0, f64::max) + 8.0;
         let pitch = labels + plot_width + BETWEEN;
         let width = 2.0 * MARGIN + columns as f64 * pitch - BETWEEN;
         let mut drawing = Drawing::new();
         drawing.text(MARGIN, MARGIN + 14.0, Anchor::Start, Type::TITLE, &self.title);
-        let mut top = draw_legend(&mut drawing, MARGIN + 30.0, width, self.compares) + 14.0;
+        let mut top = draw_legend(&mut drawing, MARGIN + 30.0, width, &self.legend) + 14.0;
         for row in self.stacks.chunks(columns) {
             for (column, stack) in row.iter().enumerate() {
                 let left = MARGIN + labels + column as f64 * pitch;
-                stack.draw(&mut drawing, left, top, plot_width, self.ticks);
+                stack.draw(&mut drawing, left, top, plot_width, &self.time);
             }
             top += row.iter().map(Stack::height).fold(0.0, f64::max) + 12.0;
         }
@@ -90,22 +101,19 @@ impl Page {
     }
 }
 
-/// Draws what each line stands for, from a height on, and returns the height below it.
-fn draw_legend(drawing: &mut Drawing, top: f64, width: f64, compares: bool) -> f64 {
+/// Draws what each line and each area stands for, from a height on, and returns the height below it.
+fn draw_legend(drawing: &mut Drawing, top: f64, width: f64, legend: &[(&str, Sample)]) -> f64 {
     const SAMPLE: f64 = 28.0;
-    let always = [("plan", Some(stroke::PLAN)), ("target", Some(stroke::TARGET)), ("limit", Some(stroke::LIMIT))];
-    let unblended = compares.then_some(("sway without the blend, and its arrival", Some(stroke::UNBLENDED)));
-    let after = ("after arrival", None);
     let (mut x, mut y) = (MARGIN, top);
-    for (name, stroke) in always.into_iter().chain(unblended).chain([after]) {
+    for &(name, sample) in legend {
         let entry_width = SAMPLE + 6.0 + Type::BODY.width_of(name) + 18.0;
         if x + entry_width > width - MARGIN && x > MARGIN {
             (x, y) = (MARGIN, y + 18.0);
         }
-        match stroke {
-            Some(stroke) => drawing.line(&[(x, y + 4.0), (x + SAMPLE, y + 4.0)], stroke),
-            None => {
-                drawing.area(x, y - 2.0, SAMPLE, 12.0, colour::AFTER);
+        match sample {
+            Sample::Line(stroke) => drawing.line(&[(x, y + 4.0), (x + SAMPLE, y + 4.0)], stroke),
+            Sample::Area(colour) => {
+                drawing.area(x, y - 2.0, SAMPLE, 12.0, colour);
                 drawing.frame(x, y - 2.0, SAMPLE, 12.0);
             }
         }

@@ -1,7 +1,7 @@
 //! One panel: a quantity of one axis over the ticks.
 
 use super::scale::{label, Scale};
-use super::svg::{colour, stroke, Anchor, Drawing, Stroke, Type};
+use super::svg::{stroke, Anchor, Drawing, Stroke, Type};
 use super::sway::Point;
 
 /// The height of a panel's plot.
@@ -27,13 +27,32 @@ pub struct Panel {
     pub curves: Vec<(Vec<Point>, Stroke)>,
 }
 
-/// The ticks that all panels of a picture share.
-#[derive(Debug, Clone, Copy)]
-pub struct Ticks {
-    /// The arrival.
-    pub arrival: u32,
+/// The ticks that all panels of a picture share, and what stands out among them.
+pub struct Timeline {
     /// The last tick drawn.
     pub last: u32,
+    /// Shaded spans, the first one at the bottom.
+    pub spans: Vec<Span>,
+    /// Upright lines, from the left to the right.
+    pub marks: Vec<Mark>,
+}
+
+/// A shaded span of ticks.
+pub struct Span {
+    /// Where it begins.
+    pub from: u32,
+    /// Where it ends.
+    pub to: u32,
+    /// Its colour.
+    pub colour: &'static str,
+}
+
+/// An upright line at a tick.
+pub struct Mark {
+    /// The tick.
+    pub tick: u32,
+    /// What is written above it.
+    pub label: String,
 }
 
 /// Where a panel's plot stands.
@@ -59,8 +78,8 @@ impl Place {
     }
 
     /// The scale of the ticks.
-    fn across(&self, ticks: Ticks) -> Scale {
-        Scale { least: 0.0, greatest: f64::from(ticks.last), from: self.left, to: self.right() }
+    fn across(&self, time: &Timeline) -> Scale {
+        Scale { least: 0.0, greatest: f64::from(time.last), from: self.left, to: self.right() }
     }
 }
 
@@ -82,12 +101,14 @@ impl Panel {
         self.labels().iter().map(|(_, text)| Type::LABEL.width_of(text)).fold(0.0, f64::max)
     }
 
-    /// Draws the panel; the first of a stack says what the arrival is, the last has the ticks' numbers below it.
-    pub fn draw(&self, drawing: &mut Drawing, place: Place, ticks: Ticks, first: bool, last: bool) {
-        let across = place.across(ticks);
+    /// Draws the panel; the first of a stack says what the upright lines are, the last has the ticks' numbers below it.
+    pub fn draw(&self, drawing: &mut Drawing, place: Place, time: &Timeline, first: bool, last: bool) {
+        let across = place.across(time);
         let upward = self.upward(place.top);
-        let arrival = across.at(f64::from(ticks.arrival));
-        drawing.area(arrival, place.top, place.right() - arrival, HEIGHT, colour::AFTER);
+        for span in &time.spans {
+            let (from, to) = (across.at(span.from.into()), across.at(span.to.min(time.last).into()));
+            drawing.area(from, place.top, (to - from).max(0.0), HEIGHT, span.colour);
+        }
         self.draw_grid(drawing, place, across, upward, last);
         drawing.clipped(place.left, place.top, place.width, HEIGHT, |drawing| {
             for &limit in self.limits.iter().filter(|&&limit| upward.shows(limit)) {
@@ -101,10 +122,13 @@ impl Panel {
             }
         });
         drawing.frame(place.left, place.top, place.width, HEIGHT);
-        drawing.line(&[(arrival, place.top), (arrival, place.bottom())], stroke::ARRIVAL);
+        for mark in &time.marks {
+            let x = across.at(mark.tick.into());
+            drawing.line(&[(x, place.top), (x, place.bottom())], stroke::ARRIVAL);
+        }
         self.draw_names(drawing, place);
         if first {
-            self.draw_arrival(drawing, place, arrival, ticks.arrival);
+            self.draw_labels(drawing, place, across, &time.marks);
         }
     }
 
@@ -134,14 +158,19 @@ impl Panel {
         drawing.text(place.right(), place.top - 6.0, Anchor::End, Type::LABEL, &self.remark);
     }
 
-    /// Draws what the arrival is, above its line and clear of the panel's name.
-    fn draw_arrival(&self, drawing: &mut Drawing, place: Place, x: f64, arrival: u32) {
-        let text = format!("arrival {arrival}");
-        let half = Type::BODY.width_of(&text) / 2.0;
-        let least = place.left + Type::BODY.width_of(self.name) + 10.0 + half;
-        let middle = x.clamp(least, (place.right() - half).max(least));
+    /// Draws what each upright line is, above it, clear of the panel's name and of the label before; a label that would
+    /// stand too far from its line for that is left out, except an only one.
+    fn draw_labels(&self, drawing: &mut Drawing, place: Place, across: Scale, marks: &[Mark]) {
         let set = Type { bold: true, ..Type::BODY };
-        drawing.text(middle, place.top - 6.0, Anchor::Middle, set, &text);
+        let mut free_from = place.left + Type::BODY.width_of(self.name) + 10.0;
+        for mark in marks {
+            let (x, half) = (across.at(mark.tick.into()), Type::BODY.width_of(&mark.label) / 2.0);
+            let middle = x.clamp(free_from + half, (place.right() - half).max(free_from + half));
+            if marks.len() == 1 || (middle - x).abs() <= 12.0 {
+                drawing.text(middle, place.top - 6.0, Anchor::Middle, set, &mark.label);
+                free_from = middle + half + 4.0;
+            }
+        }
     }
 }
 
@@ -162,6 +191,15 @@ pub fn range_within(values: impl Iterator<Item = f64>, limit: f64) -> (f64, f64)
     }
     let room = 0.1 * (upper - lower);
     (lower - room, upper + room)
+}
+
+/// The range for values with a limit, the lines of the limit, and a remark that says it and whether it is too far off to show.
+pub fn limited(values: impl Iterator<Item = f64>, limit: u32) -> ((f64, f64), Vec<f64>, String) {
+    let limit = f64::from(limit);
+    let range = range_within(values, limit);
+    let shown = range.0 <= -limit || range.1 >= limit;
+    let place = if shown { "" } else { ", off the scale" };
+    (range, vec![-limit, limit], format!("limit ±{}{place}", label(limit, 1.0)))
 }
 
 /// The least and the greatest of values.

@@ -22,6 +22,8 @@ pub mod colour {
     pub const FRAME: &str = "#B4BCC4";
     /// The time after arrival.
     pub const AFTER: &str = "#F3F5F8";
+    /// The stay at a stop.
+    pub const DWELL: &str = "#E6EDF5";
 }
 
 /// How a line is drawn.
@@ -51,7 +53,7 @@ pub mod stroke {
     pub const TARGET: Stroke = Stroke { colour: colour::TARGET, width: 1.5, dashes: "1.5 3" };
     /// Limits.
     pub const LIMIT: Stroke = Stroke { colour: colour::LIMIT, width: 1.0, dashes: "8 3 2 3" };
-    /// The arrival.
+    /// An arrival.
     pub const ARRIVAL: Stroke = Stroke { colour: colour::INK, width: 1.0, dashes: "" };
     /// Grid lines.
     pub const GRID: Stroke = Stroke { colour: colour::GRID, width: 1.0, dashes: "" };

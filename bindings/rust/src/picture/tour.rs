@@ -1,0 +1,156 @@
+//! The timeline of a tour: for each axis position, velocity and sway from the tour's start to its end.
+
+use polgamir::sheet::TourSheet;
+use polgamir::{Axis, Job, Schedule, TourRefusal};
+
+use super::course::Moment;
+use super::page::{Page, Sample, Stack};
+use super::panel::{self, Mark, Panel, Span, Timeline};
+use super::scale::{self, quantity};
+use super::svg::{colour, stroke};
+use super::sway::{Point, Pole};
+use super::{pole_of, Planned};
+
+/// The width of a timeline's plots.
+const WIDTH: f64 = 900.0;
+
+/// What a timeline shows.
+const CAPTION: &str =
+    "Upright lines are arrivals, each with its stop's number; the head then rests for the dwell. Sway: how far the top of the pole \
+     is from upright, in the axis's units. The pole has the entered half period and weight, is at rest at tick 0 and is driven by \
+     the accelerations of the legs' tables. Left: the greatest sway from an arrival to the next departure. The exact plan leaves \
+     0, which is proved of every leg; rounding its cells to 1/256 unit leaves the rest.";
+
+/// Draws the timeline of a tour.
+pub fn draw_tour(title: &str, sheet: &TourSheet) -> Result<String, TourRefusal> {
+    let schedule = sheet.tour.schedule(&sheet.stops)?;
+    let legs = legs_of(sheet)?;
+    let stays = stays_of(sheet, &schedule);
+    let stacks = sheet.tour.entered().map(|(number, _)| {
+        let way = Way::of(sheet, number, &legs, &stays);
+        Stack { title: sheet.axis_title(number), pole: pole_of(&way.axis), panels: way.panels(&stays) }
+    });
+    let page = Page {
+        title: format!("{title}: {} stops in {} ticks", sheet.stops.len(), scale::label(schedule.total.into(), 1.0)),
+        stacks: stacks.collect(),
+        columns: (1, WIDTH),
+        legend: vec![
+            ("plan", Sample::Line(stroke::PLAN)),
+            ("stop", Sample::Line(stroke::TARGET)),
+            ("limit", Sample::Line(stroke::LIMIT)),
+            ("arrival", Sample::Line(stroke::ARRIVAL)),
+            ("dwell", Sample::Area(colour::DWELL)),
+        ],
+        caption: CAPTION.into(),
+        time: timeline(&stays, schedule.total),
+    };
+    Ok(page.draw())
+}
+
+/// A leg of a tour: its job and its plan.
+struct Leg {
+    job: Job,
+    planned: Planned,
+}
+
+/// The legs of a tour.
+fn legs_of(sheet: &TourSheet) -> Result<Vec<Leg>, TourRefusal> {
+    let jobs = (0..).map_while(|stop| sheet.tour.leg(&sheet.stops, stop));
+    let legs = jobs.enumerate().map(|(stop, job)| match Planned::of(&job) {
+        Ok(planned) => Ok(Leg { job, planned }),
+        Err(refusal) => Err(TourRefusal::Leg { stop, refusal }),
+    });
+    legs.collect()
+}
+
+/// The stay at a stop: the arrival, and the departure after the dwell.
+#[derive(Debug, Clone, Copy)]
+struct Stay {
+    arrival: u32,
+    departure: u32,
+}
+
+/// The stays of a tour.
+fn stays_of(sheet: &TourSheet, schedule: &Schedule) -> Vec<Stay> {
+    let stays = schedule.arrivals.iter().zip(&sheet.stops);
+    stays.map(|(&arrival, stop)| Stay { arrival, departure: arrival + stop.dwell }).collect()
+}
+
+/// The arrivals and the dwells.
+fn timeline(stays: &[Stay], total: u32) -> Timeline {
+    let span = |stay: &Stay| Span { from: stay.arrival, to: stay.departure, colour: colour::DWELL };
+    let mark = |(stop, stay): (usize, &Stay)| Mark { tick: stay.arrival, label: stop.to_string() };
+    Timeline {
+        last: total.max(1),
+        spans: stays.iter().map(span).collect(),
+        marks: stays.iter().enumerate().map(mark).collect(),
+    }
+}
+
+/// The way of an axis through a tour.
+struct Way {
+    /// The axis in the first leg; limits and pole are the same in all.
+    axis: Axis,
+    /// The rows of every tick from the tour's start to its end.
+    rows: Vec<Moment>,
+    /// Where the axis is to be, from each departure to the next.
+    stops: Vec<Point>,
+}
+
+impl Way {
+    /// The way of an axis, leg after leg, at rest from each arrival to the next departure, whose row is the next leg's first.
+    fn of(sheet: &TourSheet, number: usize, legs: &[Leg], stays: &[Stay]) -> Way {
+        let mut rows: Vec<Moment> = Vec::new();
+        let mut stops = Vec::new();
+        let mut last_row = None;
+        for ((leg, stay), stop) in legs.iter().zip(stays).zip(&sheet.stops) {
+            let position = stop.positions[number] as f64;
+            stops.extend([(rows.len() as f64, position), (stay.departure.into(), position)]);
+            rows.extend(&leg.planned.rows[number]);
+            last_row = rows.last().copied();
+            rows.resize(stay.departure as usize, rows[rows.len() - 1]);
+        }
+        rows.extend(last_row);
+        Way { axis: legs[0].job.axes[number].expect("an axis of the tour"), rows, stops }
+    }
+
+    /// A quantity over the ticks.
+    fn curve(&self, quantity: impl Fn(&Moment) -> f64) -> Vec<Point> {
+        (0..).zip(&self.rows).map(|(tick, row): (u32, _)| (tick.into(), quantity(row))).collect()
+    }
+
+    /// The panels; that of the sway only where the axis has a half period.
+    fn panels(&self, stays: &[Stay]) -> Vec<Panel> {
+        let mut panels = vec![self.position_panel(), self.velocity_panel()];
+        panels.extend(Pole::of(&self.axis).map(|pole| self.sway_panel(pole, stays)));
+        panels
+    }
+
+    /// The panel of the position.
+    fn position_panel(&self) -> Panel {
+        let positions = self.curve(|row| row.position);
+        let range = panel::range_of(positions.iter().map(|&(_, position)| position));
+        let curves = vec![(positions, stroke::PLAN), (self.stops.clone(), stroke::TARGET)];
+        Panel { name: "position, units", remark: String::new(), range, limits: Vec::new(), curves }
+    }
+
+    /// The panel of the velocity with its limits.
+    fn velocity_panel(&self) -> Panel {
+        let velocities = self.curve(|row| row.velocity);
+        let shown = velocities.iter().map(|&(_, velocity)| velocity);
+        let (range, limits, remark) = panel::limited(shown, self.axis.speed_limit);
+        Panel { name: "velocity, units/tick", remark, range, limits, curves: vec![(velocities, stroke::PLAN)] }
+    }
+
+    /// The panel of the sway.
+    fn sway_panel(&self, pole: Pole, stays: &[Stay]) -> Panel {
+        let accelerations: Vec<f64> = self.rows.iter().map(|row| row.acceleration).collect();
+        let curve = pole.sway(&accelerations, accelerations.len() as u32 - 1).curve;
+        let stays_at =
+            |tick: f64| stays.iter().any(|stay| (stay.arrival.into()..=stay.departure.into()).contains(&tick));
+        let left = curve.iter().filter(|&&(tick, _)| stays_at(tick)).map(|&(_, sway)| sway.abs()).fold(0.0, f64::max);
+        let remark = format!("left {}, exact plan 0", quantity(left));
+        let range = panel::range_of(curve.iter().map(|&(_, sway)| sway));
+        Panel { name: "sway, units", remark, range, limits: Vec::new(), curves: vec![(curve, stroke::PLAN)] }
+    }
+}

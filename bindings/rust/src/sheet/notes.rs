@@ -1,0 +1,44 @@
+//! What a sheet says beside its numbers.
+
+use crate::words::WordKind;
+use crate::AXES;
+
+/// The names of the axes, and the lines that the entries stand on.
+#[derive(Debug, Clone, PartialEq, Eq, Default)]
+pub struct Notes {
+    /// The name of each axis that has one.
+    pub names: [Option<String>; AXES],
+    /// The lines of the entries.
+    pub lines: Vec<EntryLine>,
+}
+
+/// The line of an entry.
+#[derive(Debug, Clone, Copy, PartialEq, Eq)]
+pub struct EntryLine {
+    /// The axis, or `None` for an entry of the whole job.
+    pub axis: Option<usize>,
+    /// What stands there.
+    pub entry: WordKind,
+    /// The line, from 1.
+    pub line: usize,
+}
+
+impl Notes {
+    /// The name of an axis.
+    pub fn axis_name(&self, number: usize) -> Option<&str> {
+        self.names.get(number)?.as_deref()
+    }
+
+    /// The line of an entry.
+    pub fn line_of(&self, axis: Option<usize>, entry: WordKind) -> Option<usize> {
+        self.lines.iter().find(|line| line.axis == axis && line.entry == entry).map(|line| line.line)
+    }
+
+    /// What to call an axis: `axis 0`, or `axis 0 pan` where it has a name.
+    pub fn axis_title(&self, number: usize) -> String {
+        match self.axis_name(number) {
+            Some(name) => format!("axis {number} {name}"),
+            None => format!("axis {number}"),
+        }
+    }
+}

@@ -1,0 +1,81 @@
+//! The sheet of a tour.
+
+use std::fmt;
+
+use super::notes::{EntryLine, Notes};
+use super::{write_entry, Sheet};
+use crate::tour::{Stop, Tour};
+use crate::words::WordKind;
+
+/// A tour and its stops, with what their sheet says beside them.
+#[derive(Debug, Clone, PartialEq, Eq, Default)]
+pub struct TourSheet {
+    /// The tour that the sheet asks for.
+    pub tour: Tour,
+    /// Its stops.
+    pub stops: Vec<Stop>,
+    pub(super) notes: Notes,
+    pub(super) stop_lines: Vec<usize>,
+}
+
+impl TourSheet {
+    /// The sheet of a tour over stops, without names.
+    pub fn new(tour: Tour, stops: Vec<Stop>) -> TourSheet {
+        TourSheet { tour, stops, ..TourSheet::default() }
+    }
+
+    /// The name that the sheet gives to an axis.
+    pub fn axis_name(&self, number: usize) -> Option<&str> {
+        self.notes.axis_name(number)
+    }
+
+    /// What to call an axis: `axis 0`, or `axis 0 pan` where the sheet names it.
+    pub fn axis_title(&self, number: usize) -> String {
+        self.notes.axis_title(number)
+    }
+
+    /// The line, from 1, that a stop stands on. A sheet that was not read from text has no lines.
+    pub fn line_of_stop(&self, index: usize) -> Option<usize> {
+        self.stop_lines.get(index).copied()
+    }
+
+    /// The sheet of a leg's job, or `None` where there is no such stop. Its positions have the lines of the stops.
+    pub fn leg(&self, index: usize) -> Option<Sheet> {
+        let mut sheet = Sheet { job: self.tour.leg(&self.stops, index)?, notes: self.notes.clone() };
+        let before = index.checked_sub(1).and_then(|before| self.line_of_stop(before));
+        if let Some(line) = before {
+            sheet.notes.lines.retain(|entry| entry.entry != WordKind::StartPosition);
+            sheet.notes.lines.extend(self.position_lines(WordKind::StartPosition, line));
+        }
+        if let Some(line) = self.line_of_stop(index) {
+            sheet.notes.lines.extend(self.position_lines(WordKind::TargetPosition, line));
+        }
+        Some(sheet)
+    }
+
+    /// One line as that of a position of every axis.
+    fn position_lines(&self, entry: WordKind, line: usize) -> impl Iterator<Item = EntryLine> + '_ {
+        self.tour.entered().map(move |(number, _)| EntryLine { axis: Some(number), entry, line })
+    }
+}
+
+/// Writes the sheet in full, in a form that reads back as the same sheet. A tour without stops has no sheet that reads back.
+impl fmt::Display for TourSheet {
+    fn fmt(&self, f: &mut fmt::Formatter<'_>) -> fmt::Result {
+        for (number, axis) in self.tour.entered() {
+            writeln!(f, "{}", self.axis_title(number))?;
+            write_entry(f, WordKind::HalfPeriod, axis.half_period.into())?;
+            write_entry(f, WordKind::SecondWeight, axis.second_weight.into())?;
+            write_entry(f, WordKind::SpeedLimit, axis.speed_limit.into())?;
+            write_entry(f, WordKind::AccelerationLimit, axis.acceleration_limit.into())?;
+            write_entry(f, WordKind::StartPosition, axis.start)?;
+            writeln!(f)?;
+        }
+        for stop in &self.stops {
+            let positions: String =
+                self.tour.entered().map(|(number, _)| format!(" {}", stop.positions[number])).collect();
+            writeln!(f, "stop{positions} dwell {}", stop.dwell)?;
+        }
+        Ok(())
+    }
+}

@@ -1,0 +1,135 @@
+-- The stage before refusal 10: what it hands on where it refuses and where it has found an arrival, and that it gives the answer of the
+-- definitions with no table lent.
+use Prim.Native.Nat.{ℕ, zero, suc, _≤_}
+use native.Mathlib.Omega.{arith}
+use mathlib.Core.Path.{_≡_, refl, sym, ap, subst, _∙_}
+use mathlib.Core.Bool.{Bool, true, false, false≢true}
+use mathlib.Core.Option.{Option, none, some}
+use mathlib.Core.List.{List, [], _∷_}
+use lib.ListN.{length}
+use lib.Dec.{eqb, leb, ltb}
+use lib.IntN.{ℤ}
+use borrow.Author.Tests.{ne-eqb, eqb-true, eqb-false}
+use Rattle.model.specs.declared.Axis.{Axis}
+use Rattle.model.specs.declared.Answer.{Answer}
+use Rattle.model.specs.Job.{Job, JobAxis, typedJob}
+use Rattle.model.specs.Words.{goodMask}
+use Rattle.model.specs.Refusals.{lastTick, AllPassed}
+use Rattle.model.specs.Outcome.{Outcome, outcomeOf, refuse, accept, filled, jobOutcome, cellsNeeded, outcomeOfTyped, firstAxis, axisRefusals, leastArrival, allReach, beforeTen, answerOfTyped}
+use Rattle.model.proofs.BeforeTen.{before-filled}
+use Rattle.arrival.specs.declared.Arrival.{Arrival}
+use Rattle.arrival.specs.Arrivals.{leastOr, askedOr, arrivalFor}
+use Rattle.planner.specs.declared.Refusal.{Refusal}
+use Rattle.planner.specs.Stages.{firstRefusal, checkedFor, Settled}
+use Rattle.planner.specs.Promise.{Answered}
+use Rattle.planner.proofs.Calls.{mask-refused, mask-passed}
+
+-- ---- where the stage ends
+
+module _ (j : Job) (r : Answer) where
+  -- a refusal, which is not 10
+  pub settled-refused : (k p n : ℕ) → (k ≡ 0 → ⊥) → (k ≡ 10 → ⊥) → r ≡ record { number = k; place = p; mask = n; arrival = 0 }
+      → ((lent : List ℤ) → refuse k p n 0 lent ≡ jobOutcome j lent) → Settled j r
+  settled-refused k p n not-zero not-ten e is =
+      let number = ap (λ (s : Answer). s .number) e in
+      record {
+        refused = λ h lent. ap (λ (s : Answer). outcomeOf s lent) e ∙ is lent;
+        not-ten = λ z. not-ten (sym number ∙ z);
+        last = let a = ap (λ (s : Answer). s .arrival) e in omega arith;
+        found = λ z. absurd (not-zero (sym number ∙ z));
+        accepted = λ z. absurd (not-zero (sym number ∙ z));
+        passed = λ z. absurd (not-zero (sym number ∙ z));
+        reached = λ z. absurd (not-zero (sym number ∙ z));
+      }
+
+  -- an arrival that all axes reach
+  pub settled-found : (n : ℕ) → r ≡ record { number = 0; place = 0; mask = j .mask; arrival = n } → n ≤ lastTick
+      → AllPassed (j .axes) → allReach (j .axes) n ≡ true → ((lent : List ℤ) → filled j n lent ≡ jobOutcome j lent) → Settled j r
+  settled-found n e l p a is =
+      let arrival : r .arrival ≡ n = ap (λ (s : Answer). s .arrival) e in
+      let number = ap (λ (s : Answer). s .number) e in
+      record {
+        refused = λ h. absurd (h number);
+        not-ten = λ z. omega arith;
+        last = omega arith;
+        found = λ z lent. ap (λ (k : ℕ). filled j k lent) arrival ∙ is lent;
+        accepted = λ z. e ∙ ap (λ (k : ℕ). record { number = 0; place = 0; mask = j .mask; arrival = k }) (sym arrival);
+        passed = λ z. p;
+        reached = λ z. ap (λ (k : ℕ). allReach (j .axes) k) arrival ∙ a;
+      }
+
+-- ---- it is the answer of the definitions
+
+before-ten : (m : ℕ) (r : Answer) → (r .number ≡ 10 → ⊥) → beforeTen m (outcomeOf r []) ≡ r
+before-ten m r not-ten = go (eqb (r .number) 10) (ne-eqb (r .number) 10 not-ten)
+  where
+    go : (b : Bool) → b ≡ false → (elim b as (λ _. Answer) [
+      | true ↦ record { number = 0; place = 0; mask = m; arrival = r .arrival }
+      | false ↦ record { number = r .number; place = r .place; mask = r .mask; arrival = r .arrival }
+    ]) ≡ r
+    go false e = refl
+    go true e = absurd (false≢true (sym e))
+
+settled-is : (j : Job) (r : Answer) → Settled j r → r ≡ beforeTen (j .mask) (jobOutcome j [])
+settled-is j r s = go (eqb (r .number) 0) refl
+  where
+    go : (b : Bool) → eqb (r .number) 0 ≡ b → r ≡ beforeTen (j .mask) (jobOutcome j [])
+    go true e =
+        let zero = eqb-true (r .number) 0 e in
+        s .accepted zero ∙ sym (before-filled j (r .arrival) []) ∙ ap (beforeTen (j .mask)) (s .found zero [])
+    go false e = sym (before-ten (j .mask) r (s .not-ten)) ∙ ap (beforeTen (j .mask)) (s .refused (eqb-false (r .number) 0 e) [])
+
+module _ (m asked : ℕ) (six : List Axis) (r : Answer) where
+  pub answered : goodMask m ≡ true → Settled (typedJob m asked six) r → Answered m asked six r
+  unfolding answerOfTyped
+  answered good s =
+      record {
+        is = settled-is (typedJob m asked six) r s ∙ ap (beforeTen m) (mask-passed m asked six [] good);
+        last = s .last;
+      }
+
+  pub no-mask : goodMask m ≡ false → r ≡ record { number = 1; place = 0; mask = 0; arrival = 0 } → Answered m asked six r
+  unfolding answerOfTyped
+  no-mask bad e =
+      record {
+        is = e ∙ ap (beforeTen m) (mask-refused m asked six [] bad);
+        last = let a = ap (λ (s : Answer). s .arrival) e in omega arith;
+      }
+
+-- ---- no check and no search answers 10
+
+abbrev NoneTen : List (ℕ × (Axis → Bool)) → Type 0
+NoneTen [] = Unit
+NoneTen (t ∷ ts) = (t .0 ≡ 10 → ⊥) × NoneTen ts
+
+tests-not-ten : (ts : List (ℕ × (Axis → Bool))) (xs : List JobAxis) → NoneTen ts → firstRefusal ts xs .number ≡ 10 → ⊥
+tests-not-ten [] xs n e = omega arith
+tests-not-ten (t ∷ ts) xs (n, ns) e = go (firstAxis (t .1) xs) (tests-not-ten ts xs ns) e
+  where
+    go : (o : Option ℕ) → (firstRefusal ts xs .number ≡ 10 → ⊥)
+        → (elim o as (λ _. Refusal) [ some i ↦ record { number = t .0; place = i } | none ↦ firstRefusal ts xs ]) .number ≡ 10 → ⊥
+    go (some i) h e = n e
+    go none h e = h e
+
+pub check-not-ten : (j : Job) (c : Refusal) → c ≡ checkedFor j → c .number ≡ 10 → ⊥
+check-not-ten j c is e = go (leb (j .asked) lastTick) (sym (ap (λ (r : Refusal). r .number) is) ∙ e)
+  where
+    go : (b : Bool) → (elim b as (λ _. Refusal) [ true ↦ firstRefusal axisRefusals (j .axes) | false ↦ record { number = 3; place = 1 } ]) .number ≡ 10 → ⊥
+    go true e =
+        tests-not-ten axisRefusals (j .axes) ((λ z. omega arith), ((λ z. omega arith), ((λ z. omega arith), ((λ z. omega arith), tt)))) e
+    go false e = omega arith
+
+pub arrival-not-ten : (xs : List JobAxis) (asked : ℕ) (f : Arrival) → f ≡ arrivalFor xs asked → f .number ≡ 10 → ⊥
+arrival-not-ten xs asked f is e = go asked (sym (ap (λ (r : Arrival). r .number) is) ∙ e)
+  where
+    least : (o : Option ℕ) → leastOr xs o .number ≡ 10 → ⊥
+    least (some n) e = omega arith
+    least none e = omega arith
+
+    one : (n : ℕ) (b : Bool) → askedOr xs n b .number ≡ 10 → ⊥
+    one n true e = omega arith
+    one n false e = omega arith
+
+    go : (n : ℕ) → arrivalFor xs n .number ≡ 10 → ⊥
+    go zero e = least (leastArrival xs) e
+    go (suc n) e = one (suc n) (allReach xs (suc n)) e

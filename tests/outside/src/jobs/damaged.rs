@@ -1,0 +1,132 @@
+//! Jobs of typed values at the ends of their types and ranges.
+
+use super::{POSITION_GREATEST, POSITION_LEAST};
+use crate::random::Random;
+use crate::reference::{Axis, Job, Target};
+
+/// Ends of types and of ranges, and their neighbours.
+pub const SIGNED_ENDS: [i64; 24] = [
+    i64::MIN,
+    i64::MIN + 1,
+    -(1 << 62),
+    -(1 << 40),
+    i32::MIN as i64 - 1,
+    i32::MIN as i64,
+    POSITION_LEAST - 1,
+    POSITION_LEAST,
+    -1_048_577,
+    -65_537,
+    -4_097,
+    -4_096,
+    -1,
+    0,
+    1,
+    4_096,
+    4_097,
+    65_537,
+    1_048_577,
+    POSITION_GREATEST,
+    POSITION_GREATEST + 1,
+    i32::MAX as i64 + 1,
+    i64::MAX - 1,
+    i64::MAX,
+];
+
+pub const UNSIGNED_ENDS: [u32; 20] = [
+    0,
+    1,
+    2,
+    127,
+    128,
+    129,
+    255,
+    256,
+    257,
+    4_096,
+    4_097,
+    65_535,
+    65_536,
+    65_537,
+    1_048_576,
+    1_048_577,
+    1 << 31,
+    (1 << 31) - 1,
+    u32::MAX - 1,
+    u32::MAX,
+];
+
+/// The axis with signed value `j`, in the order of the flat array, replaced. A value that a fixed target lacks is left.
+pub fn with_signed(axis: Axis, j: usize, value: i64) -> Axis {
+    let target = match (axis.target, j) {
+        (Target::Fixed { velocity, .. }, 2) => Target::Fixed { position: value, velocity },
+        (Target::Fixed { position, .. }, 3) => Target::Fixed { position, velocity: value },
+        (Target::Moving { velocity, acceleration, tick, .. }, 2) => {
+            Target::Moving { position: value, velocity, acceleration, tick }
+        }
+        (Target::Moving { position, acceleration, tick, .. }, 3) => {
+            Target::Moving { position, velocity: value, acceleration, tick }
+        }
+        (Target::Moving { position, velocity, tick, .. }, 4) => {
+            Target::Moving { position, velocity, acceleration: value, tick }
+        }
+        (Target::Moving { position, velocity, acceleration, .. }, 5) => {
+            Target::Moving { position, velocity, acceleration, tick: value }
+        }
+        (target, _) => target,
+    };
+    match j {
+        0 => Axis { start_position: value, ..axis },
+        1 => Axis { start_velocity: value, ..axis },
+        _ => Axis { target, ..axis },
+    }
+}
+
+/// The axis with unsigned value `j`, in the order of the flat array, replaced; the target's kind stays.
+pub fn with_unsigned(axis: Axis, j: usize, value: u32) -> Axis {
+    match j {
+        0 => Axis { speed_limit: value, ..axis },
+        1 => Axis { acceleration_limit: value, ..axis },
+        2 => Axis { half_period: value, ..axis },
+        3 => Axis { second_weight: value, ..axis },
+        _ => axis,
+    }
+}
+
+/// The axis after a target that accelerates, with a blend that may be damped.
+fn accelerating(random: &mut Random, axis: Axis) -> Axis {
+    let (position, velocity) = (axis.target.position(), axis.target.velocity());
+    Axis {
+        half_period: random.between(0, 2) as u32,
+        second_weight: random.between(126, 128) as u32,
+        target: Target::Moving { position, velocity, acceleration: random.between(-1, 1), tick: random.between(-9, 9) },
+        ..axis
+    }
+}
+
+/// A typed job with one value or several at an end of its type or its range, on axes of the mask and off it.
+pub fn damaged_job(random: &mut Random, job: &Job) -> Job {
+    let mut damaged = *job;
+    for _ in 0..random.between(1, 3) {
+        let i = random.below(6);
+        damaged.axes[i] = match random.below(8) {
+            0 => {
+                damaged.mask = random.pick(&[0, 64, 65, 1 << 31, u32::MAX, job.mask | 1 << i, job.mask ^ 1 << i]);
+                damaged.axes[i]
+            }
+            1 => {
+                damaged.asked = random.pick(&[0, 1, 4_096, 4_097, 1 << 28, u32::MAX]);
+                damaged.axes[i]
+            }
+            2..=4 => {
+                let (j, value) = (random.below(6), random.pick(&SIGNED_ENDS));
+                with_signed(damaged.axes[i], j, value)
+            }
+            5 => accelerating(random, damaged.axes[i]),
+            _ => {
+                let (j, value) = (random.below(5), random.pick(&UNSIGNED_ENDS));
+                with_unsigned(damaged.axes[i], j, value)
+            }
+        };
+    }
+    damaged
+}

@@ -1,0 +1,118 @@
+//! Jobs that pass the checks of their values.
+
+use super::{Reach, POSITION_GREATEST, POSITION_LEAST};
+use crate::random::Random;
+use crate::reference::{Axis, Job, Target, LATEST, UNSET};
+
+/// A number whose count of bits is random, at most `greatest`, at least 1.
+fn some_size(random: &mut Random, greatest: i64) -> i64 {
+    let bits = random.between(0, 63 - i64::from(greatest.leading_zeros()));
+    random.between(1, (2 << bits) - 1).min(greatest)
+}
+
+fn half_period(random: &mut Random, most: i64) -> i64 {
+    match random.below(4) {
+        0 => 0,
+        1 => random.between(0, most.min(4)),
+        _ => random.between(0, most),
+    }
+}
+
+fn weight(random: &mut Random) -> i64 {
+    if random.once_in(3) {
+        random.between(1, 128)
+    } else {
+        128
+    }
+}
+
+/// An axis that passes refusals 4 to 7 and that may well arrive after about `ticks` ticks.
+fn fitting_axis(random: &mut Random, speed: i64, acceleration: i64, ticks: i64) -> Axis {
+    let h = half_period(random, 256.min(ticks));
+    let b = weight(random);
+    let start = random.between(-1000, 1000);
+    let start_velocity = if random.once_in(2) { 0 } else { random.between(-speed, speed) };
+    let velocity = if random.once_in(2) { 0 } else { random.between(-speed, speed) };
+    // What a motion from rest to rest can cover in the ticks, and a little more.
+    let moved = (ticks - h).max(1);
+    let most = (speed * moved).min(acceleration * (moved * moved / 4)).max(1);
+    let drift = if random.once_in(2) { (start_velocity + velocity) * moved / 2 } else { 0 };
+    let distance = random.between(-most - most / 16, most + most / 16) + drift;
+    let position = (start + distance).clamp(POSITION_LEAST, POSITION_GREATEST);
+    let target = if random.once_in(3) {
+        // A moving target: where it meets the head about `ticks`, reckoned back to its own tick.
+        let a = if random.once_in(2) || (h != 0 && b != 128) {
+            0
+        } else {
+            let most = (speed / ticks.max(1)).clamp(1, acceleration);
+            random.between(-most, most)
+        };
+        let tick = random.between((ticks - 40).max(-LATEST), (ticks + 20).min(LATEST));
+        Target::Moving { position, velocity, acceleration: a, tick }
+    } else {
+        Target::Fixed { position, velocity }
+    };
+    Axis {
+        start_position: start,
+        start_velocity,
+        speed_limit: speed as u32,
+        acceleration_limit: acceleration as u32,
+        half_period: h as u32,
+        second_weight: b as u32,
+        target,
+    }
+}
+
+fn far_axis(random: &mut Random) -> Axis {
+    let speed = some_size(random, 1 << 20);
+    let acceleration = some_size(random, 1 << 16);
+    let axis = fitting_axis(random, speed, acceleration, 100);
+    let position = random.between(POSITION_LEAST, POSITION_GREATEST);
+    let start_position = random.between(POSITION_LEAST, POSITION_GREATEST);
+    Axis { start_position, target: Target::Fixed { position, velocity: axis.target.velocity() }, ..axis }
+}
+
+/// An axis of small limits that may well arrive after about `ticks` ticks.
+pub fn near_axis(random: &mut Random, ticks: i64) -> Axis {
+    let (speed, acceleration) = (random.between(1, 20), random.between(1, 4));
+    fitting_axis(random, speed, acceleration, ticks)
+}
+
+fn axis(random: &mut Random, reach: Reach, ticks: i64) -> Axis {
+    match reach {
+        Reach::Near => near_axis(random, ticks),
+        Reach::Quick | Reach::Asked | Reach::Far => {
+            let (speed, acceleration) = (some_size(random, 1 << 20), some_size(random, 1 << 16));
+            fitting_axis(random, speed, acceleration, ticks)
+        }
+        Reach::Anywhere => far_axis(random),
+    }
+}
+
+/// A job that passes refusals 1 to 7.
+pub fn job(random: &mut Random, reach: Reach) -> Job {
+    let mask = match random.below(4) {
+        0 => random.between(1, 63) as u32,
+        1 => 1 << random.below(6) | 1 << random.below(6),
+        _ => 1 << random.below(6),
+    };
+    let ticks = match reach {
+        Reach::Near => random.between(1, 16),
+        Reach::Quick => random.between(1, 40),
+        Reach::Asked => random.between(1, LATEST),
+        Reach::Far => random.between(200, 3_000),
+        Reach::Anywhere => 100,
+    };
+    let asked = match reach {
+        Reach::Near | Reach::Quick if random.once_in(3) => (ticks + random.between(-1, 3)).max(1),
+        Reach::Asked => ticks,
+        _ => 0,
+    };
+    let mut axes = [UNSET; 6];
+    for (i, slot) in axes.iter_mut().enumerate() {
+        if mask >> i & 1 == 1 {
+            *slot = axis(random, reach, ticks);
+        }
+    }
+    Job { mask, asked: asked as u32, axes }
+}

@@ -1,0 +1,94 @@
+//! What a call takes and what it returns: answers, targets, axes and jobs.
+
+/// What a call returns.
+#[derive(Clone, Copy, Debug, PartialEq, Eq)]
+pub struct Answer {
+    pub number: u32,
+    pub place: u64,
+    pub mask: u32,
+    pub arrival: u32,
+}
+
+/// A refusal's answer.
+pub fn refusal(number: u32, place: u64, mask: u32, arrival: u32) -> Answer {
+    Answer { number, place, mask, arrival }
+}
+
+#[derive(Clone, Copy, Debug, PartialEq, Eq)]
+pub enum Target {
+    Fixed { position: i64, velocity: i64 },
+    Moving { position: i64, velocity: i64, acceleration: i64, tick: i64 },
+}
+
+#[derive(Clone, Copy, Debug, PartialEq, Eq)]
+pub struct Axis {
+    pub start_position: i64,
+    pub start_velocity: i64,
+    pub speed_limit: u32,
+    pub acceleration_limit: u32,
+    pub half_period: u32,
+    pub second_weight: u32,
+    pub target: Target,
+}
+
+/// An axis that no job looks at.
+pub const UNSET: Axis = Axis {
+    start_position: 0,
+    start_velocity: 0,
+    speed_limit: 0,
+    acceleration_limit: 0,
+    half_period: 0,
+    second_weight: 0,
+    target: Target::Fixed { position: 0, velocity: 0 },
+};
+
+#[derive(Clone, Copy, Debug, PartialEq, Eq)]
+pub struct Job {
+    pub mask: u32,
+    pub asked: u32,
+    pub axes: [Axis; 6],
+}
+
+pub const LATEST: i64 = 4096;
+
+impl Target {
+    pub fn position(&self) -> i64 {
+        match *self {
+            Target::Fixed { position, .. } | Target::Moving { position, .. } => position,
+        }
+    }
+
+    pub fn velocity(&self) -> i64 {
+        match *self {
+            Target::Fixed { velocity, .. } | Target::Moving { velocity, .. } => velocity,
+        }
+    }
+
+    pub fn acceleration(&self) -> i64 {
+        match *self {
+            Target::Fixed { .. } => 0,
+            Target::Moving { acceleration, .. } => acceleration,
+        }
+    }
+
+    /// Twice the position, and the velocity, at a tick of a motion that arrives at `arrival`.
+    pub fn at(&self, tick: i64, arrival: i64) -> (i64, i64) {
+        let (p, v, a, t) = match *self {
+            Target::Fixed { position, velocity } => (position, velocity, 0, arrival),
+            Target::Moving { position, velocity, acceleration, tick } => (position, velocity, acceleration, tick),
+        };
+        let d = tick - t;
+        (2 * p + 2 * v * d + a * d * d, v + a * d)
+    }
+}
+
+impl Job {
+    /// The axes of the mask, with their numbers.
+    pub fn set(&self) -> impl Iterator<Item = (usize, &Axis)> {
+        self.axes.iter().enumerate().filter(|&(i, _)| self.mask >> i & 1 == 1)
+    }
+
+    pub fn count(&self) -> usize {
+        self.set().count()
+    }
+}

@@ -1,0 +1,113 @@
+//! The refusals from 3 on in checking order, the arrival, and the table of an accepted job.
+
+use super::job::refusal;
+use super::{Answer, Axis, Job, Planned, Target, LATEST};
+
+/// The number, from 4 to 7, of the check.
+fn breaks(number: u32, axis: &Axis) -> bool {
+    let size = |x: i64| x.unsigned_abs();
+    let position_bad = |p: i64| !(-134_217_728..=134_217_727).contains(&p);
+    let (limit, h, b) = (u64::from(axis.speed_limit), axis.half_period, axis.second_weight);
+    match number {
+        4 => !(1..=1_048_576).contains(&axis.speed_limit) || !(1..=65_536).contains(&axis.acceleration_limit),
+        5 => h > 256 || !(1..=128).contains(&b),
+        6 => {
+            let moving_bad = match axis.target {
+                Target::Fixed { .. } => false,
+                Target::Moving { acceleration, tick, .. } => {
+                    size(acceleration) > u64::from(axis.acceleration_limit) || size(tick) > LATEST as u64
+                }
+            };
+            size(axis.start_velocity) > limit
+                || size(axis.target.velocity()) > limit
+                || moving_bad
+                || position_bad(axis.start_position)
+                || position_bad(axis.target.position())
+        }
+        7 => axis.target.acceleration() != 0 && h != 0 && b != 128,
+        _ => unreachable!(),
+    }
+}
+
+impl Job {
+    fn all_reach(&self, arrival: i64) -> bool {
+        self.set().all(|(_, axis)| Planned::reaching(axis, arrival).is_some())
+    }
+
+    fn mask_of(&self, fails: impl Fn(&Axis) -> bool) -> u32 {
+        self.set().filter(|(_, axis)| fails(axis)).map(|(i, _)| 1 << i).sum()
+    }
+
+    /// The refusal by 3 to 7, if there is one.
+    fn refused(&self) -> Option<Answer> {
+        if i64::from(self.asked) > LATEST {
+            return Some(refusal(3, 1, 0, 0));
+        }
+        (4..=7).find_map(|number| {
+            let (i, _) = self.set().find(|(_, axis)| breaks(number, axis))?;
+            Some(refusal(number, i as u64, 0, 0))
+        })
+    }
+
+    /// Whether the job asks for the least arrival and has none up to a tick: a long search, for whoever tries tick
+    /// after tick.
+    pub fn searches_past(&self, tick: i64) -> bool {
+        self.asked == 0 && self.refused().is_none() && !(1..=tick).any(|n| self.all_reach(n))
+    }
+
+    /// The arrival, or the refusal by 3 to 9.
+    fn arrival(&self) -> Result<i64, Answer> {
+        if let Some(refused) = self.refused() {
+            return Err(refused);
+        }
+        if self.asked != 0 {
+            let asked = i64::from(self.asked);
+            let late = self.mask_of(|axis| Planned::reaching(axis, asked).is_none());
+            return if late == 0 { Ok(asked) } else { Err(refusal(8, 0, late, 0)) };
+        }
+        (1..=LATEST).find(|&n| self.all_reach(n)).ok_or_else(|| {
+            let never = self.mask_of(|axis| (1..=LATEST).all(|n| Planned::reaching(axis, n).is_none()));
+            refusal(9, 0, never, 0)
+        })
+    }
+
+    /// The arrival that a typed job finds, or its refusal, with no table asked for.
+    pub fn least_arrival(&self) -> Result<u32, Answer> {
+        if !(1..=63).contains(&self.mask) {
+            return Err(refusal(1, 0, 0, 0));
+        }
+        self.arrival().map(|arrival| arrival as u32)
+    }
+
+    /// The planned motions of an accepted job's axes.
+    pub fn motions(&self, arrival: i64) -> Vec<(Axis, Planned)> {
+        self.set().map(|(_, axis)| (*axis, Planned::reaching(axis, arrival).unwrap().with_list())).collect()
+    }
+
+    /// From refusal 3 on: the answer, with the cells of an accepted job written to the front of the table.
+    pub(super) fn plan_checked(&self, table: &mut [i64]) -> Answer {
+        let arrival = match self.arrival() {
+            Ok(arrival) => arrival,
+            Err(refused) => return refused,
+        };
+        let axes = self.count();
+        if table.len() < 3 * axes * (arrival as usize + 1) {
+            return refusal(10, 0, 0, arrival as u32);
+        }
+        for (rank, (axis, planned)) in self.motions(arrival).iter().enumerate() {
+            for tick in 0..=arrival {
+                let at = 3 * (axes * tick as usize + rank);
+                table[at..at + 3].copy_from_slice(&planned.exact(axis, tick).cells());
+            }
+        }
+        Answer { number: 0, place: 0, mask: self.mask, arrival: arrival as u32 }
+    }
+
+    /// The call with typed values.
+    pub fn plan(&self, table: &mut [i64]) -> Answer {
+        if !(1..=63).contains(&self.mask) {
+            return refusal(1, 0, 0, 0);
+        }
+        self.plan_checked(table)
+    }
+}
