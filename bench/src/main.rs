@@ -1,18 +1,20 @@
-//! Nanoseconds for a plan and for a row and axis, of the static library and of plain Rust with the same loops, in one
-//! run.
+//! Nanoseconds for a plan, for the search for its arrival and for a row and axis, of the static library and of plain Rust
+//! with the same loops, in one run; beside the search also the one by ticks, in plain Rust.
 //!
 //!     cargo run --release --offline
 //!
-//! Every time is processor time, the least of some batches; a difference is that of the fastest round. The batches of the
-//! two sides alternate. One table is lent to all calls and is not cleared between them: an accepted call writes every
+//! Every time is processor time, the least of some batches; a difference is that of the fastest round. The batches of
+//! all sides alternate. One table is lent to all calls and is not cleared between them: an accepted call writes every
 //! cell of its table, whatever stood there.
 
 mod plain;
+mod searches;
 
 use std::hint::black_box;
 
 use outside::library::{self, CJob};
-use outside::reference::{Axis, Job, Stop, Target, Tour, UNSET};
+use outside::reference::{Answer, Axis, Job, Stop, Target, Tour, UNSET};
+use plain::Search;
 
 /// An axis from rest to rest.
 fn axis(speed_limit: u32, acceleration_limit: u32, half_period: u32, second_weight: u32, position: i64) -> Axis {
@@ -70,7 +72,7 @@ fn rounds<const N: usize>(calls: [(&Job, usize); N]) -> Vec<Round<N>> {
             let laid_out = CJob::of(job, 0);
             let proved = || library::plan_c_job(laid_out, black_box(&mut *lent)).arrival;
             let proved = batch(counts[i], proved);
-            let plain = || plain::plan(job, black_box(&mut *lent)).arrival;
+            let plain = || plain::plan(job, Search::Running, black_box(&mut *lent)).arrival;
             (proved, batch(counts[i], plain))
         })
     };
@@ -97,7 +99,7 @@ fn once(job: &Job, lent: &mut [i64]) -> f64 {
     let took = now() - start;
     let written = lent.to_vec();
     lent.fill(0);
-    let plain = plain::plan(job, lent);
+    let plain = plain::plan(job, Search::Running, lent);
     assert_eq!(plain, answer);
     let cells = if answer.number == 0 { cells_of(job, answer.arrival) } else { 0 };
     assert!(lent[..cells] == written[..cells], "the two sides write different cells");
@@ -125,6 +127,22 @@ fn whole(name: &str, job: &Job) -> u32 {
         if answer.number == 0 { format!("{} rows", answer.arrival + 1) } else { format!("refused {}", answer.number) };
     println!("| {name} | {what} | {proved:.0} | {plain:.0} | {:.2} |", proved / plain);
     answer.arrival
+}
+
+/// Prints what the search for the least arrival takes: the job with one cell too few, which stops before it chooses
+/// velocities; a job that is refused by 9 is a search and nothing else. The search by ticks is timed once.
+fn search(name: &str, job: &Job) {
+    let mut table = vec![0; 3 * 6 * 4_097];
+    let answer = library::plan_typed(&Job { asked: 0, ..*job }, &mut table);
+    let cells = if answer.number == 0 { cells_of(job, answer.arrival) - 1 } else { 0 };
+    let [(proved, plain)] = time([(job, cells)]);
+    let start = now();
+    let by_ticks = plain::plan(job, Search::Ticks, &mut table[..cells]);
+    let took = now() - start;
+    let stopped = |answer: Answer| if answer.number == 0 { Answer { number: 10, mask: 0, ..answer } } else { answer };
+    assert_eq!(by_ticks, stopped(answer));
+    let what = if answer.number == 0 { format!("arrival {}", answer.arrival) } else { "refused 9".to_string() };
+    println!("| {name} | {what} | {proved:.0} | {plain:.0} | {:.2} | {took:.0} |", proved / plain);
 }
 
 /// Prints what a row and axis takes, from the choice of the velocities on: an asked job less the same job with too few
@@ -173,7 +191,7 @@ fn plain_tour(tour: &Tour, stops: &[Stop]) -> u32 {
     let mut from = [0; 6];
     let mut tick = 0;
     for stop in stops {
-        tick += plain::plan(&tour.leg(&from, &stop.positions), &mut []).arrival + stop.dwell;
+        tick += plain::plan(&tour.leg(&from, &stop.positions), Search::Running, &mut []).arrival + stop.dwell;
         from = stop.positions;
     }
     tick
@@ -210,6 +228,17 @@ fn main() {
     let long_arrival = whole("one axis, long", &long);
     let wide_arrival = whole("six axes", &wide);
     whole("out of reach", &never);
+    println!();
+    println!("| least arrival, search alone | outcome | library, ns | plain Rust, ns | ratio | by ticks, ns |");
+    println!("|---|---|---|---|---|---|");
+    search("one axis, short", &short);
+    search("one axis, long", &long);
+    search("six axes", &wide);
+    search("one axis out of reach", &never);
+    search("six axes out of reach", &searches::out_of_reach());
+    search("six axes that lead each other on", &searches::in_turns());
+    search("one target that accelerates, out of reach", &searches::accelerating(1));
+    search("six targets that accelerate, out of reach", &searches::accelerating(6));
     println!();
     println!("| asked arrival, whole call | outcome | library, ns | plain Rust, ns | ratio |");
     println!("|---|---|---|---|---|");

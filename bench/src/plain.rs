@@ -1,6 +1,8 @@
-//! The planner in plain Rust, with the library's loops and none of its proofs: reach by the envelopes' sums tick by
-//! tick, the least common arrival by trying tick after tick, cruise by halving steps over those sums, rows by stepping
-//! a blended track an axis, each planned velocity by its region.
+//! The planner in plain Rust, with the library's loops and none of its proofs: reach of an asked arrival by the
+//! envelopes' sums tick by tick, the least common arrival by axes that lead on from candidate to candidate, with sums
+//! that are carried from one to the next, cruise by halving steps over sums tick by tick, rows by stepping a blended
+//! track an axis, each planned velocity by its region. Beside it the search by ticks, which tries every candidate with
+//! sums of its own.
 
 use outside::reference::{Answer, Axis, Job, Target};
 
@@ -44,6 +46,51 @@ fn ends(axis: &Axis, arrival: u32) -> Ends {
     Ends { first_position, change_after: 256 * a, leg }
 }
 
+/// The velocities at a cruise: up to tick `rise` they change by `up` a tick; from `fall` ticks before the end on they are
+/// `down` further from it for each tick that is left.
+struct Ramps {
+    rise: i64,
+    up: i64,
+    fall: i64,
+    down: i64,
+}
+
+/// The sums of both envelopes over the inner ticks of a leg, and the velocities that come to them with one and with two
+/// ticks more, before the speed limit is heeded.
+struct Running {
+    lowest: i64,
+    highest: i64,
+    trough: i64,
+    later_trough: i64,
+    peak: i64,
+    later_peak: i64,
+}
+
+impl Running {
+    /// The sums of one tick more.
+    fn step(&self, limit: i64, slope: i64) -> Running {
+        Running {
+            lowest: self.lowest + self.trough.max(-limit),
+            highest: self.highest + self.peak.min(limit),
+            trough: self.later_trough,
+            later_trough: self.trough - slope,
+            peak: self.later_peak,
+            later_peak: self.peak + slope,
+        }
+    }
+}
+
+/// A quotient of numbers that are not negative.
+fn quotient(x: i64, by: i64) -> i64 {
+    (x as u64 / by as u64) as i64
+}
+
+/// The velocity that comes to the upper envelope of ramps from `first` and to `last` with one tick more.
+fn peak(slope: i64, first: i64, last: i64, ticks: i64) -> i64 {
+    let crossing = quotient(last - first + slope * ticks, 2 * slope);
+    (first + slope * (crossing + 1)).min(last + slope * (ticks - crossing))
+}
+
 impl Leg {
     /// The lower and the upper envelope at a tick.
     fn envelopes(&self, tick: i64) -> (i64, i64) {
@@ -80,6 +127,62 @@ impl Leg {
         }
         cruise
     }
+
+    fn ramps(&self, cruise: i64) -> Ramps {
+        let short = |from: i64| {
+            let way = if from <= cruise { cruise - from } else { from - cruise - 1 };
+            quotient(way, self.slope)
+        };
+        let slope = |from: i64| if from <= cruise { self.slope } else { -self.slope };
+        let (mut rise, mut fall) = (short(self.first), short(self.last));
+        if self.ticks <= rise + fall {
+            let apart = if self.first <= cruise { self.last - self.first } else { self.first - self.last };
+            rise = quotient(apart + self.slope * self.ticks, 2 * self.slope);
+            fall = self.ticks - rise;
+        }
+        Ramps { rise, up: slope(self.first), fall, down: slope(self.last) }
+    }
+
+    /// The sum at a cruise, by a ramp, a level part and a ramp.
+    fn area_at(&self, cruise: i64) -> i64 {
+        let Ramps { rise, up, fall, down } = self.ramps(cruise);
+        let inner = self.ticks - 1;
+        let rising = rise.min(inner);
+        let falling = fall.min(inner - rising);
+        let ramp = |from: i64, change: i64, ticks: i64| ticks * from + ticks * (ticks + 1) / 2 * change;
+        ramp(self.first, up, rising) + (inner - rising - falling) * cruise + ramp(self.last, down, falling)
+    }
+
+    fn running_sums(&self) -> Running {
+        let &Leg { limit, slope, first, last, ticks, .. } = self;
+        Running {
+            lowest: self.area_at(-limit),
+            highest: self.area_at(limit),
+            trough: -peak(slope, -first, -last, ticks),
+            later_trough: -peak(slope, -first, -last, ticks + 1),
+            peak: peak(slope, first, last, ticks),
+            later_peak: peak(slope, first, last, ticks + 1),
+        }
+    }
+
+    /// The least number of ticks, from those of the leg to the latest, at which there is a list for a sum that changes by
+    /// `drift` a tick; or one past the latest.
+    fn next_with_list(&self, drift: i64, latest: i64) -> i64 {
+        let near = quotient((self.last - self.first).abs() + self.slope - 1, self.slope).max(self.ticks);
+        if near > latest {
+            return latest + 1;
+        }
+        let mut sum = self.sum + (near - self.ticks) * drift;
+        let mut sums = Leg { ticks: near, ..*self }.running_sums();
+        for ticks in near..=latest {
+            if sums.lowest <= sum && sum <= sums.highest {
+                return ticks;
+            }
+            sums = sums.step(self.limit, self.slope);
+            sum += drift;
+        }
+        latest + 1
+    }
 }
 
 fn reaches(axis: &Axis, arrival: u32) -> bool {
@@ -88,6 +191,42 @@ fn reaches(axis: &Axis, arrival: u32) -> bool {
     }
     let Ends { change_after, leg, .. } = ends(axis, arrival);
     (leg.last + change_after * i64::from(axis.half_period)).abs() <= leg.limit && leg.has_list()
+}
+
+/// The least arrival from n to the last that the axis reaches, or one past the last.
+fn next_reached(axis: &Axis, n: u32, last: u32) -> u32 {
+    if axis.target.acceleration() != 0 {
+        return (n..=last).find(|&k| reaches(axis, k)).unwrap_or(last + 1);
+    }
+    let first = n.max(axis.half_period + 1);
+    if first > last {
+        return last + 1;
+    }
+    let drift = match axis.target {
+        Target::Fixed { .. } => 0,
+        Target::Moving { velocity, .. } => 256 * velocity,
+    };
+    let latest = i64::from(last - axis.half_period);
+    ends(axis, first).leg.next_with_list(drift, latest) as u32 + axis.half_period
+}
+
+/// The least common arrival: in each turn every axis leads on from the candidate so far to the next one that it reaches,
+/// until a turn moves nothing.
+fn least_arrival(job: &Job) -> Option<u32> {
+    let mut n = 1;
+    while n <= LATEST {
+        let next = job.set().fold(n, |k, (_, axis)| next_reached(axis, k, LATEST));
+        if next == n {
+            return Some(n);
+        }
+        n = next;
+    }
+    None
+}
+
+/// The same by ticks: every candidate is tried, with sums of its own.
+fn least_by_ticks(job: &Job) -> Option<u32> {
+    (1..=LATEST).find(|&n| job.set().all(|(_, axis)| reaches(axis, n)))
 }
 
 /// An axis on its way through the rows: its planned velocities in three regions, and its track.
@@ -121,16 +260,7 @@ impl Track {
         let (half_period, second_weight) = (i64::from(axis.half_period), i64::from(axis.second_weight));
         let position = 256 * first_position - 2 * second_weight * half_period * leg.first;
         let velocity = 256 * leg.first;
-        let short =
-            |from: i64| if from <= cruise { (cruise - from) / leg.slope } else { (from - cruise - 1) / leg.slope };
-        let slope = |from: i64| if from <= cruise { leg.slope } else { -leg.slope };
-        let (mut rise, mut fall) = (short(leg.first), short(leg.last));
-        if leg.ticks <= rise + fall {
-            let apart = if leg.first <= cruise { leg.last - leg.first } else { leg.first - leg.last };
-            rise = (apart + leg.slope * leg.ticks) / (2 * leg.slope);
-            fall = leg.ticks - rise;
-        }
-        let (up, down) = (slope(leg.first), slope(leg.last));
+        let Ramps { rise, up, fall, down } = leg.ramps(cruise);
         let Leg { first, last, ticks, .. } = leg;
         Track {
             first,
@@ -200,21 +330,39 @@ fn passes(job: &Job) -> bool {
         && job.set().all(|(_, x)| x.target.acceleration() == 0 || x.half_period == 0 || x.second_weight == 128)
 }
 
-/// Plans a job that passes refusals 1 to 7.
-pub fn plan(job: &Job, table: &mut [i64]) -> Answer {
-    assert!(passes(job));
-    let all_reach = |n: u32| job.set().all(|(_, axis)| reaches(axis, n));
+/// How the least common arrival is searched for.
+#[derive(Clone, Copy)]
+pub enum Search {
+    /// As the library does.
+    Running,
+    /// Candidate after candidate, each with sums of its own.
+    Ticks,
+}
+
+/// The arrival of a job that passes refusals 1 to 7, or the refusal 8 or 9.
+fn arrival(job: &Job, search: Search) -> Result<u32, Answer> {
+    let least = |job: &Job| match search {
+        Search::Running => least_arrival(job),
+        Search::Ticks => least_by_ticks(job),
+    };
     let failing =
         |fails: &dyn Fn(&Axis) -> bool| -> u32 { job.set().filter(|(_, axis)| fails(axis)).map(|(i, _)| 1 << i).sum() };
-    let arrival = if job.asked == 0 {
-        match (1..=LATEST).find(|&n| all_reach(n)) {
-            Some(n) => n,
-            None => return refusal(9, failing(&|axis| (1..=LATEST).all(|n| !reaches(axis, n))), 0),
-        }
-    } else if all_reach(job.asked) {
-        job.asked
-    } else {
-        return refusal(8, failing(&|axis| !reaches(axis, job.asked)), 0);
+    if job.asked == 0 {
+        let alone = |axis: &Axis| least(&Job { mask: 1, asked: 0, axes: [*axis; 6] });
+        return least(job).ok_or_else(|| refusal(9, failing(&|axis| alone(axis).is_none()), 0));
+    }
+    if job.set().all(|(_, axis)| reaches(axis, job.asked)) {
+        return Ok(job.asked);
+    }
+    Err(refusal(8, failing(&|axis| !reaches(axis, job.asked)), 0))
+}
+
+/// Plans a job that passes refusals 1 to 7.
+pub fn plan(job: &Job, search: Search, table: &mut [i64]) -> Answer {
+    assert!(passes(job));
+    let arrival = match arrival(job, search) {
+        Ok(arrival) => arrival,
+        Err(refused) => return refused,
     };
     let width = 3 * job.count();
     if table.len() < width * (arrival as usize + 1) {

@@ -1,46 +1,50 @@
 -- The least of some candidates that passes a test.
 use Prim.Native.Nat.{ℕ, zero, suc, _+_, _-_, _<_, _≤_}
-use Rattle.whole.proofs.Counting.{one-less, none-left}
+use Rattle.whole.proofs.Counting.{one-less, none-left, next-one}
 use native.Mathlib.Omega.{arith}
 use mathlib.Core.Path.{_≡_, refl, ap, _∙_}
 use mathlib.Core.Bool.{Bool, true, false}
 use mathlib.Core.Option.{Option, none, some}
 use Rattle.model.specs.Outcome.{leastFrom}
 
--- ---- what a loop that counts i up to count has before it
+-- ---- what a loop over the ticks before `after` has before it
 
-module _ (test : ℕ → Bool) (first count : ℕ) where
-  -- from the candidate first + i on
-  pub from : ℕ → Option ℕ
-  from i = leastFrom test (first + i) (count - i)
+module _ (test : ℕ → Bool) (after : ℕ) where
+  -- from tick n on
+  pub rest : ℕ → Option ℕ
+  rest n = leastFrom test n (after - n)
 
   by : ℕ → Bool → Option ℕ
-  by i b = elim b [ true ↦ some (first + i) | false ↦ leastFrom test (suc (first + i)) (count - (i + 1)) ]
+  by n b = elim b [ true ↦ some n | false ↦ leastFrom test (suc n) (after - (n + 1)) ]
 
-  opened : (i : ℕ) → i < count → from i ≡ by i (test (first + i))
-  unfolding from by
-  opened i h = ap (leastFrom test (first + i)) (one-less count i h)
+  opened : (n : ℕ) → n < after → rest n ≡ by n (test n)
+  unfolding rest by
+  opened n h = ap (leastFrom test n) (one-less after n h)
 
-  pub here : (i : ℕ) → i < count → test (first + i) ≡ true → from i ≡ some (first + i)
+  pub here : (n : ℕ) → n < after → test n ≡ true → rest n ≡ some n
   unfolding by
-  here i h e = opened i h ∙ ap (by i) e
+  here n h e = opened n h ∙ ap (by n) e
 
-  pub later : (i : ℕ) → i < count → test (first + i) ≡ false → from i ≡ from (i + 1)
-  unfolding from by
-  later i h e =
-      let next : suc (first + i) ≡ first + (i + 1) = omega arith in
-      opened i h ∙ ap (by i) e ∙ ap (λ (k : ℕ). leastFrom test k (count - (i + 1))) next
+  pub later : (n : ℕ) → n < after → test n ≡ false → rest n ≡ rest (n + 1)
+  unfolding rest by
+  later n h e = opened n h ∙ ap (by n) e ∙ ap (λ (k : ℕ). leastFrom test k (after - (n + 1))) (next-one n)
 
-  pub nowhere : (i : ℕ) → count ≤ i → from i ≡ none
-  unfolding from
-  nowhere i h = ap (leastFrom test (first + i)) (none-left count i h)
+  -- past d candidates that fail
+  pub skip : (d n : ℕ) → n + d ≤ after → ((k : ℕ) → n ≤ k → k < n + d → test k ≡ false) → rest n ≡ rest (n + d)
+  unfolding rest
+  skip zero n h e = ap (λ (k : ℕ). leastFrom test k (after - k)) {x = n} {y = n + zero} (omega arith)
+  skip (suc d) n h e =
+      later n (omega arith) (e n (omega arith) (omega arith))
+      ∙ skip d (n + 1) (omega arith) (λ k p q. e k (omega arith) (omega arith))
+      ∙ ap (λ (k : ℕ). leastFrom test k (after - k)) {x = n + 1 + d} {y = n + suc d} (omega arith)
 
-  pub begun : from 0 ≡ leastFrom test first count
-  unfolding from
-  begun =
-      let p : first + 0 ≡ first = omega arith in
-      let q : count - 0 ≡ count = omega arith in
-      λ j. leastFrom test (p j) (q j)
+  pub nowhere : (n : ℕ) → after ≤ n → rest n ≡ none
+  unfolding rest
+  nowhere n h = ap (leastFrom test n) (none-left after n h)
+
+  pub begun : (n : ℕ) → rest n ≡ leastFrom test n (after - n)
+  unfolding rest
+  begun n = refl
 
 -- ---- what is found: a candidate that passes
 

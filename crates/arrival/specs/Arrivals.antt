@@ -1,5 +1,5 @@
 -- What the search for an arrival gives back, from the definitions of `Outcome`.
-use Prim.Native.Nat.{ℕ, zero, suc, _%_, _≤_}
+use Prim.Native.Nat.{ℕ, zero, suc, _%_, _≤_, _<_}
 use mathlib.Core.Path.{_≡_}
 use mathlib.Core.Bool.{Bool, true, false, cond, not}
 use mathlib.Core.Option.{Option, none, some}
@@ -61,3 +61,16 @@ missedBy m x n = cond (eqb (m % 2) 1) (not (reachable x n)) false
 -- the bit of an axis that the lowest bit of m names and that cannot arrive, or 0
 unfoldable pub bitOf : ℕ → Axis → ℕ → ℕ → ℕ
 bitOf m x asked bit = cond (cond (eqb (m % 2) 1) (cannotArrive asked x) false) bit 0
+
+-- ---- the search for the least common arrival
+
+-- the lowest bit of m does not name the axis, or the axis reaches n
+abbrev pub reachedBy : ℕ → Axis → ℕ → Bool
+reachedBy m x n = not (missedBy m x n)
+
+-- a candidate r from n on, up to one past the last: none before it passes the test, and where it is n, n does
+pub record LeadsTo (test : ℕ → Bool) (n last r : ℕ) : Type 0 where
+  pub low : n ≤ r
+  pub high : r ≤ suc last
+  pub missed : (k : ℕ) → n ≤ k → k < r → test k ≡ false
+  pub here : r ≡ n → test n ≡ true

@@ -1,5 +1,5 @@
 -- The ranges of an axis that passed refusals 4 to 7, and what the functions of this crate give back.
-use Prim.Native.Nat.{ℕ, _*_, _^_, _≤_}
+use Prim.Native.Nat.{ℕ, _*_, _^_, _≤_, _<_}
 use mathlib.Core.Path.{_≡_}
 use mathlib.Core.Bool.{Bool, true, false}
 use mathlib.Core.List.{List, [], _∷_}
@@ -8,6 +8,8 @@ use lib.IntN.{ℤ, pos, _+ℤ_, _*ℤ_}
 use Rattle.whole.specs.Ranges.{Within, Is}
 use Rattle.model.specs.declared.Axis.{Axis}
 use Rattle.model.specs.declared.State.{State}
+use Rattle.model.specs.declared.Target.{Target}
+use Rattle.model.specs.declared.Target.the-variants.{Fixed, Moving}
 use Rattle.model.specs.Quantities.{fineSteps, speedLimit, accelerationLimit, halfPeriod, secondWeight, asMoving, twicePositionAt, velocityAt}
 use Rattle.model.specs.Motion.{shift, startVelocity, landingTick, landingPosition, landingVelocity, landingAcceleration}
 use Rattle.model.specs.Refusals.{lastTick}
@@ -65,6 +67,18 @@ profileFor x n =
 pub record ProfileIs (x : Axis) (n : ℕ) (r : Profile) : Type 0 where
   pub is : r ≡ profileFor x n
   pub ranged : Ranged r
+  pub acceleration : 0 < r .«acceleration_limit»
+  pub some : 0 < r .ticks
+
+-- ---- from one arrival to the next, where the target does not accelerate: by how much the required sum changes
+
+abbrev pub speedOf : Target → ℤ
+speedOf (Fixed r) = r .velocity
+speedOf (Moving m) = m .velocity
+
+abbrev pub drift : Target → ℤ
+drift (Fixed r) = pos 0
+drift (Moving m) = pos fineSteps *ℤ m .velocity
 
 -- ---- refusals 4 to 7: the test of a number in a list of numbered tests, and in the list of `model`
 

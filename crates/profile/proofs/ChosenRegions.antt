@@ -153,6 +153,21 @@ module _ (g : Leg) (joined : Joined g) (some : 0 < g .accelerationLimit) (c : �
   raised-in-regions zero i left h l = refl
   raised-in-regions (suc n) i left h l = one-more n i left h l (λ m. raised-in-regions n (suc i) m (omega arith))
 
+-- ---- the ranges of its regions
+
+pub regions-ranged : (g : Leg) → Joined g → 0 < g .accelerationLimit → g .speedLimit ≤ 2 ^ 37 → g .accelerationLimit ≤ 2 ^ 33 → g .ticks ≤ 4096
+    → (c : ℤ) (r : ℕ) → Within (2 ^ 37) c → RegionsRanged (regionsOf g c r)
+regions-ranged g joined some speed steep ticks c r w =
+    record {
+      start = record { within = omega (arith, joined .start) };
+      up = record { within = omega (arith, change-within (g .accelerationLimit) (g .start) c) };
+      cruise = w;
+      end = record { within = omega (arith, joined .end) };
+      fall = omega (arith, fall-late g joined some c);
+      down = record { within = omega (arith, change-within (g .accelerationLimit) (g .end) c) };
+      ticks = ticks;
+    }
+
 -- ---- the list chosen
 
 module _ (g : Leg) (δ : ℤ) (some : 0 < g .ticks) (acceleration : 0 < g .accelerationLimit) (range : g .speedLimit ≤ 2 ^ 37)
@@ -210,13 +225,5 @@ module _ (g : Leg) (δ : ℤ) (some : 0 < g .ticks) (acceleration : 0 < g .accel
   pub chosen-ranged : g .ticks ≤ 4096 → g .accelerationLimit ≤ 2 ^ 33 → RegionsRanged (chosenRegions g s)
   chosen-ranged ticks steep =
       let C = feasible-cruise g δ t range in
-      let c = cruise g s in
-      record {
-        start = record { within = omega (arith, joined .start) };
-        up = record { within = omega (arith, change-within (g .accelerationLimit) (g .start) c) };
-        cruise = record { within = omega (arith, natAbs-iff (g .speedLimit) c .1 (C .above, C .below)) };
-        end = record { within = omega (arith, joined .end) };
-        fall = omega (arith, fall-late g joined acceleration c);
-        down = record { within = omega (arith, change-within (g .accelerationLimit) (g .end) c) };
-        ticks = ticks;
-      }
+      regions-ranged g joined acceleration range steep ticks (cruise g s) (remainder g s)
+      (record { within = omega (arith, natAbs-iff (g .speedLimit) (cruise g s) .1 (C .above, C .below)) })

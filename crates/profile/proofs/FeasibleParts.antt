@@ -1,11 +1,11 @@
 -- `feasible` in the three parts that the code tests.
 use Prim.Native.Nat.{_-_, _*_}
-use mathlib.Core.Path.{_≡_, refl}
+use mathlib.Core.Path.{_≡_, refl, sym}
 use mathlib.Core.Bool.{Bool, true, false, _&&_}
 use lib.Dec.{T, leb, leb→le}
 use lib.IntN.{ℤ, natAbs, _-ℤ_}
 use lib.Signed.{leZ}
-use Rattle.whole.proofs.Tests.{left, right, true-T}
+use Rattle.whole.proofs.Tests.{left, right, true-T, and-yes, leb-yes}
 use Rattle.whole.specs.Integers.{sumTo}
 use Rattle.model.proofs.Envelopes.{Joined}
 use Rattle.model.specs.Leg.{Leg, lower, upper, required, sumIsWhole, feasible}
@@ -46,3 +46,6 @@ ends-joined g e =
 
     t : T (a && (b && c))
     t = true-T e
+
+pub joined-ends : (g : Leg) → Joined g → endsAllowed g ≡ true
+joined-ends g j = sym (and-yes _ _ (leb-yes (j .start)) (and-yes _ _ (leb-yes (j .end)) (sym (leb-yes (j .apart)))))

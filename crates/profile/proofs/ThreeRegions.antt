@@ -213,10 +213,10 @@ short-down m v c h (inr u) = u
 
 -- ---- where they meet: half way, by the number x
 
-before-half : (x m n : ℕ) (s e : ℤ) → pos x ≡ e -ℤ s +ℤ pos (m + n) → m + m ≤ x → (s +ℤ pos m) ≤ℤ (e +ℤ pos n)
+pub before-half : (x m n : ℕ) (s e : ℤ) → pos x ≡ e -ℤ s +ℤ pos (m + n) → m + m ≤ x → (s +ℤ pos m) ≤ℤ (e +ℤ pos n)
 before-half x m n = all₂ _ (λ a b c d. simp whole (omega arith))
 
-after-half : (x m n : ℕ) (s e : ℤ) → pos x ≡ e -ℤ s +ℤ pos (m + n) → x < m + m → (e +ℤ pos n) ≤ℤ (s +ℤ pos m)
+pub after-half : (x m n : ℕ) (s e : ℤ) → pos x ≡ e -ℤ s +ℤ pos (m + n) → x < m + m → (e +ℤ pos n) ≤ℤ (s +ℤ pos m)
 after-half x m n = all₂ _ (λ a b c d. simp whole (omega arith))
 
 some-half : (m : ℕ) (s e : ℤ) → Within m (e -ℤ s) → pos 0 ≤ℤ (e -ℤ s +ℤ pos m)
@@ -225,7 +225,7 @@ some-half m = all₂ _ (λ a b c d. simp whole (omega arith))
 far-half : (x m : ℕ) (s e : ℤ) → pos x ≡ e -ℤ s +ℤ pos m → Within m (e -ℤ s) → x ≤ m + m
 far-half x m = all₂ _ (λ a b c d. simp whole (omega arith))
 
-swapped : (m : ℕ) (x y : ℤ) → Within m (y -ℤ x) → Within m (x -ℤ y)
+pub swapped : (m : ℕ) (x y : ℤ) → Within m (y -ℤ x) → Within m (x -ℤ y)
 swapped m = all₂ _ (λ a b c d. simp whole (omega arith))
 
 -- two ramps towards c, of which one is under it at each tick
@@ -258,10 +258,10 @@ module _ (g : Leg) (joined : Joined g) (some : 0 < g .accelerationLimit) (c : �
   twice : (k : ℕ) → k * (2 * a) ≡ since g k + since g k
   twice k = omega (arith, mul-comm k (2 * a), mul-assoc 2 a k)
 
-  before : {k x : ℕ} → k ≤ x / (2 * a) → since g k + since g k ≤ x
+  pub before : {k x : ℕ} → k ≤ x / (2 * a) → since g k + since g k ≤ x
   before {k} {x} h = omega (arith, le-div-iff-mul-le {k = 2 * a} {x = k} {y = x} (omega arith) .0 h, twice k)
 
-  after : {k x : ℕ} → x / (2 * a) < k → x < since g k + since g k
+  pub after : {k x : ℕ} → x / (2 * a) < k → x < since g k + since g k
   after {k} {x} h = omega (arith, div-lt-iff-lt-mul {k = 2 * a} {x = x} {y = k} (omega arith) .0 h, twice k)
 
   halved : (x : ℕ) → x ≤ apart + apart → x / (2 * a) ≤ g .ticks
@@ -289,7 +289,7 @@ module _ (g : Leg) (joined : Joined g) (some : 0 < g .accelerationLimit) (c : �
   pub down-late : downX / (2 * a) ≤ g .ticks
   down-late = halved downX (far-half downX apart e s (size-is _ down-some) (swapped apart s e whole-way))
 
-  up-is : (k : ℕ) → k ≤ g .ticks → pos upX ≡ e -ℤ s +ℤ pos (since g k + until g k)
+  pub up-is : (k : ℕ) → k ≤ g .ticks → pos upX ≡ e -ℤ s +ℤ pos (since g k + until g k)
   up-is k h = size-is _ up-some ∙ ap (λ (n : ℕ). e -ℤ s +ℤ pos n) (sym (since-until g k h))
 
   down-is : (k : ℕ) → k ≤ g .ticks → pos downX ≡ negℤ e -ℤ negℤ s +ℤ pos (since g k + until g k)

@@ -1,5 +1,5 @@
 -- The leg of `model` that a profile stands for, the ranges in which its code does not overflow, and what the functions of this crate give back.
-use Prim.Native.Nat.{ℕ, _-_, _*_, _^_, _≤_}
+use Prim.Native.Nat.{ℕ, _-_, _*_, _^_, _≤_, _<_}
 use mathlib.Core.Path.{_≡_}
 use mathlib.Core.Bool.{Bool, true, false, _&&_}
 use lib.IntN.{ℤ, pos, natAbs, _+ℤ_, _-ℤ_}
@@ -37,6 +37,13 @@ abbrev pub endsAllowed : Leg → Bool
 endsAllowed g =
     leb (natAbs (g .start)) (g .speedLimit)
     && (leb (natAbs (g .end)) (g .speedLimit) && leb (natAbs (g .end -ℤ g .start)) (g .accelerationLimit * g .ticks))
+
+-- a profile whose ends can be joined, in the ranges in which its areas do not overflow
+pub record Joinable (p : Profile) : Type 0 where
+  pub ranged : Ranged p
+  pub acceleration : 0 < p .«acceleration_limit»
+  pub some : 0 < p .ticks
+  pub ends : endsAllowed (legOf p) ≡ true
 
 -- the sum s is between the sums of the two envelopes
 abbrev pub sumBetween : Leg → ℤ → Bool

@@ -6,7 +6,7 @@ mod spelled;
 mod tours;
 
 pub use damaged::{damaged_job, with_signed, with_unsigned, SIGNED_ENDS, UNSIGNED_ENDS};
-pub use drawn::job;
+pub use drawn::{job, late_job};
 pub use spelled::{damaged_words, stray_words, word, words, CASE_C};
 pub use tours::{damaged_tour, tour};
 

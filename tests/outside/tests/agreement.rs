@@ -140,6 +140,23 @@ fn far_jobs_agree() {
     assert!(comparison.seen[0] > 20 && comparison.seen[9] > 20, "{:?}", comparison.seen);
 }
 
+/// Searches that end late, or nowhere, for all axes and for each of them.
+#[test]
+fn late_jobs_agree() {
+    let mut comparison = Comparison::new(7, usize::MAX);
+    for n in 0..200 {
+        let job = jobs::late_job(&mut comparison.random);
+        let cells = 3 * job.count() * 4_097;
+        if n % 2 == 0 {
+            comparison.typed(&job, cells);
+        } else {
+            comparison.words(&jobs::words(&job), cells);
+        }
+    }
+    comparison.report("late", 200);
+    assert!(comparison.seen[0] > 100 && comparison.seen[9] > 30, "{:?}", comparison.seen);
+}
+
 #[test]
 fn stray_words_agree() {
     let mut comparison = Comparison::new(5, 5);

@@ -5,13 +5,13 @@ use Rattle.arrival.proofs.Unable.{reaches-none, misses-asked}
 use Rattle.arrival.proofs.cannot_arrive.Statement.{statement}
 use Rattle.arrival.proofs.cannot_arrive.Tie as tie
 
-least-common-requires : tie.Need-least-common-requires
-least-common-requires c κs = search needs
+least-between-requires : tie.Need-least-between-requires
+least-between-requires c κs = search needs
 
 returns : tie.Need-returns
 returns c =
     let a = c .before .before .args in
-    reaches-none (c .least-common .result) (a .asked) (a .axis) (c .before .if1 .taken) (c .least-common .ensures)
+    reaches-none (c .least-between .result) (a .asked) (a .axis) (c .before .if1 .taken) (c .least-between .ensures)
 
 reaches-requires : tie.Need-reaches-requires
 reaches-requires c κs = search needs
@@ -22,4 +22,4 @@ returns-2 c =
     ap not (c .reaches .ensures) ∙ misses-asked (a .asked) (a .axis) (c .before .if1 .left)
 
 pub cannot-arrive-spec : {M : Type 1} → statement M
-cannot-arrive-spec = tie.close (tie.spec least-common-requires returns reaches-requires returns-2)
+cannot-arrive-spec = tie.close (tie.spec least-between-requires returns reaches-requires returns-2)

@@ -116,3 +116,76 @@ pub fn job(random: &mut Random, reach: Reach) -> Job {
     }
     Job { mask, asked: asked as u32, axes }
 }
+
+/// An axis from rest to rest that arrives about the tick, not before it, or not long after.
+fn late_axis(random: &mut Random, tick: i64) -> Axis {
+    let (speed, acceleration) = (some_size(random, 1 << 14), some_size(random, 1 << 10));
+    let axis = fitting_axis(random, speed, acceleration, 256);
+    let moved = (tick - i64::from(axis.half_period)).max(2);
+    let ramp = (speed / acceleration).min(moved / 2);
+    let most = (speed * (moved - ramp)).min(acceleration * (moved * moved / 4));
+    let distance = most + random.between(-2, 2) * speed.min(acceleration) / 2;
+    let distance = if random.once_in(2) { distance } else { -distance };
+    let start_position = random.between(-1_000, 1_000);
+    let target = match random.below(3) {
+        0 => Target::Moving {
+            position: start_position + distance,
+            velocity: 0,
+            acceleration: 0,
+            tick: random.between(-LATEST, LATEST),
+        },
+        _ => Target::Fixed { position: start_position + distance, velocity: 0 },
+    };
+    Axis { start_position, start_velocity: 0, target, ..axis }
+}
+
+/// A moving head that makes one early tick and then none for long: a detour takes about four times its velocity over
+/// its acceleration limit.
+fn gap_axis(random: &mut Random) -> Axis {
+    let velocity = random.between(100, 900) * if random.once_in(2) { 1 } else { -1 };
+    let acceleration = random.between(1, 3);
+    let h = random.pick(&[0, 0, 3, 100]);
+    let tick = h + random.between(1, 5);
+    Axis {
+        start_position: 0,
+        start_velocity: velocity,
+        speed_limit: 2 * velocity.unsigned_abs() as u32,
+        acceleration_limit: acceleration as u32,
+        half_period: h as u32,
+        second_weight: weight(random) as u32,
+        target: Target::Fixed { position: velocity * tick, velocity },
+    }
+}
+
+/// An axis after a target that accelerates away: within its speed limit only for some ticks about the target's own.
+fn fleeing_axis(random: &mut Random, tick: i64) -> Axis {
+    let acceleration = random.between(1, 9) * if random.once_in(2) { 1 } else { -1 };
+    let target = Target::Moving { position: 0, velocity: 0, acceleration, tick: tick.min(LATEST) };
+    Axis {
+        start_position: random.between(-9, 9),
+        start_velocity: 0,
+        speed_limit: random.between(10, 1_000) as u32,
+        acceleration_limit: random.between(9, 50) as u32,
+        half_period: random.pick(&[0, 1, 40]),
+        second_weight: 128,
+        target,
+    }
+}
+
+/// A job whose search is long: it ends late, or nowhere.
+pub fn late_job(random: &mut Random) -> Job {
+    let tick = if random.once_in(3) { random.between(LATEST - 40, LATEST + 400) } else { random.between(500, LATEST) };
+    let mask =
+        if random.once_in(4) { random.between(1, 63) as u32 } else { 1 << random.below(6) | 1 << random.below(6) };
+    let mut axes = [UNSET; 6];
+    for (i, slot) in axes.iter_mut().enumerate() {
+        if mask >> i & 1 == 1 {
+            *slot = match random.below(6) {
+                0 => gap_axis(random),
+                1 => fleeing_axis(random, tick),
+                _ => late_axis(random, tick),
+            };
+        }
+    }
+    Job { mask, asked: 0, axes }
+}

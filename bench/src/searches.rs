@@ -1,0 +1,39 @@
+//! Jobs whose search for the least arrival takes long.
+
+use outside::reference::{Axis, Job, Target, UNSET};
+
+/// Six axes that reach no arrival: each tries every candidate alone, after one of them has led past the last for all.
+pub fn out_of_reach() -> Job {
+    let target = Target::Fixed { position: 100_000_000, velocity: 0 };
+    let axis = Axis { speed_limit: 1, acceleration_limit: 1, second_weight: 128, target, ..UNSET };
+    Job { mask: 63, asked: 0, axes: [axis; 6] }
+}
+
+/// Six axes that lead each other on, in seven turns. Each starts at its speed limit and is to pass its target at that
+/// speed: it can from tick `straight` on, by going straight or with some braking, then no more, until there is time to
+/// turn back and come again. The axes are so ordered that where one can pass again, the one before it no longer can.
+pub fn in_turns() -> Job {
+    let passing = |speed: u32, straight: i64| {
+        let velocity = i64::from(speed);
+        let target = Target::Fixed { position: velocity * straight, velocity };
+        let limits = Axis { speed_limit: speed, acceleration_limit: 1, second_weight: 128, ..UNSET };
+        Axis { start_velocity: velocity, target, ..limits }
+    };
+    let axes = [
+        passing(1_367, 1_097),
+        passing(762, 759),
+        passing(702, 699),
+        passing(645, 642),
+        passing(592, 589),
+        passing(535, 532),
+    ];
+    Job { mask: 63, asked: 0, axes }
+}
+
+/// Some axes whose targets accelerate, far ahead and at a speed that the axes can reach: the ends can be joined at every
+/// candidate, and both envelopes are summed for each.
+pub fn accelerating(axes: u32) -> Job {
+    let target = Target::Moving { position: 130_000_000, velocity: 0, acceleration: 1, tick: 0 };
+    let axis = Axis { speed_limit: 5_000, acceleration_limit: 2, second_weight: 128, target, ..UNSET };
+    Job { mask: (1 << axes) - 1, asked: 0, axes: [axis; 6] }
+}

@@ -1,0 +1,26 @@
+use mathlib.Core.Path.{sym, _∙_}
+use borrow.Author.Needs.{needs}
+use Rattle.motion.proofs.next_reached.Statement.{statement}
+use Rattle.motion.proofs.next_reached.Tie as tie
+
+accelerates-requires : tie.Need-accelerates-requires
+accelerates-requires c κs = search needs
+
+next-by-each-requires : tie.Need-next-by-each-requires
+next-by-each-requires c κs = search needs
+
+returns : tie.Need-returns
+returns c = search needs
+
+next-steady-requires : tie.Need-next-steady-requires
+next-steady-requires c κs =
+    let a = c .before .before .pre in
+    (a .0, (sym (c .before .accelerates .ensures) ∙ c .if1 .left, (a .1 .0, a .1 .1)))
+
+returns-2 : tie.Need-returns-2
+returns-2 c = search needs
+
+pub next-reached-spec : {M : Type 1} → statement M
+next-reached-spec =
+    tie.close
+    (tie.spec accelerates-requires next-by-each-requires returns next-steady-requires returns-2)
