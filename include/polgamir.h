@@ -2,7 +2,7 @@
  * Polgamir: motion tables for a head on a swaying pole.
  *
  * From a job (starts, targets, limits, the pole's half period and damping) a call writes a table of position, velocity and
- * acceleration for each tick that lands exactly on the targets with the sway cancelled, or refuses with a number from 1 to 11.
+ * acceleration for each tick that lands exactly on the targets with the sway cancelled, or refuses with a number.
  *
  * Link with libpolgamir, for x86-64 Linux: in the repository `tools/library` writes target/lib/libpolgamir.a, and
  * `tools/install PREFIX` installs it, with a shared library and a file for pkg-config. All that it takes from other libraries is
@@ -72,6 +72,8 @@ uint32_t polgamir_version(void);
  *     such word's index, or the word count where words are lacking.
  *  3  The asked arrival is above 4,096; the place is 1.
  *  4  L or M is outside its range; the place is the axis.
+ * 12  Of damping as measured, also when h is 0: the first peak is not above zero, or the ratio is not a number above 0 and at most
+ *     1; the place is the axis.
  *  5  h or B is outside its range, B also when h is 0; the place is the axis.
  *  6  Start or target velocity exceeds L in size, target acceleration exceeds M in size, target tick exceeds 4,096 in size, or a
  *     typed position is outside -134,217,728 to 134,217,727; the place is the axis.
@@ -92,6 +94,7 @@ enum polgamir_number {
     POLGAMIR_REFUSED_WORDS = 2,
     POLGAMIR_REFUSED_ASKED_ARRIVAL = 3,
     POLGAMIR_REFUSED_LIMITS = 4,
+    POLGAMIR_REFUSED_DAMPING = 12,
     POLGAMIR_REFUSED_BLEND = 5,
     POLGAMIR_REFUSED_START_OR_TARGET = 6,
     POLGAMIR_REFUSED_ACCELERATING_TARGET = 7,
@@ -110,6 +113,7 @@ static inline const char *polgamir_refusal_text(uint32_t number)
     case POLGAMIR_REFUSED_WORDS: return "a word is of a wrong kind, lacking or left over";
     case POLGAMIR_REFUSED_ASKED_ARRIVAL: return "the asked arrival is above 4096";
     case POLGAMIR_REFUSED_LIMITS: return "the speed limit is not 1 to 1048576, or the acceleration limit is not 1 to 65536";
+    case POLGAMIR_REFUSED_DAMPING: return "the first peak is not above zero, or the swing ratio is not a number above 0 and at most 1";
     case POLGAMIR_REFUSED_BLEND: return "the half period is not 0 to 256, or the second weight is not 1 to 128";
     case POLGAMIR_REFUSED_START_OR_TARGET:
         return "a velocity is above the speed limit, the target acceleration is above the acceleration limit, the target tick is "
@@ -168,6 +172,18 @@ enum polgamir_target_kind {
     POLGAMIR_MOVING = 1
 };
 
+/*
+ * How the damping of an axis is said. A weight is B itself. A ratio is that of a swing to the one half a period before it, above 0
+ * and at most 1; of two peaks, half a period apart and both counted positive, it is the second divided by the first, rounded once.
+ * B is then the largest number from 1 to 128 that is at most the once-rounded product of the ratio and 256 - B, or 1 if there is
+ * none, and the table is that of the same job with this B. Ratio 1 gives 128, ratio 0.5 gives 85.
+ */
+enum polgamir_damping_kind {
+    POLGAMIR_WEIGHT = 0,
+    POLGAMIR_RATIO = 1,
+    POLGAMIR_PEAKS = 2
+};
+
 /* An axis. */
 typedef struct polgamir_axis {
     int64_t start_position;
@@ -180,12 +196,16 @@ typedef struct polgamir_axis {
     uint32_t speed_limit;        /* L */
     uint32_t acceleration_limit; /* M */
     uint32_t half_period;        /* h */
-    uint32_t second_weight;      /* B */
+    uint32_t damping_kind;       /* a polgamir_damping_kind: 0 for a weight, 1 for a ratio, any other number for two peaks */
+    uint32_t second_weight;      /* B; of this and the next three only what the damping's kind says is looked at */
+    float swing_ratio;
+    float first_peak;
+    float second_peak;
 } polgamir_axis;
 
 /*
  * A job. `polgamir_job job = {0};` is a job with no axis and the least arrival, to be filled in. What is left at 0 in an axis of the
- * mask is a start or a target of 0 at rest, a fixed target and no blend; its limits and its second weight have to be said.
+ * mask is a start or a target of 0 at rest, a fixed target and no blend; its limits and its damping have to be said.
  */
 typedef struct polgamir_job {
     uint32_t mask;                     /* bit i is set where axis i takes part: 1 to 63 */
@@ -193,7 +213,7 @@ typedef struct polgamir_job {
     polgamir_axis axes[POLGAMIR_AXES]; /* an axis that is not in the mask is never looked at */
 } polgamir_job;
 
-/* Plans a job, and writes its table to the `table_cells` cells at `table`. Its refusals are 1 and 3 to 10. */
+/* Plans a job, and writes its table to the `table_cells` cells at `table`. Its refusals are 1, 3 to 10 and 12. */
 polgamir_answer polgamir_plan_job(polgamir_job job, int64_t *table, size_t table_cells);
 
 /* A tour has at most this many stops, and a dwell at most this many ticks. */
@@ -206,12 +226,16 @@ typedef struct polgamir_stop {
     uint32_t dwell;
 } polgamir_stop;
 
-/* The limits and the blend of an axis: L, M, h and B as above. */
+/* The limits and the blend of an axis, as in polgamir_axis. */
 typedef struct polgamir_limits {
     uint32_t speed_limit;
     uint32_t acceleration_limit;
     uint32_t half_period;
+    uint32_t damping_kind;
     uint32_t second_weight;
+    float swing_ratio;
+    float first_peak;
+    float second_peak;
 } polgamir_limits;
 
 /* What a tour has besides its stops. */
@@ -238,7 +262,7 @@ typedef struct polgamir_tour_answer {
  * rest at the stop, that seeks its least arrival. Writes each stop's arrival, counted from the tour's start, to the first entries
  * of the `list_entries` at `arrivals`; later entries stay. The total is the last arrival plus its dwell.
  *
- * Refusals, in checking order: 11; then leg after leg the first of 1, 4, 5, 6 and 9 that its job gets, with that number, mask and
+ * Refusals, in checking order: 11; then leg after leg the first of 1, 4, 12, 5, 6 and 9 that its job gets, with that number, mask and
  * arrival and with the stop as place, also where the number's own place is an axis; then 10. A refused tour writes nothing.
  * No stops: number 0 and total 0, and the answer's mask is 0; nothing else is read.
  *

@@ -13,13 +13,14 @@ mod searches;
 use std::hint::black_box;
 
 use outside::library::{self, CJob};
-use outside::reference::{Answer, Axis, Job, Stop, Target, Tour, UNSET};
+use outside::reference::{Answer, Axis, Damping, Job, Stop, Target, Tour, UNSET};
 use plain::Search;
 
 /// An axis from rest to rest.
 fn axis(speed_limit: u32, acceleration_limit: u32, half_period: u32, second_weight: u32, position: i64) -> Axis {
     let target = Target::Fixed { position, velocity: 0 };
-    Axis { speed_limit, acceleration_limit, half_period, second_weight, target, ..UNSET }
+    let damping = Damping::Weight(second_weight);
+    Axis { speed_limit, acceleration_limit, half_period, damping, target, ..UNSET }
 }
 
 fn one(axis: Axis) -> Job {

@@ -4,7 +4,7 @@
 //! track an axis, each planned velocity by its region. Beside it the search by ticks, which tries every candidate with
 //! sums of its own.
 
-use outside::reference::{Answer, Axis, Job, Target};
+use outside::reference::{Answer, Axis, Damping, Job, Target};
 
 const LATEST: u32 = 4096;
 
@@ -24,7 +24,7 @@ struct Ends {
 }
 
 fn ends(axis: &Axis, arrival: u32) -> Ends {
-    let (h, b) = (i64::from(axis.half_period), i64::from(axis.second_weight));
+    let (h, b) = (i64::from(axis.half_period), i64::from(weight_of(axis)));
     let ticks = i64::from(arrival) - h;
     let (p, v, a, t) = match axis.target {
         Target::Fixed { position, velocity } => (position, velocity, 0, i64::from(arrival)),
@@ -44,6 +44,14 @@ fn ends(axis: &Axis, arrival: u32) -> Ends {
         sum: (last_position - first_position - first - last) >> 1,
     };
     Ends { first_position, change_after: 256 * a, leg }
+}
+
+/// The second weight, which the jobs timed here give as a number.
+fn weight_of(axis: &Axis) -> u32 {
+    match axis.damping {
+        Damping::Weight(weight) => weight,
+        _ => unreachable!("the timed jobs have a weight given"),
+    }
 }
 
 /// The velocities at a cruise: up to tick `rise` they change by `up` a tick; from `fall` ticks before the end on they are
@@ -257,7 +265,7 @@ impl Track {
         let Ends { first_position, change_after, leg } = ends(axis, arrival);
         let cruise = leg.cruise();
         let raised = leg.sum - leg.sum_at(cruise);
-        let (half_period, second_weight) = (i64::from(axis.half_period), i64::from(axis.second_weight));
+        let (half_period, second_weight) = (i64::from(axis.half_period), i64::from(weight_of(axis)));
         let position = 256 * first_position - 2 * second_weight * half_period * leg.first;
         let velocity = 256 * leg.first;
         let Ramps { rise, up, fall, down } = leg.ramps(cruise);
@@ -324,10 +332,10 @@ fn passes(job: &Job) -> bool {
         && job
             .set()
             .all(|(_, x)| (1..=1 << 20).contains(&x.speed_limit) && (1..=1 << 16).contains(&x.acceleration_limit))
-        && job.set().all(|(_, x)| x.half_period <= 256 && (1..=128).contains(&x.second_weight))
+        && job.set().all(|(_, x)| x.half_period <= 256 && (1..=128).contains(&weight_of(x)))
         && job.set().all(|(_, x)| x.start_velocity.unsigned_abs() <= u64::from(x.speed_limit))
         && job.set().all(|(_, x)| x.target.velocity().unsigned_abs() <= u64::from(x.speed_limit))
-        && job.set().all(|(_, x)| x.target.acceleration() == 0 || x.half_period == 0 || x.second_weight == 128)
+        && job.set().all(|(_, x)| x.target.acceleration() == 0 || x.half_period == 0 || weight_of(x) == 128)
 }
 
 /// How the least common arrival is searched for.

@@ -1,11 +1,11 @@
 //! Jobs whose search for the least arrival takes long.
 
-use outside::reference::{Axis, Job, Target, UNSET};
+use outside::reference::{Axis, Damping, Job, Target, UNSET};
 
 /// Six axes that reach no arrival: each tries every candidate alone, after one of them has led past the last for all.
 pub fn out_of_reach() -> Job {
     let target = Target::Fixed { position: 100_000_000, velocity: 0 };
-    let axis = Axis { speed_limit: 1, acceleration_limit: 1, second_weight: 128, target, ..UNSET };
+    let axis = Axis { speed_limit: 1, acceleration_limit: 1, damping: Damping::Weight(128), target, ..UNSET };
     Job { mask: 63, asked: 0, axes: [axis; 6] }
 }
 
@@ -16,7 +16,7 @@ pub fn in_turns() -> Job {
     let passing = |speed: u32, straight: i64| {
         let velocity = i64::from(speed);
         let target = Target::Fixed { position: velocity * straight, velocity };
-        let limits = Axis { speed_limit: speed, acceleration_limit: 1, second_weight: 128, ..UNSET };
+        let limits = Axis { speed_limit: speed, acceleration_limit: 1, damping: Damping::Weight(128), ..UNSET };
         Axis { start_velocity: velocity, target, ..limits }
     };
     let axes = [
@@ -34,6 +34,6 @@ pub fn in_turns() -> Job {
 /// candidate, and both envelopes are summed for each.
 pub fn accelerating(axes: u32) -> Job {
     let target = Target::Moving { position: 130_000_000, velocity: 0, acceleration: 1, tick: 0 };
-    let axis = Axis { speed_limit: 5_000, acceleration_limit: 2, second_weight: 128, target, ..UNSET };
+    let axis = Axis { speed_limit: 5_000, acceleration_limit: 2, damping: Damping::Weight(128), target, ..UNSET };
     Job { mask: (1 << axes) - 1, asked: 0, axes: [axis; 6] }
 }

@@ -59,7 +59,8 @@ int main(void)
     job.axes[0].speed_limit = 10;
     job.axes[0].acceleration_limit = 1;
     job.axes[0].half_period = 3;
-    job.axes[0].second_weight = 85; /* B/A = 85/171, the part of the swing that is left after a half period */
+    job.axes[0].damping_kind = POLGAMIR_RATIO;
+    job.axes[0].swing_ratio = 0.5f; /* the part of the swing that is left after a half period */
 
     /* Axis 3: from rest at 0 it meets a target that is at 2 at tick 4 and moves one unit a tick; no blend. */
     job.axes[3].target_kind = POLGAMIR_MOVING;

@@ -28,24 +28,32 @@ AT(polgamir_axis, target_kind, 48);
 AT(polgamir_axis, speed_limit, 52);
 AT(polgamir_axis, acceleration_limit, 56);
 AT(polgamir_axis, half_period, 60);
-AT(polgamir_axis, second_weight, 64);
-_Static_assert(sizeof(polgamir_axis) == 72, "polgamir_axis");
+AT(polgamir_axis, damping_kind, 64);
+AT(polgamir_axis, second_weight, 68);
+AT(polgamir_axis, swing_ratio, 72);
+AT(polgamir_axis, first_peak, 76);
+AT(polgamir_axis, second_peak, 80);
+_Static_assert(sizeof(polgamir_axis) == 88, "polgamir_axis");
 AT(polgamir_job, mask, 0);
 AT(polgamir_job, asked, 4);
 AT(polgamir_job, axes, 8);
-_Static_assert(sizeof(polgamir_job) == 440, "polgamir_job");
+_Static_assert(sizeof(polgamir_job) == 536, "polgamir_job");
 AT(polgamir_stop, positions, 0);
 AT(polgamir_stop, dwell, 48);
 _Static_assert(sizeof(polgamir_stop) == 56, "polgamir_stop");
 AT(polgamir_limits, speed_limit, 0);
 AT(polgamir_limits, acceleration_limit, 4);
 AT(polgamir_limits, half_period, 8);
-AT(polgamir_limits, second_weight, 12);
-_Static_assert(sizeof(polgamir_limits) == 16, "polgamir_limits");
+AT(polgamir_limits, damping_kind, 12);
+AT(polgamir_limits, second_weight, 16);
+AT(polgamir_limits, swing_ratio, 20);
+AT(polgamir_limits, first_peak, 24);
+AT(polgamir_limits, second_peak, 28);
+_Static_assert(sizeof(polgamir_limits) == 32, "polgamir_limits");
 AT(polgamir_tour, mask, 0);
 AT(polgamir_tour, start, 8);
 AT(polgamir_tour, limits, 56);
-_Static_assert(sizeof(polgamir_tour) == 152, "polgamir_tour");
+_Static_assert(sizeof(polgamir_tour) == 248, "polgamir_tour");
 AT(polgamir_tour_answer, number, 0);
 AT(polgamir_tour_answer, mask, 4);
 AT(polgamir_tour_answer, place, 8);
@@ -101,7 +109,7 @@ static polgamir_job distinct(unsigned axis)
 /* The job is refused with this number, for this axis where the number names one. */
 static void refused(const char *what, unsigned axis, polgamir_job job, uint32_t number)
 {
-    bool names_axis = number >= 4 && number <= 7;
+    bool names_axis = (number >= 4 && number <= 7) || number == 12;
     uint32_t mask = number == 8 ? 1u << axis : 0;
     memset(table, 0x55, sizeof table);
     expect(is(polgamir_plan_job(job, table, CELLS), number, names_axis ? axis : number == 3, mask), what, axis);
@@ -177,6 +185,46 @@ static void reads_the_limits(unsigned axis)
     expect(accepted(job), "a fixed target's acceleration and tick are not looked at", axis);
 }
 
+/* The job with its damping as measured has the table that it has with this weight, whatever its other fields hold. */
+static void weighs(const char *what, unsigned axis, uint32_t kind, float ratio, float first, float second, uint32_t weight)
+{
+    static int64_t by_weight[CELLS];
+    polgamir_job job = distinct(axis);
+    job.axes[axis].second_weight = weight;
+    memset(table, 0x55, sizeof table);
+    expect(accepted(job), what, axis);
+    memcpy(by_weight, table, sizeof table);
+    job.axes[axis].damping_kind = kind;
+    job.axes[axis].second_weight = 0;
+    job.axes[axis].swing_ratio = ratio;
+    job.axes[axis].first_peak = first;
+    job.axes[axis].second_peak = second;
+    memset(table, 0x55, sizeof table);
+    expect(accepted(job) && memcmp(table, by_weight, sizeof table) == 0, what, axis);
+}
+
+/* The weights and refusals are those that the header names, and peaks for which the roundings tell. */
+static void reads_the_damping(unsigned axis)
+{
+    float no_number = 0.0f / 0.0f;
+    weighs("ratio 1", axis, POLGAMIR_RATIO, 1.0f, 0.0f, no_number, 128);
+    weighs("ratio 0.5", axis, POLGAMIR_RATIO, 0.5f, -1.0f, 0.0f, 85);
+    weighs("peaks 97 and 31", axis, POLGAMIR_PEAKS, no_number, 97.0f, 31.0f, 61);
+    weighs("a kind above 2", axis, UINT32_MAX, 0.0f, 155.0f, 101.0f, 100);
+    static const float wrong[][3] = {{0.0f, 0.0f, 1.0f}, {-0.5f, -2.0f, -1.0f}, {1.5f, 2.0f, 3.0f}};
+    for (size_t i = 0; i < sizeof wrong / sizeof wrong[0]; i++) {
+        polgamir_job job = distinct(axis);
+        job.axes[axis].swing_ratio = wrong[i][0];
+        job.axes[axis].first_peak = wrong[i][1];
+        job.axes[axis].second_peak = wrong[i][2];
+        expect(accepted(job), "a ratio and peaks are not looked at where a weight is given", axis);
+        job.axes[axis].damping_kind = POLGAMIR_RATIO;
+        refused("a ratio outside its range", axis, job, 12);
+        job.axes[axis].damping_kind = POLGAMIR_PEAKS;
+        refused("peaks outside their range", axis, job, 12);
+    }
+}
+
 /* A null pointer with count 0: no words, no cells, and neither. */
 static void takes_null(void)
 {
@@ -199,12 +247,12 @@ static void takes_null(void)
 /* Every number has a text of its own. */
 static void has_texts(void)
 {
-    for (uint32_t number = 0; number <= POLGAMIR_REFUSED_STOPS + 1; number++) {
+    for (uint32_t number = 0; number <= POLGAMIR_REFUSED_DAMPING + 1; number++) {
         for (uint32_t other = 0; other < number; other++) {
             expect(strcmp(polgamir_refusal_text(number), polgamir_refusal_text(other)) != 0, "two numbers with one text", other);
         }
     }
-    expect(polgamir_refusal_text(POLGAMIR_REFUSED_STOPS + 1) == polgamir_refusal_text(UINT32_MAX), "a number above the last", 0);
+    expect(polgamir_refusal_text(POLGAMIR_REFUSED_DAMPING + 1) == polgamir_refusal_text(UINT32_MAX), "a number above the last", 0);
 }
 
 /* A tour of one axis, whose legs and refusals are worked out by hand: from 0, with L = 10, M = 1 and no blend, 4 units take 4 ticks. */
@@ -228,6 +276,15 @@ static void tours(unsigned axis)
     tour.limits[axis].half_period = 257;
     answer = polgamir_plan_tour(tour, stops, 1, list, 3);
     expect(answer.number == 5 && answer.place == 0, "a leg's own refusal, with the stop as place", axis);
+    tour.limits[axis].half_period = 1;
+    tour.limits[axis].damping_kind = POLGAMIR_PEAKS;
+    tour.limits[axis].first_peak = 97;
+    tour.limits[axis].second_peak = -31;
+    answer = polgamir_plan_tour(tour, stops, 1, list, 3);
+    expect(answer.number == 12 && answer.place == 0, "peaks of a tour, one of them below 0", axis);
+    tour.limits[axis].second_peak = 31;
+    answer = polgamir_plan_tour(tour, stops, 1, list, 3);
+    expect(answer.number == 0 && list[0] == 2, "peaks of a tour", axis);
     answer = polgamir_plan_tour(tour, NULL, 0, NULL, 0);
     expect(answer.number == 0 && answer.mask == 0 && answer.total == 0, "a tour of no stops", axis);
 }
@@ -239,6 +296,7 @@ int main(void)
         reads_the_ends(axis);
         reads_the_limits(axis);
         tours(axis);
+        reads_the_damping(axis);
     }
     takes_null();
     has_texts();

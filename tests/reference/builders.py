@@ -5,9 +5,10 @@ six typed axes) and a number of lent cells. What is expected of it is never
 written here: the reference computes it.
 """
 
+import random
 from typing import List, NamedTuple, Optional
 
-from reference import Axis, Job, RestPoint, State, encode
+from reference import Axis, Job, Outcome, RestPoint, State, encode, plan_typed, plan_words
 
 LOWEST, HIGHEST = -2 ** 63, 2 ** 63 - 1     # the ends of a 64-bit signed number
 MOST = 2 ** 32 - 1                          # the end of a 32-bit unsigned one
@@ -24,6 +25,13 @@ class Case(NamedTuple):
     asked: int
     axes: List[Axis]            # six
     lent: int
+
+
+def outcome(case: Case, lent: List[int]) -> Outcome:
+    """What the reference answers, and the lent cells as the call leaves them."""
+    if case.words is not None:
+        return plan_words(case.words, lent)
+    return plan_typed(case.mask, case.asked, case.axes, lent)
 
 
 class Group(NamedTuple):
@@ -78,3 +86,19 @@ def typed(name: str, axes, asked: int = 0, lent: int = 24, others: Axis = UNSET)
     axes = placed(axes)
     return by_values(name, mask_of(axes), asked,
                      [axes.get(bit, others) for bit in range(6)], lent)
+
+
+def random_axis(rng: random.Random) -> Axis:
+    speed = rng.choice([rng.randint(1, 30), rng.randint(1, 4000)])
+    acceleration = rng.choice([rng.randint(1, 6), rng.randint(1, 300)])
+    target = (rng.randint(-900, 900), rng.randint(-speed, speed))
+    half = rng.choice([0, 0, 1, 2, 3, rng.randint(0, 40)])
+    weight = rng.choice([128, rng.randint(1, 128)])
+    kind = rng.randint(0, 2)
+    if kind:
+        a = rng.randint(-acceleration, acceleration) // 4 if kind == 2 else 0
+        weight = 128 if a else weight
+        target += (a, rng.randint(-9, 40))
+    start = (rng.randint(-900, 900), rng.choice([0, rng.randint(-speed, speed)]))
+    return axis(start=start, speed_limit=speed, acceleration_limit=acceleration,
+                half_period=half, second_weight=weight, target=target)

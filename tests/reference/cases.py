@@ -7,8 +7,9 @@ case is never written here: the reference computes it.
 import random
 from typing import List
 
-from builders import (HIGHEST, LOWEST, MOST, UNSET, DEFAULT, Case, Group, axis, by_values, by_words,
-                      job, mask_of, placed, to, typed, words_of)
+from builders import (HIGHEST, LOWEST, MOST, Case, Group, axis, by_values, by_words, job, mask_of, placed,
+                      random_axis, to, typed, words_of)
+from dampingcases import damping, drawn_damping, drawn_weights, weights
 from reference import Axis, RestPoint, State
 from tourcases import drawn_tours, tours
 
@@ -347,22 +348,6 @@ def hostile() -> Group:
 
 # --- Random jobs -----------------------------------------------------------
 
-def random_axis(rng: random.Random) -> Axis:
-    speed = rng.choice([rng.randint(1, 30), rng.randint(1, 4000)])
-    acceleration = rng.choice([rng.randint(1, 6), rng.randint(1, 300)])
-    target = (rng.randint(-900, 900), rng.randint(-speed, speed))
-    half = rng.choice([0, 0, 1, 2, 3, rng.randint(0, 40)])
-    weight = rng.choice([128, rng.randint(1, 128)])
-    kind = rng.randint(0, 2)
-    if kind:
-        a = rng.randint(-acceleration, acceleration) // 4 if kind == 2 else 0
-        weight = 128 if a else weight
-        target += (a, rng.randint(-9, 40))
-    start = (rng.randint(-900, 900), rng.choice([0, rng.randint(-speed, speed)]))
-    return axis(start=start, speed_limit=speed, acceleration_limit=acceleration,
-                half_period=half, second_weight=weight, target=target)
-
-
 def damaged(rng: random.Random, words: List[int]) -> List[int]:
     """The words cut, or with a bit turned, a word dropped or one left over."""
     k = rng.randrange(len(words))
@@ -388,4 +373,4 @@ def drawn(seed: int = 20, count: int = 20) -> Group:
 
 def groups() -> List[Group]:
     return [field(), readings(), accepted(), refused_words(), refused_values(), hostile(),
-            drawn()]
+            damping(), drawn(), drawn_damping(count=10)]

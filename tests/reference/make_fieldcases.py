@@ -16,7 +16,9 @@ import sys
 from typing import List, NamedTuple, Tuple
 
 import cases
-from reference import Answer, Axis, plan_typed, plan_words
+from builders import UNSET, outcome
+from damping import Peaks, Ratio
+from reference import Answer, Axis
 from tourcases import TourCase, drawn_tours, tours
 
 CRATE = os.path.join(os.path.dirname(os.path.abspath(__file__)), '../../crates/fieldcases')
@@ -47,11 +49,7 @@ def sum_of(buffer: List[int]) -> int:
 def expected(case) -> Expected:
     if isinstance(case, TourCase):
         return expected_tour(case)
-    lent = [UNTOUCHED] * case.lent
-    if case.words is not None:
-        answer, cells = plan_words(case.words, lent)
-    else:
-        answer, cells = plan_typed(case.mask, case.asked, case.axes, lent)
+    answer, cells = outcome(case, [UNTOUCHED] * case.lent)
     buffer = cells + [UNTOUCHED] * (BUFFER - case.lent)
     return Expected(case, Outcome(answer, sum_of(buffer)), buffer)
 
@@ -97,20 +95,29 @@ def expected_tour(case: TourCase) -> Expected:
 
 # --- The input of the program ----------------------------------------------
 
+def weight_text(weight) -> str:
+    """The second weight, by its kind: a number, or the bits of a ratio or of two peaks."""
+    if isinstance(weight, Ratio):
+        return 'ratio 1: %08X' % weight.ratio
+    if isinstance(weight, Peaks):
+        return 'peaks 2: %08X %08X' % weight
+    return 'weight 0: %d' % weight
+
+
 def axis_line(axis: Axis) -> str:
     target = axis.target
-    return ' axis %d %d limits %d %d pole %d %d target %d: %s' % (
+    return ' axis %d %d limits %d %d pole %d %s target %d: %s' % (
         *axis.start, axis.speed_limit, axis.acceleration_limit, axis.half_period,
-        axis.second_weight, len(target), ' '.join(map(str, target)))
+        weight_text(axis.second_weight), len(target), ' '.join(map(str, target)))
 
 
 def tour_lines(case: TourCase) -> List[str]:
     """A tour: its mask, its six axes and its stops. It is lent a cell more than
     its list, for the total."""
     stops = case.tour.stops
-    axes = [' axis %d limits %d %d pole %d %d' % axis for axis in case.tour.axes]
+    axes = [' axis %d limits %d %d pole %d %s' % (*axis[:4], weight_text(axis[4])) for axis in case.tour.axes]
     return (['"%s" lent %d route mask %d' % (case.name, len(case.lent) + 1, case.tour.mask)] + axes
-            + [' stops %d' % len(stops)]
+            + [' visits %d' % len(stops)]
             + [' stop %s dwell %d' % (' '.join(map(str, s.positions)), s.dwell) for s in stops])
 
 
@@ -133,9 +140,9 @@ def job_lines(case: cases.Case) -> List[str]:
         lines = ['%s words %d' % (head, len(words))]
         lines += [' ' + ' '.join(words[i:i + 10]) for i in range(0, len(words), 10)]
     else:
-        listed = sum(1 << bit for bit in range(6) if case.axes[bit] != cases.UNSET)
+        listed = sum(1 << bit for bit in range(6) if case.axes[bit] != UNSET)
         lines = ['%s typed mask %d asked %d listed %d' % (head, case.mask, case.asked, listed)]
-        lines += [axis_line(axis) for axis in case.axes if axis != cases.UNSET]
+        lines += [axis_line(axis) for axis in case.axes if axis != UNSET]
     return lines
 
 
@@ -216,7 +223,7 @@ def tour_groups() -> List[cases.Group]:
 
 
 def drawn_groups(seed: int, count: int) -> List[cases.Group]:
-    return [cases.drawn(seed, count), cases.Group('drawn tours', 'Random tours.', drawn_tours(seed, count))]
+    return [cases.drawn(seed, count), cases.drawn_damping(seed, count // 3), cases.Group('drawn tours', 'Random tours.', drawn_tours(seed, count))]
 
 
 def is_stored(folder: str, pair: Tuple[str, str]) -> bool:

@@ -3,7 +3,7 @@
 
 It is written from the papers alone and shares nothing with the Rattle code.
 Every section names the rule of paper 01, or the request of paper 02, that it
-follows. A tour of stops is in `tour.py`.
+follows. Damping as measured is in `damping.py`, a tour of stops in `tour.py`.
 
     python3 reference.py < job       the table program: job words in, text out
     python3 reference.py --selftest  the paper's cases, and checks by definition
@@ -14,6 +14,8 @@ steps, planned velocities and accelerations in fine steps (rule 1).
 
 import sys
 from typing import Dict, List, NamedTuple, Optional, Tuple, Union
+
+from damping import Damping, weight_of
 
 FINE = 256                      # fine steps in a unit; also A + B
 LAST_TICK = 4096                # the latest arrival
@@ -43,7 +45,7 @@ class Axis(NamedTuple):
     speed_limit: int            # L
     acceleration_limit: int     # M
     half_period: int            # h
-    second_weight: int          # B
+    second_weight: Union[int, Damping]  # B, or by typed values what was measured
     target: Union[RestPoint, State]
 
 
@@ -357,7 +359,7 @@ def words_of_bytes(data: bytes) -> List[int]:
     return words + [0] if whole < len(data) else words
 
 
-# --- Refusals 3 to 10 ------------------------------------------------------
+# --- Refusals 3 to 12 ------------------------------------------------------
 
 def breaks_4(axis: Axis) -> bool:
     return not (1 <= axis.speed_limit <= 1048576
@@ -384,7 +386,37 @@ def breaks_7(axis: Axis) -> bool:
             and axis.second_weight != 128)
 
 
-PER_AXIS = ((4, breaks_4), (5, breaks_5), (6, breaks_6), (7, breaks_7))
+def breaks_12(axis: Axis) -> bool:
+    """Request 2.3."""
+    return not isinstance(axis.second_weight, int) and weight_of(axis.second_weight) is None
+
+
+def weighed(axis: Axis) -> Axis:
+    """The axis with its weight entered by hand."""
+    b = axis.second_weight
+    return axis if isinstance(b, int) else axis._replace(second_weight=weight_of(b))
+
+
+ENTERED = ((4, breaks_4), (12, breaks_12))
+WEIGHED = ((5, breaks_5), (6, breaks_6), (7, breaks_7))
+
+
+def check_axes(job: Job, checks) -> None:
+    """Each number over all axes, lowest first, before the next number."""
+    for number, breaks in checks:
+        for bit, axis in sorted(job.axes.items()):
+            if breaks(axis):
+                raise Refused(Answer(number, place=bit))
+
+
+def checked(job: Job) -> Job:
+    """Refusals 3 to 7, or the job with every weight entered by hand."""
+    if job.asked > LAST_TICK:
+        raise Refused(Answer(3, place=1))
+    check_axes(job, ENTERED)
+    job = job._replace(axes={bit: weighed(axis) for bit, axis in job.axes.items()})
+    check_axes(job, WEIGHED)
+    return job
 
 
 def least_common_arrival(job: Job) -> Optional[int]:
@@ -403,26 +435,22 @@ def reaches_none(axis: Axis) -> bool:
     return not any(reachable(axis, n) for n in range(1, LAST_TICK + 1))
 
 
-def judge(job: Job, lent: int) -> Answer:
-    """The answer to a job that passed 1 and 2: refusals 3 to 10, or 0."""
-    if job.asked > LAST_TICK:
-        return Answer(3, place=1)
-    for number, breaks in PER_AXIS:
-        for bit, axis in sorted(job.axes.items()):
-            if breaks(axis):
-                return Answer(number, place=bit)
+def arrival_of(job: Job) -> int:
+    """Refusals 8 and 9, or the arrival of a job that passed the checks."""
     if job.asked:
-        arrival = job.asked
-        failing = mask_where(job, lambda axis: not reachable(axis, arrival))
+        failing = mask_where(job, lambda axis: not reachable(axis, job.asked))
         if failing:
-            return Answer(8, mask=failing)
-    else:
-        arrival = least_common_arrival(job)
-        if arrival is None:
-            return Answer(9, mask=mask_where(job, reaches_none))
+            raise Refused(Answer(8, mask=failing))
+        return job.asked
+    arrival = least_common_arrival(job)
+    if arrival is None:
+        raise Refused(Answer(9, mask=mask_where(job, reaches_none)))
+    return arrival
+
+
+def check_cells(job: Job, arrival: int, lent: int) -> None:
     if lent < 3 * len(job.axes) * (arrival + 1):
-        return Answer(10, arrival=arrival)
-    return Answer(0, mask=job.mask, arrival=arrival)
+        raise Refused(Answer(10, arrival=arrival))
 
 
 # --- The calls, and the table program --------------------------------------
@@ -431,20 +459,26 @@ Outcome = Tuple[Answer, List[int]]
 
 
 def plan_job(job: Job, lent: List[int]) -> Outcome:
-    answer = judge(job, len(lent))
-    if answer.number != 0:
-        return answer, list(lent)
-    cells = table_cells(job, answer.arrival)
-    return answer, cells + list(lent[len(cells):])
+    """A job that passed 1 and 2: its answer, and the lent cells as the call
+    leaves them."""
+    job = checked(job)
+    arrival = arrival_of(job)
+    check_cells(job, arrival, len(lent))
+    cells = table_cells(job, arrival)
+    return Answer(0, mask=job.mask, arrival=arrival), cells + lent[len(cells):]
+
+
+def refusing(call, lent: List[int]) -> Outcome:
+    """The outcome of a call; a refusal writes nothing."""
+    try:
+        return call()
+    except Refused as refused:
+        return refused.answer, list(lent)
 
 
 def plan_words(words: List[int], lent: List[int]) -> Outcome:
-    """The answer, and the lent cells as the call leaves them."""
-    try:
-        job = decode(words)
-    except Refused as refused:
-        return refused.answer, list(lent)
-    return plan_job(job, lent)
+    """From job words."""
+    return refusing(lambda: plan_job(decode(words), lent), lent)
 
 
 def typed_job(mask: int, asked: int, axes: List[Axis]) -> Job:
@@ -455,12 +489,8 @@ def typed_job(mask: int, asked: int, axes: List[Axis]) -> Job:
 
 
 def plan_typed(mask: int, asked: int, axes: List[Axis], lent: List[int]) -> Outcome:
-    """The same from typed values."""
-    try:
-        job = typed_job(mask, asked, axes)
-    except Refused as refused:
-        return refused.answer, list(lent)
-    return plan_job(job, lent)
+    """From typed values."""
+    return refusing(lambda: plan_job(typed_job(mask, asked, axes), lent), lent)
 
 
 def printed(answer: Answer, cells: List[int]) -> str:

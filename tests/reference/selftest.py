@@ -11,9 +11,12 @@ import random
 import sys
 from fractions import Fraction
 
+import damping
+import dampingcases
 import reference as ref
 import tourcases
-from cases import CHASING, DEFAULT, F, F_TO_30, UNSET, axis, mask_of, placed, random_axis, to
+from builders import DEFAULT, UNSET, axis, mask_of, placed, random_axis, to
+from cases import CHASING, F, F_TO_30
 from reference import Answer
 from tour import Tour, TourAnswer
 from tourcases import BASE, random_tour, single, stop
@@ -24,12 +27,17 @@ def plan(axes, asked=0, lent=8192):
     computed from words and from typed values, which must agree."""
     by_bit = placed(axes)
     mask = mask_of(by_bit)
-    cells = [7] * lent
-    typed = ref.plan_typed(mask, asked, [by_bit.get(i, UNSET) for i in range(6)], cells)
-    words = ref.plan_words(ref.encode(ref.Job(mask, asked, by_bit)), cells)
+    typed = typed_plan(by_bit, asked, lent)
+    words = ref.plan_words(ref.encode(ref.Job(mask, asked, by_bit)), [7] * lent)
     same('words and typed values', words, typed)
     same('the cells lent', len(typed[1]), lent)
     return typed
+
+
+def typed_plan(axes, asked=0, lent=8192):
+    """The outcome from typed values alone."""
+    by_bit = placed(axes)
+    return ref.plan_typed(mask_of(by_bit), asked, [by_bit.get(i, UNSET) for i in range(6)], [7] * lent)
 
 
 def same(what, found, expected):
@@ -313,6 +321,58 @@ def legs_are_single_jobs(rng, count=40):
         tour_gives('a random tour', tourcases.case('', tour, len(arrivals) + 1), arrivals, clock)
 
 
+# --- Damping as measured (request 2.3) -------------------------------------
+
+def rounding_to_single(rng, count=4000):
+    """Against the machine's rounding of a double to a single, and division:
+    the single nearest to a double's quotient is that of the exact quotient,
+    where it is not subnormal."""
+    for _ in range(count):
+        number = rng.uniform(1, 2) * 2.0 ** rng.randint(-152, 126)
+        same('rounded', damping.rounded(Fraction(number)), damping.single(number))
+        second, first = (rng.uniform(1, 1000) for _ in range(2))
+        second, first = (Fraction(damping.size_of(damping.single(x))) for x in (second, first))
+        same('quotient', damping.quotient(damping.rounded(second), damping.rounded(first)),
+             damping.single(float(second) / float(first)))
+    for bits in range(1, 300):      # ties, between subnormals
+        tie = damping.size_of(bits) + damping.size_of(1) / 2
+        same('tie to even', damping.rounded(tie), bits + bits % 2)
+        same('below a tie', damping.rounded(tie - Fraction(1, 10 ** 60)), bits)
+
+
+def damping_readings():
+    weight, ratio, peaks = damping.weight_of, dampingcases.ratio, dampingcases.peaks
+    for entered, expected in (
+            (ratio(1), 128), (ratio(0.5), 85), (peaks(97, 31), 61), (peaks(155, 101), 100), (peaks(201, 55), 55),
+            (peaks(474.5794677734375, 211.8179473876953), 78), (ratio(0.007874015718698502), 2),
+            (ratio(0.999), 127), (peaks(1e-45, 1e-45), 128), (ratio(1e-45), 1), (peaks(1e38, 1e-38), None),
+            (ratio(float('nan')), None), (ratio(float('inf')), None), (ratio(0), None), (ratio(-0.0), None),
+            (ratio(1.0000001), None), (ratio(-0.5), None), (peaks(-2, -1), None), (peaks(-0.0, 1), None),
+            (peaks(float('inf'), 1), None), (peaks(float('nan'), 1), None), (peaks(1, float('nan')), None),
+            (peaks(float('inf'), float('inf')), None), (peaks(1, 2), None), (peaks(1, 0), None)):
+        same('weight of %r' % (entered,), weight(entered), expected)
+    bad = ratio(0)
+    refuses('12 where h is 0', typed_plan([axis(second_weight=bad)]), 12)
+    refuses('12 before 5', typed_plan([axis(half_period=257), axis(second_weight=bad)]), 12, place=1)
+    refuses('4 before 12', typed_plan([axis(second_weight=bad), axis(speed_limit=0)]), 4, place=1)
+    chased = dict(half_period=1, target=(0, 0, 1, 0))
+    refuses('7 of a ratio', typed_plan([axis(second_weight=ratio(0.999), **chased)]), 7)
+
+
+def weights_by_hand(rng, count=30):
+    """Every weight has two neighbouring ratios at its edge; a table is that of
+    the same job with the weight by hand."""
+    for b in range(2, 129):
+        at = dampingcases.edge(b)
+        same('an edge', [damping.weight_of(damping.Ratio(x)) for x in (at - 1, at)], [b - 1, b])
+    for _ in range(count):
+        entered = dampingcases.random_damping(rng)
+        b = damping.weight_of(entered)
+        if b is not None:
+            one = to(rng.randint(-50, 50), half_period=rng.randint(0, 9), second_weight=entered)
+            same('by hand', typed_plan([one]), typed_plan([one._replace(second_weight=b)]))
+
+
 def main():
     rng = random.Random(1)
     field_cases()
@@ -323,7 +383,10 @@ def main():
     random_jobs(rng)
     tour_readings()
     legs_are_single_jobs(rng)
-    print('reference: field cases, traps, settled readings, ranges, definitions, demand 3, tours: ok')
+    rounding_to_single(rng)
+    damping_readings()
+    weights_by_hand(rng)
+    print('reference: field cases, traps, settled readings, ranges, definitions, demand 3, tours, damping: ok')
     return 0
 
 

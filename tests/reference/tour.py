@@ -4,13 +4,13 @@ A field that the papers leave free is None: place, mask and arrival of an
 accepted tour, and the total of a refused one.
 """
 
-from typing import List, NamedTuple, Optional, Tuple
+from typing import List, NamedTuple, Optional, Tuple, Union
 
-from reference import AXES, Answer, Axis, Refused, RestPoint, judge, typed_job
+from damping import Damping
+from reference import Answer, Axis, Refused, RestPoint, arrival_of, checked, typed_job
 
 MOST_STOPS = 64
 MOST_DWELL = 4096
-ENOUGH = 3 * AXES * (4096 + 1)  # cells: a leg is never short of a table
 
 
 class TourAxis(NamedTuple):
@@ -19,7 +19,7 @@ class TourAxis(NamedTuple):
     speed_limit: int            # L
     acceleration_limit: int     # M
     half_period: int            # h
-    second_weight: int          # B
+    second_weight: Union[int, Damping]  # B, or what was measured
 
 
 class Stop(NamedTuple):
@@ -62,12 +62,9 @@ def leg_axes(tour: Tour, leg: int) -> List[Axis]:
     return [of(bit, shared) for bit, shared in enumerate(tour.axes)]
 
 
-def leg_answer(tour: Tour, leg: int) -> Answer:
+def leg_arrival(tour: Tour, leg: int) -> int:
     """What the leg's single typed job would get; it seeks its least arrival."""
-    try:
-        return judge(typed_job(tour.mask, 0, leg_axes(tour, leg)), ENOUGH)
-    except Refused as met:
-        return met.answer
+    return arrival_of(checked(typed_job(tour.mask, 0, leg_axes(tour, leg))))
 
 
 def plan_tour(tour: Tour, lent: List[int]) -> Tuple[TourAnswer, List[int]]:
@@ -80,10 +77,10 @@ def plan_tour(tour: Tour, lent: List[int]) -> Tuple[TourAnswer, List[int]]:
         return refused(Answer(11), place), untouched
     arrivals, clock = [], 0     # the clock: when the next leg starts
     for leg, stop in enumerate(tour.stops):
-        answer = leg_answer(tour, leg)
-        if answer.number != 0:
-            return refused(answer, leg), untouched
-        arrivals.append(clock + answer.arrival)
+        try:
+            arrivals.append(clock + leg_arrival(tour, leg))
+        except Refused as met:
+            return refused(met.answer, leg), untouched
         clock = arrivals[-1] + stop.dwell
     if len(lent) < len(arrivals):
         return refused(Answer(10), len(arrivals)), untouched

@@ -4,6 +4,7 @@ import random
 from typing import List, NamedTuple
 
 from builders import HIGHEST, LOWEST, MOST
+from dampingcases import peaks, random_damping, ratio
 from tour import Stop, Tour, TourAnswer, TourAxis, plan_tour
 
 BASE = TourAxis(0, 10, 1, 0, 128)           # the field cases' axis, from 0
@@ -73,6 +74,8 @@ def accepted() -> List[TourCase]:
                speed_limit=1048576, acceleration_limit=65536),
         single('a leg as long as can be', [stop(4095, 1), stop(0)], speed_limit=1),
         several('six axes', SIX, plot),
+        single('a ratio of 0.5', [stop(9, 1), stop(0)], half_period=3, second_weight=ratio(0.5)),
+        single('peaks 97, 31', [stop(9, 1), stop(0)], half_period=3, second_weight=peaks(97, 31)),
         several('mask 42', {1: BASE, 3: SIX[3], 5: SIX[5]}, plot, other=HOSTILE),
         several('positions off the mask are not looked at', {2: BASE},
                 [stop([HIGHEST, LOWEST, 4, HIGHEST, LOWEST, HIGHEST], 1), stop([2 ** 40, 0, 1])],
@@ -110,6 +113,9 @@ def refused_legs() -> List[TourCase]:
         several('5: the place is the stop', {4: BASE._replace(half_period=257)}, [stop(4), stop(4)]),
         single('weight 0', [stop(4)], second_weight=0),
         single('weight 129', [stop(4)], second_weight=129),
+        single('12: a ratio of 0', [stop(4)], second_weight=ratio(0)),
+        several('12 before 5 over all axes', [BASE._replace(half_period=257), BASE._replace(second_weight=ratio(2))],
+                [stop(4)]),
         single('acceleration limit 65,537', [stop(4)], acceleration_limit=65537),
         single('half period 256', [stop(4)], half_period=256),
         single('6 at the start', [stop(4)], start=134217728),
@@ -137,7 +143,7 @@ def tours() -> List[TourCase]:
 
 def random_tour_axis(rng: random.Random) -> TourAxis:
     return TourAxis(rng.randint(-90, 90), rng.randint(1, 60), rng.randint(1, 9),
-                    rng.choice([0, 0, 1, 2, rng.randint(0, 40)]), rng.choice([128, rng.randint(1, 128)]))
+                    rng.choice([0, 0, 1, 2, rng.randint(0, 40)]), rng.choice([128, rng.randint(1, 128), ratio(rng.uniform(0.01, 1))]))
 
 
 def random_tour(rng: random.Random) -> Tour:
@@ -155,7 +161,7 @@ def damaged(rng: random.Random, tour: Tour) -> Tour:
     field, value = rng.choice([
         ('start', 134217727 + rng.randint(0, 1)), ('speed_limit', rng.choice([0, 1])),
         ('acceleration_limit', 65536 + rng.randint(0, 1)), ('half_period', 256 + rng.randint(0, 1)),
-        ('second_weight', rng.choice([0, 1, 128, 129]))])
+        ('second_weight', rng.choice([0, 1, 128, 129, random_damping(rng)]))])
     axes[bit] = axes[bit]._replace(**{field: value})
     if stops and rng.randrange(2):
         k = rng.randrange(len(stops))

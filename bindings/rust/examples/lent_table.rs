@@ -2,7 +2,7 @@
 //!
 //!     cargo run --release --example lent_table
 
-use polgamir::{cells_needed, plan, Axis, Job, Refusal, RestPoint, State, Target, LATEST_ARRIVAL};
+use polgamir::{cells_needed, plan, Axis, Damping, Job, Refusal, RestPoint, State, Target, LATEST_ARRIVAL};
 
 /// Room for the largest table of one axis.
 const CELLS: usize = cells_needed(1, LATEST_ARRIVAL);
@@ -15,7 +15,7 @@ fn main() {
         speed_limit: 600,
         acceleration_limit: 12,
         half_period: 16,
-        second_weight: 128,
+        damping: Damping::NONE,
         target: Target::Moving(carriage),
     };
     for asked in [60, 93] {

@@ -2,7 +2,7 @@
 //!
 //!     cargo run --release --example two_axes
 
-use polgamir::{Axis, Job, Refusal, RestPoint, Row, Target};
+use polgamir::{Axis, Damping, Job, Refusal, RestPoint, Row, Target};
 
 fn main() -> Result<(), Refusal> {
     // One unit is a hundredth of a degree, one tick is 20 ms.
@@ -11,7 +11,7 @@ fn main() -> Result<(), Refusal> {
         speed_limit: 40,
         acceleration_limit: 2,
         half_period: 30,
-        second_weight: 113, // each swing is 113/143 of the one before
+        damping: Damping::Ratio(0.8), // each swing is four fifths of the one before
         target: Target::still(2050),
     };
     let tilt = Axis {
@@ -19,7 +19,7 @@ fn main() -> Result<(), Refusal> {
         speed_limit: 25,
         acceleration_limit: 1,
         half_period: 27,
-        second_weight: 111,
+        damping: Damping::Peaks { first: 32.0, second: 24.5 }, // two peaks of the swing
         target: Target::still(-430),
     };
     let plan = Job::earliest().with_axis(0, pan).with_axis(1, tilt).plan()?;

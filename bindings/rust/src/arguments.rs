@@ -37,11 +37,11 @@ tour    Plans a tour of stops. Prints the total and each stop's arrival, in tick
 plot    Draws the plan: position, velocity, acceleration with their limits and the target's, and the sway of the
         pole beside the sway that the same job would leave without the blend. Of a tour it draws the timeline.
 
-A JOB is a set-up sheet, which docs/SHEET.md describes, or a file of job words. A TOUR is a sheet with stops. `-` in place of a file to read is
-standard input. `-o FILE` writes to a file, `-o -` to standard output; a refusal is always printed. After `--`
-everything is a file's name.
+A JOB is a set-up sheet, which docs/SHEET.md describes, or a file of job words. A TOUR is a sheet with stops. `-` in
+place of a file to read is standard input. `-o FILE` writes to a file, `-o -` to standard output; a refusal is
+always printed. After `--` everything is a file's name.
 
-Exit status: 0 done; 1 the planner refuses the job; 2 a wrong sheet, wrong words, wrong usage, or a file that
+Exit status: 0 done; 1 the planner refuses the job or tour; 2 a wrong sheet, wrong words, wrong usage, or a file that
 cannot be read; 3 the output cannot be written.
 ";
 

@@ -11,7 +11,7 @@ use std::fmt;
 use std::path::Path;
 
 use polgamir::sheet::{Setup, Sheet};
-use polgamir::{Job, PayloadError};
+use polgamir::{Job, NoWords};
 
 use crate::arguments::{Request, TableForm, Task, Usage, HELP};
 use crate::picture;
@@ -21,6 +21,8 @@ use files::{about, FileError};
 pub struct Done {
     /// For standard output.
     pub output: Vec<u8>,
+    /// What is to be known about it, for standard error.
+    pub notes: Vec<String>,
     /// The exit status.
     pub status: u8,
 }
@@ -28,12 +30,12 @@ pub struct Done {
 impl Done {
     /// Done as asked.
     fn well(output: impl Into<Vec<u8>>) -> Done {
-        Done { output: output.into(), status: 0 }
+        Done { output: output.into(), notes: Vec::new(), status: 0 }
     }
 
     /// Refused by the planner.
     fn refused(output: impl Into<Vec<u8>>) -> Done {
-        Done { output: output.into(), status: 1 }
+        Done { output: output.into(), notes: Vec::new(), status: 1 }
     }
 }
 
@@ -84,7 +86,7 @@ pub fn run(request: &Request) -> Result<Done, Failure> {
     match &request.output {
         Some(file) if done.status == 0 => {
             files::write(file, &done.output).map_err(Failure::Output)?;
-            Ok(Done::well(""))
+            Ok(Done { output: Vec::new(), ..done })
         }
         _ => Ok(done),
     }
@@ -124,15 +126,33 @@ fn plan(sheet: &Sheet, form: TableForm, cells: Option<usize>) -> Done {
 /// Writes the words of a job.
 fn words_of(file: &Path, bytes: bool) -> Result<Done, FileError> {
     let sheet = read_job(file)?;
-    let job_words = sheet.job.to_words().map_err(|error| about(file, too_large(&sheet, &error)))?;
-    Ok(match bytes {
+    let job_words = sheet.job.to_words().map_err(|error| about(file, no_words(&sheet, &error)))?;
+    let done = match bytes {
         true => Done::well(words::bytes_of(&job_words)),
         false => Done::well(words::hexadecimal_of(&job_words)),
-    })
+    };
+    Ok(Done { notes: weights_taken(&sheet), ..done })
 }
 
-/// What is said of a number that fits no job word, with its line.
-fn too_large(sheet: &Sheet, error: &PayloadError) -> String {
+/// What is said of axes whose damping was measured: which weight their words have.
+fn weights_taken(sheet: &Sheet) -> Vec<String> {
+    let measured = sheet.job.entered().filter(|(_, axis)| axis.damping.is_measured());
+    let taken = measured.filter_map(|(number, axis)| {
+        let (title, weight) = (sheet.axis_title(number), axis.damping.weight()?);
+        Some(format!("{title}: the words have weight {weight} for `{}`", axis.damping))
+    });
+    taken.collect()
+}
+
+/// Why a job has no words, with the line that is at fault.
+fn no_words(sheet: &Sheet, error: &NoWords) -> String {
+    let error = match error {
+        NoWords::Number(error) => error,
+        NoWords::Damping { axis } => {
+            return refusal::damping_lines(sheet, *axis).join("; ");
+        }
+        other => return other.to_string(),
+    };
     let (least, greatest) = error.kind.payload_range();
     let line = sheet.line_of(error.axis, error.kind).unwrap_or(0);
     let name = error.kind.name();

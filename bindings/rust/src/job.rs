@@ -2,6 +2,7 @@
 
 use std::num::NonZeroU32;
 
+use crate::damping::Damping;
 use crate::AXES;
 
 /// A position with a velocity.
@@ -45,7 +46,7 @@ impl Target {
 /// One axis of a job.
 ///
 /// Every field has to be said: a limit or a half period that nobody entered would be a guess.
-#[derive(Debug, Clone, Copy, PartialEq, Eq, Hash)]
+#[derive(Debug, Clone, Copy, PartialEq)]
 pub struct Axis {
     /// Where the head is at tick 0, and how fast it moves then.
     pub start: RestPoint,
@@ -55,9 +56,8 @@ pub struct Axis {
     pub acceleration_limit: u32,
     /// Half the period of the pole's sway in ticks, 0 to 256; 0 plans without a blend.
     pub half_period: u32,
-    /// How far a swing shrinks in half a period, as the blend's second weight B, 1 to 128: each swing is B / (256 − B) of the
-    /// one before it. 128 stands for a swing that does not shrink.
-    pub second_weight: u32,
+    /// How far a swing of the pole shrinks in half a period.
+    pub damping: Damping,
     /// What the axis is to land on.
     pub target: Target,
 }
@@ -92,20 +92,20 @@ impl From<u32> for Arrival {
 /// A whole job: up to six axes that arrive together.
 ///
 /// ```
-/// use polgamir::{Axis, Job, RestPoint, Target};
+/// use polgamir::{Axis, Damping, Job, RestPoint, Target};
 ///
 /// let pan = Axis {
 ///     start: RestPoint { position: 0, velocity: 0 },
 ///     speed_limit: 10,
 ///     acceleration_limit: 1,
 ///     half_period: 1,
-///     second_weight: 128,
+///     damping: Damping::NONE,
 ///     target: Target::still(1),
 /// };
 /// let job = Job::earliest().with_axis(0, pan);
 /// assert_eq!(job.mask(), 1);
 /// ```
-#[derive(Debug, Clone, Copy, PartialEq, Eq, Hash, Default)]
+#[derive(Debug, Clone, Copy, PartialEq, Default)]
 #[non_exhaustive]
 pub struct Job {
     /// When to arrive.

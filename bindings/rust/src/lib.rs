@@ -2,7 +2,7 @@
 //!
 //! A [`Job`] says for each axis where it starts, what it is to land on, its limits, and the half period and damping of the pole
 //! under it. [`Job::plan`] gives a table of position, velocity and acceleration for each tick that lands every axis exactly on
-//! its target at one common tick with the sway cancelled, or refuses with a number from 1 to 11, a [`Refusal`]. [`plan()`] does
+//! its target at one common tick with the sway cancelled, or refuses with a number, a [`Refusal`]. [`plan()`] does
 //! the same in lent memory and allocates nothing. What the library promises of its answers is proved for every job; this crate
 //! is a thin, safe layer above it, without state and without dependencies.
 //!
@@ -10,14 +10,14 @@
 //! fine steps, 1/256 unit.
 //!
 //! ```
-//! use polgamir::{Axis, Job, Refusal, RestPoint, Target};
+//! use polgamir::{Axis, Damping, Job, Refusal, RestPoint, Target};
 //!
 //! let pan = Axis {
 //!     start: RestPoint { position: 0, velocity: 0 },
 //!     speed_limit: 10,
 //!     acceleration_limit: 1,
 //!     half_period: 0,
-//!     second_weight: 128,
+//!     damping: Damping::NONE,
 //!     target: Target::still(4),
 //! };
 //! let plan = Job::earliest().with_axis(0, pan).plan()?;
@@ -43,6 +43,7 @@
 #![warn(missing_docs)]
 #![deny(unsafe_code)]
 
+mod damping;
 mod job;
 #[allow(unsafe_code)]
 mod library;
@@ -54,13 +55,14 @@ pub mod sheet;
 mod tour;
 mod words;
 
+pub use damping::Damping;
 pub use job::{Arrival, Axis, Job, RestPoint, State, Target};
 pub use plan::{cells_needed, plan, plan_words, Accepted, Plan, MOST_CELLS};
 pub use range::OutOfRange;
 pub use refusal::{AxisMask, Refusal};
 pub use rows::{in_units, Motion, Row, Rows};
 pub use tour::{Schedule, Stop, Tour, TourAxis, TourRefusal, LONGEST_DWELL, MOST_STOPS};
-pub use words::{PayloadError, WordError, WordFault, WordKind};
+pub use words::{NoWords, PayloadError, WordError, WordFault, WordKind};
 
 /// A job has at most this many axes, numbered from 0.
 pub const AXES: usize = 6;

@@ -1,5 +1,6 @@
 //! The calls of the proved library: the only place with `unsafe`.
 
+use crate::damping::Damping;
 use crate::job::{Axis, Job, RestPoint, State, Target};
 use crate::refusal::Answer;
 use crate::tour::{Stop, Tour, TourAxis};
@@ -28,7 +29,18 @@ struct CAxis {
     speed_limit: u32,
     acceleration_limit: u32,
     half_period: u32,
+    damping: CDamping,
+}
+
+/// The fields of `polgamir_axis` and `polgamir_limits` that say the damping, one after the other in both.
+#[repr(C)]
+#[derive(Clone, Copy, Default)]
+struct CDamping {
+    damping_kind: u32,
     second_weight: u32,
+    swing_ratio: f32,
+    first_peak: f32,
+    second_peak: f32,
 }
 
 /// `polgamir_job`, field by field.
@@ -46,7 +58,7 @@ struct CLimits {
     speed_limit: u32,
     acceleration_limit: u32,
     half_period: u32,
-    second_weight: u32,
+    damping: CDamping,
 }
 
 /// `polgamir_tour`, field by field.
@@ -73,6 +85,15 @@ const FIXED: u32 = 0;
 /// `POLGAMIR_MOVING`.
 const MOVING: u32 = 1;
 
+/// `POLGAMIR_WEIGHT`.
+const WEIGHT: u32 = 0;
+
+/// `POLGAMIR_RATIO`.
+const RATIO: u32 = 1;
+
+/// `POLGAMIR_PEAKS`.
+const PEAKS: u32 = 2;
+
 extern "C" {
     fn polgamir_plan_words(words: *const u32, word_count: usize, table: *mut i64, table_cells: usize) -> CAnswer;
 
@@ -91,6 +112,19 @@ impl From<CAnswer> for Answer {
     fn from(answer: CAnswer) -> Answer {
         let CAnswer { number, mask, place, arrival } = answer;
         Answer { number, place, mask, arrival }
+    }
+}
+
+impl From<Damping> for CDamping {
+    fn from(damping: Damping) -> CDamping {
+        let unsaid = CDamping::default();
+        match damping {
+            Damping::Weight(second_weight) => CDamping { damping_kind: WEIGHT, second_weight, ..unsaid },
+            Damping::Ratio(swing_ratio) => CDamping { damping_kind: RATIO, swing_ratio, ..unsaid },
+            Damping::Peaks { first, second } => {
+                CDamping { damping_kind: PEAKS, first_peak: first, second_peak: second, ..unsaid }
+            }
+        }
     }
 }
 
@@ -113,7 +147,7 @@ impl From<&Axis> for CAxis {
             speed_limit: axis.speed_limit,
             acceleration_limit: axis.acceleration_limit,
             half_period: axis.half_period,
-            second_weight: axis.second_weight,
+            damping: axis.damping.into(),
         }
     }
 }
@@ -130,8 +164,8 @@ impl From<&Job> for CJob {
 
 impl From<&TourAxis> for CLimits {
     fn from(axis: &TourAxis) -> CLimits {
-        let &TourAxis { speed_limit, acceleration_limit, half_period, second_weight, .. } = axis;
-        CLimits { speed_limit, acceleration_limit, half_period, second_weight }
+        let &TourAxis { speed_limit, acceleration_limit, half_period, damping, .. } = axis;
+        CLimits { speed_limit, acceleration_limit, half_period, damping: damping.into() }
     }
 }
 
@@ -200,12 +234,16 @@ mod tests {
             offset_of!(CAxis, speed_limit),
             offset_of!(CAxis, acceleration_limit),
             offset_of!(CAxis, half_period),
-            offset_of!(CAxis, second_weight),
+            offset_of!(CAxis, damping.damping_kind),
+            offset_of!(CAxis, damping.second_weight),
+            offset_of!(CAxis, damping.swing_ratio),
+            offset_of!(CAxis, damping.first_peak),
+            offset_of!(CAxis, damping.second_peak),
             size_of::<CAxis>(),
         ];
-        assert_eq!(axis, [0, 8, 16, 24, 32, 40, 48, 52, 56, 60, 64, 72]);
+        assert_eq!(axis, [0, 8, 16, 24, 32, 40, 48, 52, 56, 60, 64, 68, 72, 76, 80, 88]);
         let job = [offset_of!(CJob, mask), offset_of!(CJob, asked), offset_of!(CJob, axes), size_of::<CJob>()];
-        assert_eq!(job, [0, 4, 8, 440]);
+        assert_eq!(job, [0, 4, 8, 536]);
     }
     /// The same of what a tour has.
     #[test]
@@ -214,12 +252,16 @@ mod tests {
             offset_of!(CLimits, speed_limit),
             offset_of!(CLimits, acceleration_limit),
             offset_of!(CLimits, half_period),
-            offset_of!(CLimits, second_weight),
+            offset_of!(CLimits, damping.damping_kind),
+            offset_of!(CLimits, damping.second_weight),
+            offset_of!(CLimits, damping.swing_ratio),
+            offset_of!(CLimits, damping.first_peak),
+            offset_of!(CLimits, damping.second_peak),
             size_of::<CLimits>(),
         ];
-        assert_eq!(limits, [0, 4, 8, 12, 16]);
+        assert_eq!(limits, [0, 4, 8, 12, 16, 20, 24, 28, 32]);
         let tour = [offset_of!(CTour, mask), offset_of!(CTour, start), offset_of!(CTour, limits), size_of::<CTour>()];
-        assert_eq!(tour, [0, 8, 56, 152]);
+        assert_eq!(tour, [0, 8, 56, 248]);
         let stop = [offset_of!(Stop, positions), offset_of!(Stop, dwell), size_of::<Stop>()];
         assert_eq!(stop, [0, 48, 56]);
         let answer = [

@@ -140,7 +140,15 @@ impl Planned {
 fn pole_of(axis: &Axis) -> String {
     match axis.half_period {
         0 => "no blend".into(),
-        half_period => format!("half period {half_period}, weight {}", axis.second_weight),
+        half_period => format!("half period {half_period}, {}{}", axis.damping, weight_of(axis)),
+    }
+}
+
+/// The weight that stands for damping as measured, between brackets.
+fn weight_of(axis: &Axis) -> String {
+    match axis.damping.weight() {
+        Some(weight) if axis.damping.is_measured() => format!(" (weight {weight})"),
+        _ => String::new(),
     }
 }
 

@@ -23,7 +23,7 @@ pub const MOST_CELLS: usize = cells_needed(AXES as u32, LATEST_ARRIVAL);
 ///
 /// # Errors
 ///
-/// The first refusal in the order of their numbers, of those from 1 to 10 except 2, which only words can get.
+/// The first refusal in checking order, of those in [`Refusal`] except 2, which only words can get.
 pub fn plan<'t>(job: &Job, table: &'t mut [i64]) -> Result<Accepted<'t>, Refusal> {
     let answer = library::plan_job(job, table);
     Accepted::from_answer(answer, table)
@@ -33,7 +33,7 @@ pub fn plan<'t>(job: &Job, table: &'t mut [i64]) -> Result<Accepted<'t>, Refusal
 ///
 /// # Errors
 ///
-/// The first refusal in the order of their numbers, 1 to 10.
+/// The first refusal in checking order, of those in [`Refusal`] except 12: words have a weight.
 pub fn plan_words<'t>(words: &[u32], table: &'t mut [i64]) -> Result<Accepted<'t>, Refusal> {
     let answer = library::plan_words(words, table);
     Accepted::from_answer(answer, table)
@@ -167,10 +167,10 @@ impl Job {
     /// Plans this job into a table of its own. [`plan()`] is the call for lent memory.
     ///
     /// ```
-    /// # use polgamir::{Axis, Job, Refusal, RestPoint, Target};
+    /// # use polgamir::{Axis, Damping, Job, Refusal, RestPoint, Target};
     /// # let start = RestPoint { position: 0, velocity: 0 };
     /// # let target = Target::still(4);
-    /// # let pan = Axis { start, speed_limit: 10, acceleration_limit: 1, half_period: 0, second_weight: 128, target };
+    /// # let pan = Axis { start, speed_limit: 10, acceleration_limit: 1, half_period: 0, damping: Damping::NONE, target };
     /// let plan = Job::earliest().with_axis(0, pan).plan()?;
     /// for row in plan.rows().rev() {
     ///     println!("tick {}: {:?}", row.tick(), row.axis(0));

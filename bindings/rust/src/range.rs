@@ -1,4 +1,4 @@
-//! The ranges of an axis's numbers: what refusals 4, 5 and 6 look at.
+//! The ranges of an axis's whole numbers: what refusals 4, 5 and 6 look at. Damping as measured is refusal 12's.
 
 use std::ops::RangeInclusive;
 

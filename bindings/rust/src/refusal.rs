@@ -55,7 +55,7 @@ impl fmt::Display for AxisMask {
 ///
 /// assert_eq!(
 ///     Refusal::Blend { axis: 1 }.to_string(),
-///     "refused with 5: on axis 1 `half_period` is outside 0 to 256, or `second_weight` outside 1 to 128"
+///     "refused with 5: on axis 1 `half_period` is outside 0 to 256, or the weight of `damping` outside 1 to 128"
 /// );
 /// ```
 ///
@@ -77,7 +77,13 @@ pub enum Refusal {
         /// The first such axis.
         axis: usize,
     },
-    /// 5: the half period or the second weight is outside its range.
+    /// 12: of damping as measured, also where the half period is 0, the first peak is not above 0, or the ratio is not a number
+    /// above 0 and at most 1.
+    Damping {
+        /// The first such axis.
+        axis: usize,
+    },
+    /// 5: the half period or the weight of the damping is outside its range.
     Blend {
         /// The first such axis.
         axis: usize,
@@ -88,7 +94,7 @@ pub enum Refusal {
         /// The first such axis.
         axis: usize,
     },
-    /// 7: the target accelerates on a damped pole: the half period is not 0 and the second weight is not 128.
+    /// 7: the target accelerates on a damped pole: the half period is not 0 and the weight of the damping is not 128.
     AcceleratingTarget {
         /// The first such axis.
         axis: usize,
@@ -139,6 +145,7 @@ impl Refusal {
             8 => Refusal::NotReachable { axes },
             9 => Refusal::NoCommonArrival { axes },
             10 => Refusal::TableTooShort { arrival },
+            12 => Refusal::Damping { axis: index },
             _ => Refusal::Other { number, place, axes, arrival },
         }
     }
@@ -156,11 +163,12 @@ impl Refusal {
             Refusal::NotReachable { .. } => 8,
             Refusal::NoCommonArrival { .. } => 9,
             Refusal::TableTooShort { .. } => 10,
+            Refusal::Damping { .. } => 12,
             Refusal::Other { number, .. } => number,
         }
     }
 
-    /// The place: a word's index for 2, 1 for 3, the axis for 4 to 7, and 0 where no place is named.
+    /// The place: a word's index for 2, 1 for 3, the axis for 4 to 7 and 12, and 0 where no place is named.
     pub const fn place(&self) -> u64 {
         match *self {
             Refusal::Words { index } => index as u64,
@@ -173,10 +181,11 @@ impl Refusal {
         }
     }
 
-    /// The axis that refusals 4 to 7 name.
+    /// The axis that refusals 4 to 7 and 12 name.
     pub const fn axis(&self) -> Option<usize> {
         match *self {
             Refusal::Limits { axis }
+            | Refusal::Damping { axis }
             | Refusal::Blend { axis }
             | Refusal::StartOrTarget { axis }
             | Refusal::AcceleratingTarget { axis } => Some(axis),
@@ -220,8 +229,12 @@ impl Refusal {
                 f,
                 "on axis {axis} `speed_limit` is outside 1 to 1048576, or `acceleration_limit` outside 1 to 65536"
             ),
+            Refusal::Damping { axis } => write!(
+                f,
+                "on axis {axis} the first peak of `damping` is not above 0, or its ratio is not a number above 0 and at most 1"
+            ),
             Refusal::Blend { axis } => {
-                write!(f, "on axis {axis} `half_period` is outside 0 to 256, or `second_weight` outside 1 to 128")
+                write!(f, "on axis {axis} `half_period` is outside 0 to 256, or the weight of `damping` outside 1 to 128")
             }
             Refusal::StartOrTarget { axis } => write!(
                 f,
@@ -231,8 +244,8 @@ impl Refusal {
             ),
             Refusal::AcceleratingTarget { axis } => write!(
                 f,
-                "on axis {axis} the target's `acceleration` is not 0, while `half_period` is not 0 and `second_weight` is \
-                 not 128"
+                "on axis {axis} the target's `acceleration` is not 0, while `half_period` is not 0 and the weight of \
+                 `damping` is not 128"
             ),
             Refusal::NotReachable { axes } => write!(f, "{axes} cannot arrive at the tick that `arrival` asks for"),
             Refusal::NoCommonArrival { axes } if axes.is_empty() => {

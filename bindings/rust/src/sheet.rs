@@ -29,6 +29,7 @@ mod tour;
 
 use std::fmt;
 
+use crate::damping::Damping;
 use crate::job::{Arrival, Axis, Job, RestPoint, Target};
 use crate::words::WordKind;
 
@@ -37,7 +38,8 @@ use notes::Notes;
 pub use tour::TourSheet;
 
 /// What a text asks for: a job, or where it has `stop` lines a tour.
-#[derive(Debug, Clone, PartialEq, Eq)]
+#[allow(clippy::large_enum_variant)] // One is read at a time.
+#[derive(Debug, Clone, PartialEq)]
 pub enum Setup {
     /// The sheet of a job.
     Job(Sheet),
@@ -46,7 +48,7 @@ pub enum Setup {
 }
 
 /// A job with what its sheet says beside it: the names of the axes, and the lines that the entries stand on.
-#[derive(Debug, Clone, PartialEq, Eq, Default)]
+#[derive(Debug, Clone, PartialEq, Default)]
 pub struct Sheet {
     /// The job that the sheet asks for.
     pub job: Job,
@@ -59,7 +61,7 @@ impl Sheet {
         self.notes.axis_name(number)
     }
 
-    /// The line, from 1, that an entry of an axis stands on, or with `None` that of the whole job's [`WordKind::Arrival`]. A
+    /// The line, from 1, that an entry of an axis stands on ([`WordKind::SecondWeight`] for the damping), or with `None` that of the whole job's [`WordKind::Arrival`]. A
     /// sheet that was not read from text has no lines.
     pub fn line_of(&self, axis: Option<usize>, entry: WordKind) -> Option<usize> {
         self.notes.line_of(axis, entry)
@@ -158,7 +160,6 @@ const ENTRIES: [WordKind; 10] = [
 fn remark(entry: WordKind) -> &'static str {
     match entry {
         WordKind::HalfPeriod => "ticks, 0 to 256; 0: no blend",
-        WordKind::SecondWeight => "1 to 128; 128: the swing does not shrink",
         WordKind::SpeedLimit => "units per tick, 1 to 1048576",
         WordKind::AccelerationLimit => "units per tick², 1 to 65536",
         WordKind::StartPosition | WordKind::TargetPosition => "units",
@@ -190,11 +191,27 @@ fn write_axis(f: &mut fmt::Formatter<'_>, axis: &Axis) -> fmt::Result {
         if entry == WordKind::TargetPosition {
             writeln!(f, "  {:19} {}", "target", kind.name())?;
         }
+        if entry == WordKind::SecondWeight {
+            write_damping(f, axis.damping)?;
+            continue;
+        }
         for (_, value) in axis.entries().filter(|&(word, _)| word == entry) {
             write_entry(f, entry, value)?;
         }
     }
     Ok(())
+}
+
+/// Writes the damping with its remark. A ratio or a peak that is not finite has no line that reads back.
+fn write_damping(f: &mut fmt::Formatter<'_>, damping: Damping) -> fmt::Result {
+    let remark = match damping {
+        Damping::Weight(_) => "1 to 128; 128: the swing does not shrink",
+        Damping::Ratio(_) => "each swing by the one before, above 0 and at most 1",
+        Damping::Peaks { .. } => "two peaks that follow one another, both counted positive",
+    };
+    let line = damping.to_string();
+    let (name, value) = line.split_once(' ').unwrap_or((&line, ""));
+    writeln!(f, "  {name:19} {value:<11} # {remark}")
 }
 
 /// Writes an entry with its remark.

@@ -2,6 +2,7 @@
 
 use std::fmt;
 
+use crate::damping::Damping;
 use crate::job::{Axis, Job, RestPoint, Target};
 use crate::library;
 use crate::refusal::{AxisMask, Refusal};
@@ -24,7 +25,7 @@ pub struct Stop {
 }
 
 /// One axis of a tour: where it starts, at rest, and what is common to all legs.
-#[derive(Debug, Clone, Copy, PartialEq, Eq, Hash)]
+#[derive(Debug, Clone, Copy, PartialEq)]
 pub struct TourAxis {
     /// Position in units before the first leg.
     pub start: i64,
@@ -34,8 +35,8 @@ pub struct TourAxis {
     pub acceleration_limit: u32,
     /// Half the period of the pole's sway in ticks, 0 to 256; 0 plans without a blend.
     pub half_period: u32,
-    /// How far a swing shrinks in half a period, as in [`Axis`].
-    pub second_weight: u32,
+    /// How far a swing of the pole shrinks in half a period.
+    pub damping: Damping,
 }
 
 impl TourAxis {
@@ -46,7 +47,7 @@ impl TourAxis {
             speed_limit: self.speed_limit,
             acceleration_limit: self.acceleration_limit,
             half_period: self.half_period,
-            second_weight: self.second_weight,
+            damping: self.damping,
             target: Target::still(to),
         }
     }
@@ -57,9 +58,9 @@ impl TourAxis {
 /// Each leg starts at rest where the last one ended, after its dwell, and arrives at the least tick that every axis can reach.
 ///
 /// ```
-/// use polgamir::{Stop, Tour, TourAxis, TourRefusal};
+/// use polgamir::{Damping, Stop, Tour, TourAxis, TourRefusal};
 ///
-/// let pan = TourAxis { start: 0, speed_limit: 10, acceleration_limit: 1, half_period: 0, second_weight: 128 };
+/// let pan = TourAxis { start: 0, speed_limit: 10, acceleration_limit: 1, half_period: 0, damping: Damping::NONE };
 /// let tour = Tour::new().with_axis(0, pan);
 /// let stops = [(4, 3), (0, 5)].map(|(pan, dwell)| Stop { positions: [pan, 0, 0, 0, 0, 0], dwell });
 ///
@@ -72,7 +73,7 @@ impl TourAxis {
 /// # assert!(table.is_some_and(|plan| plan.is_ok_and(|plan| plan.arrival() == 4)));
 /// # Ok::<(), TourRefusal>(())
 /// ```
-#[derive(Debug, Clone, Copy, PartialEq, Eq, Hash, Default)]
+#[derive(Debug, Clone, Copy, PartialEq, Default)]
 #[non_exhaustive]
 pub struct Tour {
     /// The axes by their number, 0 to 5; an axis that does not take part is `None`.
@@ -122,7 +123,7 @@ impl Tour {
             10 => Err(TourRefusal::ListTooShort { stops: place }),
             11 => Err(TourRefusal::Stops { stop: place }),
             // The library names the stop alone; which axis is at fault, where one is, the leg's own job is told.
-            4..=6 => Err(TourRefusal::Leg { stop: place, refusal: self.leg_refusal(stops, place) }),
+            4..=6 | 12 => Err(TourRefusal::Leg { stop: place, refusal: self.leg_refusal(stops, place) }),
             _ => Err(TourRefusal::Leg { stop: place, refusal: Refusal::from_answer(answer) }),
         }
     }
@@ -180,7 +181,7 @@ pub enum TourRefusal {
     Leg {
         /// The stop that the leg leads to.
         stop: usize,
-        /// What the leg's job is refused with: 1, 4, 5, 6 or 9.
+        /// What the leg's job is refused with: 1, 4, 12, 5, 6 or 9.
         refusal: Refusal,
     },
     /// 10: the lent list has fewer entries than there are stops.

@@ -2,6 +2,7 @@
 
 use std::fmt;
 
+use crate::damping::Damping;
 use crate::job::{Arrival, Axis, Job, RestPoint, State, Target};
 use crate::refusal::Refusal;
 use crate::AXES;
@@ -175,15 +176,50 @@ impl fmt::Display for PayloadError {
 
 impl std::error::Error for PayloadError {}
 
+/// Why a job has no words.
+#[derive(Debug, Clone, Copy, PartialEq, Eq, Hash)]
+#[non_exhaustive]
+pub enum NoWords {
+    /// A number does not fit its word.
+    Number(PayloadError),
+    /// The damping as measured has no weight; the planner refuses it with 12.
+    Damping {
+        /// The first such axis.
+        axis: usize,
+    },
+}
+
+impl From<PayloadError> for NoWords {
+    fn from(error: PayloadError) -> NoWords {
+        NoWords::Number(error)
+    }
+}
+
+impl fmt::Display for NoWords {
+    fn fmt(&self, f: &mut fmt::Formatter<'_>) -> fmt::Result {
+        match self {
+            NoWords::Number(error) => error.fmt(f),
+            NoWords::Damping { axis } => write!(f, "axis {axis}: the damping as measured has no weight"),
+        }
+    }
+}
+
+impl std::error::Error for NoWords {}
+
 impl Job {
     /// The words of this job.
     ///
-    /// Values that a word can hold but that the planner refuses, as a weight of 129, are written as they stand.
+    /// Words hold the damping as a weight: where it was measured they have the weight that the planner works out from it
+    /// ([`Damping::weight`]), and the table is the same. Values that a word can hold but that the planner refuses, as a weight of
+    /// 129, are written as they stand.
     ///
     /// # Errors
     ///
-    /// The first number that does not fit the 28 bits of its word.
-    pub fn to_words(&self) -> Result<Vec<u32>, PayloadError> {
+    /// The first axis whose damping as measured has no weight, else the first number that does not fit the 28 bits of its word.
+    pub fn to_words(&self) -> Result<Vec<u32>, NoWords> {
+        if let Some((axis, _)) = self.entered().find(|(_, axis)| axis.damping.weight().is_none()) {
+            return Err(NoWords::Damping { axis });
+        }
         let mut words = Vec::new();
         push(&mut words, WordKind::AxisMask, None, self.mask().into())?;
         push(&mut words, WordKind::Arrival, None, self.arrival.number().into())?;
@@ -220,7 +256,8 @@ impl Job {
 }
 
 impl Axis {
-    /// The numbers of the axis in the order of its words, each with what it is.
+    /// The numbers of the axis in the order of its words, each with what it is. The weight is that of the damping, and is left
+    /// out where the damping as measured has none.
     pub fn entries(&self) -> impl Iterator<Item = (WordKind, i64)> {
         let (position, velocity, moving) = match self.target {
             Target::Fixed(RestPoint { position, velocity }) => (position, velocity, None),
@@ -234,11 +271,10 @@ impl Axis {
             (WordKind::SpeedLimit, self.speed_limit.into()),
             (WordKind::AccelerationLimit, self.acceleration_limit.into()),
             (WordKind::HalfPeriod, self.half_period.into()),
-            (WordKind::SecondWeight, self.second_weight.into()),
-            (WordKind::TargetPosition, position),
-            (WordKind::TargetVelocity, velocity),
         ];
-        always.into_iter().chain(moving.into_iter().flatten())
+        let weight = self.damping.weight().map(|weight| (WordKind::SecondWeight, weight.into()));
+        let target = [(WordKind::TargetPosition, position), (WordKind::TargetVelocity, velocity)];
+        always.into_iter().chain(weight).chain(target).chain(moving.into_iter().flatten())
     }
 }
 
@@ -322,7 +358,7 @@ impl Reader<'_> {
             speed_limit: self.unsigned(WordKind::SpeedLimit)?,
             acceleration_limit: self.unsigned(WordKind::AccelerationLimit)?,
             half_period: self.unsigned(WordKind::HalfPeriod)?,
-            second_weight: self.unsigned(WordKind::SecondWeight)?,
+            damping: Damping::Weight(self.unsigned(WordKind::SecondWeight)?),
             target: self.target()?,
         })
     }

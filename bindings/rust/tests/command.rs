@@ -5,7 +5,7 @@ mod common;
 use std::fs;
 use std::path::Path;
 
-use common::command::{folder, printed, run, run_with, scratch, sheet, told};
+use common::command::{changed_case_c, folder, printed, run, run_with, scratch, sheet, told};
 use common::CASE_C_TABLE;
 
 #[test]
@@ -95,6 +95,20 @@ F0000000
     assert_eq!(fs::read(file).expect("the file written"), words);
 }
 
+/// Words hold a weight; where the sheet has what the tap test shows, the command says which.
+#[test]
+fn words_say_the_weight_that_they_take() {
+    let text = changed_case_c("weight               128", "shrinks 0.5");
+    let output = run_with(&["words", "-"], text.as_bytes());
+    let (words, status) = printed(&output);
+    assert!(status == Some(0) && words.contains(" 80000055 "), "{words}");
+    let note = "polgamir: axis 0: the words have weight 85 for `shrinks 0.5`\n";
+    assert_eq!(String::from_utf8_lossy(&output.stderr), note);
+    let text = changed_case_c("weight               128", "shrinks 1.5");
+    let expected = "line 7: axis 0: shrinks 1.5, expected a number above 0 and at most 1";
+    assert_eq!(told(&run_with(&["words", "-"], text.as_bytes())), format!("polgamir: standard input: {expected}\n"));
+}
+
 #[test]
 fn show_reads_words_back() {
     let text = run(&["words", &sheet("six-axes")]).stdout;
@@ -130,13 +144,18 @@ fn show_tells_the_word_at_fault() {
 
 #[test]
 fn show_tells_what_a_text_is() {
-    let expected = "a set-up sheet: `polgamir plan` plans it, `polgamir words` writes its job words";
+    let expected =
+        "a set-up sheet: `polgamir plan` plans a job, `polgamir tour` a tour, `polgamir words` writes job words";
     let told_of = |input: &[u8]| told(&run_with(&["show", "-"], input));
     let text = fs::read(sheet("case-c")).expect("the sheet of case C");
     assert_eq!(told_of(&text), format!("polgamir: standard input: expected job words, found {expected}\n"));
     for arguments in [&["plan", "--plain"][..], &["plan"], &["plan", "--units"]] {
         let table = run(&[arguments, &[&sheet("case-c")]].concat()).stdout;
         assert_eq!(told_of(&table), "polgamir: standard input: expected job words, found a printed table\n");
+    }
+    for options in [&["tour", "--plain"][..], &["tour"]] {
+        let tour = run(&[options, &[&sheet("plot-of-stems")]].concat()).stdout;
+        assert_eq!(told_of(&tour), "polgamir: standard input: expected job words, found a printed tour\n");
     }
     let refusal = run(&["plan", &sheet("too-soon")]).stdout;
     assert_eq!(told_of(&refusal), "polgamir: standard input: expected job words, found a printed refusal\n");

@@ -32,6 +32,16 @@ line 7: axis 0: weight 129, expected 1 to 128
 ";
     assert_eq!(refused(&changed_case_c("weight               128", "weight 129")), expected);
 
+    let expected = "\
+refused 12 place 0 axes 0 arrival 0
+the damping of axis 0 as measured is outside its range
+look at \"tap the pole, note the half period and how far each swing shrinks\": tap again and enter what the pole does
+line 7: axis 0: peaks 25 31, expected two numbers above 0, the second not above the first
+";
+    assert_eq!(refused(&changed_case_c("weight               128", "peaks 25 31")), expected);
+    let text = refused(&changed_case_c("weight               128", "shrinks 1.25"));
+    assert!(text.ends_with("\nline 7: axis 0: shrinks 1.25, expected a number above 0 and at most 1\n"), "{text}");
+
     let (text, status) = printed(&run(&["plan", "--cells", "14", &sheet("case-c")]));
     assert_eq!(status, Some(1));
     assert!(text.starts_with("refused 10 place 0 axes 0 arrival 4\n"), "{text}");

@@ -6,7 +6,7 @@ use std::fs;
 
 use common::command::{printed, run, run_with, sheet, told};
 use polgamir::sheet::{Setup, Sheet, TourSheet};
-use polgamir::{Stop, Tour, TourAxis, WordKind};
+use polgamir::{Damping, Stop, Tour, TourAxis, WordKind};
 
 /// The tour of the readings on one axis: stops 4 with dwell 3, and 0 with dwell 5.
 const TOUR: &str = "\
@@ -111,7 +111,7 @@ fn wrong_tours_are_told_with_their_line() {
     let told = told_with("axis 1 pan", "arrival 4\naxis 1 pan");
     assert_eq!(told, "line 1: expected no `arrival`, found `arrival` beside `stop` of line 8");
     let told = told_with("  weight 128\n", "");
-    assert_eq!(told, "line 1: expected `weight` for axis 1, found none among its lines");
+    assert_eq!(told, "line 1: expected `weight`, `shrinks` or `peaks` for axis 1, found none among its lines");
     let expected = "line 1: expected at least one of `axis 0` to `axis 5`, found the end of the sheet";
     assert_eq!("stop dwell 5".parse::<TourSheet>().expect_err("no axis").to_string(), expected);
 }
@@ -134,7 +134,7 @@ fn jobs_and_tours_are_told_apart() {
 #[test]
 fn sheets_of_tours_read_back() {
     let sheet: TourSheet = TOUR.parse().expect("a tour");
-    let axis = TourAxis { start: 0, speed_limit: 10, acceleration_limit: 1, half_period: 0, second_weight: 128 };
+    let axis = TourAxis { start: 0, speed_limit: 10, acceleration_limit: 1, half_period: 0, damping: Damping::NONE };
     let stops = [(4, 3), (0, 5)].map(|(pan, dwell)| Stop { positions: [0, pan, 0, 0, 0, 0], dwell });
     assert_eq!((sheet.tour, &sheet.stops[..]), (Tour::new().with_axis(1, axis), &stops[..]));
     assert_eq!(

@@ -3,7 +3,7 @@
 mod common;
 
 use common::{case_c, field_axis, CASE_C_TABLE, CASE_C_WORDS};
-use polgamir::{plan, plan_words, Accepted, Axis, AxisMask, Job, Motion, Refusal, RestPoint, State, Target};
+use polgamir::{plan, plan_words, Accepted, Axis, AxisMask, Damping, Job, Motion, Refusal, RestPoint, State, Target};
 
 /// Plans a job with one axis 0 and gives its motions.
 fn motions(job: &Job) -> Vec<Motion> {
@@ -130,7 +130,7 @@ fn j_wants_15_cells() {
 
 #[test]
 fn k_wants_a_weight_up_to_128() {
-    let job = Job::earliest().with_axis(3, Axis { second_weight: 129, ..field_axis(Target::still(1)) });
+    let job = Job::earliest().with_axis(3, Axis { damping: Damping::Weight(129), ..field_axis(Target::still(1)) });
     assert_eq!(refusal(&job), Refusal::Blend { axis: 3 });
 }
 
@@ -154,7 +154,7 @@ fn the_other_refusals_name_their_places() {
     assert_eq!(refusal(&Job::earliest().with_axis(5, Axis { start, ..axis })), Refusal::StartOrTarget { axis: 5 });
 
     let target = Target::Moving(State { position: 0, velocity: 0, acceleration: 1, tick: 0 });
-    let job = Job::earliest().with_axis(4, Axis { half_period: 2, second_weight: 127, target, ..axis });
+    let job = Job::earliest().with_axis(4, Axis { half_period: 2, damping: Damping::Weight(127), target, ..axis });
     assert_eq!(refusal(&job), Refusal::AcceleratingTarget { axis: 4 });
 
     let job = Job::earliest().with_axis(0, field_axis(target)).with_axis(1, field_axis(Target::still(1000)));

@@ -3,7 +3,7 @@
 mod common;
 
 use common::{case_c, field_axis, Random};
-use polgamir::{plan, Axis, Job, Plan, Refusal, Row, Target};
+use polgamir::{plan, Axis, Damping, Job, Plan, Refusal, Row, Target};
 
 /// The positions of case C's rows, as the paper prints them.
 const CASE_C_POSITIONS: [i64; 5] = [0, 43, 129, 214, 256];
@@ -75,7 +75,7 @@ fn owned_and_lent_plans_are_the_same() {
 
 #[test]
 fn a_refused_job_has_no_plan() {
-    let axis = Axis { second_weight: 129, ..field_axis(Target::still(1)) };
+    let axis = Axis { damping: Damping::Weight(129), ..field_axis(Target::still(1)) };
     assert_eq!(Job::earliest().with_axis(3, axis).plan(), Err(Refusal::Blend { axis: 3 }));
     assert_eq!(Job::earliest().plan(), Err(Refusal::Mask));
     assert_eq!(Job::earliest().arrival_found(), Err(Refusal::Mask));

@@ -36,10 +36,17 @@ fn all() -> Vec<(Refusal, &'static str, SheetLine, &'static str)> {
             "refused with 4: on axis 2 `speed_limit` is outside 1 to 1048576, or `acceleration_limit` outside 1 to 65536",
         ),
         (
+            Refusal::Damping { axis: 3 },
+            "refused 12 place 3 axes 0 arrival 0",
+            TapThePole,
+            "refused with 12: on axis 3 the first peak of `damping` is not above 0, or its ratio is not a number above 0 and \
+             at most 1",
+        ),
+        (
             Refusal::Blend { axis: 0 },
             "refused 5 place 0 axes 0 arrival 0",
             TapThePole,
-            "refused with 5: on axis 0 `half_period` is outside 0 to 256, or `second_weight` outside 1 to 128",
+            "refused with 5: on axis 0 `half_period` is outside 0 to 256, or the weight of `damping` outside 1 to 128",
         ),
         (
             Refusal::StartOrTarget { axis: 5 },
@@ -53,8 +60,8 @@ fn all() -> Vec<(Refusal, &'static str, SheetLine, &'static str)> {
             Refusal::AcceleratingTarget { axis: 1 },
             "refused 7 place 1 axes 0 arrival 0",
             EnterStartAndTarget,
-            "refused with 7: on axis 1 the target's `acceleration` is not 0, while `half_period` is not 0 and \
-             `second_weight` is not 128",
+            "refused with 7: on axis 1 the target's `acceleration` is not 0, while `half_period` is not 0 and the \
+             weight of `damping` is not 128",
         ),
         (
             Refusal::NotReachable { axes: AxisMask(0b100101) },
@@ -93,10 +100,10 @@ fn sentences_speak_of_fields() {
 }
 
 #[test]
-fn every_number_from_1_to_10_has_its_case() {
+fn every_number_of_a_job_has_its_case() {
     let mut numbers: Vec<u32> = all().iter().map(|(refusal, ..)| refusal.number()).collect();
     numbers.dedup();
-    assert_eq!(numbers, (1..=10).collect::<Vec<u32>>());
+    assert_eq!(numbers, [1, 2, 3, 4, 12, 5, 6, 7, 8, 9, 10]);
 }
 
 #[test]
@@ -123,6 +130,8 @@ fn called_for(job: &Job) -> Option<Refusal> {
         job.entered().find(|(_, axis)| at_fault(axis)).map(|(axis, _)| axis)
     };
     let limits = of(4).map(|axis| Refusal::Limits { axis });
+    let unmeasured = job.entered().find(|(_, axis)| axis.damping.weight().is_none());
+    let limits = limits.or(unmeasured.map(|(axis, _)| Refusal::Damping { axis }));
     let blend = of(5).map(|axis| Refusal::Blend { axis });
     limits.or(blend).or(of(6).map(|axis| Refusal::StartOrTarget { axis }))
 }

@@ -4,7 +4,7 @@ mod common;
 
 use common::{case_c, field_axis, Random};
 use polgamir::sheet::{Sheet, SheetError};
-use polgamir::{Arrival, Axis, Job, RestPoint, State, Target, WordKind};
+use polgamir::{Arrival, Axis, Damping, Job, RestPoint, State, Target, WordKind};
 
 /// The sheet of case C, line by line.
 const CASE_C: [&str; 10] = [
@@ -90,11 +90,42 @@ fn typographic_text_is_read() {
     assert!(read_with(10, "target position \u{2212}").is_err());
 }
 
+/// Damping is a weight, or what the tap test shows; it is read as single-precision floats, from the decimals as they stand.
+#[test]
+fn damping_may_be_a_weight_a_ratio_or_two_peaks() {
+    let read = |line: &str| {
+        let sheet = read_with(4, line).expect("a good sheet");
+        let again: Sheet = sheet.to_string().parse().expect("a written sheet");
+        assert_eq!(again.job, sheet.job);
+        assert_eq!(sheet.line_of(Some(0), WordKind::SecondWeight), Some(4));
+        sheet.job.axes[0].expect("axis 0").damping
+    };
+    assert_eq!(read("Shrinks: 0.8"), Damping::Ratio(0.8));
+    assert_eq!(read("shrinks 1"), Damping::Ratio(1.0));
+    assert_eq!(read("shrinks .05"), Damping::Ratio(0.05));
+    assert_eq!(read("shrinks 1e-45"), Damping::Ratio(f32::from_bits(1)));
+    assert_eq!(read("shrinks \u{2212}0.5"), Damping::Ratio(-0.5));
+    assert_eq!(read("peaks 31 24.5"), Damping::Peaks { first: 31.0, second: 24.5 });
+    assert_eq!(read("weight 77"), Damping::Weight(77));
+    for (wrong, expected) in [
+        ("shrinks", "a number above 0 and at most 1 after `shrinks`, found the end of the line"),
+        ("shrinks a lot", "a number above 0 and at most 1 after `shrinks`, found `a lot`"),
+        ("shrinks nan", "a number above 0 and at most 1 after `shrinks`, found `nan`"),
+        ("shrinks inf", "a number above 0 and at most 1 after `shrinks`, found `inf`"),
+        ("peaks 31", "two numbers above 0, the second not above the first, after `peaks`, found `31`"),
+    ] {
+        assert_eq!(told_with(4, wrong), format!("line 4: expected {expected}"));
+    }
+    let both = "weight 128\nshrinks 0.8";
+    let told = "line 5: expected one of `weight`, `shrinks` or `peaks` for axis 0, found another beside that of line 4";
+    assert_eq!(told_with(4, both), told);
+}
+
 /// Numbers that the planner refuses are its own to refuse, so that its number and sentence are what a crew reads.
 #[test]
 fn numbers_out_of_range_are_left_to_the_planner() {
     let sheet = read_with(4, "weight 129").expect("a sheet for the planner to refuse");
-    assert_eq!(sheet.job.axes[0], Some(Axis { second_weight: 129, ..field_axis(Target::still(1)) }));
+    assert_eq!(sheet.job.axes[0], Some(Axis { damping: Damping::Weight(129), ..field_axis(Target::still(1)) }));
     assert!(read_with(1, "arrival 5000").is_ok());
     assert!(read_with(10, "target position 9223372036854775807").is_ok());
 }
@@ -135,8 +166,8 @@ fn wrong_entries_are_told_with_their_line() {
 fn unknown_and_misplaced_entries_are_told_with_their_line() {
     assert_eq!(
         told_with(3, "half perod 0"),
-        "line 3: expected `arrival`, `axis`, `stop`, `target` or one of: half period, weight, speed limit, acceleration limit, \
-         start position, start velocity, target position, target velocity, target acceleration, target tick, \
+        "line 3: expected `arrival`, `axis`, `stop`, `target` or one of: half period, `weight`, `shrinks` or `peaks`, speed limit, \
+         acceleration limit, start position, start velocity, target position, target velocity, target acceleration, target tick, \
          found `half perod 0`"
     );
     assert_eq!(told_with(2, "weight 128"), "line 2: expected `arrival`, `axis` or `stop`, found `weight 128`");
@@ -149,7 +180,10 @@ fn unknown_and_misplaced_entries_are_told_with_their_line() {
 #[test]
 fn entries_that_stand_twice_or_not_at_all_are_told_with_their_line() {
     let again = "target position 1\nweight 128";
-    assert_eq!(told_with(10, again), "line 11: expected one `weight` for axis 0, found another beside that of line 4");
+    assert_eq!(
+        told_with(10, again),
+        "line 11: expected one of `weight`, `shrinks` or `peaks` for axis 0, found another beside that of line 4"
+    );
     let again = "target position 1\ntarget still";
     assert_eq!(told_with(10, again), "line 11: expected one `target` for axis 0, found another beside that of line 9");
     let again = "target position 1\naxis 0";
@@ -157,7 +191,10 @@ fn entries_that_stand_twice_or_not_at_all_are_told_with_their_line() {
     let again = "target position 1\narrival 5";
     assert_eq!(told_with(10, again), "line 11: expected one `arrival`, found another beside that of line 1");
 
-    assert_eq!(told_with(4, ""), "line 2: expected `weight` for axis 0, found none among its lines");
+    assert_eq!(
+        told_with(4, ""),
+        "line 2: expected `weight`, `shrinks` or `peaks` for axis 0, found none among its lines"
+    );
     assert_eq!(
         told_with(9, ""),
         "line 2: expected `target still`, `target flying` or `target moving` for axis 0, found none among its lines"

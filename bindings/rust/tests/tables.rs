@@ -46,7 +46,8 @@ fn look_at_motion(axis: &Axis, rows: &[Motion], arrival: u32) {
 /// A swing list with entries up to tick `last`: A × g(i + h) + B × g(i) = 0, from whole numbers that a generator chooses.
 fn swing_list(axis: &Axis, last: usize, random: &mut Random) -> Option<Vec<i128>> {
     let half_period = axis.half_period as usize;
-    let (first_weight, second_weight) = (256 - i128::from(axis.second_weight), i128::from(axis.second_weight));
+    let weight = axis.damping.weight()?;
+    let (first_weight, second_weight) = (256 - i128::from(weight), i128::from(weight));
     let divisor = (1..=second_weight).rev().find(|d| first_weight % d == 0 && second_weight % d == 0)?;
     let (first_weight, second_weight) = (first_weight / divisor, second_weight / divisor);
     // Entries that can be divided by the first weight as often as the list goes on.
@@ -151,4 +152,6 @@ fn values_go_between_threads() {
     goes::<Accepted<'static>>();
     goes::<polgamir::Refusal>();
     goes::<polgamir::sheet::Sheet>();
+    goes::<polgamir::Tour>();
+    goes::<polgamir::TourRefusal>();
 }

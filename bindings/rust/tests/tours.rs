@@ -3,11 +3,11 @@
 mod common;
 
 use common::{field_axis, Random};
-use polgamir::{AxisMask, Job, Refusal, Schedule, Stop, Target, Tour, TourAxis, TourRefusal, MOST_STOPS};
+use polgamir::{AxisMask, Damping, Job, Refusal, Schedule, Stop, Target, Tour, TourAxis, TourRefusal, MOST_STOPS};
 
 /// The axis of the field cases, from 0.
 const FIELD_AXIS: TourAxis =
-    TourAxis { start: 0, speed_limit: 10, acceleration_limit: 1, half_period: 0, second_weight: 128 };
+    TourAxis { start: 0, speed_limit: 10, acceleration_limit: 1, half_period: 0, damping: Damping::NONE };
 
 /// A tour of one axis.
 fn tour_of(axis: TourAxis) -> Tour {
@@ -77,7 +77,7 @@ fn the_first_refused_leg_names_its_stop() {
     assert_eq!(refused(slow, &[(4, 0), (0, 0), (1 << 40, 0)], 3), leg(2, Refusal::StartOrTarget { axis: 0 }));
     let unlimited = Tour::new().with_axis(2, TourAxis { speed_limit: 0, ..FIELD_AXIS });
     assert_eq!(refused(unlimited, &[(0, 0)], 1), leg(0, Refusal::Limits { axis: 2 }));
-    let heavy = tour_of(FIELD_AXIS).with_axis(3, TourAxis { second_weight: 129, ..FIELD_AXIS });
+    let heavy = tour_of(FIELD_AXIS).with_axis(3, TourAxis { damping: Damping::Weight(129), ..FIELD_AXIS });
     assert_eq!(refused(heavy, &[(0, 0)], 1), leg(0, Refusal::Blend { axis: 3 }));
 }
 
@@ -142,7 +142,7 @@ fn random_tour(random: &mut Random) -> (Tour, Vec<Stop>) {
             speed_limit: axis.speed_limit,
             acceleration_limit: axis.acceleration_limit,
             half_period: axis.half_period,
-            second_weight: axis.second_weight,
+            damping: axis.damping,
         });
     }
     let stop = |random: &mut Random| Stop {

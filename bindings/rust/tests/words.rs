@@ -3,7 +3,7 @@
 mod common;
 
 use common::{case_c, field_axis, Random, CASE_C_WORDS};
-use polgamir::{plan_words, Axis, Job, PayloadError, Refusal, Target, WordError, WordFault, WordKind};
+use polgamir::{plan_words, Axis, Job, NoWords, PayloadError, Refusal, Target, WordError, WordFault, WordKind};
 
 #[test]
 fn case_c_has_the_printed_words() {
@@ -88,7 +88,7 @@ fn numbers_that_do_not_fit_have_no_words() {
     let axis = field_axis(Target::still(1 << 27));
     let error = Job::earliest().with_axis(2, axis).to_words().expect_err("a position past 28 bits");
     let kind = WordKind::TargetPosition;
-    assert_eq!(error, PayloadError { index: 8, kind, axis: Some(2), value: 1 << 27 });
+    assert_eq!(error, NoWords::Number(PayloadError { index: 8, kind, axis: Some(2), value: 1 << 27 }));
     assert_eq!(
         error.to_string(),
         "word 8: axis 2: target position 134217728 does not fit a job word, which holds -134217728 to 134217727"
@@ -96,8 +96,8 @@ fn numbers_that_do_not_fit_have_no_words() {
 
     let axis = Axis { speed_limit: 1 << 28, ..field_axis(Target::still(-(1 << 27))) };
     let error = Job::earliest().with_axis(0, axis).to_words().expect_err("a limit past 28 bits");
-    assert_eq!((error.index, error.kind), (4, WordKind::SpeedLimit));
+    assert!(matches!(error, NoWords::Number(PayloadError { index: 4, kind: WordKind::SpeedLimit, .. })));
 
     let error = Job::arriving_at(1 << 28).to_words().expect_err("an arrival past 28 bits");
-    assert_eq!((error.index, error.kind, error.axis), (1, WordKind::Arrival, None));
+    assert!(matches!(error, NoWords::Number(PayloadError { index: 1, kind: WordKind::Arrival, axis: None, .. })));
 }

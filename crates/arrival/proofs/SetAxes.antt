@@ -36,7 +36,7 @@ from-more i m six h =
 pub from-none : (i m : ℕ) (six : List Axis) → length six ≤ i → from i m six ≡ []
 from-none i m six h = ap (setAxes i m) (drop-of-length-le six {i = i} h)
 
--- ---- which have passed refusals 4 to 7
+-- ---- which have passed the refusals of one axis
 
 -- the axis before a loop, and those after it
 pub record PassedFrom (m : ℕ) (x : Axis) (xs : List JobAxis) : Type 0 where

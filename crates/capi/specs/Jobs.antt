@@ -1,14 +1,19 @@
 -- What the structs of include/polgamir.h stand for.
+use Prim.Native.Nat.{ℕ}
 use mathlib.Core.Bool.{cond}
 use mathlib.Core.List.{map}
 use lib.Dec.{eqb}
+use lib.Ieee.{Float}
 use Rattle.model.specs.Outcome.{Input, typed}
 use Rattle.model.specs.declared.Answer.{Answer}
 use Rattle.model.specs.declared.Axis.{Axis}
+use Rattle.model.specs.declared.Damping.the-variants.{Ratio, Peaks}
 use Rattle.model.specs.declared.RestPoint.{RestPoint}
 use Rattle.model.specs.declared.State.{State}
 use Rattle.model.specs.declared.Target.{Target}
 use Rattle.model.specs.declared.Target.the-variants.{Fixed, Moving}
+use Rattle.model.specs.declared.Weight.{Weight}
+use Rattle.model.specs.declared.Weight.the-variants.{Given, Measured}
 use Rattle.capi.specs.declared.PolgamirAnswer.{PolgamirAnswer}
 use Rattle.capi.specs.declared.PolgamirAxis.{PolgamirAxis}
 use Rattle.capi.specs.declared.PolgamirJob.{PolgamirJob}
@@ -34,6 +39,11 @@ movingOf a =
 unfoldable pub targetOf : PolgamirAxis → Target
 targetOf a = cond (eqb (a .«target_kind») 0) (Fixed (fixedOf a)) (Moving (movingOf a))
 
+-- of an axis or of a tour's limits: the number given where the kind is 0, of a ratio where it is 1, of two peaks where it is any other number
+unfoldable pub weightOf : ℕ → ℕ → Float → Float → Float → Weight
+weightOf kind weight ratio first second =
+    cond (eqb kind 0) (Given weight) (cond (eqb kind 1) (Measured (Ratio ratio)) (Measured (Peaks first second)))
+
 unfoldable pub axisOf : PolgamirAxis → Axis
 axisOf a =
     record {
@@ -41,7 +51,7 @@ axisOf a =
       «speed_limit» = a .«speed_limit»;
       «acceleration_limit» = a .«acceleration_limit»;
       «half_period» = a .«half_period»;
-      «second_weight» = a .«second_weight»;
+      «second_weight» = weightOf (a .«damping_kind») (a .«second_weight») (a .«swing_ratio») (a .«first_peak») (a .«second_peak»);
       target = targetOf a;
     }
 

@@ -4,14 +4,16 @@ mod tours;
 
 use model::Answer;
 use model::Axis;
+use model::Damping;
 use model::RestPoint;
 use model::State;
 use model::Target;
+use model::Weight;
 ghost use mathlib.Core.Path.{_≡_};
 ghost use mathlib.Core.List.{map};
 ghost use Rattle.model.specs.Outcome as Input;
 ghost use Rattle.planner.specs.Promise.{Promise};
-ghost use Rattle.capi.specs.Jobs.{startOf, fixedOf, movingOf, targetOf, axisOf, jobOf, answerOf};
+ghost use Rattle.capi.specs.Jobs.{startOf, fixedOf, movingOf, targetOf, weightOf, axisOf, jobOf, answerOf};
 
 // What a call gives back, laid out as the header's `polgamir_answer`.
 #[repr(C)]
@@ -22,7 +24,8 @@ pub struct PolgamirAnswer {
     pub arrival: u32,
 }
 
-// An axis, laid out as the header's `polgamir_axis`. The target is fixed where its kind is 0, else it moves.
+// An axis, laid out as the header's `polgamir_axis`. The target is fixed where its kind is 0, else it moves. The second weight is given
+// where the damping's kind is 0, of a ratio where it is 1, else of two peaks.
 #[repr(C)]
 pub struct PolgamirAxis {
     pub start_position: i64,
@@ -35,7 +38,11 @@ pub struct PolgamirAxis {
     pub speed_limit: u32,
     pub acceleration_limit: u32,
     pub half_period: u32,
+    pub damping_kind: u32,
     pub second_weight: u32,
+    pub swing_ratio: f32,
+    pub first_peak: f32,
+    pub second_peak: f32,
 }
 
 // A job, laid out as the header's `polgamir_job`.
@@ -100,17 +107,39 @@ fn target_of(a: PolgamirAxis) -> Target
     Target::Moving(state)
 }
 
+// The second weight of an axis or of a tour's limits, from its five fields.
+fn weight_of(kind: u32, weight: u32, ratio: f32, first: f32, second: f32) -> Weight
+    ensures { λ r. ⌜ r ≡ weightOf kind weight ratio first second ⌝ }
+{
+    if kind == 0 {
+        return Weight::Given(weight);
+    }
+    if kind == 1 {
+        let measured = Damping::Ratio(ratio);
+        return Weight::Measured(measured);
+    }
+    let peaks = Damping::Peaks(first, second);
+    Weight::Measured(peaks)
+}
+
 fn axis_of(a: PolgamirAxis) -> Axis
     ensures { λ r. ⌜ r ≡ axisOf a ⌝ }
 {
     let start = start_of(a);
+    let weight = weight_of(
+        a.damping_kind,
+        a.second_weight,
+        a.swing_ratio,
+        a.first_peak,
+        a.second_peak,
+    );
     let target = target_of(a);
     Axis {
         start: start,
         speed_limit: a.speed_limit,
         acceleration_limit: a.acceleration_limit,
         half_period: a.half_period,
-        second_weight: a.second_weight,
+        second_weight: weight,
         target: target,
     }
 }
@@ -153,7 +182,7 @@ pub extern "C" fn polgamir_plan_words(words: &[u32], table: &mut [i64]) -> Polga
 
 // Plans the axes of a job that its mask names and writes their rows into the table. The asked arrival is a tick from 1 to 4,096, or 0 for
 // the least that every axis reaches. The other axes are not looked at.
-// Gives back what the call for words gives; its refusals are 1 and 3 to 10.
+// Gives back what the call for words gives; its refusals are 1, 3 to 10 and 12.
 #[no_mangle]
 pub extern "C" fn polgamir_plan_job(job: PolgamirJob, table: &mut [i64]) -> PolgamirAnswer
     ensures { λ r. ⌜ Promise (jobOf job) (now (table .entry)) (answerOf r) (now (table .exit)) ⌝ }

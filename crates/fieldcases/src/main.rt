@@ -3,16 +3,18 @@
 //
 // The cases come as text on standard input: tests/reference/README.md says how it is made and what a case looks like. Where
 // a number is looked for, every byte that begins none is passed over, so the words between the numbers are for readers, but
-// for four letters: the input begins with `words`, `typed` or `route`, and the outcome that is expected with `number`.
+// for some letters: the input begins with `words`, `typed` or `route`, a target with `target`, and the outcome that is expected with `number`.
 use model::Answer;
 use model::Axis;
 use model::AxisLimits;
+use model::Damping;
 use model::RestPoint;
 use model::State;
 use model::Stop;
 use model::Target;
 use model::TourAnswer;
 use model::TourSettings;
+use model::Weight;
 use tour::StopRow;
 ghost use mathlib.Core.Path.{_≡_};
 ghost use Prim.Native.Nat.{_≤_, _<_};
@@ -63,8 +65,8 @@ fn digit(byte: u8) -> u64
     found(b"0123456789ABCDEF", 0, byte) as u64
 }
 
-// The next number in a base, with its sign, and `at` moved past it; 0 where there is none. Letters are digits of job words only, and stand in upper
-// case. Numbers of up to 19 digits come out exactly; of a longer one the first digits are lost.
+// The next number in a base, with its sign, and `at` moved past it; 0 where there is none. Letters are digits of job words and of floats only, and
+// stand in upper case. Numbers of up to 19 digits come out exactly; of a longer one the first digits are lost.
 fn next(text: &[u8], at: &mut usize, base: u64) -> i64
     requires { ⌜ base ≤ 16 ⌝ }
 {
@@ -114,16 +116,56 @@ fn nth_low(text: &[u8], from: usize, count: u32) -> u32 {
     low(nth(text, from, count))
 }
 
-// The target of the axis whose numbers come next: the count of its own numbers is 4 for a moving one.
+// The float of a pattern of bits; one that is no number for each pattern of such.
+fn float_of(bits: u32) -> f32 {
+    if 2139095040 < bits % 2147483648 {
+        return 0.0 / 0.0;
+    }
+    f32::from_bits(bits)
+}
+
+// The float whose bits come next, in hexadecimal digits.
+fn next_float(text: &[u8], at: &mut usize) -> f32 {
+    let bits = low(next(text, at, 16));
+    float_of(bits)
+}
+
+// The damping whose floats come next: a ratio where its kind is 1, else two peaks.
+fn damping_at(text: &[u8], from: usize, kind: u32) -> Damping {
+    let mut at = from;
+    let first = next_float(text, &mut at);
+    if kind == 1 {
+        return Damping::Ratio(first);
+    }
+    let second = next_float(text, &mut at);
+    Damping::Peaks(first, second)
+}
+
+// The second weight whose kind comes next: 0 for a number, else damping as measured.
+fn weight_at(text: &[u8], from: usize) -> Weight {
+    let kind = nth_low(text, from, 0);
+    if kind == 0 {
+        return Weight::Given(nth_low(text, from, 1));
+    }
+    let damping = damping_at(text, after(text, from, 1), kind);
+    Weight::Measured(damping)
+}
+
+// The index of the target of the axis whose numbers come next: that of the first `t` after the second weight's kind.
+fn target_from(text: &[u8], from: usize) -> usize {
+    found(text, after(text, from, 6), b't')
+}
+
+// The target whose count of numbers comes next: 4 for a moving one.
 fn target_at(text: &[u8], from: usize) -> Target {
-    let position = nth(text, from, 7);
-    let velocity = nth(text, from, 8);
-    if nth_low(text, from, 6) == 4 {
+    let position = nth(text, from, 1);
+    let velocity = nth(text, from, 2);
+    if nth_low(text, from, 0) == 4 {
         return Target::Moving(State {
             position: position,
             velocity: velocity,
-            acceleration: nth(text, from, 9),
-            tick: nth(text, from, 10),
+            acceleration: nth(text, from, 3),
+            tick: nth(text, from, 4),
         });
     }
     Target::Fixed(RestPoint {
@@ -134,7 +176,8 @@ fn target_at(text: &[u8], from: usize) -> Target {
 
 // The axis whose numbers come next.
 fn axis_at(text: &[u8], from: usize) -> Axis {
-    let target = target_at(text, from);
+    let weight = weight_at(text, after(text, from, 5));
+    let target = target_at(text, target_from(text, from));
     Axis {
         start: RestPoint {
             position: nth(text, from, 0),
@@ -143,14 +186,14 @@ fn axis_at(text: &[u8], from: usize) -> Axis {
         speed_limit: nth_low(text, from, 2),
         acceleration_limit: nth_low(text, from, 3),
         half_period: nth_low(text, from, 4),
-        second_weight: nth_low(text, from, 5),
+        second_weight: weight,
         target: target,
     }
 }
 
 fn after_axis(text: &[u8], from: usize) -> usize {
-    let target = after(text, from, 7);
-    after(text, target, nth_low(text, from, 6))
+    let target = target_from(text, from);
+    after(text, after(text, target, 1), nth_low(text, target, 0))
 }
 
 // The six axes: a mask of those that are listed, and these. The others are of zeros, as an axis is that is read past the end.
@@ -208,15 +251,21 @@ fn plan_typed(text: &[u8], from: usize, table: &mut [i64]) -> Answer {
 
 // The limits and the blend of an axis of a tour, which come after its start.
 fn limits_at(text: &[u8], from: usize) -> AxisLimits {
+    let weight = weight_at(text, after(text, from, 4));
     AxisLimits {
         speed_limit: nth_low(text, from, 1),
         acceleration_limit: nth_low(text, from, 2),
         half_period: nth_low(text, from, 3),
-        second_weight: nth_low(text, from, 4),
+        second_weight: weight,
     }
 }
 
-// The settings of a tour: its mask, and five numbers for each of the six axes.
+// What follows the axis of a tour: the first `s` after the second weight's kind, of the next axis or of the visits.
+fn after_limits(text: &[u8], from: usize) -> usize {
+    found(text, after(text, from, 5), b's')
+}
+
+// The settings of a tour: its mask, and start, limits and blend of each of the six axes.
 fn settings_at(text: &[u8], from: usize) -> TourSettings {
     let unset = limits_at(text, text.len());
     let mut limits = [unset; 6];
@@ -227,7 +276,7 @@ fn settings_at(text: &[u8], from: usize) -> TourSettings {
         let axis = limits_at(text, at);
         limits[i] = axis;
         start[i] = nth(text, at, 0);
-        at = after(text, at, 5);
+        at = after_limits(text, at);
         i += 1;
     }
     TourSettings {
@@ -271,7 +320,7 @@ fn stops_at(text: &[u8], from: usize) -> StopRow {
 // A call for a tour with a list of arrivals.
 fn routed(text: &[u8], from: usize, list: &mut [u32]) -> TourAnswer {
     let settings = settings_at(text, from);
-    let row = stops_at(text, after(text, from, 31));
+    let row = stops_at(text, found(text, from, b'v'));
     tour::tour_of_row(settings, row, list)
 }
 

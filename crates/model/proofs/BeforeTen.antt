@@ -18,7 +18,7 @@ use Rattle.model.specs.Motion.{reachable}
 use Rattle.model.specs.Words.{goodMask}
 use Rattle.model.specs.Refusals.{lastTick}
 use Rattle.model.specs.Outcome.{Outcome, Input, typed, call, inputAxes, refuse, accept, filled, arrived, tested, axisRefusals, jobOutcome, outcomeOfTyped, cellsNeeded, leastArrival, allReach, firstAxis, reachesNone, beforeTen, answerOfTyped}
-use Rattle.model.specs.Verdict.{Verdict, refused3, refused4, refused5, refused6, refused7, refused8, refused9, refused10, accepted, CallVerdict, typed1, typedJobs, words1, words2, wordsJob}
+use Rattle.model.specs.Verdict.{Verdict, refused3, refused4, refused12, refused5, refused6, refused7, refused8, refused9, refused10, accepted, CallVerdict, typed1, typedJobs, words1, words2, wordsJob}
 use Rattle.model.specs.Demand.{Demand3}
 use Rattle.model.proofs.CallVerdict.{call-verdict}
 use Rattle.model.proofs.Demand.{demand3}
@@ -129,9 +129,10 @@ module _ (m asked : ℕ) (six : List Axis) (lent : List ℤ) where
       of-job : Verdict (typedJob m asked six) lent o → length lent < cellsNeeded (length (typedJob m asked six .axes)) (o .arrival)
       of-job (refused3 a r) = let z = r .number in absurd (omega arith)
       of-job (refused4 i a b r) = let z = r .number in absurd (omega arith)
-      of-job (refused5 i a b c r) = let z = r .number in absurd (omega arith)
-      of-job (refused6 i a b c d r) = let z = r .number in absurd (omega arith)
-      of-job (refused7 i a b c d f r) = let z = r .number in absurd (omega arith)
+      of-job (refused12 i a b c r) = let z = r .number in absurd (omega arith)
+      of-job (refused5 i a b c d r) = let z = r .number in absurd (omega arith)
+      of-job (refused6 i a b c d f r) = let z = r .number in absurd (omega arith)
+      of-job (refused7 i a b c d f g r) = let z = r .number in absurd (omega arith)
       of-job (refused8 n a b c d f r) = let z = r .number in absurd (omega arith)
       of-job (refused9 n a b c d r) = let z = r .number in absurd (omega arith)
       of-job (refused10 n a b h r) = subst (λ (k : ℕ). length lent < cellsNeeded (length (typedJob m asked six .axes)) k) (sym (r .arrival)) h

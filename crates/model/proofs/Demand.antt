@@ -22,7 +22,7 @@ use Rattle.whole.proofs.Elements.{at-below, element}
 use Rattle.model.proofs.CellPlaces.{table-length, table-at}
 use Rattle.model.specs.Refusals.{Ready, AllPassed}
 use Rattle.model.specs.Verdict.{Among, IsArrival, Verdict, CallVerdict, words1, words2, wordsJob, typed1, typedJobs}
-use Rattle.model.specs.Verdict.{accepted, refused3, refused4, refused5, refused6, refused7, refused8, refused9, refused10}
+use Rattle.model.specs.Verdict.{accepted, refused3, refused4, refused12, refused5, refused6, refused7, refused8, refused9, refused10}
 use Rattle.model.specs.Quantities.{speedLimit, accelerationLimit}
 use Rattle.model.proofs.CellLimits as L
 use Rattle.model.proofs.ExactStart as S
@@ -176,9 +176,10 @@ module _ (Claim : List Axis → ℕ → List ℤ → Type 0)
       (holds (axesOf j) n (o .cells) (drop (cellsNeeded (length (axesOf j)) n) lent) (e .cells) (all-ready j n p a))
   by-verdict j lent o (refused3 a e) z = absurd (let n = e .number in omega arith)
   by-verdict j lent o (refused4 i a b e) z = absurd (let n = e .number in omega arith)
-  by-verdict j lent o (refused5 i a b c e) z = absurd (let n = e .number in omega arith)
-  by-verdict j lent o (refused6 i a b c d e) z = absurd (let n = e .number in omega arith)
-  by-verdict j lent o (refused7 i a b c d f e) z = absurd (let n = e .number in omega arith)
+  by-verdict j lent o (refused12 i a b c e) z = absurd (let n = e .number in omega arith)
+  by-verdict j lent o (refused5 i a b c d e) z = absurd (let n = e .number in omega arith)
+  by-verdict j lent o (refused6 i a b c d f e) z = absurd (let n = e .number in omega arith)
+  by-verdict j lent o (refused7 i a b c d f g e) z = absurd (let n = e .number in omega arith)
   by-verdict j lent o (refused8 m a b c d f e) z = absurd (let n = e .number in omega arith)
   by-verdict j lent o (refused9 m a b c d e) z = absurd (let n = e .number in omega arith)
   by-verdict j lent o (refused10 n a b c e) z = absurd (let n = e .number in omega arith)

@@ -1,4 +1,4 @@
--- What an axis has that passed refusals 4 to 7: the ranges of its values, and that its target's acceleration needs no correction.
+-- What an axis has that passed the refusals of one axis: the ranges of its values, and that its target's acceleration needs no correction.
 use Prim.Native.Nat.{ℕ, _≤_, _<_}
 use mathlib.Core.Path.{_≡_, refl, ap, _∙_}
 use mathlib.Core.Bool.{Bool, true, false, not, _&&_, true≢false}

@@ -15,11 +15,11 @@ use Rattle.whole.proofs.Elements.{none-some}
 use Rattle.model.specs.declared.Axis.{Axis}
 use Rattle.model.specs.Motion.{Reachable, reachable}
 use Rattle.model.specs.Job.{Job, JobAxis, maskWhere}
-use Rattle.model.specs.Refusals.{lastTick, limitsRefused, blendRefused, valuesRefused, accelerationRefused, Passed, AllPassed}
+use Rattle.model.specs.Refusals.{lastTick, limitsRefused, dampingRefused, blendRefused, valuesRefused, accelerationRefused, Passed, AllPassed}
 use Rattle.model.specs.Outcome.{Outcome, refuse, accept, allReach, leastFrom, leastArrival}
 use Rattle.model.specs.Outcome.{reachesNone, firstAxis, cellsNeeded, filled, arrived, jobOutcome}
 use Rattle.model.specs.Verdict.{Refuses, Accepts, Among, NoneRefused, FirstRefused, Names, AllReachable, ReachesNone, IsArrival, Verdict}
-use Rattle.model.specs.Verdict.{refused3, refused4, refused5, refused6, refused7, refused8, refused9, refused10, accepted}
+use Rattle.model.specs.Verdict.{refused3, refused4, refused12, refused5, refused6, refused7, refused8, refused9, refused10, accepted}
 use Rattle.model.proofs.Masks.{Ascends, names}
 use Rattle.model.proofs.PassedAxis.{speed-limit, some-acceleration}
 use Rattle.model.proofs.Reaches.{reachable-is}
@@ -41,13 +41,15 @@ pub passed-among : (l : List JobAxis) → AllPassed l → (x : JobAxis) → Amon
 passed-among [] p x m = absurd (none-some (m .1))
 passed-among (y ∷ l) p x m = all-among (λ x. Passed (x .axis)) y l (p .0) (λ z q. passed-among l (p .1) z q) x m
 
-all-passed : (l : List JobAxis) → NoneRefused limitsRefused l → NoneRefused blendRefused l → NoneRefused valuesRefused l
-    → NoneRefused accelerationRefused l → AllPassed l
-all-passed [] a b c d = tt
-all-passed (y ∷ l) a b c d = (
-  record { limits = a y (first-among y l); blend = b y (first-among y l); values = c y (first-among y l); acceleration = d y (first-among y l) },
-  all-passed l (λ x m. a x (later-among y l x m)) (λ x m. b x (later-among y l x m)) (λ x m. c x (later-among y l x m)) (λ x m. d x (later-among y l x m)),
-)
+all-passed : (l : List JobAxis) → NoneRefused limitsRefused l → NoneRefused dampingRefused l → NoneRefused blendRefused l
+    → NoneRefused valuesRefused l → NoneRefused accelerationRefused l → AllPassed l
+all-passed [] a b c d e = tt
+all-passed (y ∷ l) a b c d e =
+    let here = first-among y l in (
+      record { limits = a y here; damping = b y here; blend = c y here; values = d y here; acceleration = e y here },
+      all-passed l (λ x m. a x (later-among y l x m)) (λ x m. b x (later-among y l x m)) (λ x m. c x (later-among y l x m))
+          (λ x m. d x (later-among y l x m)) (λ x m. e x (later-among y l x m)),
+    )
 
 -- ---- the first axis that a test refuses
 
@@ -241,11 +243,13 @@ module _ (j : Job) (lent : List ℤ) (numbered : Ascends 0 (j .axes)) where
       let h : j .asked ≤ lastTick = leb→le (j .asked) lastTick t in
       by-option Q (firstAxis limitsRefused (j .axes)) _ _ (λ i e. refused4 i h (first-refused limitsRefused (j .axes) i e) is-refusal) (λ e₄.
       let n₄ = none-refused limitsRefused (j .axes) e₄ in
-      by-option Q (firstAxis blendRefused (j .axes)) _ _ (λ i e. refused5 i h n₄ (first-refused blendRefused (j .axes) i e) is-refusal) (λ e₅.
+      by-option Q (firstAxis dampingRefused (j .axes)) _ _ (λ i e. refused12 i h n₄ (first-refused dampingRefused (j .axes) i e) is-refusal) (λ e₁₂.
+      let n₁₂ = none-refused dampingRefused (j .axes) e₁₂ in
+      by-option Q (firstAxis blendRefused (j .axes)) _ _ (λ i e. refused5 i h n₄ n₁₂ (first-refused blendRefused (j .axes) i e) is-refusal) (λ e₅.
       let n₅ = none-refused blendRefused (j .axes) e₅ in
-      by-option Q (firstAxis valuesRefused (j .axes)) _ _ (λ i e. refused6 i h n₄ n₅ (first-refused valuesRefused (j .axes) i e) is-refusal) (λ e₆.
+      by-option Q (firstAxis valuesRefused (j .axes)) _ _ (λ i e. refused6 i h n₄ n₁₂ n₅ (first-refused valuesRefused (j .axes) i e) is-refusal) (λ e₆.
       let n₆ = none-refused valuesRefused (j .axes) e₆ in
       by-option Q (firstAxis accelerationRefused (j .axes)) _ _
-      (λ i e. refused7 i h n₄ n₅ n₆ (first-refused accelerationRefused (j .axes) i e) is-refusal) (λ e₇.
-      arrived-is (j .asked) refl h (all-passed (j .axes) n₄ n₅ n₆ (none-refused accelerationRefused (j .axes) e₇)))))))
+      (λ i e. refused7 i h n₄ n₁₂ n₅ n₆ (first-refused accelerationRefused (j .axes) i e) is-refusal) (λ e₇.
+      arrived-is (j .asked) refl h (all-passed (j .axes) n₄ n₁₂ n₅ n₆ (none-refused accelerationRefused (j .axes) e₇))))))))
       (λ t. refused3 (nleb→lt (j .asked) lastTick t) is-refusal)

@@ -5,6 +5,7 @@ use Rattle.model.specs.declared.Axis.{Axis}
 use Rattle.model.specs.declared.State.{State}
 use Rattle.model.specs.declared.Target.{Target}
 use Rattle.model.specs.declared.Target.the-variants.{Fixed, Moving}
+use Rattle.model.specs.Damping.{weightOf}
 
 -- fine steps in a unit: the factor from units to the grid on which velocities are planned
 abbrev pub fineSteps : ℕ
@@ -21,7 +22,7 @@ abbrev pub halfPeriod : Axis → ℕ
 halfPeriod x = x .«half_period»
 
 abbrev pub secondWeight : Axis → ℕ
-secondWeight x = x .«second_weight»
+secondWeight x = weightOf (x .«second_weight»)
 
 -- a fixed target is read as moving, with a = 0 and t the arrival tick
 abbrev pub asMoving : Target → ℕ → State

@@ -1,4 +1,5 @@
--- The refusals that one axis meets by itself (paper 01, "Refusal list", numbers 4 to 7), and what an axis has that none of them refuses.
+-- The refusals that one axis meets by itself (paper 01, "Refusal list", numbers 4 to 7, and paper 02, number 12), and what an axis has that
+-- none of them refuses.
 use Prim.Native.Nat.{ℕ, _≤_}
 use mathlib.Core.Path.{_≡_}
 use mathlib.Core.Bool.{Bool, true, false, not, _&&_}
@@ -12,6 +13,7 @@ use Rattle.model.specs.declared.State.{State}
 use Rattle.model.specs.declared.Target.{Target}
 use Rattle.model.specs.declared.Target.the-variants.{Fixed, Moving}
 use Rattle.model.specs.Quantities.{speedLimit, accelerationLimit, halfPeriod, secondWeight}
+use Rattle.model.specs.Damping.{weightAllowed}
 use Rattle.model.specs.Motion.{reachable}
 use Rattle.model.specs.Job.{JobAxis}
 
@@ -27,6 +29,11 @@ lastTick = 4096
 
 abbrev pub limitsRefused : Axis → Bool
 limitsRefused x = not (within 1 1048576 (speedLimit x) && within 1 65536 (accelerationLimit x))
+
+-- ---- 12: a first peak that is not above zero, or a ratio that is not a number above 0 and at most 1; also when h is 0
+
+abbrev pub dampingRefused : Axis → Bool
+dampingRefused x = not (weightAllowed (x .«second_weight»))
 
 -- ---- 5: h or B is outside its range, B also when h is 0
 
@@ -73,6 +80,7 @@ accelerationRefused x = accelerates (x .target) && damped x
 
 pub record Passed (x : Axis) : Type 0 where
   pub limits : limitsRefused x ≡ false
+  pub damping : dampingRefused x ≡ false
   pub blend : blendRefused x ≡ false
   pub values : valuesRefused x ≡ false
   pub acceleration : accelerationRefused x ≡ false

@@ -13,7 +13,7 @@ use Rattle.model.specs.Motion.{Reachable}
 use Rattle.model.specs.Rows.{table}
 use Rattle.model.specs.Job.{Job, JobAxis, axesOf, typedJob, bit}
 use Rattle.model.specs.Words.{kind, payload, decode, badWord, job}
-use Rattle.model.specs.Refusals.{limitsRefused, blendRefused, valuesRefused, accelerationRefused, AllPassed}
+use Rattle.model.specs.Refusals.{limitsRefused, dampingRefused, blendRefused, valuesRefused, accelerationRefused, AllPassed}
 use Rattle.model.specs.Outcome.{Outcome, Input, words, typed, cellsNeeded}
 
 -- ---- the two kinds of answer
@@ -79,12 +79,15 @@ pub record IsArrival (j : Job) (n : ℕ) : Type 0 where
 pub data Verdict (j : Job) (lent : List ℤ) (o : Outcome) : Type 0 where
   refused3 : 4096 < j .asked → Refuses o 3 1 0 0 lent → Verdict j lent o
   refused4 : (i : ℕ) → j .asked ≤ 4096 → FirstRefused limitsRefused (j .axes) i → Refuses o 4 i 0 0 lent → Verdict j lent o
-  refused5 : (i : ℕ) → j .asked ≤ 4096 → NoneRefused limitsRefused (j .axes) → FirstRefused blendRefused (j .axes) i
-      → Refuses o 5 i 0 0 lent → Verdict j lent o
-  refused6 : (i : ℕ) → j .asked ≤ 4096 → NoneRefused limitsRefused (j .axes) → NoneRefused blendRefused (j .axes)
-      → FirstRefused valuesRefused (j .axes) i → Refuses o 6 i 0 0 lent → Verdict j lent o
-  refused7 : (i : ℕ) → j .asked ≤ 4096 → NoneRefused limitsRefused (j .axes) → NoneRefused blendRefused (j .axes)
-      → NoneRefused valuesRefused (j .axes) → FirstRefused accelerationRefused (j .axes) i → Refuses o 7 i 0 0 lent → Verdict j lent o
+  refused12 : (i : ℕ) → j .asked ≤ 4096 → NoneRefused limitsRefused (j .axes) → FirstRefused dampingRefused (j .axes) i
+      → Refuses o 12 i 0 0 lent → Verdict j lent o
+  refused5 : (i : ℕ) → j .asked ≤ 4096 → NoneRefused limitsRefused (j .axes) → NoneRefused dampingRefused (j .axes)
+      → FirstRefused blendRefused (j .axes) i → Refuses o 5 i 0 0 lent → Verdict j lent o
+  refused6 : (i : ℕ) → j .asked ≤ 4096 → NoneRefused limitsRefused (j .axes) → NoneRefused dampingRefused (j .axes)
+      → NoneRefused blendRefused (j .axes) → FirstRefused valuesRefused (j .axes) i → Refuses o 6 i 0 0 lent → Verdict j lent o
+  refused7 : (i : ℕ) → j .asked ≤ 4096 → NoneRefused limitsRefused (j .axes) → NoneRefused dampingRefused (j .axes)
+      → NoneRefused blendRefused (j .axes) → NoneRefused valuesRefused (j .axes) → FirstRefused accelerationRefused (j .axes) i
+      → Refuses o 7 i 0 0 lent → Verdict j lent o
   -- an arrival is asked for, and the mask names exactly the axes that do not reach it, of which there is one
   refused8 : (m : ℕ) → 1 ≤ j .asked → j .asked ≤ 4096 → AllPassed (j .axes)
       → (AllReachable (j .axes) (j .asked) → ⊥) → Names (λ x. Reachable x (j .asked) → ⊥) (j .axes) m

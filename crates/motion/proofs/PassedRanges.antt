@@ -1,4 +1,4 @@
--- An axis that refusals 4 to 7 let pass has the ranges that the code needs.
+-- An axis that the refusals of one axis let pass has the ranges that the code needs.
 use Prim.Native.Nat.{ℕ, _^_, _≤_}
 use mathlib.Core.Bool.{Bool, _&&_}
 use native.Mathlib.Omega.{arith}

@@ -1,4 +1,4 @@
--- The ranges of an axis that passed refusals 4 to 7, and what the functions of this crate give back.
+-- The ranges of an axis that passed the refusals of one axis, and what the functions of this crate give back.
 use Prim.Native.Nat.{ℕ, _*_, _^_, _≤_, _<_}
 use mathlib.Core.Path.{_≡_}
 use mathlib.Core.Bool.{Bool, true, false}
@@ -80,7 +80,7 @@ abbrev pub drift : Target → ℤ
 drift (Fixed r) = pos 0
 drift (Moving m) = pos fineSteps *ℤ m .velocity
 
--- ---- refusals 4 to 7: the test of a number in a list of numbered tests, and in the list of `model`
+-- ---- the refusals of one axis: the test of a number in a list of numbered tests, and in the list of `model`
 
 abbrev pub testOf : List (ℕ × (Axis → Bool)) → ℕ → Axis → Bool
 testOf [] n x = false

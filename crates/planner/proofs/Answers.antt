@@ -22,6 +22,7 @@ use Rattle.arrival.specs.Arrivals.{leastOr, askedOr, arrivalFor}
 use Rattle.planner.specs.declared.Refusal.{Refusal}
 use Rattle.planner.specs.Stages.{firstRefusal, checkedFor, Settled}
 use Rattle.planner.specs.Promise.{Answered}
+use Rattle.planner.proofs.Checks.{Lacks, lacks}
 use Rattle.planner.proofs.Calls.{mask-refused, mask-passed}
 
 -- ---- where the stage ends
@@ -98,11 +99,7 @@ module _ (m asked : ℕ) (six : List Axis) (r : Answer) where
 
 -- ---- no check and no search answers 10
 
-abbrev NoneTen : List (ℕ × (Axis → Bool)) → Type 0
-NoneTen [] = Unit
-NoneTen (t ∷ ts) = (t .0 ≡ 10 → ⊥) × NoneTen ts
-
-tests-not-ten : (ts : List (ℕ × (Axis → Bool))) (xs : List JobAxis) → NoneTen ts → firstRefusal ts xs .number ≡ 10 → ⊥
+tests-not-ten : (ts : List (ℕ × (Axis → Bool))) (xs : List JobAxis) → Lacks 10 ts → firstRefusal ts xs .number ≡ 10 → ⊥
 tests-not-ten [] xs n e = omega arith
 tests-not-ten (t ∷ ts) xs (n, ns) e = go (firstAxis (t .1) xs) (tests-not-ten ts xs ns) e
   where
@@ -115,8 +112,7 @@ pub check-not-ten : (j : Job) (c : Refusal) → c ≡ checkedFor j → c .number
 check-not-ten j c is e = go (leb (j .asked) lastTick) (sym (ap (λ (r : Refusal). r .number) is) ∙ e)
   where
     go : (b : Bool) → (elim b as (λ _. Refusal) [ true ↦ firstRefusal axisRefusals (j .axes) | false ↦ record { number = 3; place = 1 } ]) .number ≡ 10 → ⊥
-    go true e =
-        tests-not-ten axisRefusals (j .axes) ((λ z. omega arith), ((λ z. omega arith), ((λ z. omega arith), ((λ z. omega arith), tt)))) e
+    go true e = tests-not-ten axisRefusals (j .axes) (lacks 10 axisRefusals refl) e
     go false e = omega arith
 
 pub arrival-not-ten : (xs : List JobAxis) (asked : ℕ) (f : Arrival) → f ≡ arrivalFor xs asked → f .number ≡ 10 → ⊥

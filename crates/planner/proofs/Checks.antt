@@ -1,17 +1,17 @@
--- Refusals 3 to 7 in checking order.
-use Prim.Native.Nat.{ℕ, zero, suc, _+_, _-_, _<_, _≤_}
+-- Refusals 3, 4, 12 and 5 to 7, in checking order.
+use Prim.Native.Nat.{ℕ, zero, suc, _+_, _<_, _≤_}
 use native.Mathlib.Omega.{arith}
 use mathlib.Core.Path.{_≡_, refl, sym, ap, _∙_}
-use mathlib.Core.Bool.{Bool, true, false, cond}
+use mathlib.Core.Bool.{Bool, true, false, cond, not, _&&_, false≢true}
 use mathlib.Core.Option.{Option, none, some}
-use mathlib.Core.List.{List, [], _∷_}
+use mathlib.Core.List.{List, [], _∷_, map}
 use lib.IntN.{ℤ}
-use lib.ListN.{drop}
+use lib.ListN.{drop, getD}
 use lib.Dec.{eqb, leb}
-use borrow.Author.Tests.{le-leb, lt-leb, leb-true, ne-eqb}
+use borrow.Author.Tests.{le-leb, lt-leb, leb-true, ne-eqb, eqb-false}
 use Rattle.model.specs.declared.Axis.{Axis}
 use Rattle.model.specs.Job.{Job, JobAxis}
-use Rattle.model.specs.Refusals.{AllPassed, lastTick, limitsRefused, blendRefused, valuesRefused, accelerationRefused}
+use Rattle.model.specs.Refusals.{AllPassed, lastTick, limitsRefused, dampingRefused, blendRefused, valuesRefused, accelerationRefused}
 use Rattle.model.specs.Outcome.{Outcome, refuse, firstAxis, axisRefusals, tested, arrived, jobOutcome}
 use Rattle.motion.specs.Motions.{refusalTest}
 use Rattle.planner.specs.declared.Refusal.{Refusal}
@@ -20,48 +20,57 @@ use Rattle.planner.specs.Stages.{firstRefusal, checkedFor, Checked}
 abbrev Tests : Type 0
 Tests = List (ℕ × (Axis → Bool))
 
--- ---- the loop over the numbers 4 to 7
+-- ---- the loop over the numbers in checking order
 
--- the tests of the numbers from n on
+-- the numbers in checking order, and that of test i
+abbrev pub numbers : List ℕ
+numbers = map (λ t. t .0) axisRefusals
+
+abbrev pub numberAt : ℕ → ℕ
+numberAt i = getD numbers i 0
+
+-- the tests from test i on
 abbrev rulesFrom : ℕ → Tests
-rulesFrom n = drop (n - 4) axisRefusals
+rulesFrom i = drop i axisRefusals
 
-rules-more : (n : ℕ) → 4 ≤ n → n ≤ 7 → rulesFrom n ≡ (n, refusalTest n) ∷ rulesFrom (n + 1)
-rules-more zero l h = absurd (omega arith)
-rules-more (suc zero) l h = absurd (omega arith)
-rules-more (suc (suc zero)) l h = absurd (omega arith)
-rules-more (suc (suc (suc zero))) l h = absurd (omega arith)
-rules-more (suc (suc (suc (suc zero)))) l h = refl
-rules-more (suc (suc (suc (suc (suc zero))))) l h = refl
-rules-more (suc (suc (suc (suc (suc (suc zero)))))) l h = refl
-rules-more (suc (suc (suc (suc (suc (suc (suc zero))))))) l h = refl
-rules-more (suc (suc (suc (suc (suc (suc (suc (suc n)))))))) l h = absurd (omega arith)
+rules-more : (i : ℕ) → i < 5 → rulesFrom i ≡ (numberAt i, refusalTest (numberAt i)) ∷ rulesFrom (i + 1)
+rules-more zero h = refl
+rules-more (suc zero) h = refl
+rules-more (suc (suc zero)) h = refl
+rules-more (suc (suc (suc zero))) h = refl
+rules-more (suc (suc (suc (suc zero)))) h = refl
+rules-more (suc (suc (suc (suc (suc i))))) h = absurd (omega arith)
 
 module _ (xs : List JobAxis) where
-  -- the first refusal of the numbers from n on
+  -- the first refusal of the tests from test i on
   pub from : ℕ → Refusal
-  from n = firstRefusal (rulesFrom n) xs
+  from i = firstRefusal (rulesFrom i) xs
 
   by : ℕ → Option ℕ → Refusal
-  by n o = elim o [ some i ↦ record { number = n; place = i } | none ↦ firstRefusal (rulesFrom (n + 1)) xs ]
+  by i o = elim o [ some k ↦ record { number = numberAt i; place = k } | none ↦ firstRefusal (rulesFrom (i + 1)) xs ]
 
-  opened : (n : ℕ) → 4 ≤ n → n ≤ 7 → from n ≡ by n (firstAxis (refusalTest n) xs)
+  opened : (i : ℕ) → i < 5 → from i ≡ by i (firstAxis (refusalTest (numberAt i)) xs)
   unfolding from by
-  opened n l h = ap (λ (ts : Tests). firstRefusal ts xs) (rules-more n l h)
+  opened i h = ap (λ (ts : Tests). firstRefusal ts xs) (rules-more i h)
 
-  pub refused-here : (n i : ℕ) → 4 ≤ n → n ≤ 7 → firstAxis (refusalTest n) xs ≡ some i → from n ≡ record { number = n; place = i }
-  unfolding by
-  refused-here n i l h e = opened n l h ∙ ap (by n) e
+  -- n is the number of test i
+  module _ (i n : ℕ) (h : i < 5) (is : n ≡ numberAt i) where
+    answered : from i ≡ by i (firstAxis (refusalTest n) xs)
+    answered = opened i h ∙ ap (λ (k : ℕ). by i (firstAxis (refusalTest k) xs)) (sym is)
 
-  pub refused-later : (n : ℕ) → 4 ≤ n → n ≤ 7 → firstAxis (refusalTest n) xs ≡ none → from n ≡ from (n + 1)
-  unfolding from by
-  refused-later n l h e = opened n l h ∙ ap (by n) e
+    pub refused-here : (k : ℕ) → firstAxis (refusalTest n) xs ≡ some k → from i ≡ record { number = n; place = k }
+    unfolding by
+    refused-here k e = answered ∙ ap (by i) e ∙ ap (λ (q : ℕ). record { number = q; place = k }) (sym is)
 
-  pub none-refused : (n : ℕ) → n ≡ 8 → from n ≡ record { number = 0; place = 0 }
+    pub refused-later : firstAxis (refusalTest n) xs ≡ none → from i ≡ from (i + 1)
+    unfolding from by
+    refused-later e = answered ∙ ap (by i) e
+
+  pub none-refused : (i : ℕ) → i ≡ 5 → from i ≡ record { number = 0; place = 0 }
   unfolding from
-  none-refused n e = ap (λ (k : ℕ). firstRefusal (rulesFrom k) xs) e
+  none-refused i e = ap (λ (k : ℕ). firstRefusal (rulesFrom k) xs) e
 
-  pub begun : from 4 ≡ firstRefusal axisRefusals xs
+  pub begun : from 0 ≡ firstRefusal axisRefusals xs
   unfolding from
   begun = refl
 
@@ -72,15 +81,28 @@ abbrev Clear : Tests → List JobAxis → Type 0
 Clear [] xs = Unit
 Clear (t ∷ ts) xs = (firstAxis (t .1) xs ≡ none) × Clear ts xs
 
--- no number of a list is 0
-abbrev Numbered : Tests → Type 0
-Numbered [] = Unit
-Numbered (t ∷ ts) = (t .0 ≡ 0 → ⊥) × Numbered ts
+-- no test of a list has number k
+abbrev pub Lacks : ℕ → Tests → Type 0
+Lacks k [] = Unit
+Lacks k (t ∷ ts) = (t .0 ≡ k → ⊥) × Lacks k ts
 
-four-numbered : Numbered axisRefusals
-four-numbered = ((λ e. omega arith), ((λ e. omega arith), ((λ e. omega arith), ((λ e. omega arith), tt))))
+-- by looking at each
+abbrev pub none-is : ℕ → Tests → Bool
+none-is k [] = true
+none-is k (t ∷ ts) = not (eqb (t .0) k) && none-is k ts
 
-clear : (ts : Tests) (xs : List JobAxis) → Numbered ts → firstRefusal ts xs .number ≡ 0 → Clear ts xs
+pub lacks : (k : ℕ) (ts : Tests) → none-is k ts ≡ true → Lacks k ts
+lacks k [] e = tt
+lacks k (t ∷ ts) e = go (eqb (t .0) k) refl e (lacks k ts)
+  where
+    go : (b : Bool) → eqb (t .0) k ≡ b → not b && none-is k ts ≡ true → (none-is k ts ≡ true → Lacks k ts) → Lacks k (t ∷ ts)
+    go true q e h = absurd (false≢true e)
+    go false q e h = (eqb-false (t .0) k q, h e)
+
+all-numbered : Lacks 0 axisRefusals
+all-numbered = lacks 0 axisRefusals refl
+
+clear : (ts : Tests) (xs : List JobAxis) → Lacks 0 ts → firstRefusal ts xs .number ≡ 0 → Clear ts xs
 clear [] xs n z = tt
 clear (t ∷ ts) xs (n, ns) z = go (firstAxis (t .1) xs) refl z (clear ts xs ns)
   where
@@ -100,12 +122,15 @@ split f x xs e = go (f (x .axis)) e
 
 all-passed : (xs : List JobAxis) → Clear axisRefusals xs → AllPassed xs
 all-passed [] c = tt
-all-passed (x ∷ xs) (l, (b, (v, (a, _)))) =
+all-passed (x ∷ xs) (l, (d, (b, (v, (a, _))))) =
     let l' = split limitsRefused x xs l in
+    let d' = split dampingRefused x xs d in
     let b' = split blendRefused x xs b in
     let v' = split valuesRefused x xs v in
-    let a' = split accelerationRefused x xs a in
-    (record { limits = l' .0; blend = b' .0; values = v' .0; acceleration = a' .0 }, all-passed xs (l' .1, (b' .1, (v' .1, (a' .1, tt)))))
+    let a' = split accelerationRefused x xs a in (
+      record { limits = l' .0; damping = d' .0; blend = b' .0; values = v' .0; acceleration = a' .0 },
+      all-passed xs (l' .1, (d' .1, (b' .1, (v' .1, (a' .1, tt))))),
+    )
 
 -- ---- what `check` gives back
 
@@ -123,7 +148,7 @@ checked j r e = go (leb (j .asked) lastTick) refl
         record {
           is = e;
           asked = λ z. leb-true (j .asked) lastTick t;
-          passed = λ z. all-passed (j .axes) (clear axisRefusals (j .axes) four-numbered (sym number ∙ z));
+          passed = λ z. all-passed (j .axes) (clear axisRefusals (j .axes) all-numbered (sym number ∙ z));
         }
     go false t =
         let number = ap (λ (q : Refusal). q .number) (e ∙ ap (by-asked j) t) in
@@ -135,7 +160,7 @@ module _ (j : Job) (r : Refusal) where
   unfolding by-asked
   asked-late h e = checked j r (e ∙ sym (ap (by-asked j) (lt-leb (j .asked) lastTick h)))
 
-  -- refusals 4 to 7, or none
+  -- the refusals of an axis, or none
   pub asked-in-time : j .asked ≤ lastTick → r ≡ firstRefusal axisRefusals (j .axes) → Checked j r
   unfolding by-asked
   asked-in-time h e = checked j r (e ∙ sym (ap (by-asked j) (le-leb (j .asked) lastTick h)))
@@ -145,7 +170,7 @@ module _ (j : Job) (r : Refusal) where
 abbrev pub afterChecks : Job → List ℤ → Refusal → Outcome
 afterChecks j lent r = cond (eqb (r .number) 0) (arrived j (j .asked) lent) (refuse (r .number) (r .place) 0 0 lent)
 
-tests-are : (ts : Tests) (j : Job) (lent : List ℤ) → Numbered ts → afterChecks j lent (firstRefusal ts (j .axes)) ≡ tested ts j lent
+tests-are : (ts : Tests) (j : Job) (lent : List ℤ) → Lacks 0 ts → afterChecks j lent (firstRefusal ts (j .axes)) ≡ tested ts j lent
 tests-are [] j lent n = refl
 tests-are (t ∷ ts) j lent (n, ns) = go (firstAxis (t .1) (j .axes)) (tests-are ts j lent ns)
   where
@@ -160,5 +185,5 @@ checks-are j lent = go (leb (j .asked) lastTick)
   where
     go : (b : Bool) → afterChecks j lent (elim b [ true ↦ firstRefusal axisRefusals (j .axes) | false ↦ record { number = 3; place = 1 } ])
         ≡ (elim b as (λ _. Outcome) [ true ↦ tested axisRefusals j lent | false ↦ refuse 3 1 0 0 lent ])
-    go true = tests-are axisRefusals j lent four-numbered
+    go true = tests-are axisRefusals j lent all-numbered
     go false = refl

@@ -5,19 +5,20 @@ use native.Mathlib.Omega.{arith}
 use mathlib.Core.Path.{_≡_, refl, sym, ap, subst, _∙_}
 use mathlib.Core.Bool.{Bool, true, false, cond}
 use mathlib.Core.Option.{Option, none, some}
-use mathlib.Core.List.{List}
+use mathlib.Core.List.{List, map}
 use lib.IntN.{ℤ}
 use lib.ListN.{length}
 use lib.Dec.{eqb, lit<}
 use borrow.Author.Tests.{lt-ltb, le-ltb, eq-eqb, ne-eqb}
 use Rattle.model.specs.declared.Axis.{Axis}
 use Rattle.model.specs.declared.Answer.{Answer}
-use Rattle.model.specs.Job.{Job, setBits, setAxes, axesOf, typedJob}
-use Rattle.model.specs.Refusals.{lastTick}
+use Rattle.model.specs.Job.{Job, JobAxis, setBits, setAxes, axesOf, typedJob, byHand, axesByHand}
+use Rattle.model.specs.Refusals.{lastTick, AllPassed}
 use Rattle.model.specs.Outcome.{accept, Outcome, outcomeOf, refuse, allReach, leastArrival, cellsNeeded, tableOver, filled, arrived, jobOutcome}
 use Rattle.arrival.specs.declared.Arrival.{Arrival}
 use Rattle.arrival.specs.Arrivals.{leastOr, askedOr, arrivalFor}
 use Rattle.arrival.proofs.SetAxes.{six-axes-bits, six-bits}
+use Rattle.model.proofs.ByHand.{set-by-hand, passed-by-hand, reach-by-hand, filled-by-hand, arrived-by-hand}
 use Rattle.planner.specs.declared.Refusal.{Refusal}
 use Rattle.planner.specs.Promise.{Fitted}
 use Rattle.planner.specs.Stages.{checkedFor, Gives}
@@ -55,6 +56,28 @@ module _ (j : Job) (lent : List ℤ) (c : Refusal) (is : c ≡ checkedFor j) whe
 
   pub checks-pass : c .number ≡ 0 → arrived j (j .asked) lent ≡ jobOutcome j lent
   checks-pass h = by-checks true (eq-eqb (c .number) 0 h)
+
+-- ---- with the weights by hand
+
+module _ (m asked : ℕ) (axes given : List Axis) (is : given ≡ map byHand axes) where
+  axes-given : setAxes 0 m given ≡ axesByHand (setAxes 0 m axes)
+  axes-given = ap (setAxes 0 m) is ∙ set-by-hand 0 m axes
+
+  pub given-passed : AllPassed (setAxes 0 m axes) → AllPassed (setAxes 0 m given)
+  given-passed p = subst AllPassed (sym axes-given) (passed-by-hand (setAxes 0 m axes) p)
+
+  pub given-arrives : (lent : List ℤ) → arrived (typedJob m asked given) asked lent ≡ arrived (typedJob m asked axes) asked lent
+  given-arrives lent =
+      ap (λ (l : List JobAxis). arrived (record { mask = m; asked = asked; axes = l }) asked lent) axes-given
+      ∙ arrived-by-hand (typedJob m asked axes) asked lent
+
+  pub given-filled : (n : ℕ) (lent : List ℤ) → filled (typedJob m asked given) n lent ≡ filled (typedJob m asked axes) n lent
+  given-filled n lent =
+      ap (λ (l : List JobAxis). filled (record { mask = m; asked = asked; axes = l }) n lent) axes-given
+      ∙ filled-by-hand (typedJob m asked axes) n lent
+
+  pub given-reached : (n : ℕ) → allReach (setAxes 0 m given) n ≡ true → allReach (setAxes 0 m axes) n ≡ true
+  given-reached n e = sym (ap (λ (l : List JobAxis). allReach l n) axes-given ∙ reach-by-hand (setAxes 0 m axes) n) ∙ e
 
 -- ---- after the arrival
 

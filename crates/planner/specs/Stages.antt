@@ -34,7 +34,7 @@ pub record Settled (j : Job) (r : Answer) : Type 0 where
   pub passed : r .number ≡ 0 → AllPassed (j .axes)
   pub reached : r .number ≡ 0 → allReach (j .axes) (r .arrival) ≡ true
 
--- ---- refusals 3 to 7
+-- ---- refusals 3, 4, 12 and 5 to 7
 
 -- the first refusal of a list of numbered tests, or number 0
 abbrev pub firstRefusal : List (ℕ × (Axis → Bool)) → List JobAxis → Refusal

@@ -1,4 +1,4 @@
--- The axes of a mask that have passed refusals 4 to 7 and reach the arrival: each can be planned, and its plan is within the ranges.
+-- The axes of a mask that have passed the refusals of one axis and reach the arrival: each can be planned, and its plan is within the ranges.
 use mathlib.Core.Path.{_≡_, refl, sym, ap, ap₂, subst, _∙_}
 use mathlib.Core.Bool.{Bool, true, false}
 use mathlib.Core.List.{List, [], _∷_, _++_, map, append-assoc, append-nil}
@@ -64,13 +64,13 @@ module _ (x : Axis) (n : ℕ) (f : Profile) (d : ℤ) (same : f ≡ profileFor x
   pub plan-feasible : Ready x n → feasible (legOf f) d ≡ true
   plan-feasible r = ap₂ (λ (g : Profile) (e : ℤ). feasible (legOf g) e) same way ∙ ready-feasible r
 
-  -- a plan with the blend of the axis
-  abbrev planWith : ℤ → Regions → ℤ → AxisPlan
-  planWith o c a = record { origin = o; regions = c; acceleration = a; «half_period» = halfPeriod x; «second_weight» = secondWeight x }
+  -- a plan with the half period of the axis
+  abbrev planWith : ℤ → Regions → ℤ → ℕ → AxisPlan
+  planWith o c a b = record { origin = o; regions = c; acceleration = a; «half_period» = halfPeriod x; «second_weight» = b }
 
-  pub plan-is : (o : ℤ) (c : Regions) (a : ℤ) → o ≡ startPosition x → c ≡ chosenRegions (legOf f) (required (legOf f) d)
-      → a ≡ landingAcceleration x n → planWith o c a ≡ planOf n x
-  plan-is o c a p q s = λ i. planWith (p i) (velocities i) (s i)
+  pub plan-is : (o : ℤ) (c : Regions) (a : ℤ) (b : ℕ) → o ≡ startPosition x → c ≡ chosenRegions (legOf f) (required (legOf f) d)
+      → a ≡ landingAcceleration x n → b ≡ secondWeight x → planWith o c a b ≡ planOf n x
+  plan-is o c a b p q s t = λ i. planWith (p i) (velocities i) (s i) (t i)
     where
       velocities : c ≡ chosenRegions (leg x n) (requiredSum x n)
       velocities = q ∙ ap₂ (λ (g : Profile) (e : ℤ). chosenRegions (legOf g) (required (legOf g) e)) same way

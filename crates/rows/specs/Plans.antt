@@ -58,7 +58,7 @@ setPlans m (p ∷ ps) = elim (eqb (m % 2) 1) [ true ↦ p ∷ setPlans (m / 2) p
 abbrev pub plansOf : Plan → List AxisPlan
 plansOf plan = setPlans (plan .mask) (plan .axes)
 
--- ---- ranges: those of an axis that passed refusals 4 to 7 and reaches the arrival, and wider
+-- ---- ranges: those of an axis that passed the refusals of one axis and reaches the arrival, and wider
 
 pub record PlanRanges (p : AxisPlan) : Type 0 where
   pub origin : Within (2 ^ 50) (p .origin)

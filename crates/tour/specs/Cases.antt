@@ -4,6 +4,7 @@ use mathlib.Core.Path.{_≡_}
 use mathlib.Core.List.{List, [], _∷_, map}
 use lib.IntN.{ℤ, pos}
 use Rattle.model.specs.declared.Stop.{Stop}
+use Rattle.model.specs.declared.Weight.the-variants.{Given}
 use Rattle.model.specs.declared.TourSettings.{TourSettings}
 use Rattle.model.specs.Tour.{TourOutcome, refuseTour, tourOutcome}
 
@@ -12,7 +13,7 @@ settings mask =
     record {
       mask = mask;
       start = pos 0 ∷ [];
-      limits = record { «speed_limit» = 10; «acceleration_limit» = 1; «half_period» = 0; «second_weight» = 128 } ∷ [];
+      limits = record { «speed_limit» = 10; «acceleration_limit» = 1; «half_period» = 0; «second_weight» = Given 128 } ∷ [];
     }
 
 abbrev pub stop : ℕ → ℕ → Stop

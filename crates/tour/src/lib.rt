@@ -182,12 +182,13 @@ fn leg_axis(settings: TourSettings, here: [i64; 6], there: [i64; 6], i: usize) -
         velocity: 0,
     };
     let target = Target::Fixed(end);
+    let weight = limit.second_weight;
     Axis {
         start: start,
         speed_limit: limit.speed_limit,
         acceleration_limit: limit.acceleration_limit,
         half_period: limit.half_period,
-        second_weight: limit.second_weight,
+        second_weight: weight,
         target: target,
     }
 }

@@ -2,6 +2,7 @@ pub mod Tests
 pub mod Counting
 pub mod Elements
 pub mod Lists
+pub mod Mapped
 pub mod Differences
 pub mod Laws
 pub mod Ring

@@ -5,6 +5,7 @@ use mathlib.Core.List.{List}
 use lib.IntN.{ℤ}
 use lib.ListN.{getD, length, drop, set}
 use lib.Dec.{eqb, ltb}
+use Rattle.model.specs.declared.Weight.the-variants.{Given}
 use Rattle.model.specs.declared.Axis.{Axis}
 use Rattle.model.specs.declared.State.{State}
 use Rattle.model.specs.declared.Target.{Target}
@@ -57,7 +58,7 @@ axisAt ws i g =
       «speed_limit» = payloadAt ws (i + 2);
       «acceleration_limit» = payloadAt ws (i + 3);
       «half_period» = payloadAt ws (i + 4);
-      «second_weight» = payloadAt ws (i + 5);
+      «second_weight» = Given (payloadAt ws (i + 5));
       target = g;
     }
 

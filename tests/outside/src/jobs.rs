@@ -1,11 +1,13 @@
 //! Random jobs: near and quick, far and long, and damaged ones, as typed values and as words; and random tours.
 
 mod damaged;
+mod dampings;
 mod drawn;
 mod spelled;
 mod tours;
 
-pub use damaged::{damaged_job, with_signed, with_unsigned, SIGNED_ENDS, UNSIGNED_ENDS};
+pub use damaged::{damaged_job, with_signed, with_unsigned, SIGNED_ENDS, SINGLE_ENDS, UNSIGNED_ENDS};
+pub use dampings::ratio_ends;
 pub use drawn::{job, late_job};
 pub use spelled::{damaged_words, stray_words, word, words, CASE_C};
 pub use tours::{damaged_tour, tour};

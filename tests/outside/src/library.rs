@@ -1,6 +1,6 @@
 //! The calls of the static library, as include/polgamir.h declares them.
 
-use crate::reference::{Answer, Axis, Job, Stop, Target, Tour, Toured};
+use crate::reference::{Answer, Axis, Damping, Job, Stop, Target, Tour, Toured};
 
 /// `polgamir_answer`.
 #[repr(C)]
@@ -9,6 +9,39 @@ struct CAnswer {
     mask: u32,
     place: u64,
     arrival: u32,
+}
+
+/// How an axis's damping is entered, as `polgamir_axis` and `polgamir_limits` hold it.
+#[repr(C)]
+#[derive(Clone, Copy)]
+pub struct CDamping {
+    pub damping_kind: u32,
+    pub second_weight: u32,
+    pub swing_ratio: f32,
+    pub first_peak: f32,
+    pub second_peak: f32,
+}
+
+impl CDamping {
+    fn of(damping: Damping, fill: u64) -> CDamping {
+        let unread = f32::from_bits(fill as u32);
+        let mut all = CDamping {
+            damping_kind: 0,
+            second_weight: fill as u32,
+            swing_ratio: unread,
+            first_peak: unread,
+            second_peak: unread,
+        };
+        match damping {
+            Damping::Weight(weight) => all.second_weight = weight,
+            Damping::Ratio(ratio) => (all.damping_kind, all.swing_ratio) = (1, f32::from_bits(ratio.0)),
+            Damping::Peaks(first, second) => {
+                (all.damping_kind, all.first_peak) = (2, f32::from_bits(first.0));
+                all.second_peak = f32::from_bits(second.0);
+            }
+        }
+        all
+    }
 }
 
 /// `polgamir_axis`.
@@ -25,7 +58,7 @@ pub struct CAxis {
     pub speed_limit: u32,
     pub acceleration_limit: u32,
     pub half_period: u32,
-    pub second_weight: u32,
+    pub damping: CDamping,
 }
 
 /// `polgamir_job`.
@@ -64,7 +97,7 @@ impl CAxis {
             speed_limit: axis.speed_limit,
             acceleration_limit: axis.acceleration_limit,
             half_period: axis.half_period,
-            second_weight: axis.second_weight,
+            damping: CDamping::of(axis.damping, fill),
         }
     }
 }
@@ -112,7 +145,7 @@ struct CLimits {
     speed_limit: u32,
     acceleration_limit: u32,
     half_period: u32,
-    second_weight: u32,
+    damping: CDamping,
 }
 
 /// `polgamir_tour`.
@@ -159,7 +192,7 @@ pub fn plan_tour(tour: &Tour, stops: &[Stop], list: &mut [u32]) -> Toured {
             speed_limit: axis.speed_limit,
             acceleration_limit: axis.acceleration_limit,
             half_period: axis.half_period,
-            second_weight: axis.second_weight,
+            damping: CDamping::of(axis.damping, 0),
         }),
     };
     let raw: Vec<CStop> = stops.iter().map(|stop| CStop { positions: stop.positions, dwell: stop.dwell }).collect();

@@ -1,6 +1,6 @@
 //! The axis and the jobs that the field cases of paper 01 are told with.
 
-use crate::reference::{Axis, Job, Target, UNSET};
+use crate::reference::{Axis, Damping, Job, Target, UNSET};
 
 /// L = 10, M = 1, h = 0, B = 128, start 0 at rest.
 pub const PLAIN: Axis = Axis {
@@ -9,7 +9,7 @@ pub const PLAIN: Axis = Axis {
     speed_limit: 10,
     acceleration_limit: 1,
     half_period: 0,
-    second_weight: 128,
+    damping: Damping::Weight(128),
     target: Target::Fixed { position: 0, velocity: 0 },
 };
 

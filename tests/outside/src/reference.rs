@@ -1,15 +1,19 @@
 //! Papers 01 and 02 written out in Rust, without the library: what a call must return and what it must leave. Velocities
 //! and positions come from closed sums (module `leg`), so a row is found without the rows before it.
 
+mod damping;
 mod job;
 mod planned;
 mod planning;
 mod program;
+mod single;
 mod tour;
 mod words;
 
+pub use damping::Damping;
 pub use job::{Answer, Axis, Job, Target, LATEST, UNSET};
 pub use planned::{Exact, Planned};
 pub use program::{printed, words_of};
+pub use single::Single;
 pub use tour::{Stop, Tour, Toured, MOST_STOPS};
 pub use words::{decode, plan_words};

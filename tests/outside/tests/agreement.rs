@@ -13,18 +13,21 @@ struct Comparison {
     got: Vec<i64>,
     want: Vec<i64>,
     /// How many calls gave each number.
-    seen: [usize; 11],
+    seen: [usize; 13],
     /// How many jobs that search past tick `LONG` are still tried; the others are left out, since such a search takes
     /// milliseconds.
     long_searches: usize,
 }
+
+/// The numbers that planning can give.
+const NUMBERS: [usize; 12] = [0, 1, 2, 3, 4, 5, 6, 7, 8, 9, 10, 12];
 
 /// A search that ends later than this, or nowhere, is a long one.
 const LONG: i64 = 200;
 
 impl Comparison {
     fn new(seed: u64, long_searches: usize) -> Comparison {
-        Comparison { random: Random::new(seed), got: Vec::new(), want: Vec::new(), seen: [0; 11], long_searches }
+        Comparison { random: Random::new(seed), got: Vec::new(), want: Vec::new(), seen: [0; 13], long_searches }
     }
 
     /// Lends both sides the same cells.
@@ -112,7 +115,7 @@ fn near_jobs_agree() {
     let mut comparison = Comparison::new(1, 20);
     comparison.run(Reach::Near, 40_000, 60);
     comparison.report("near", 145_000);
-    assert!(comparison.seen.iter().all(|&n| n > 0), "{:?}", comparison.seen);
+    assert!(NUMBERS.iter().all(|&n| comparison.seen[n] > 0), "{:?}", comparison.seen);
 }
 
 #[test]

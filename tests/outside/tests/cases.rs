@@ -4,7 +4,7 @@
 use outside::jobs;
 use outside::library;
 use outside::plain::{after, asked, flying, job, one, to, PLAIN};
-use outside::reference::{self, Answer, Axis, Job, Target, UNSET};
+use outside::reference::{self, Answer, Axis, Damping, Job, Target, UNSET};
 
 /// The answer of all four calls, which agree, and the first axis's rows where it is accepted.
 fn outcome(job: Job, cells: usize) -> (Answer, Vec<[i64; 3]>) {
@@ -80,7 +80,7 @@ fn field_cases() {
     assert_eq!(library::plan_words(&[0x1000_0040], &mut []).number, 1);
     assert_eq!(library::plan_words(&[0x1000_003F], &mut []), Answer { number: 2, place: 1, mask: 0, arrival: 0 });
     assert_eq!(outcome(c, 14).0, Answer { number: 10, place: 0, mask: 0, arrival: 4 });
-    assert_eq!(refused(one(Axis { second_weight: 129, ..to(1) })), (5, 0, 0, 0));
+    assert_eq!(refused(one(Axis { damping: Damping::Weight(129), ..to(1) })), (5, 0, 0, 0));
     assert_eq!(refused(one(Axis { speed_limit: 1, ..to(100_000_000) })), (9, 0, 1, 0));
 }
 

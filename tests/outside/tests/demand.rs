@@ -34,7 +34,7 @@ fn cells_are_within_limits(axis: &Axis, rows: &[[i64; 3]]) {
 
 /// Tries swing lists of an axis with a blend, for ticks from the arrival on. Answers how many were not zero.
 fn sway_is_cancelled(random: &mut Random, axis: &Axis, arrival: usize, rows: &[[i64; 3]], lists: usize) -> usize {
-    let (h, b) = (axis.half_period as usize, i64::from(axis.second_weight));
+    let (h, b) = (axis.half_period as usize, axis.weight());
     let rounded: Vec<i64> = rows.iter().map(|row| row[2]).collect();
     let planned = Planned::reaching(axis, arrival as i64).unwrap().with_list();
     let exact: Vec<i64> = (0..=arrival as i64).map(|k| planned.exact(axis, k).acceleration).collect();
@@ -88,7 +88,7 @@ fn run(seed: u64, reach: Reach, count: usize, lists: usize) -> [usize; 3] {
             cells_are_within_limits(axis, &rows);
             tried[0] += 1;
             if axis.half_period > 0 {
-                let kind = if axis.second_weight == 128 { 1 } else { 2 };
+                let kind = if axis.weight() == 128 { 1 } else { 2 };
                 tried[kind] += sway_is_cancelled(&mut random, axis, arrival, &rows, lists);
             }
         }

@@ -1,9 +1,9 @@
 //! Values at the ends of their types and ranges, one field at a time and on every axis; every mask; tables of every
 //! length about the cells needed.
 
-use outside::jobs::{with_signed, with_unsigned, SIGNED_ENDS, UNSIGNED_ENDS};
+use outside::jobs::{ratio_ends, with_signed, with_unsigned, SIGNED_ENDS, SINGLE_ENDS, UNSIGNED_ENDS};
 use outside::library;
-use outside::reference::{Answer, Axis, Job, Target, UNSET};
+use outside::reference::{Answer, Axis, Damping, Job, Single, Target, UNSET};
 
 const FIXED: Axis = Axis {
     start_position: 0,
@@ -11,7 +11,7 @@ const FIXED: Axis = Axis {
     speed_limit: 1_048_576,
     acceleration_limit: 65_536,
     half_period: 2,
-    second_weight: 128,
+    damping: Damping::Weight(128),
     target: Target::Fixed { position: 7, velocity: 0 },
 };
 
@@ -56,6 +56,40 @@ fn every_unsigned_value_at_every_end() {
     at_every_end(4, &UNSIGNED_ENDS, with_unsigned, 300, 301);
 }
 
+/// A job of six axes, one of which has the damping, and one of that axis alone.
+fn damped(i: usize, damping: Damping) -> [Job; 2] {
+    let mut axes = [FIXED; 6];
+    axes[i].damping = damping;
+    [63, 1 << i].map(|mask| Job { mask, asked: 9, axes })
+}
+
+#[test]
+fn every_float_at_every_end() {
+    for i in 0..6 {
+        for first in SINGLE_ENDS {
+            let ratio = damped(i, Damping::Ratio(first));
+            let peaks = SINGLE_ENDS.iter().flat_map(|&second| damped(i, Damping::Peaks(first, second)));
+            for job in peaks.chain(ratio) {
+                agrees(&job, 3 * 6 * 10);
+            }
+        }
+    }
+}
+
+#[test]
+fn both_ends_of_every_weight() {
+    for weight in 1..=128 {
+        for bits in ratio_ends(weight) {
+            for job in damped(weight % 6, Damping::Ratio(Single(bits))) {
+                assert_eq!(agrees(&job, 3 * 6 * 10).number, 0);
+                // Peaks whose quotient is the ratio itself.
+                let one = Single(1_f32.to_bits());
+                agrees(&damped(weight % 6, Damping::Peaks(one, Single(bits)))[1], 3 * 10);
+            }
+        }
+    }
+}
+
 #[test]
 fn two_values_at_ends_on_two_axes() {
     for (first, second) in [(0, 1), (2, 5), (4, 3)] {
@@ -93,7 +127,7 @@ fn axes_off_the_mask_are_never_looked_at() {
         speed_limit: u32::MAX,
         acceleration_limit: 0,
         half_period: u32::MAX,
-        second_weight: 0,
+        damping: Damping::Peaks(Single(u32::MAX), Single(0)),
         target: Target::Moving { position: i64::MIN, velocity: i64::MIN, acceleration: i64::MIN, tick: i64::MIN },
     };
     for mask in 1..64u32 {

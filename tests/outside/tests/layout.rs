@@ -18,12 +18,16 @@ fn structs_are_laid_out_as_in_c() {
         offset_of!(CAxis, speed_limit),
         offset_of!(CAxis, acceleration_limit),
         offset_of!(CAxis, half_period),
-        offset_of!(CAxis, second_weight),
+        offset_of!(CAxis, damping.damping_kind),
+        offset_of!(CAxis, damping.second_weight),
+        offset_of!(CAxis, damping.swing_ratio),
+        offset_of!(CAxis, damping.first_peak),
+        offset_of!(CAxis, damping.second_peak),
         size_of::<CAxis>(),
     ];
-    assert_eq!(axis, [0, 8, 16, 24, 32, 40, 48, 52, 56, 60, 64, 72]);
+    assert_eq!(axis, [0, 8, 16, 24, 32, 40, 48, 52, 56, 60, 64, 68, 72, 76, 80, 88]);
     let job = [offset_of!(CJob, mask), offset_of!(CJob, asked), offset_of!(CJob, axes), size_of::<CJob>()];
-    assert_eq!(job, [0, 4, 8, 440]);
+    assert_eq!(job, [0, 4, 8, 536]);
 }
 
 /// A file of the repository.

@@ -101,8 +101,11 @@ fn other_text(text: &str) -> Option<&'static str> {
     let mut first_words = words_in(text).filter_map(|mut words| words.next());
     match first_words.next()?.to_ascii_lowercase().trim_end_matches([':', '=']) {
         "refused" => Some("a printed refusal"),
+        "total" => Some("a printed tour"),
         "arrival" if first_words.next().is_some_and(is_below_a_printed_arrival) => Some("a printed table"),
-        "arrival" | "axis" => Some("a set-up sheet: `polgamir plan` plans it, `polgamir words` writes its job words"),
+        "arrival" | "axis" | "stop" => Some(
+            "a set-up sheet: `polgamir plan` plans a job, `polgamir tour` a tour, `polgamir words` writes job words",
+        ),
         _ => None,
     }
 }

@@ -1,7 +1,9 @@
 //! A refusal in the words of the set-up sheet: what is wrong, what to turn, and the lines that it is about.
 
 use polgamir::sheet::{Sheet, SheetLine, TourSheet};
-use polgamir::{Arrival, AxisMask, Refusal, TourRefusal, WordKind, AXES, LATEST_ARRIVAL, LONGEST_DWELL, MOST_STOPS};
+use polgamir::{
+    Arrival, AxisMask, Damping, Refusal, TourRefusal, WordKind, AXES, LATEST_ARRIVAL, LONGEST_DWELL, MOST_STOPS,
+};
 
 /// The refusal's line as the table program prints it, what is wrong, which line of the crew's sheet to look at and what to turn,
 /// and the file's lines.
@@ -61,6 +63,7 @@ fn cause(sheet: &Sheet, refusal: &Refusal) -> String {
         Refusal::Words { index } => format!("word {index} of the job is of a wrong kind, lacking or left over"),
         Refusal::AskedArrival => format!("the asked arrival is above {LATEST_ARRIVAL}"),
         Refusal::Limits { .. } => format!("a limit of {title} is outside its range"),
+        Refusal::Damping { .. } => format!("the damping of {title} as measured is outside its range"),
         Refusal::Blend { .. } => format!("the half period or weight of {title} is outside its range"),
         Refusal::StartOrTarget { .. } => format!("start or target of {title} is outside its range"),
         Refusal::AcceleratingTarget { .. } => {
@@ -91,7 +94,7 @@ fn remedy(sheet: &Sheet, refusal: &Refusal) -> String {
         Refusal::Words { .. } => "write the words again from the sheet".into(),
         Refusal::AskedArrival => format!("ask for a tick from 1 to {LATEST_ARRIVAL}, or for the earliest"),
         Refusal::Limits { .. } => "enter what the motor allows, within the range".into(),
-        Refusal::Blend { .. } => "tap again and enter what the pole does".into(),
+        Refusal::Damping { .. } | Refusal::Blend { .. } => "tap again and enter what the pole does".into(),
         Refusal::StartOrTarget { .. } => "enter where the axis is and goes, within what its limits allow".into(),
         Refusal::AcceleratingTarget { .. } => {
             "enter target acceleration 0, or weight 128 where the swing does not shrink".into()
@@ -145,6 +148,9 @@ fn lines(sheet: &Sheet, refusal: &Refusal) -> Vec<String> {
     }
     for number in refusal.axis().into_iter().chain(refusal.mask().axes()) {
         lines.extend(guilty_lines(sheet, number, refusal.number()));
+        if let Refusal::Damping { axis } = refusal {
+            lines.extend(damping_lines(sheet, *axis));
+        }
         lines.extend(concerned_lines(sheet, number, concerns(refusal)));
     }
     lines
@@ -167,14 +173,33 @@ fn guilty_lines(sheet: &Sheet, number: usize, refusal: u32) -> Vec<String> {
     told.collect()
 }
 
+/// The damping of an axis, where the planner refuses it as measured.
+pub fn damping_lines(sheet: &Sheet, number: usize) -> Vec<String> {
+    let dampings = sheet.job.axes[number].iter().map(|axis| axis.damping);
+    let told = dampings.filter(|damping| damping.weight().is_none()).map(|damping| {
+        let (place, title) = (place(sheet, Some(number), WordKind::SecondWeight), sheet.axis_title(number));
+        let expected = match damping {
+            Damping::Peaks { .. } => "two numbers above 0, the second not above the first",
+            _ => "a number above 0 and at most 1",
+        };
+        format!("{place}{title}: {damping}, expected {expected}")
+    });
+    told.collect()
+}
+
 /// The entries of an axis that have a part in a refusal.
 fn concerned_lines(sheet: &Sheet, number: usize, concerned: &[WordKind]) -> Vec<String> {
-    let entries = sheet.job.axes[number].iter().flat_map(|axis| axis.entries());
-    let told = entries.filter(|(entry, _)| concerned.contains(entry)).filter_map(|(entry, value)| {
+    let entries = sheet.job.axes[number].iter().flat_map(|axis| axis.entries().map(|entry| (axis.damping, entry)));
+    let concerned = entries.filter(|(_, (entry, _))| concerned.contains(entry));
+    let told = concerned.filter_map(|(damping, (entry, value))| {
         // A still target's velocity has no line of its own.
         let has_line = sheet.line_of(None, WordKind::Arrival).is_none() || sheet.line_of(Some(number), entry).is_some();
         let place = place(sheet, Some(number), entry);
-        has_line.then(|| format!("{place}{}: {} {value}", sheet.axis_title(number), entry.name()))
+        let entered = match entry {
+            WordKind::SecondWeight => damping.to_string(),
+            _ => format!("{} {value}", entry.name()),
+        };
+        has_line.then(|| format!("{place}{}: {entered}", sheet.axis_title(number)))
     });
     told.collect()
 }

@@ -107,7 +107,9 @@ impl Panel {
         let upward = self.upward(place.top);
         for span in &time.spans {
             let (from, to) = (across.at(span.from.into()), across.at(span.to.min(time.last).into()));
-            drawing.area(from, place.top, (to - from).max(0.0), HEIGHT, span.colour);
+            if from < to {
+                drawing.area(from, place.top, to - from, HEIGHT, span.colour);
+            }
         }
         self.draw_grid(drawing, place, across, upward, last);
         drawing.clipped(place.left, place.top, place.width, HEIGHT, |drawing| {

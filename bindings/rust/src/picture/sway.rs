@@ -29,13 +29,13 @@ pub struct Sway {
 }
 
 impl Pole {
-    /// The pole under an axis, or `None` where the axis has no half period.
+    /// The pole under an axis, or `None` where the axis has no half period, or damping without a weight.
     pub fn of(axis: &Axis) -> Option<Pole> {
         if axis.half_period == 0 {
             return None;
         }
         let half_period = f64::from(axis.half_period);
-        let second_weight = f64::from(axis.second_weight);
+        let second_weight = f64::from(axis.damping.weight()?);
         let shrinks_to = second_weight / (256.0 - second_weight);
         Some(Pole {
             swing: std::f64::consts::PI / half_period,
@@ -94,12 +94,13 @@ impl Pole {
 #[cfg(test)]
 mod tests {
     use super::*;
-    use polgamir::{RestPoint, Target};
+    use polgamir::{Damping, RestPoint, Target};
 
     fn pole(half_period: u32, second_weight: u32) -> Pole {
         let start = RestPoint { position: 0, velocity: 0 };
         let target = Target::still(0);
-        let axis = Axis { start, speed_limit: 1, acceleration_limit: 1, half_period, second_weight, target };
+        let damping = Damping::Weight(second_weight);
+        let axis = Axis { start, speed_limit: 1, acceleration_limit: 1, half_period, damping, target };
         Pole::of(&axis).expect("a half period")
     }
 

@@ -1,8 +1,9 @@
 //! An axis of a sheet, entry by entry.
 
 use super::notes::EntryLine;
-use super::text::{after, fault, quoted, whole_number};
+use super::text::{after, decimal, fault, quoted, whole_number};
 use super::{SheetError, TargetKind, ENTRIES};
+use crate::damping::Damping;
 use crate::job::{Axis, RestPoint, State, Target};
 use crate::tour::TourAxis;
 use crate::words::WordKind;
@@ -11,7 +12,6 @@ use crate::words::WordKind;
 fn expectation(entry: WordKind) -> &'static str {
     match entry {
         WordKind::HalfPeriod => "a whole number of ticks from 0 to 256",
-        WordKind::SecondWeight => "a whole number from 1 to 128",
         WordKind::SpeedLimit => "a whole number of units per tick from 1 to 1048576",
         WordKind::AccelerationLimit => "a whole number of units per tick² from 1 to 65536",
         WordKind::StartPosition | WordKind::TargetPosition => "a whole number of units from -134217728 to 134217727",
@@ -21,14 +21,31 @@ fn expectation(entry: WordKind) -> &'static str {
     }
 }
 
-/// The entries of an axis of a tour.
-const TOUR_ENTRIES: [WordKind; 5] = [
-    WordKind::HalfPeriod,
-    WordKind::SecondWeight,
-    WordKind::SpeedLimit,
-    WordKind::AccelerationLimit,
-    WordKind::StartPosition,
+/// The lines that say the damping.
+const DAMPING: &str = "`weight`, `shrinks` or `peaks`";
+
+/// A line that says the damping: its name, what is expected after it, and the damping of a value.
+type DampingLine = (&'static str, &'static str, fn(&[&str]) -> Option<Damping>);
+
+/// Each line that says the damping.
+const DAMPINGS: [DampingLine; 3] = [
+    ("weight", "a whole number from 1 to 128", |value| match value {
+        [weight] => weight.parse().ok().map(Damping::Weight),
+        _ => None,
+    }),
+    ("shrinks", "a number above 0 and at most 1", |value| match value {
+        [ratio] => decimal(ratio).map(Damping::Ratio),
+        _ => None,
+    }),
+    ("peaks", "two numbers above 0, the second not above the first,", |value| match value {
+        [first, second] => Some(Damping::Peaks { first: decimal(first)?, second: decimal(second)? }),
+        _ => None,
+    }),
 ];
+
+/// The entries of an axis of a tour that are numbers.
+const TOUR_ENTRIES: [WordKind; 4] =
+    [WordKind::HalfPeriod, WordKind::SpeedLimit, WordKind::AccelerationLimit, WordKind::StartPosition];
 
 /// An entry that is a number, with the line that it stands on.
 struct Entry {
@@ -44,6 +61,8 @@ pub struct Draft {
     /// The line that the axis begins at.
     pub line: usize,
     entries: Vec<Entry>,
+    /// The damping, with its line.
+    damping: Option<(Damping, usize)>,
     /// What the target is, with the line that says so.
     target: Option<(TargetKind, usize)>,
 }
@@ -51,12 +70,17 @@ pub struct Draft {
 impl Draft {
     /// An axis that begins at a line.
     pub fn new(number: usize, line: usize) -> Draft {
-        Draft { number, line, entries: Vec::new(), target: None }
+        Draft { number, line, entries: Vec::new(), damping: None, target: None }
     }
 
     /// Takes an entry of the axis.
     pub fn take(&mut self, line: usize, words: &[&str]) -> Result<(), SheetError> {
-        for kind in ENTRIES {
+        for (name, expected, read) in DAMPINGS {
+            if let Some(value) = after(words, name) {
+                return self.take_damping(line, read(value), || format!("{expected} after `{name}`"), value);
+            }
+        }
+        for kind in ENTRIES.into_iter().filter(|&kind| kind != WordKind::SecondWeight) {
             if let Some(value) = after(words, kind.name()) {
                 return self.take_number(line, kind, value);
             }
@@ -64,7 +88,8 @@ impl Draft {
         if let Some(value) = after(words, "target") {
             return self.take_target(line, value);
         }
-        let names: Vec<&str> = ENTRIES.iter().map(|kind| kind.name()).collect();
+        let damping = |kind: &WordKind| if *kind == WordKind::SecondWeight { DAMPING } else { kind.name() };
+        let names: Vec<&str> = ENTRIES.iter().map(damping).collect();
         fault(line, format!("`arrival`, `axis`, `stop`, `target` or one of: {}", names.join(", ")), quoted(words))
     }
 
@@ -86,6 +111,33 @@ impl Draft {
         Ok(())
     }
 
+    /// Takes the damping, where it could be read from a value.
+    fn take_damping(
+        &mut self,
+        line: usize,
+        damping: Option<Damping>,
+        expected: impl Fn() -> String,
+        value: &[&str],
+    ) -> Result<(), SheetError> {
+        if let Some((_, first)) = self.damping {
+            let expected = format!("one of {DAMPING} for axis {}", self.number);
+            return fault(line, expected, format!("another beside that of line {first}"));
+        }
+        self.damping = damping.map(|damping| (damping, line));
+        match self.damping {
+            Some(_) => Ok(()),
+            None => fault(line, expected(), quoted(value)),
+        }
+    }
+
+    /// The damping.
+    fn damping(&self) -> Result<Damping, SheetError> {
+        match self.damping {
+            Some((damping, _)) => Ok(damping),
+            None => self.lacks(DAMPING),
+        }
+    }
+
     /// Takes what the target is.
     fn take_target(&mut self, line: usize, value: &[&str]) -> Result<(), SheetError> {
         if let Some((_, first)) = self.target {
@@ -105,7 +157,9 @@ impl Draft {
 
     /// The lines of the entries.
     pub fn lines(&self) -> impl Iterator<Item = EntryLine> + '_ {
-        self.entries.iter().map(|entry| EntryLine { axis: Some(self.number), entry: entry.kind, line: entry.line })
+        let damping = self.damping.map(|(_, line)| (WordKind::SecondWeight, line));
+        let lines = self.entries.iter().map(|entry| (entry.kind, entry.line)).chain(damping);
+        lines.map(|(entry, line)| EntryLine { axis: Some(self.number), entry, line })
     }
 
     /// The axis of a tour whose first stop stands on a line: legs start and end at rest, at the stops.
@@ -117,7 +171,7 @@ impl Draft {
         }
         Ok(TourAxis {
             half_period: self.unsigned(WordKind::HalfPeriod)?,
-            second_weight: self.unsigned(WordKind::SecondWeight)?,
+            damping: self.damping()?,
             speed_limit: self.unsigned(WordKind::SpeedLimit)?,
             acceleration_limit: self.unsigned(WordKind::AccelerationLimit)?,
             start: self.number(WordKind::StartPosition)?,
@@ -136,7 +190,7 @@ impl Draft {
         }
         Ok(Axis {
             half_period: self.unsigned(WordKind::HalfPeriod)?,
-            second_weight: self.unsigned(WordKind::SecondWeight)?,
+            damping: self.damping()?,
             speed_limit: self.unsigned(WordKind::SpeedLimit)?,
             acceleration_limit: self.unsigned(WordKind::AccelerationLimit)?,
             start: RestPoint {

@@ -52,7 +52,7 @@ impl SheetLine {
     /// The line to look at after a refusal.
     pub const fn after(refusal: &Refusal) -> SheetLine {
         match refusal {
-            Refusal::Blend { .. } => SheetLine::TapThePole,
+            Refusal::Damping { .. } | Refusal::Blend { .. } => SheetLine::TapThePole,
             Refusal::Mask | Refusal::Limits { .. } => SheetLine::EnterLimits,
             Refusal::StartOrTarget { .. } | Refusal::AcceleratingTarget { .. } | Refusal::NoCommonArrival { .. } => {
                 SheetLine::EnterStartAndTarget

@@ -14,6 +14,15 @@ pub fn whole_number(word: &str) -> Option<i64> {
     }
 }
 
+/// A finite number with or without decimals, as a single-precision float.
+pub fn decimal(word: &str) -> Option<f32> {
+    let number = match word.strip_prefix(MINUS_SIGNS) {
+        Some(size) => format!("-{size}").parse::<f32>(),
+        None => word.parse(),
+    };
+    number.ok().filter(|number| number.is_finite())
+}
+
 /// An error at a line.
 pub fn fault<T>(line: usize, expected: impl Into<String>, found: impl Into<String>) -> Result<T, SheetError> {
     Err(SheetError { line, expected: expected.into(), found: found.into() })

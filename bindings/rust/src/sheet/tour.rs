@@ -3,12 +3,12 @@
 use std::fmt;
 
 use super::notes::{EntryLine, Notes};
-use super::{write_entry, Sheet};
+use super::{write_damping, write_entry, Sheet};
 use crate::tour::{Stop, Tour};
 use crate::words::WordKind;
 
 /// A tour and its stops, with what their sheet says beside them.
-#[derive(Debug, Clone, PartialEq, Eq, Default)]
+#[derive(Debug, Clone, PartialEq, Default)]
 pub struct TourSheet {
     /// The tour that the sheet asks for.
     pub tour: Tour,
@@ -65,7 +65,7 @@ impl fmt::Display for TourSheet {
         for (number, axis) in self.tour.entered() {
             writeln!(f, "{}", self.axis_title(number))?;
             write_entry(f, WordKind::HalfPeriod, axis.half_period.into())?;
-            write_entry(f, WordKind::SecondWeight, axis.second_weight.into())?;
+            write_damping(f, axis.damping)?;
             write_entry(f, WordKind::SpeedLimit, axis.speed_limit.into())?;
             write_entry(f, WordKind::AccelerationLimit, axis.acceleration_limit.into())?;
             write_entry(f, WordKind::StartPosition, axis.start)?;

@@ -4,7 +4,7 @@
 
 pub mod command;
 
-use polgamir::{Axis, Job, RestPoint, State, Target};
+use polgamir::{Axis, Damping, Job, RestPoint, State, Target};
 
 /// The axis of the field cases: L = 10, M = 1, h = 0, B = 128, from 0 at rest.
 pub fn field_axis(target: Target) -> Axis {
@@ -13,7 +13,7 @@ pub fn field_axis(target: Target) -> Axis {
         speed_limit: 10,
         acceleration_limit: 1,
         half_period: 0,
-        second_weight: 128,
+        damping: Damping::NONE,
         target,
     }
 }
@@ -88,7 +88,7 @@ impl Random {
             speed_limit: speed_limit as u32,
             acceleration_limit: acceleration_limit as u32,
             half_period: half_period as u32,
-            second_weight: second_weight as u32,
+            damping: Damping::Weight(second_weight as u32),
             target,
         }
     }
@@ -130,7 +130,7 @@ impl Random {
             speed_limit: unsigned(self),
             acceleration_limit: unsigned(self),
             half_period: unsigned(self),
-            second_weight: unsigned(self),
+            damping: Damping::Weight(unsigned(self)),
             target,
         }
     }

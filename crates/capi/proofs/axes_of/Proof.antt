@@ -4,7 +4,7 @@ use native.Mathlib.Omega.{arith}
 use mathlib.Core.Path.{_≡_, refl, _∙_}
 use lib.ListN.{length, length-set}
 use borrow.Author.Needs.{needs}
-use Rattle.capi.proofs.Stored.{Stored, stored-next, stored-all}
+use Rattle.whole.proofs.Mapped.{Stored, stored-next, stored-all}
 use Rattle.capi.specs.Jobs.{axisOf}
 use Rattle.capi.proofs.axes_of.Statement.{statement}
 use Rattle.capi.proofs.axes_of.Tie as tie

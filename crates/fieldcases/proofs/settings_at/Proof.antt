@@ -36,8 +36,8 @@ mul-start c = search needs
 array-set-from-start : tie.Need-array-set-from-start Inv-loop μ-loop
 array-set-from-start c = search needs
 
-after-requires-2 : tie.Need-after-requires-2 Inv-loop μ-loop
-after-requires-2 c κs = search needs
+after-limits-requires : tie.Need-after-limits-requires Inv-loop μ-loop
+after-limits-requires c κs = search needs
 
 add-i : tie.Need-add-i Inv-loop μ-loop
 add-i c = search needs
@@ -69,7 +69,7 @@ settings-at-spec =
     nth-requires
     mul-start
     array-set-from-start
-    after-requires-2
+    after-limits-requires
     add-i
     loop-less
     loop-again

@@ -10,6 +10,9 @@ use Rattle.motion.proofs.refused_by.Tie as tie
 limits-refused-requires : tie.Need-limits-refused-requires
 limits-refused-requires c κs = search needs
 
+damping-refused-requires : tie.Need-damping-refused-requires
+damping-refused-requires c κs = search needs
+
 blend-refused-requires : tie.Need-blend-refused-requires
 blend-refused-requires c κs = search needs
 
@@ -23,24 +26,29 @@ returns : tie.Need-returns
 returns c = c .limits-refused .ensures ∙ sym (ap (λ (k : ℕ). refusalTest k (c .before .before .args .x)) (c .before .match .keys1))
 
 returns-2 : tie.Need-returns-2
-returns-2 c = c .blend-refused .ensures ∙ sym (ap (λ (k : ℕ). refusalTest k (c .before .before .args .x)) (c .before .match .keys2))
+returns-2 c = c .damping-refused .ensures ∙ sym (ap (λ (k : ℕ). refusalTest k (c .before .before .args .x)) (c .before .match .keys2))
 
 returns-3 : tie.Need-returns-3
-returns-3 c = c .values-refused .ensures ∙ sym (ap (λ (k : ℕ). refusalTest k (c .before .before .args .x)) (c .before .match .keys3))
+returns-3 c = c .blend-refused .ensures ∙ sym (ap (λ (k : ℕ). refusalTest k (c .before .before .args .x)) (c .before .match .keys3))
 
 returns-4 : tie.Need-returns-4
-returns-4 c = c .acceleration-refused .ensures ∙ sym (ap (λ (k : ℕ). refusalTest k (c .before .before .args .x)) (c .before .match .keys4))
+returns-4 c = c .values-refused .ensures ∙ sym (ap (λ (k : ℕ). refusalTest k (c .before .before .args .x)) (c .before .match .keys4))
 
 returns-5 : tie.Need-returns-5
-returns-5 c =
+returns-5 c = c .acceleration-refused .ensures ∙ sym (ap (λ (k : ℕ). refusalTest k (c .before .before .args .x)) (c .before .match .keys5))
+
+returns-6 : tie.Need-returns-6
+returns-6 c =
     let r = c .match .rest in
-    absent-passes axisRefusals (c .before .args .number) (c .before .args .x) (r .0 .0 .0 .1, (r .0 .0 .1, (r .0 .1, (r .1, tt))))
+    absent-passes axisRefusals (c .before .args .number) (c .before .args .x)
+    (r .0 .0 .0 .0 .1, (r .0 .0 .0 .1, (r .0 .0 .1, (r .0 .1, (r .1, tt)))))
 
 pub refused-by-spec : {M : Type 1} → statement M
 refused-by-spec =
     tie.close
     (tie.spec
     limits-refused-requires
+    damping-refused-requires
     blend-refused-requires
     values-refused-requires
     acceleration-refused-requires
@@ -48,4 +56,5 @@ refused-by-spec =
     returns-2
     returns-3
     returns-4
-    returns-5)
+    returns-5
+    returns-6)

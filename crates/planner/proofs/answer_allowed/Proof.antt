@@ -1,8 +1,8 @@
 use native.Mathlib.Omega.{arith}
-use mathlib.Core.Path.{_∙_}
+use mathlib.Core.Path.{sym, _∙_}
 use borrow.Author.Needs.{needs}
 use Rattle.model.specs.Job.{typedJob}
-use Rattle.planner.proofs.Stages.{checks-refuse, checks-pass, none-found, found}
+use Rattle.planner.proofs.Stages.{checks-refuse, checks-pass, given-passed, given-arrives, given-filled, given-reached, none-found, found}
 use Rattle.planner.proofs.Answers.{settled-refused, settled-found, check-not-ten, arrival-not-ten}
 use Rattle.planner.proofs.answer_allowed.Statement.{statement}
 use Rattle.planner.proofs.answer_allowed.Tie as tie
@@ -22,39 +22,55 @@ returns c =
     settled-refused j (c .answer .result) (k .result .number) (k .result .place) 0 refuses (check-not-ten j (k .result) (k .ensures .is)) (c .answer .ensures)
     (λ lent. checks-refuse j lent (k .result) (k .ensures .is) refuses)
 
+by-hand-requires : tie.Need-by-hand-requires
+by-hand-requires c κs = search needs
+
 arrival-of-requires : tie.Need-arrival-of-requires
 arrival-of-requires c κs =
-    let k = c .before .before .check .ensures in
-    let zero = c .if1 .left in
-    (k .passed zero, k .asked zero)
+    let a = c .before .before .before .before .args in
+    let k = c .before .before .before .check .ensures in
+    let zero = c .before .if1 .left in
+    (given-passed (a .mask) (a .asked) (a .axes) (c .by-hand .result) (c .by-hand .ensures) (k .passed zero), k .asked zero)
 
 answer-requires-2 : tie.Need-answer-requires-2
 answer-requires-2 c κs = search needs
 
 returns-2 : tie.Need-returns-2
 returns-2 c =
-    let a = c .before .before .before .before .before .before .before .args in
+    let a = c .before .before .before .before .before .before .before .before .args in
     let j = typedJob (a .mask) (a .asked) (a .axes) in
-    let k = c .before .before .before .before .before .before .check in
+    let k = c .before .before .before .before .before .before .before .check in
+    let g = c .before .before .before .before .by-hand in
     let f = c .before .before .before .arrival-of in
     let refuses = c .before .if2 .taken in
-    let good = c .before .before .before .before .if1 .left in
-    settled-refused j (c .answer2 .result) (f .result .number) 0 (f .result .mask) refuses (arrival-not-ten (j .axes) (a .asked) (f .result) (f .ensures .is))
-    (c .answer2 .ensures) (λ lent. none-found j lent (f .result) (f .ensures .is) refuses ∙ checks-pass j lent (k .result) (k .ensures .is) good)
+    let good = c .before .before .before .before .before .if1 .left in
+    let given = typedJob (a .mask) (a .asked) (g .result) in
+    settled-refused j (c .answer2 .result) (f .result .number) 0 (f .result .mask) refuses (arrival-not-ten (given .axes) (a .asked) (f .result) (f .ensures .is))
+    (c .answer2 .ensures)
+    (λ lent.
+    none-found given lent (f .result) (f .ensures .is) refuses
+    ∙ given-arrives (a .mask) (a .asked) (a .axes) (g .result) (g .ensures) lent
+    ∙ checks-pass j lent (k .result) (k .ensures .is) good)
 
 answer-requires-3 : tie.Need-answer-requires-3
 answer-requires-3 c κs = search needs
 
 returns-3 : tie.Need-returns-3
 returns-3 c =
-    let a = c .before .before .before .before .before .before .before .args in
+    let a = c .before .before .before .before .before .before .before .before .args in
     let j = typedJob (a .mask) (a .asked) (a .axes) in
-    let k = c .before .before .before .before .before .before .check in
+    let k = c .before .before .before .before .before .before .before .check in
+    let g = c .before .before .before .before .by-hand in
     let f = c .before .before .before .arrival-of in
     let zero = c .before .if2 .left in
-    let good = c .before .before .before .before .if1 .left in
-    settled-found j (c .answer3 .result) (f .result .tick) (c .answer3 .ensures) (f .ensures .last zero) (k .ensures .passed good) (f .ensures .reached zero)
-    (λ lent. found j lent (f .result) (f .ensures .is) zero ∙ checks-pass j lent (k .result) (k .ensures .is) good)
+    let good = c .before .before .before .before .before .if1 .left in
+    let reached = given-reached (a .mask) (a .asked) (a .axes) (g .result) (g .ensures) (f .result .tick) (f .ensures .reached zero) in
+    settled-found j (c .answer3 .result) (f .result .tick) (c .answer3 .ensures) (f .ensures .last zero) (k .ensures .passed good) reached
+    (λ lent.
+    sym (given-filled (a .mask) (a .asked) (a .axes) (g .result) (g .ensures) (f .result .tick) lent)
+    ∙ found (typedJob (a .mask) (a .asked) (g .result)) lent (f .result) (f .ensures .is) zero
+    ∙ given-arrives (a .mask) (a .asked) (a .axes) (g .result) (g .ensures) lent
+    ∙ checks-pass j lent (k .result) (k .ensures .is) good)
 
 pub answer-allowed-spec : {M : Type 1} → statement M
 answer-allowed-spec =
@@ -63,6 +79,7 @@ answer-allowed-spec =
     check-requires
     answer-requires
     returns
+    by-hand-requires
     arrival-of-requires
     answer-requires-2
     returns-2

@@ -1,24 +1,26 @@
-use Prim.Native.Nat.{_-_, _≤_}
+use Prim.Native.Nat.{ℕ, _-_, _≤_}
 use native.Mathlib.Omega.{arith}
-use mathlib.Core.Path.{_≡_, sym, ap, _∙_}
+use mathlib.Core.Path.{_≡_, refl, sym, ap, _∙_}
+use mathlib.Core.List.{List}
+use lib.ListN.{getD}
 use borrow.Author.Needs.{needs}
 use Rattle.model.specs.Outcome.{axisRefusals}
 use Rattle.model.specs.Job.{setAxes, typedJob}
 use Rattle.planner.specs.Stages.{firstRefusal, foundAxis}
-use Rattle.planner.proofs.Checks.{from, begun, refused-here, refused-later, none-refused, asked-late, asked-in-time}
+use Rattle.planner.proofs.Checks.{numbers, from, begun, refused-here, refused-later, none-refused, asked-late, asked-in-time}
 use Rattle.planner.proofs.check.Statement.{statement}
 use Rattle.planner.proofs.check.Tie as tie
 
 abbrev Inv-loop : tie.InvT-loop
-Inv-loop mask asked axes number₀ number =
+Inv-loop mask asked axes order i₀ i =
     record {
-      first : from (setAxes 0 mask axes) number ≡ firstRefusal axisRefusals (setAxes 0 mask axes);
-      low : 4 ≤ number;
-      high : number ≤ 8;
+      first : from (setAxes 0 mask axes) i ≡ firstRefusal axisRefusals (setAxes 0 mask axes);
+      numbers : order ≡ numbers;
+      low : i ≤ 5;
     }
 
 abbrev μ-loop : tie.MeasureT-loop
-μ-loop mask asked axes number₀ number = 8 - number
+μ-loop mask asked axes order i₀ i = 5 - i
 
 refusal-of-requires : tie.Need-refusal-of-requires Inv-loop μ-loop
 refusal-of-requires c κs = search needs
@@ -31,7 +33,13 @@ returns c =
 loop-holds : tie.Need-loop-holds Inv-loop μ-loop
 loop-holds c =
     let a = c .before .args in
-    record { first = begun (setAxes 0 (a .mask) (a .axes)); low = omega arith; high = omega arith }
+    record { first = begun (setAxes 0 (a .mask) (a .axes)); numbers = refl; low = omega arith }
+
+mul-number : tie.Need-mul-number Inv-loop μ-loop
+mul-number c = search needs
+
+array-read-number : tie.Need-array-read-number Inv-loop μ-loop
+array-read-number c = search needs
 
 first-refused-requires : tie.Need-first-refused-requires Inv-loop μ-loop
 first-refused-requires c κs = search needs
@@ -49,15 +57,15 @@ returns-2 c =
     let xs = setAxes 0 (a .mask) (a .axes) in
     let r = c .refusal-of2 in
     let at = sym (c .before .before .before .before .first-refused .ensures) ∙ ap foundAxis (c .before .before .first .given .1) in
-    let is = refused-here xs (l .number) _ (omega arith) (omega arith) at in
+    let is = refused-here xs (l .i) _ (omega arith) (ap (λ (o : List ℕ). getD o (l .i) 0) (l .inv .numbers)) _ at in
     let in-time = c .before .before .before .before .before .before .before .if1 .left in
     asked-in-time (typedJob (a .mask) (a .asked) (a .axes)) (r .result) in-time (r .ensures ∙ sym is ∙ l .inv .first)
 
 enum-told : tie.Need-enum-told Inv-loop μ-loop
 enum-told c = search needs
 
-add-number : tie.Need-add-number Inv-loop μ-loop
-add-number c = omega arith
+add-i : tie.Need-add-i Inv-loop μ-loop
+add-i c = omega arith
 
 loop-less : tie.Need-loop-less Inv-loop μ-loop
 loop-less c = omega arith
@@ -69,9 +77,9 @@ loop-again c =
     let xs = setAxes 0 (a .mask) (a .axes) in
     let nowhere = sym (c .before .before .first-refused .ensures) ∙ ap foundAxis (c .enum-told .given .1) in
     record {
-      first = sym (refused-later xs (l .number) (omega arith) (omega arith) nowhere) ∙ l .inv .first;
+      first = sym (refused-later xs (l .i) _ (omega arith) (ap (λ (o : List ℕ). getD o (l .i) 0) (l .inv .numbers)) nowhere) ∙ l .inv .first;
+      numbers = l .inv .numbers;
       low = omega arith;
-      high = omega arith;
     }
 
 refusal-of-requires-3 : tie.Need-refusal-of-requires-3 Inv-loop μ-loop
@@ -83,7 +91,7 @@ returns-3 c =
     let a = c .before .before .before .before .args in
     let xs = setAxes 0 (a .mask) (a .axes) in
     let r = c .refusal-of3 in
-    let is = none-refused xs (l .number) (omega arith) in
+    let is = none-refused xs (l .i) (omega arith) in
     let in-time = c .before .before .before .if1 .left in
     asked-in-time (typedJob (a .mask) (a .asked) (a .axes)) (r .result) in-time (r .ensures ∙ sym is ∙ l .inv .first)
 
@@ -96,12 +104,14 @@ check-spec =
     refusal-of-requires
     returns
     loop-holds
+    mul-number
+    array-read-number
     first-refused-requires
     enum-known-first
     refusal-of-requires-2
     returns-2
     enum-told
-    add-number
+    add-i
     loop-less
     loop-again
     refusal-of-requires-3

@@ -56,14 +56,17 @@ chosen-requires c κs =
 start-position-requires : tie.Need-start-position-requires
 start-position-requires c κs = search needs
 
+second-weight-requires : tie.Need-second-weight-requires
+second-weight-requires c κs = search needs
+
 returns : tie.Need-returns
 returns c =
-    let d = c .before .before .before in
+    let d = c .before .before .before .before in
     let a = d .before .before .before in
     let l = d .before .before .landing-at .ensures in
     let f = d .before .profile-of in
-    plan-is (a .args .x) (a .args .n) (f .result) _ (f .ensures .is) (way d) _ _ _
-    (exactly (search exact depth 9) tt) (c .before .before .chosen .ensures) (exactly (search exact depth 9) tt)
+    plan-is (a .args .x) (a .args .n) (f .result) _ (f .ensures .is) (way d) _ _ _ _
+    (exactly (search exact depth 9) tt) (c .before .before .before .chosen .ensures) (exactly (search exact depth 9) tt) (c .second-weight .ensures)
 
 pub axis-plan-spec : {M : Type 1} → statement M
 axis-plan-spec =
@@ -74,4 +77,5 @@ axis-plan-spec =
     displacement-requires
     chosen-requires
     start-position-requires
+    second-weight-requires
     returns)

@@ -1,3 +1,4 @@
+use Rattle.model.specs.declared.Weight.the-variants.{Given}
 use Rattle.words.specs.ByIndex.{axisAt}
 use borrow.Author.Needs.{needs}
 use Rattle.words.proofs.axis_to.Statement.{statement}
@@ -44,7 +45,7 @@ returns c =
       «speed_limit» = speed .ensures i;
       «acceleration_limit» = acceleration .ensures i;
       «half_period» = period .ensures i;
-      «second_weight» = weight .ensures i;
+      «second_weight» = Given (weight .ensures i);
       target = c .before .before .before .before .before .before .args .target;
     }
 

@@ -2,7 +2,7 @@
 
 use super::{POSITION_GREATEST, POSITION_LEAST};
 use crate::random::Random;
-use crate::reference::{Axis, Job, Target};
+use crate::reference::{Axis, Damping, Job, Single, Target};
 
 /// Ends of types and of ranges, and their neighbours.
 pub const SIGNED_ENDS: [i64; 24] = [
@@ -87,8 +87,51 @@ pub fn with_unsigned(axis: Axis, j: usize, value: u32) -> Axis {
         0 => Axis { speed_limit: value, ..axis },
         1 => Axis { acceleration_limit: value, ..axis },
         2 => Axis { half_period: value, ..axis },
-        3 => Axis { second_weight: value, ..axis },
+        3 => Axis { damping: Damping::Weight(value), ..axis },
         _ => axis,
+    }
+}
+
+/// Weight 126, 127 or 128, by hand or by a ratio.
+fn nearly_undamped(random: &mut Random) -> Damping {
+    match random.below(2) {
+        0 => Damping::Weight(random.between(126, 128) as u32),
+        _ => Damping::Ratio(Single(random.pick(&[0.984_f32, 0.985, 0.992, 0.993, 1.0]).to_bits())),
+    }
+}
+
+/// Floats of every kind: zeros, subnormals, numbers about 1, the largest, infinities, and no numbers.
+pub const SINGLE_ENDS: [Single; 20] = [
+    Single(0),
+    Single(1),
+    Single(0x007F_FFFF),
+    Single(0x0080_0000),
+    Single(0x3C01_0204),
+    Single(0x3F00_0000),
+    Single(0x3F7F_FFFF),
+    Single(0x3F80_0000),
+    Single(0x3F80_0001),
+    Single(0x4000_0000),
+    Single(0x7F7F_FFFF),
+    Single(0x7F80_0000),
+    Single(0x7F80_0001),
+    Single(0x7FC0_0000),
+    Single(0x8000_0000),
+    Single(0x8000_0001),
+    Single(0xBF80_0000),
+    Single(0xFF7F_FFFF),
+    Single(0xFF80_0000),
+    Single(0xFFC0_0000),
+];
+
+/// A damping that was measured, of floats at their ends or of any bits.
+pub fn strange_damping(random: &mut Random) -> Damping {
+    let mut single = || if random.once_in(3) { Single(random.word() as u32) } else { random.pick(&SINGLE_ENDS) };
+    let (first, second) = (single(), single());
+    if random.once_in(2) {
+        Damping::Ratio(first)
+    } else {
+        Damping::Peaks(first, second)
     }
 }
 
@@ -97,7 +140,7 @@ fn accelerating(random: &mut Random, axis: Axis) -> Axis {
     let (position, velocity) = (axis.target.position(), axis.target.velocity());
     Axis {
         half_period: random.between(0, 2) as u32,
-        second_weight: random.between(126, 128) as u32,
+        damping: nearly_undamped(random),
         target: Target::Moving { position, velocity, acceleration: random.between(-1, 1), tick: random.between(-9, 9) },
         ..axis
     }
@@ -108,7 +151,7 @@ pub fn damaged_job(random: &mut Random, job: &Job) -> Job {
     let mut damaged = *job;
     for _ in 0..random.between(1, 3) {
         let i = random.below(6);
-        damaged.axes[i] = match random.below(8) {
+        damaged.axes[i] = match random.below(9) {
             0 => {
                 damaged.mask = random.pick(&[0, 64, 65, 1 << 31, u32::MAX, job.mask | 1 << i, job.mask ^ 1 << i]);
                 damaged.axes[i]
@@ -122,6 +165,7 @@ pub fn damaged_job(random: &mut Random, job: &Job) -> Job {
                 with_signed(damaged.axes[i], j, value)
             }
             5 => accelerating(random, damaged.axes[i]),
+            6 => Axis { damping: strange_damping(random), ..damaged.axes[i] },
             _ => {
                 let (j, value) = (random.below(5), random.pick(&UNSIGNED_ENDS));
                 with_unsigned(damaged.axes[i], j, value)

@@ -1,8 +1,9 @@
 //! Jobs that pass the checks of their values.
 
+use super::dampings::damping;
 use super::{Reach, POSITION_GREATEST, POSITION_LEAST};
 use crate::random::Random;
-use crate::reference::{Axis, Job, Target, LATEST, UNSET};
+use crate::reference::{Axis, Damping, Job, Target, LATEST, UNSET};
 
 /// A number whose count of bits is random, at most `greatest`, at least 1.
 fn some_size(random: &mut Random, greatest: i64) -> i64 {
@@ -18,18 +19,11 @@ fn half_period(random: &mut Random, most: i64) -> i64 {
     }
 }
 
-fn weight(random: &mut Random) -> i64 {
-    if random.once_in(3) {
-        random.between(1, 128)
-    } else {
-        128
-    }
-}
-
 /// An axis that passes refusals 4 to 7 and that may well arrive after about `ticks` ticks.
 fn fitting_axis(random: &mut Random, speed: i64, acceleration: i64, ticks: i64) -> Axis {
     let h = half_period(random, 256.min(ticks));
-    let b = weight(random);
+    let damping = damping(random);
+    let b = damping.weight();
     let start = random.between(-1000, 1000);
     let start_velocity = if random.once_in(2) { 0 } else { random.between(-speed, speed) };
     let velocity = if random.once_in(2) { 0 } else { random.between(-speed, speed) };
@@ -58,7 +52,7 @@ fn fitting_axis(random: &mut Random, speed: i64, acceleration: i64, ticks: i64) 
         speed_limit: speed as u32,
         acceleration_limit: acceleration as u32,
         half_period: h as u32,
-        second_weight: b as u32,
+        damping,
         target,
     }
 }
@@ -152,7 +146,7 @@ fn gap_axis(random: &mut Random) -> Axis {
         speed_limit: 2 * velocity.unsigned_abs() as u32,
         acceleration_limit: acceleration as u32,
         half_period: h as u32,
-        second_weight: weight(random) as u32,
+        damping: damping(random),
         target: Target::Fixed { position: velocity * tick, velocity },
     }
 }
@@ -167,7 +161,7 @@ fn fleeing_axis(random: &mut Random, tick: i64) -> Axis {
         speed_limit: random.between(10, 1_000) as u32,
         acceleration_limit: random.between(9, 50) as u32,
         half_period: random.pick(&[0, 1, 40]),
-        second_weight: 128,
+        damping: Damping::Weight(128),
         target,
     }
 }

@@ -23,7 +23,7 @@ pub fn word(kind: u32, payload: i64) -> u32 {
     kind << 28 | (payload as u32 & 0x0FFF_FFFF)
 }
 
-/// A job in words.
+/// A job in words, with the weight of a damping that was measured.
 pub fn words(job: &Job) -> Vec<u32> {
     let mut list = vec![word(1, i64::from(job.mask)), word(2, i64::from(job.asked))];
     for (_, axis) in job.set() {
@@ -32,7 +32,7 @@ pub fn words(job: &Job) -> Vec<u32> {
         list.push(word(5, i64::from(axis.speed_limit)));
         list.push(word(6, i64::from(axis.acceleration_limit)));
         list.push(word(7, i64::from(axis.half_period)));
-        list.push(word(8, i64::from(axis.second_weight)));
+        list.push(word(8, axis.weight()));
         list.push(word(9, axis.target.position()));
         list.push(word(10, axis.target.velocity()));
         if let Target::Moving { acceleration, tick, .. } = axis.target {

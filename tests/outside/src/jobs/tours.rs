@@ -1,6 +1,6 @@
 //! Random tours: legs of some ticks, valid and damaged.
 
-use super::damaged::{with_unsigned, SIGNED_ENDS, UNSIGNED_ENDS};
+use super::damaged::{strange_damping, with_unsigned, SIGNED_ENDS, UNSIGNED_ENDS};
 use super::drawn::near_axis;
 use crate::random::Random;
 use crate::reference::{Axis, Stop, Tour, MOST_STOPS, UNSET};
@@ -50,12 +50,13 @@ pub fn damaged_tour(random: &mut Random, tour: &Tour, stops: &[Stop]) -> (Tour, 
     let (mut tour, mut stops) = (*tour, stops.to_vec());
     for _ in 0..random.between(1, 2) {
         let (i, at) = (random.below(6), random.below(stops.len().max(1)));
-        match random.below(6) {
+        match random.below(7) {
             0 => tour.mask = random.pick(&[0, 64, 65, 1 << 31, u32::MAX, tour.mask | 1 << i, tour.mask ^ 1 << i]),
             1 => tour.axes[i].start_position = random.pick(&SIGNED_ENDS),
             2 => tour.axes[i] = with_unsigned(tour.axes[i], random.below(4), random.pick(&UNSIGNED_ENDS)),
-            3 if at < stops.len() => stops[at].dwell = random.pick(&[4_096, 4_097, 65_536, 1 << 31, u32::MAX]),
-            4 if at < stops.len() => stops[at].positions[i] = random.pick(&SIGNED_ENDS),
+            3 => tour.axes[i].damping = strange_damping(random),
+            4 if at < stops.len() => stops[at].dwell = random.pick(&[4_096, 4_097, 65_536, 1 << 31, u32::MAX]),
+            5 if at < stops.len() => stops[at].positions[i] = random.pick(&SIGNED_ENDS),
             _ => stops.extend_from_within(..),
         }
     }

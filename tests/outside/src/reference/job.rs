@@ -1,5 +1,7 @@
 //! What a call takes and what it returns: answers, targets, axes and jobs.
 
+use super::Damping;
+
 /// What a call returns.
 #[derive(Clone, Copy, Debug, PartialEq, Eq)]
 pub struct Answer {
@@ -27,7 +29,7 @@ pub struct Axis {
     pub speed_limit: u32,
     pub acceleration_limit: u32,
     pub half_period: u32,
-    pub second_weight: u32,
+    pub damping: Damping,
     pub target: Target,
 }
 
@@ -38,7 +40,7 @@ pub const UNSET: Axis = Axis {
     speed_limit: 0,
     acceleration_limit: 0,
     half_period: 0,
-    second_weight: 0,
+    damping: Damping::Weight(0),
     target: Target::Fixed { position: 0, velocity: 0 },
 };
 
@@ -50,6 +52,18 @@ pub struct Job {
 }
 
 pub const LATEST: i64 = 4096;
+
+impl Axis {
+    /// The second weight B.
+    pub fn weight(&self) -> i64 {
+        i64::from(self.damping.weight())
+    }
+
+    /// The axis with its weight entered by hand.
+    pub fn by_hand(&self) -> Axis {
+        Axis { damping: Damping::Weight(self.damping.weight()), ..*self }
+    }
+}
 
 impl Target {
     pub fn position(&self) -> i64 {
@@ -86,6 +100,11 @@ impl Job {
     /// The axes of the mask, with their numbers.
     pub fn set(&self) -> impl Iterator<Item = (usize, &Axis)> {
         self.axes.iter().enumerate().filter(|&(i, _)| self.mask >> i & 1 == 1)
+    }
+
+    /// The job with the weights of its axes entered by hand.
+    pub fn by_hand(&self) -> Job {
+        Job { axes: self.axes.map(|axis| axis.by_hand()), ..*self }
     }
 
     pub fn count(&self) -> usize {

@@ -13,7 +13,7 @@ pub struct Planned {
     chosen: Option<Chosen>,
 }
 
-/// A weighted sum of the planned motion at two ticks, `first_weight` times the one and `second_weight` times the other:
+/// A weighted sum of the planned motion at two ticks, A times the one and B times the other:
 /// 512 times a position and 256 times a velocity and an acceleration in fine steps.
 #[derive(Clone, Copy, Debug, PartialEq, Eq)]
 pub struct Exact {
@@ -25,7 +25,7 @@ pub struct Exact {
 impl Planned {
     /// None where the arrival is not reachable (rule 4).
     pub fn reaching(axis: &Axis, arrival: i64) -> Option<Planned> {
-        let (h, b) = (i64::from(axis.half_period), i64::from(axis.second_weight));
+        let (h, b) = (i64::from(axis.half_period), axis.weight());
         if arrival <= h {
             return None;
         }
@@ -91,7 +91,7 @@ impl Planned {
 
     /// The blend of `axis` at a tick, before it is divided by 256.
     pub fn exact(&self, axis: &Axis, tick: i64) -> Exact {
-        let (h, b) = (i64::from(axis.half_period), i64::from(axis.second_weight));
+        let (h, b) = (i64::from(axis.half_period), axis.weight());
         let blend = |early: i64, late: i64| (256 - b) * early + b * late;
         Exact {
             position: blend(self.position(tick), self.position(tick - h)),

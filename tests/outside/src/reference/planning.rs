@@ -3,14 +3,18 @@
 use super::job::refusal;
 use super::{Answer, Axis, Job, Planned, Target, LATEST};
 
-/// The number, from 4 to 7, of the check.
+/// The numbers that look at one axis, in checking order.
+const OF_AN_AXIS: [u32; 5] = [4, 12, 5, 6, 7];
+
+/// Whether an axis is refused by one of them.
 fn breaks(number: u32, axis: &Axis) -> bool {
     let size = |x: i64| x.unsigned_abs();
     let position_bad = |p: i64| !(-134_217_728..=134_217_727).contains(&p);
-    let (limit, h, b) = (u64::from(axis.speed_limit), axis.half_period, axis.second_weight);
+    let (limit, h) = (u64::from(axis.speed_limit), axis.half_period);
     match number {
         4 => !(1..=1_048_576).contains(&axis.speed_limit) || !(1..=65_536).contains(&axis.acceleration_limit),
-        5 => h > 256 || !(1..=128).contains(&b),
+        12 => axis.damping.is_refused(),
+        5 => h > 256 || !(1..=128).contains(&axis.weight()),
         6 => {
             let moving_bad = match axis.target {
                 Target::Fixed { .. } => false,
@@ -24,7 +28,7 @@ fn breaks(number: u32, axis: &Axis) -> bool {
                 || position_bad(axis.start_position)
                 || position_bad(axis.target.position())
         }
-        7 => axis.target.acceleration() != 0 && h != 0 && b != 128,
+        7 => axis.target.acceleration() != 0 && h != 0 && axis.weight() != 128,
         _ => unreachable!(),
     }
 }
@@ -38,12 +42,12 @@ impl Job {
         self.set().filter(|(_, axis)| fails(axis)).map(|(i, _)| 1 << i).sum()
     }
 
-    /// The refusal by 3 to 7, if there is one.
+    /// The refusal by 3 or by a number of an axis, if there is one.
     fn refused(&self) -> Option<Answer> {
         if i64::from(self.asked) > LATEST {
             return Some(refusal(3, 1, 0, 0));
         }
-        (4..=7).find_map(|number| {
+        OF_AN_AXIS.into_iter().find_map(|number| {
             let (i, _) = self.set().find(|(_, axis)| breaks(number, axis))?;
             Some(refusal(number, i as u64, 0, 0))
         })
@@ -52,7 +56,11 @@ impl Job {
     /// Whether the job asks for the least arrival and has none up to a tick: a long search, for whoever tries tick
     /// after tick.
     pub fn searches_past(&self, tick: i64) -> bool {
-        self.asked == 0 && self.refused().is_none() && !(1..=tick).any(|n| self.all_reach(n))
+        self.asked == 0 && self.refused().is_none() && self.by_hand().reaches_none_up_to(tick)
+    }
+
+    fn reaches_none_up_to(&self, tick: i64) -> bool {
+        !(1..=tick).any(|n| self.all_reach(n))
     }
 
     /// The arrival, or the refusal by 3 to 9.
@@ -60,6 +68,11 @@ impl Job {
         if let Some(refused) = self.refused() {
             return Err(refused);
         }
+        self.by_hand().reached_arrival()
+    }
+
+    /// The arrival, or the refusal by 8 or 9, of a job that passes the other checks.
+    fn reached_arrival(&self) -> Result<i64, Answer> {
         if self.asked != 0 {
             let asked = i64::from(self.asked);
             let late = self.mask_of(|axis| Planned::reaching(axis, asked).is_none());
@@ -81,7 +94,7 @@ impl Job {
 
     /// The planned motions of an accepted job's axes.
     pub fn motions(&self, arrival: i64) -> Vec<(Axis, Planned)> {
-        self.set().map(|(_, axis)| (*axis, Planned::reaching(axis, arrival).unwrap().with_list())).collect()
+        self.by_hand().set().map(|(_, axis)| (*axis, Planned::reaching(axis, arrival).unwrap().with_list())).collect()
     }
 
     /// From refusal 3 on: the answer, with the cells of an accepted job written to the front of the table.

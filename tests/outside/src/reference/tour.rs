@@ -86,6 +86,7 @@ impl Tour {
 mod tests {
     use super::*;
     use crate::plain::PLAIN;
+    use crate::reference::Damping;
 
     fn tour(mask: u32, axis: Axis) -> Tour {
         Tour { mask, axes: [axis; 6] }
@@ -157,7 +158,7 @@ mod tests {
     /// A leg's arrival is that of its single typed job, which gives its table.
     #[test]
     fn every_leg_is_a_single_typed_job() {
-        let tour = tour(0b101, Axis { half_period: 2, second_weight: 100, ..PLAIN });
+        let tour = tour(0b101, Axis { half_period: 2, damping: Damping::Weight(100), ..PLAIN });
         let stops = [stop(30, 9), stop(-7, 0), stop(-7, 1)];
         let (_, list) = planned(tour, &stops, [0; 3]);
         let (mut from, mut left) = ([0; 6], 0);

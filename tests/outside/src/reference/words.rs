@@ -1,7 +1,7 @@
 //! Jobs as words: refusals 1 and 2, and the call with job words.
 
 use super::job::refusal;
-use super::{Answer, Axis, Job, Target, UNSET};
+use super::{Answer, Axis, Damping, Job, Target, UNSET};
 
 /// Job words, read one after the other.
 struct Reader<'a> {
@@ -37,7 +37,7 @@ impl Reader<'_> {
         let speed_limit = self.unsigned(5)?;
         let acceleration_limit = self.unsigned(6)?;
         let half_period = self.unsigned(7)?;
-        let second_weight = self.unsigned(8)?;
+        let damping = Damping::Weight(self.unsigned(8)?);
         let position = self.signed(9)?;
         let velocity = self.signed(10)?;
         let target = if self.next_is(11) {
@@ -46,7 +46,7 @@ impl Reader<'_> {
         } else {
             Target::Fixed { position, velocity }
         };
-        Ok(Axis { start_position, start_velocity, speed_limit, acceleration_limit, half_period, second_weight, target })
+        Ok(Axis { start_position, start_velocity, speed_limit, acceleration_limit, half_period, damping, target })
     }
 
     fn end(&mut self) -> Result<(), Answer> {

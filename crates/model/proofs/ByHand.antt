@@ -1,0 +1,190 @@
+-- A job with damping as measured has the outcome of the same job with each B entered by hand: `measured-is-by-hand`. Of one axis every
+-- definition but refusal 12 reads the weight as a number only, so that both sides compute to the same.
+use Prim.Native.Nat.{ℕ, zero, suc, _+_, _/_, _%_, _^_}
+use native.Mathlib.Omega.{arith}
+use mathlib.Core.Path.{_≡_, refl, sym, ap, ap₂, _∙_}
+use mathlib.Core.Bool.{Bool, true, false, not, _&&_}
+use mathlib.Core.Option.{Option, none, some}
+use mathlib.Core.List.{List, [], _∷_, _++_, map}
+use lib.IntN.{ℤ}
+use lib.Dec.{eqb, leb, ltb}
+use lib.ListN.{length, drop}
+use Rattle.model.specs.declared.Axis.{Axis}
+use Rattle.model.specs.declared.Target.{Target}
+use Rattle.model.specs.declared.Target.the-variants.{Fixed, Moving}
+use Rattle.model.specs.Motion.{reachable}
+use Rattle.model.specs.Rows.{track, row, table, cells, concat, tabulate}
+use Rattle.model.specs.Job.{Job, JobAxis, axesOf, typedJob, maskWhere, setAxes, byHand, axesByHand, jobByHand}
+use Rattle.model.specs.Words.{goodMask}
+use Rattle.model.specs.Refusals.{lastTick, limitsRefused, dampingRefused, blendRefused, valuesRefused, accelerationRefused}
+use Rattle.model.specs.Refusals.{restAllowed, targetAllowed, AllPassed}
+use Rattle.model.specs.Outcome.{Outcome, typed, call, refuse, allReach, leastFrom, leastArrival, reachesNone, cellsNeeded, tableOver}
+use Rattle.model.specs.Outcome.{accept, filled, arrived, firstAxis, axisRefusals, tested, jobOutcome, outcomeOfTyped}
+
+-- ---- the axes
+
+-- a test that reads the weight as a number only
+abbrev Blind : (Axis → Bool) → Type 0
+Blind f = (x : Axis) → f (byHand x) ≡ f x
+
+target-by-hand : (x : Axis) (t : Target) → targetAllowed (byHand x) t ≡ targetAllowed x t
+target-by-hand x (Fixed r) = refl
+target-by-hand x (Moving m) = refl
+
+values-by-hand : Blind valuesRefused
+values-by-hand x = ap (λ (b : Bool). not (restAllowed x (x .start) && b)) (target-by-hand x (x .target))
+
+pub passed-by-hand : (l : List JobAxis) → AllPassed l → AllPassed (axesByHand l)
+passed-by-hand [] p = tt
+passed-by-hand (x ∷ l) (p, ps) = (
+  record { limits = p .limits; damping = refl; blend = p .blend; values = values-by-hand (x .axis) ∙ p .values; acceleration = p .acceleration },
+  passed-by-hand l ps,
+)
+
+pub set-by-hand : (i m : ℕ) (six : List Axis) → setAxes i m (map byHand six) ≡ axesByHand (setAxes i m six)
+set-by-hand i m [] = refl
+set-by-hand i m (x ∷ xs) = go (eqb (m % 2) 1) (set-by-hand (suc i) (m / 2) xs)
+  where
+    go : (b : Bool) → setAxes (suc i) (m / 2) (map byHand xs) ≡ axesByHand (setAxes (suc i) (m / 2) xs)
+        → (elim b as (λ _. List JobAxis) [
+          | true ↦ record { number = i; axis = byHand x } ∷ setAxes (suc i) (m / 2) (map byHand xs)
+          | false ↦ setAxes (suc i) (m / 2) (map byHand xs)
+        ]) ≡ axesByHand (elim b as (λ _. List JobAxis) [ true ↦ record { number = i; axis = x } ∷ setAxes (suc i) (m / 2) xs | false ↦ setAxes (suc i) (m / 2) xs ])
+    go true h = ap (λ (l : List JobAxis). record { number = i; axis = byHand x } ∷ l) h
+    go false h = h
+
+length-by-hand : (l : List JobAxis) → length (axesByHand l) ≡ length l
+length-by-hand [] = refl
+length-by-hand (x ∷ l) = ap suc (length-by-hand l)
+
+first-by-hand : (f : Axis → Bool) → Blind f → (l : List JobAxis) → firstAxis f (axesByHand l) ≡ firstAxis f l
+first-by-hand f h [] = refl
+first-by-hand f h (x ∷ l) =
+    ap₂ (λ (b : Bool) (o : Option ℕ). elim b as (λ _. Option ℕ) [ true ↦ some (x .number) | false ↦ o ]) (h (x .axis)) (first-by-hand f h l)
+
+mask-by-hand : (f : Axis → Bool) → Blind f → (l : List JobAxis) → maskWhere f (axesByHand l) ≡ maskWhere f l
+mask-by-hand f h [] = refl
+mask-by-hand f h (x ∷ l) =
+    ap₂ (λ (b : Bool) (m : ℕ). elim b as (λ _. ℕ) [ true ↦ 2 ^ (x .number) + m | false ↦ m ]) (h (x .axis)) (mask-by-hand f h l)
+
+-- ---- arrivals
+
+pub reach-by-hand : (l : List JobAxis) (n : ℕ) → allReach (axesByHand l) n ≡ allReach l n
+reach-by-hand [] n = refl
+reach-by-hand (x ∷ l) n = ap (λ (b : Bool). elim (reachable (x .axis) n) as (λ _. Bool) [ true ↦ b | false ↦ false ]) (reach-by-hand l n)
+
+least-by-hand : (l : List JobAxis) → leastArrival (axesByHand l) ≡ leastArrival l
+least-by-hand l = ap (λ (t : ℕ → Bool). leastFrom t 1 lastTick) (λ i n. reach-by-hand l n i)
+
+none-by-hand : Blind (λ x. reachesNone x)
+none-by-hand x =
+    ap (λ (o : Option ℕ). elim o as (λ _. Bool) [ some n ↦ false | none ↦ true ]) (least-by-hand (record { number = 0; axis = x } ∷ []))
+
+-- ---- the table
+
+row-by-hand : (l : List JobAxis) (n k : ℕ)
+    → row (map (track n) (map (λ x. x .axis) (axesByHand l))) k ≡ row (map (track n) (map (λ x. x .axis) l)) k
+row-by-hand [] n k = refl
+row-by-hand (x ∷ l) n k = ap (λ (r : List ℤ). cells k (track n (x .axis)) ++ r) (row-by-hand l n k)
+
+table-by-hand : (j : Job) (n : ℕ) → table (axesOf (jobByHand j)) n ≡ table (axesOf j) n
+table-by-hand j n = ap (λ (f : ℕ → List ℤ). concat (tabulate f 0 (suc n))) (λ i k. row-by-hand (j .axes) n k i)
+
+axes-length : (l : List JobAxis) → length (map (λ x. x .axis) (axesByHand l)) ≡ length (map (λ x. x .axis) l)
+axes-length [] = refl
+axes-length (x ∷ l) = ap suc (axes-length l)
+
+over-by-hand : (j : Job) (n : ℕ) (lent : List ℤ) → tableOver (axesOf (jobByHand j)) n lent ≡ tableOver (axesOf j) n lent
+over-by-hand j n lent = ap₂ (λ (t : List ℤ) (k : ℕ). t ++ drop (cellsNeeded k n) lent) (table-by-hand j n) (axes-length (j .axes))
+
+-- ---- the outcome
+
+abbrev Tests : Type 0
+Tests = List (ℕ × (Axis → Bool))
+
+abbrev afterDamping : Tests
+afterDamping = (5, blendRefused) ∷ (6, valuesRefused) ∷ (7, accelerationRefused) ∷ []
+
+abbrev fromDamping : Tests
+fromDamping = (12, dampingRefused) ∷ afterDamping
+
+pub filled-by-hand : (j : Job) (n : ℕ) (lent : List ℤ) → filled (jobByHand j) n lent ≡ filled j n lent
+filled-by-hand j n lent = λ i. by-room (ltb (length lent) (cellsNeeded (length-by-hand (j .axes) i) n)) (over-by-hand j n lent i)
+  where
+    by-room : Bool → List ℤ → Outcome
+    by-room b cs =
+        elim b as (λ _. Outcome) [
+          | true ↦ refuse 10 0 0 n lent
+          | false ↦ record { number = 0; place = 0; mask = j .mask; arrival = n; cells = cs }
+        ]
+
+pub arrived-by-hand : (j : Job) (asked : ℕ) (lent : List ℤ) → arrived (jobByHand j) asked lent ≡ arrived j asked lent
+arrived-by-hand j zero lent =
+    λ i.
+    elim (least-by-hand (j .axes) i) as (λ _. Outcome) [
+      | some n ↦ filled-by-hand j n lent i
+      | none ↦ refuse 9 0 (mask-by-hand (λ x. reachesNone x) none-by-hand (j .axes) i) 0 lent
+    ]
+arrived-by-hand j (suc n) lent =
+    λ i.
+    elim (reach-by-hand (j .axes) (suc n) i) as (λ _. Outcome) [
+      | true ↦ filled-by-hand j (suc n) lent i
+      | false ↦ refuse 8 0 (mask-by-hand (λ x. not (reachable x (suc n))) (λ x. refl) (j .axes) i) 0 lent
+    ]
+
+-- after refusal 12
+rest-by-hand : (j : Job) (lent : List ℤ) → tested afterDamping (jobByHand j) lent ≡ tested afterDamping j lent
+rest-by-hand j lent =
+    λ i.
+    elim (first-by-hand blendRefused (λ x. refl) (j .axes) i) as (λ _. Outcome) [
+      | some k ↦ refuse 5 k 0 0 lent
+      | none ↦ elim (first-by-hand valuesRefused values-by-hand (j .axes) i) as (λ _. Outcome) [
+        | some k ↦ refuse 6 k 0 0 lent
+        | none ↦ elim (first-by-hand accelerationRefused (λ x. refl) (j .axes) i) as (λ _. Outcome) [
+          | some k ↦ refuse 7 k 0 0 lent
+          | none ↦ arrived-by-hand j (j .asked) lent i
+        ]
+      ]
+    ]
+
+none-refused : (l : List JobAxis) → firstAxis dampingRefused (axesByHand l) ≡ none
+none-refused [] = refl
+none-refused (x ∷ l) = none-refused l
+
+-- what a test leaves of the outcome: of the damping, the limits, the asked arrival and the mask
+abbrev byDamping : Job → List ℤ → Option ℕ → Outcome
+byDamping j lent o = elim o [ some k ↦ refuse 12 k 0 0 lent | none ↦ tested afterDamping j lent ]
+
+abbrev byLimits : Job → List ℤ → Option ℕ → Outcome
+byLimits j lent o = elim o [ some k ↦ refuse 4 k 0 0 lent | none ↦ tested fromDamping j lent ]
+
+abbrev byAsked : Job → List ℤ → Bool → Outcome
+byAsked j lent b = elim b [ true ↦ tested axisRefusals j lent | false ↦ refuse 3 1 0 0 lent ]
+
+abbrev byMask : Job → List ℤ → Bool → Outcome
+byMask j lent b = elim b [ true ↦ jobOutcome j lent | false ↦ refuse 1 0 0 0 lent ]
+
+module _ (j : Job) (lent : List ℤ) where
+  damping : (o : Option ℕ) → (byDamping j lent o .number ≡ 12 → ⊥) → tested fromDamping (jobByHand j) lent ≡ byDamping j lent o
+  damping (some k) h = absurd (h refl)
+  damping none h = ap (byDamping (jobByHand j) lent) (none-refused (j .axes)) ∙ rest-by-hand j lent
+
+  limits : (o : Option ℕ) → (byLimits j lent o .number ≡ 12 → ⊥) → byLimits (jobByHand j) lent o ≡ byLimits j lent o
+  limits (some k) h = refl
+  limits none h = damping (firstAxis dampingRefused (j .axes)) h
+
+  asked : (b : Bool) → (byAsked j lent b .number ≡ 12 → ⊥) → byAsked (jobByHand j) lent b ≡ byAsked j lent b
+  asked true h =
+      ap (byLimits (jobByHand j) lent) (first-by-hand limitsRefused (λ x. refl) (j .axes)) ∙ limits (firstAxis limitsRefused (j .axes)) h
+  asked false h = refl
+
+  masked : (b : Bool) → (byMask j lent b .number ≡ 12 → ⊥) → byMask (jobByHand j) lent b ≡ byMask j lent b
+  masked true h = asked (leb (j .asked) lastTick) h
+  masked false h = refl
+
+-- unless 12 refuses it
+pub measured-is-by-hand : (m a : ℕ) (six : List Axis) (lent : List ℤ) → (call (typed m a six) lent .number ≡ 12 → ⊥)
+    → call (typed m a (map byHand six)) lent ≡ call (typed m a six) lent
+measured-is-by-hand m a six lent h =
+    ap (λ (l : List JobAxis). byMask (record { mask = m; asked = a; axes = l }) lent (goodMask m)) (set-by-hand 0 m six)
+    ∙ masked (typedJob m a six) lent (goodMask m) h

@@ -1,0 +1,23 @@
+use Rattle.model.specs.declared.Weight.the-variants.{Given}
+use borrow.Author.Needs.{needs}
+use Rattle.motion.proofs.by_hand.Statement.{statement}
+use Rattle.motion.proofs.by_hand.Tie as tie
+
+second-weight-requires : tie.Need-second-weight-requires
+second-weight-requires c κs = search needs
+
+returns : tie.Need-returns
+returns c =
+    let x = c .before .before .args .x in
+    λ i.
+    record {
+      start = x .start;
+      «speed_limit» = x .«speed_limit»;
+      «acceleration_limit» = x .«acceleration_limit»;
+      «half_period» = x .«half_period»;
+      «second_weight» = Given (c .second-weight .ensures i);
+      target = x .target;
+    }
+
+pub by-hand-spec : {M : Type 1} → statement M
+by-hand-spec = tie.close (tie.spec second-weight-requires returns)
