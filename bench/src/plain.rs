@@ -256,8 +256,13 @@ struct Track {
     velocity: i64,
 }
 
+/// The nearest whole number, halves away from zero.
 fn nearest(x: i64, by: i64) -> i64 {
-    (x + by / 2).div_euclid(by)
+    if x < 0 {
+        (x - by / 2) / by
+    } else {
+        (x + by / 2) / by
+    }
 }
 
 impl Track {

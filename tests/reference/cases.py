@@ -85,7 +85,7 @@ def readings() -> Group:
         typed('nothing moves, half period 4', [to(5, start=(5, 0), half_period=4)]),
         typed('a fixed target that flies', [axis(start=(0, 1), half_period=4, target=(8, 1))]),
         typed('half units', [axis(target=(0, 0, 1, 0))]),
-        typed('halves upward below 0', [to(-1)], asked=4),
+        typed('halves away from zero, below it', [to(-1)], asked=4),
         typed('4 before 5', [axis(half_period=300), axis(speed_limit=0)]),
         by_words('2 before 3', words_of([to(1)], asked=5000)[:-1]),
         typed('refusal 9 with no axes', [axis(target=(0, 0, 1, 0)), to(1000)]),
@@ -371,6 +371,25 @@ def drawn(seed: int = 20, count: int = 20) -> Group:
     return Group('drawn', 'Random jobs, by words, some damaged, and by typed values.', cases)
 
 
+def mirrors() -> Group:
+    """Jobs and their mirrors. Rule 5 is not mirrored: where a remainder is left,
+    a mirrored job has another list."""
+    def mirror(one: Axis) -> Axis:
+        p, v, *rest = one.target
+        target = State(-p, -v, -rest[0], rest[1]) if rest else RestPoint(-p, -v)
+        return one._replace(start=RestPoint(*(-x for x in one.start)), target=target)
+
+    chosen = (('to 4', to(4), 0), ('to 1, asked 4', to(1), 4), ('half units', axis(target=(0, 0, 1, 0)), 0),
+              ('half fine steps', to(1, half_period=1), 54), ('half period 7, weight 1', to(9, half_period=7, second_weight=1), 0),
+              ('half period 3, weight 64', axis(start=(2, 1), half_period=3, second_weight=64, target=(40, -3)), 0),
+              ('weight 127', axis(start=(-2, 3), half_period=2, second_weight=127, target=(5, 1, 0, 2)), 0),
+              ('accelerating, half period 5', axis(acceleration_limit=2, half_period=5, speed_limit=40, target=(3, 1, 1, 4)), 0))
+    cases = []
+    for name, one, asked in chosen:
+        cases += [typed(name + ', right', [one], asked, lent=180), typed(name + ', left', [mirror(one)], asked, lent=180)]
+    return Group('mirrors', 'Right and left: halves go away from zero.', cases)
+
+
 def groups() -> List[Group]:
     return [field(), readings(), accepted(), refused_words(), refused_values(), hostile(),
-            damping(), drawn(), drawn_damping(count=10)]
+            damping(), mirrors(), drawn(), drawn_damping(count=10)]

@@ -244,8 +244,9 @@ def blended(axis: Axis, planned: Planned, k: int) -> Tuple[int, int, int]:
 
 
 def nearest(numerator: int, denominator: int) -> int:
-    """The quotient rounded to the nearest, halves upward."""
-    return (2 * numerator + denominator) // (2 * denominator)
+    """The quotient rounded to the nearest, halves away from zero (request 2.4)."""
+    size = (2 * abs(numerator) + denominator) // (2 * denominator)
+    return -size if numerator < 0 else size
 
 
 def row_cells(axis: Axis, planned: Planned, k: int) -> List[int]:

@@ -140,7 +140,7 @@ def settled_readings():
     halves = arrives('18', plan([axis(target=(0, 0, 1, 0))]), 1)
     same('18 rows', halves[1][:6], [0, 0, 256, 128, 256, 256])
     below = arrives('19', plan([to(-1)], asked=4), 4)
-    same('19 positions', column(below, 0), [0, -42, -127, -213, -256])
+    same('19 positions', column(below, 0), [0, -43, -128, -213, -256])
     same('19 velocities', column(below, 1), [0, -85, -85, -86, 0])
     refuses('21', plan([axis(half_period=300), axis(speed_limit=0)]), 4, place=1)
     refuses('22', plan([axis(target=(0, 0, 1, 0)), to(1000)]), 9)
@@ -256,6 +256,30 @@ def demand_3(rng, one, n, cells):
         assert abs(left) <= n * max(map(abs, g)), 'sway as rounded'
 
 
+def negated(planned):
+    e = planned.ends
+    ends = e._replace(start_position=-e.start_position, start_velocity=-e.start_velocity,
+                      end_position=-e.end_position, end_velocity=-e.end_velocity,
+                      end_acceleration=-e.end_acceleration)
+    return ref.Planned(ends, [-v for v in planned.velocities], [-q for q in planned.positions])
+
+
+def mirrored(one, n, cells):
+    """Request 2.4: negating a planned motion negates every cell."""
+    planned = negated(ref.plan_axis(one, n))
+    same('mirrored', [ref.row_cells(one, planned, k) for k in range(n + 1)],
+         [[-x for x in row] for row in cells])
+
+
+def rounding(most=12):
+    """Every small quotient: the nearest whole number, and at a half the larger size."""
+    for denominator in range(1, most):
+        for numerator in range(-3 * most, 3 * most):
+            exact = Fraction(numerator, denominator)
+            nearest = min(range(-3 * most, 3 * most + 1), key=lambda x: (abs(x - exact), -abs(x)))
+            same('rounding', ref.nearest(numerator, denominator), nearest)
+
+
 def random_jobs(rng, count=80):
     accepted = 0
     for _ in range(count):
@@ -271,6 +295,7 @@ def random_jobs(rng, count=80):
             rows = [cells[k * width + 3 * rank:k * width + 3 * rank + 3]
                     for k in range(answer.arrival + 1)]
             demand_3(rng, axes[bit], answer.arrival, rows)
+            mirrored(axes[bit], answer.arrival, rows)
     assert accepted > count // 4, 'too few jobs were accepted to say anything'
 
 
@@ -380,13 +405,15 @@ def main():
     settled_readings()
     ranges()
     definitions(rng)
+    rounding()
     random_jobs(rng)
     tour_readings()
     legs_are_single_jobs(rng)
     rounding_to_single(rng)
     damping_readings()
     weights_by_hand(rng)
-    print('reference: field cases, traps, settled readings, ranges, definitions, demand 3, tours, damping: ok')
+    print('reference: field cases, traps, settled readings, ranges, definitions, rounding, demand 3,',
+          'tours, damping: ok')
     return 0
 
 

@@ -1,15 +1,15 @@
 -- Division rounded down, to the nearest and, as the machine divides, toward zero. Theorems that hold whichever way a half is
 -- rounded take no more of `nearest` than `nearest-half`: it is off by a half at most.
-use mathlib.Core.Path.{_≡_, ap, _∙_}
+use mathlib.Core.Path.{_≡_, refl, sym, ap, _∙_}
 use mathlib.Core.Logic.{⊎-elim, _↔_}
-use Prim.Native.Nat.{ℕ, suc, _+_, _*_, _/_, _%_, _<_, _≤_}
+use Prim.Native.Nat.{ℕ, zero, suc, _+_, _*_, _/_, _%_, _<_, _≤_}
 use native.Mathlib.Omega.{arith}
-use native.Mathlib.Nat.{div-add-mod, mod-lt}
-use lib.IntN.{ℤ, pos, negsuc, negℤ, natAbs, _+ℤ_, _-ℤ_, _*ℤ_}
-use lib.Signed.{_≤ℤ_, _<ℤ_, ≤ℤ-refl, shrZ, quotZ, remZ}
-use Rattle.whole.specs.Integers.{nearest}
+use native.Mathlib.Nat.{div-add-mod, mod-lt, div-eq-of-lt, div-eq-of-lt-le}
+use lib.IntN.{ℤ, pos, negsuc, negℤ, natAbs, _+ℤ_, _-ℤ_, _*ℤ_, negℤ-negℤ}
+use lib.Signed.{_≤ℤ_, _<ℤ_, ≤ℤ-refl, shrZ, quotZ}
+use Rattle.whole.specs.Integers.{nearest, nearestSize}
 use Rattle.whole.proofs.Differences.{whole, all₁, all₂, all₃, all₄}
-use Rattle.whole.proofs.Laws.{*ℤ-mono, ≤ℤ-total, ≤ℤ-antisym, <ℤ-weaken, next-≤ℤ, natAbs-*, natAbs-iff}
+use Rattle.whole.proofs.Laws.{*ℤ-mono, ≤ℤ-total, ≤ℤ-antisym, next-≤ℤ, natAbs-*, natAbs-iff}
 
 not-negative : (m : ℕ) → pos 0 ≤ℤ pos m
 not-negative m = simp whole (omega arith)
@@ -52,37 +52,7 @@ pub twice-half : (z : ℤ) → natAbs z % 2 ≡ 0 → pos 2 *ℤ shrZ z 2 ≡ z
 twice-half (pos a) e = ap pos (omega arith)
 twice-half (negsuc a) e = simp whole (omega arith)
 
--- ---- rounded to the nearest
-
--- r is x / d rounded to the nearest, halves upward: d (2r − 1) ≤ 2x < d (2r + 1)
-pub record Rounded (x : ℤ) (d : ℕ) (r : ℤ) : Type 0 where
-  pub low : (pos d *ℤ (pos 2 *ℤ r -ℤ pos 1)) ≤ℤ (pos 2 *ℤ x)
-  pub high : (pos 2 *ℤ x) <ℤ (pos d *ℤ (pos 2 *ℤ r +ℤ pos 1))
-
-pub nearest-is : (x : ℤ) (d : ℕ) → 0 < d → Rounded x d (nearest x d)
-nearest-is x d h =
-    let f : Floor (pos 2 *ℤ x +ℤ pos d) (2 * d) (nearest x d) = shr-floor (pos 2 *ℤ x +ℤ pos d) (2 * d) (omega arith) in
-    record { low = lo d x (nearest x d) (f .low); high = hi d x (nearest x d) (f .high) }
-  where
-    lo : (d : ℕ) (x r : ℤ) → (pos (2 * d) *ℤ r) ≤ℤ (pos 2 *ℤ x +ℤ pos d) → (pos d *ℤ (pos 2 *ℤ r -ℤ pos 1)) ≤ℤ (pos 2 *ℤ x)
-    lo d = all₂ _ (λ a b c e. simp whole (omega arith))
-
-    hi : (d : ℕ) (x r : ℤ) → (pos 2 *ℤ x +ℤ pos d) <ℤ (pos (2 * d) *ℤ r +ℤ pos (2 * d)) → (pos 2 *ℤ x) <ℤ (pos d *ℤ (pos 2 *ℤ r +ℤ pos 1))
-    hi d = all₂ _ (λ a b c e. simp whole (omega arith))
-
-pub rounded-unique : {x : ℤ} {d : ℕ} {r s : ℤ} → Rounded x d r → Rounded x d s → r ≡ s
-rounded-unique f g = floor-unique (doubled f) (doubled g)
-  where
-    lo : (d : ℕ) (x r : ℤ) → (pos d *ℤ (pos 2 *ℤ r -ℤ pos 1)) ≤ℤ (pos 2 *ℤ x) → (pos (2 * d) *ℤ r) ≤ℤ (pos 2 *ℤ x +ℤ pos d)
-    lo d = all₂ _ (λ a b c e. simp whole (omega arith))
-
-    hi : (d : ℕ) (x r : ℤ) → (pos 2 *ℤ x) <ℤ (pos d *ℤ (pos 2 *ℤ r +ℤ pos 1)) → (pos 2 *ℤ x +ℤ pos d) <ℤ (pos (2 * d) *ℤ r +ℤ pos (2 * d))
-    hi d = all₂ _ (λ a b c e. simp whole (omega arith))
-
-    doubled : {x : ℤ} {d : ℕ} {r : ℤ} → Rounded x d r → Floor (pos 2 *ℤ x +ℤ pos d) (2 * d) r
-    doubled {x} {d} {r} h = record { low = lo d x r (h .low); high = hi d x r (h .high) }
-
--- ---- off by a half at most, whichever way a half goes
+-- ---- rounded to the nearest: off by a half at most, whichever way a half goes
 
 -- r is x / d within a half: d (2r − 1) ≤ 2x ≤ d (2r + 1)
 pub record WithinHalf (x : ℤ) (d : ℕ) (r : ℤ) : Type 0 where
@@ -94,10 +64,31 @@ pub half-iff : (x : ℤ) (d : ℕ) (r : ℤ)
     → WithinHalf x d r ↔ (((pos d *ℤ (pos 2 *ℤ r -ℤ pos 1)) ≤ℤ (pos 2 *ℤ x)) × ((pos 2 *ℤ x) ≤ℤ (pos d *ℤ (pos 2 *ℤ r +ℤ pos 1))))
 half-iff x d r = (λ h. (h .low, h .high), λ h. record { low = h .0; high = h .1 })
 
+-- a size, rounded, and the same with the sign turned
+half-size-of : (a d q : ℕ) → 2 * d * q ≤ 2 * a + d → 2 * a + d < 2 * d * q + 2 * d → WithinHalf (pos a) d (pos q)
+half-size-of a d q = simp (whole, half-iff) (omega arith)
+
+half-neg : (d : ℕ) (x r : ℤ) → WithinHalf x d r → WithinHalf (negℤ x) d (negℤ r)
+half-neg d = all₂ _ (λ a b c e. simp (whole, half-iff) (omega arith))
+
+double-some : (d : ℕ) → 0 < d → 0 < 2 * d
+double-some d h = omega arith
+
+size-half : (a d : ℕ) → 0 < d → WithinHalf (pos a) d (pos (nearestSize a d))
+size-half a d h =
+    half-size-of a d (nearestSize a d)
+    (omega (arith, div-add-mod (2 * a + d) (2 * d)))
+    (omega (arith, div-add-mod (2 * a + d) (2 * d), mod-lt (2 * a + d) (double-some d h)))
+
 pub nearest-half : (x : ℤ) (d : ℕ) → 0 < d → WithinHalf x d (nearest x d)
-nearest-half x d h =
-    let n = nearest-is x d h in
-    record { low = n .low; high = <ℤ-weaken (n .high) }
+nearest-half (pos a) d h = size-half a d h
+nearest-half (negsuc a) d h = half-neg d (pos (suc a)) (pos (nearestSize (suc a) d)) (size-half (suc a) d h)
+
+-- the same left and right: the negative is rounded to the negative
+pub nearest-neg : (x : ℤ) (d : ℕ) → 0 < d → nearest (negℤ x) d ≡ negℤ (nearest x d)
+nearest-neg (pos zero) d h = let z : nearestSize 0 d ≡ 0 = div-eq-of-lt (omega arith) in ap (λ (n : ℕ). pos n) z ∙ sym (ap (λ (n : ℕ). negℤ (pos n)) z)
+nearest-neg (pos (suc a)) d h = refl
+nearest-neg (negsuc a) d h = sym (negℤ-negℤ (pos (nearestSize (suc a) d)))
 
 -- a whole number is its own nearest
 half-whole : {z : ℤ} {d : ℕ} {r : ℤ} → 0 < d → WithinHalf (pos d *ℤ z) d r → r ≡ z
@@ -136,71 +127,31 @@ half-size {x} {d} {r} n h k w = natAbs-iff n r .1 (low, high)
         (λ (e : r <ℤ negℤ (pos n)). absurd (below d n x r h k (*ℤ-mono (not-negative d) (next-≤ℤ r (negℤ (pos n)) e)) (w .high)))
         (≤ℤ-total (negℤ (pos n)) r)
 
--- ---- the machine's division
+-- ---- the machine's division, toward zero
 
--- toward zero, with a remainder of the dividend's sign
-record Quotient (z : ℤ) (e : ℕ) : Type 0 where
-  sum : z ≡ pos e *ℤ quotZ z (pos e) +ℤ remZ z (pos e)
-  below : remZ z (pos e) <ℤ pos e
-  above : negℤ (pos e) <ℤ remZ z (pos e)
+-- half the divisor added to the size, d / 2 being rounded down where d is odd
+size-halved : (a d : ℕ) → 0 < d → (a + d / 2) / d ≡ nearestSize a d
+size-halved a d h =
+    sym (div-eq-of-lt-le (2 * d)
+    (omega (arith, div-add-mod (a + d / 2) d))
+    (omega (arith, div-add-mod (a + d / 2) d, mod-lt (a + d / 2) h)))
 
-quotient : (z : ℤ) (e : ℕ) → 0 < e → Quotient z e
-quotient (pos a) e h =
-    record {
-      sum = simp whole (omega (arith, div-add-mod a e));
-      below = simp whole (omega (arith, mod-lt a h));
-      above = simp whole (omega arith);
-    }
-quotient (negsuc a) e h =
-    record {
-      sum = simp whole (omega (arith, div-add-mod (suc a) e));
-      below = simp whole (omega arith);
-      above = simp whole (omega (arith, mod-lt (suc a) h));
-    }
+pub quot-nearest : (x : ℤ) (d : ℕ) → 0 < d → pos 0 ≤ℤ x → quotZ (x +ℤ pos (d / 2)) (pos d) ≡ nearest x d
+quot-nearest (pos a) d h k = ap pos (size-halved a d h)
+quot-nearest (negsuc a) d h k = absurd (k .le)
 
--- the quotient is rounded down where the remainder is not negative, and is one too large where it is
-pub quot-floor : (z : ℤ) (e : ℕ) → 0 < e → pos 0 ≤ℤ remZ z (pos e) → quotZ z (pos e) ≡ shrZ z e
-quot-floor z e h k =
-    let q = quotient z e h in
-    floor-unique
-    (record { low = lo e z (quotZ z (pos e)) (remZ z (pos e)) (q .sum) k; high = hi e z (quotZ z (pos e)) (remZ z (pos e)) (q .sum) (q .below) })
-    (shr-floor z e h)
+not-below : (a : ℕ) → pos a <ℤ pos 0 → ⊥
+not-below a = simp whole (omega arith)
+
+pub quot-nearest-below : (x : ℤ) (d : ℕ) → 0 < d → x <ℤ pos 0 → quotZ (x -ℤ pos (d / 2)) (pos d) ≡ nearest x d
+quot-nearest-below (pos a) d h k = absurd (not-below a k)
+quot-nearest-below (negsuc a) d h k =
+    ap (λ (z : ℤ). quotZ z (pos d)) (further a (d / 2))
+    ∙ ap (λ (n : ℕ). negℤ (pos (n / d))) (one-more (d / 2))
+    ∙ ap (λ (n : ℕ). negℤ (pos n)) (size-halved (suc a) d h)
   where
-    lo : (e : ℕ) (z q r : ℤ) → z ≡ pos e *ℤ q +ℤ r → pos 0 ≤ℤ r → (pos e *ℤ q) ≤ℤ z
-    lo e = all₃ _ (λ a b c d g h. simp whole (omega arith))
+    further : (a k : ℕ) → negsuc a -ℤ pos k ≡ negsuc (a + k)
+    further a k = simp whole (omega arith)
 
-    hi : (e : ℕ) (z q r : ℤ) → z ≡ pos e *ℤ q +ℤ r → r <ℤ pos e → z <ℤ (pos e *ℤ q +ℤ pos e)
-    hi e = all₃ _ (λ a b c d g h. simp whole (omega arith))
-
-pub quot-floor-less : (z : ℤ) (e : ℕ) → 0 < e → remZ z (pos e) <ℤ pos 0 → quotZ z (pos e) -ℤ pos 1 ≡ shrZ z e
-quot-floor-less z e h k =
-    let q = quotient z e h in
-    floor-unique
-    (record { low = lo e z (quotZ z (pos e)) (remZ z (pos e)) (q .sum) (q .above); high = hi e z (quotZ z (pos e)) (remZ z (pos e)) (q .sum) k })
-    (shr-floor z e h)
-  where
-    lo : (e : ℕ) (z q r : ℤ) → z ≡ pos e *ℤ q +ℤ r → negℤ (pos e) <ℤ r → (pos e *ℤ (q -ℤ pos 1)) ≤ℤ z
-    lo e = all₃ _ (λ a b c d g h. simp whole (omega arith))
-
-    hi : (e : ℕ) (z q r : ℤ) → z ≡ pos e *ℤ q +ℤ r → r <ℤ pos 0 → z <ℤ (pos e *ℤ (q -ℤ pos 1) +ℤ pos e)
-    hi e = all₃ _ (λ a b c d g h. simp whole (omega arith))
-
--- to the nearest without doubling: x + d/2 divided by d and rounded down, d/2 being rounded down where d is odd
-pub shr-nearest : (x : ℤ) (d : ℕ) → 0 < d → shrZ (x +ℤ pos (d / 2)) d ≡ nearest x d
-shr-nearest x d h = rounded-unique (halved (shr-floor (x +ℤ pos (d / 2)) d h)) (nearest-is x d h)
-  where
-    lo : (d k : ℕ) (x r : ℤ) → 2 * k ≤ d → (pos d *ℤ r) ≤ℤ (x +ℤ pos k) → (pos d *ℤ (pos 2 *ℤ r -ℤ pos 1)) ≤ℤ (pos 2 *ℤ x)
-    lo d k = all₂ _ (λ a b c e. simp whole (omega arith))
-
-    hi : (d k : ℕ) (x r : ℤ) → d ≤ 2 * k + 1 → (x +ℤ pos k) <ℤ (pos d *ℤ r +ℤ pos d) → (pos 2 *ℤ x) <ℤ (pos d *ℤ (pos 2 *ℤ r +ℤ pos 1))
-    hi d k = all₂ _ (λ a b c e. simp whole (omega arith))
-
-    halved : {r : ℤ} → Floor (x +ℤ pos (d / 2)) d r → Rounded x d r
-    halved {r} f = record { low = lo d (d / 2) x r (omega arith) (f .low); high = hi d (d / 2) x r (omega arith) (f .high) }
-
--- rounding by the quotient toward zero of x + d / 2, less one where the remainder is below zero
-pub quot-nearest : (x : ℤ) (d : ℕ) → 0 < d → pos 0 ≤ℤ remZ (x +ℤ pos (d / 2)) (pos d) → quotZ (x +ℤ pos (d / 2)) (pos d) ≡ nearest x d
-quot-nearest x d h k = quot-floor (x +ℤ pos (d / 2)) d h k ∙ shr-nearest x d h
-
-pub quot-nearest-less : (x : ℤ) (d : ℕ) → 0 < d → remZ (x +ℤ pos (d / 2)) (pos d) <ℤ pos 0 → quotZ (x +ℤ pos (d / 2)) (pos d) -ℤ pos 1 ≡ nearest x d
-quot-nearest-less x d h k = quot-floor-less (x +ℤ pos (d / 2)) d h k ∙ shr-nearest x d h
+    one-more : (k : ℕ) → suc (a + k) ≡ suc a + k
+    one-more k = omega arith

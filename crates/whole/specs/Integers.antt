@@ -1,9 +1,9 @@
 -- Whole numbers: the lesser and the greater of two, a number brought between two, the sum of a range, and division rounded to the
 -- nearest. The size of z is the library's `natAbs z`.
-use Prim.Native.Nat.{ℕ, zero, suc, _*_}
+use Prim.Native.Nat.{ℕ, zero, suc, _+_, _*_, _/_}
 use mathlib.Core.Bool.{cond}
-use lib.IntN.{ℤ, pos, _+ℤ_, _*ℤ_}
-use lib.Signed.{leZ, shrZ}
+use lib.IntN.{ℤ, pos, negsuc, negℤ, _+ℤ_}
+use lib.Signed.{leZ}
 
 abbrev pub least : ℤ → ℤ → ℤ
 least a b = cond (leZ a b) a b
@@ -20,6 +20,11 @@ abbrev pub sumTo : (ℕ → ℤ) → ℕ → ℤ
 sumTo f zero = pos 0
 sumTo f (suc n) = sumTo f n +ℤ f (suc n)
 
--- x / m rounded to the nearest whole number, halves upward: (2x + m) / 2m rounded down
+-- n / m rounded to the nearest natural number, halves upward: (2n + m) / 2m rounded down
+abbrev pub nearestSize : ℕ → ℕ → ℕ
+nearestSize n m = (2 * n + m) / (2 * m)
+
+-- x / m rounded to the nearest whole number, halves away from zero: the size is rounded, halves upward, and keeps its sign
 abbrev pub nearest : ℤ → ℕ → ℤ
-nearest x m = shrZ (pos 2 *ℤ x +ℤ pos m) (2 * m)
+nearest (pos n) m = pos (nearestSize n m)
+nearest (negsuc n) m = negℤ (pos (nearestSize (suc n) m))

@@ -113,10 +113,10 @@ fn easily_misread() {
     assert_eq!(arrival(one(passing)), 7);
     // Half units of a moving target are kept.
     assert_eq!(outcome(one(after(0, 0, 1, 0)), 6).1, [[0, 0, 256], [128, 256, 256]]);
-    // Halves go toward plus infinity.
+    // Halves go away from zero, and rule 5 is not mirrored.
     let back = asked(one(to(-1)), 4);
     assert_eq!(velocities(back), [0, -85, -85, -86, 0]);
-    assert_eq!(positions(back), [0, -42, -127, -213, -256]);
+    assert_eq!(positions(back), [0, -43, -128, -213, -256]);
     // A moving target is carried back before its tick.
     assert_eq!(arrival(one(after(10, 1, 0, 10))), 3);
     // By number, then by axis.

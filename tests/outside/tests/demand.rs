@@ -5,7 +5,7 @@
 use outside::jobs::{self, Reach};
 use outside::library;
 use outside::random::Random;
-use outside::reference::{Axis, Job, Planned};
+use outside::reference::{Axis, Exact, Job, Planned};
 use outside::swing;
 
 /// The cells of one axis of a table, a row each.
@@ -61,6 +61,15 @@ fn sway_is_cancelled(random: &mut Random, axis: &Axis, arrival: usize, rows: &[[
     tried
 }
 
+/// The cells are those of the exact blend, and of the negated blend negated.
+fn cells_are_rounded_alike(planned: &Planned, axis: &Axis, rows: &[[i64; 3]]) {
+    for (k, row) in rows.iter().enumerate() {
+        let Exact { position, velocity, acceleration } = planned.exact(axis, k as i64);
+        let negated = Exact { position: -position, velocity: -velocity, acceleration: -acceleration };
+        assert_eq!(negated.cells().map(|cell| -cell), *row, "{axis:?} row {k}");
+    }
+}
+
 /// Tries `count` jobs of a reach; answers how many axes were landed, and how many swing lists that are not zero were
 /// tried on undamped and on damped axes.
 fn run(seed: u64, reach: Reach, count: usize, lists: usize) -> [usize; 3] {
@@ -81,11 +90,13 @@ fn run(seed: u64, reach: Reach, count: usize, lists: usize) -> [usize; 3] {
             continue;
         }
         let arrival = answer.arrival as usize;
-        for (rank, (_, axis)) in job.set().enumerate() {
+        for (rank, (_, axis)) in job.by_hand().set().enumerate() {
             let rows = rows_of(&table, job.count(), rank, arrival);
             landing_is_exact(axis, arrival as i64, rows[arrival]);
             misses_are_small(&rows);
             cells_are_within_limits(axis, &rows);
+            let planned = Planned::reaching(axis, arrival as i64).unwrap().with_list();
+            cells_are_rounded_alike(&planned, axis, &rows);
             tried[0] += 1;
             if axis.half_period > 0 {
                 let kind = if axis.weight() == 128 { 1 } else { 2 };

@@ -101,14 +101,49 @@ impl Planned {
     }
 }
 
-/// The nearest whole number, halves upward.
+/// The nearest whole number, halves away from zero (request 2.4).
 fn nearest(x: i64, by: i64) -> i64 {
-    (2 * x + by).div_euclid(2 * by)
+    x.signum() * ((2 * x.abs() + by) / (2 * by))
 }
 
 impl Exact {
     /// The three cells of a row.
     pub fn cells(&self) -> [i64; 3] {
         [nearest(self.position, 512), nearest(self.velocity, 256), nearest(self.acceleration, 256)]
+    }
+}
+
+#[cfg(test)]
+mod tests {
+    use super::*;
+    use crate::plain::{asked, one, to};
+    use crate::random::Random;
+
+    #[test]
+    fn halves_go_away_from_zero() {
+        let rounded: Vec<i64> = (-8..=8).map(|x| nearest(x, 4)).collect();
+        assert_eq!(rounded, [-2, -2, -2, -1, -1, -1, -1, 0, 0, 0, 1, 1, 1, 1, 2, 2, 2]);
+    }
+
+    #[test]
+    fn a_negated_motion_has_negated_cells() {
+        let mut random = Random::new(44);
+        for _ in 0..10_000 {
+            let mut some = || random.between(-1 << 20, 1 << 20) * 64;
+            let there = Exact { position: some(), velocity: some(), acceleration: some() };
+            let back =
+                Exact { position: -there.position, velocity: -there.velocity, acceleration: -there.acceleration };
+            assert_eq!(there.cells().map(|cell| -cell), back.cells());
+        }
+    }
+
+    /// Only the rounding is mirrored, and not the list that rule 5 chooses.
+    #[test]
+    fn to_the_left() {
+        let mut table = [0; 15];
+        asked(one(to(-1)), 4).plan(&mut table);
+        let column = |j: usize| table.chunks(3).map(|row| row[j]).collect::<Vec<i64>>();
+        assert_eq!(column(0), [0, -43, -128, -213, -256]);
+        assert_eq!(column(1), [0, -85, -85, -86, 0]);
     }
 }
