@@ -19,7 +19,7 @@
  * Threads. The library has no state, takes no lock, allocates no memory and makes no system call. Any number of threads may call
  * it at the same time, each with a table of its own.
  *
- * Stack and time. A call for a table takes up to 8,000 bytes of stack, its job among them, and a tour up to 20,000. The longest
+ * Stack and time. A call for a table takes up to 12,000 bytes of stack, its job among them, and a tour up to 20,000. The longest
  * search, over six axes to refusal 9, takes 50 microseconds of a 2.5 GHz core, 0.2 s where targets accelerate, and a tour has one
  * search a leg; with an arrival asked for the longest call takes 2 ms.
  */
@@ -48,6 +48,9 @@ uint32_t polgamir_version(void);
 /* A job has at most this many axes, numbered from 0. */
 #define POLGAMIR_AXES 6
 
+/* A job brings at most this many windows. */
+#define POLGAMIR_WINDOWS 32
+
 /* The latest arrival. */
 #define POLGAMIR_LATEST_ARRIVAL 4096
 
@@ -58,7 +61,7 @@ uint32_t polgamir_version(void);
 #define POLGAMIR_MOST_CELLS 73746
 
 /* Enough bytes of stack for a call for a table, also where the loader binds memcpy during the first one. */
-#define POLGAMIR_STACK 12288
+#define POLGAMIR_STACK 16384
 
 /*
  * The numbers that a call returns.
@@ -78,8 +81,12 @@ uint32_t polgamir_version(void);
  *  6  Start or target velocity exceeds L in size, target acceleration exceeds M in size, target tick exceeds 4,096 in size, or a
  *     typed position is outside -134,217,728 to 134,217,727; the place is the axis.
  *  7  The target accelerates while h is not 0 and B is not 128; the place is the axis.
- *  8  The asked arrival is not reachable for every axis; the mask names those for which it is not.
- *  9  No common arrival is asked for and none exists in 1 to 4,096; the mask, perhaps 0, names axes that alone reach none.
+ * 13  The window list is empty (place 0); there are more than 32 windows, or then the dwell is above 4,096 (place 32); then the
+ *     first window whose closing is not above its opening or that opens before the previous one closes (the place is its index).
+ *  8  The asked arrival is not reachable for every axis, or fits no window; the mask names the axes for which it is not reachable,
+ *     and is 0 where it is for all.
+ *  9  No common arrival is asked for and none exists in 1 to 4,096 that fits a window where windows are given; the mask, perhaps 0,
+ *     names axes that alone reach none, whatever the windows.
  * 10  The lent table has fewer than 3 * axes * (N + 1) cells; the arrival is N. Of a tour: the lent list is shorter than the stops;
  *     the place is the number of stops.
  * 11  A tour has more than 64 stops; the place is 64. Or a dwell is above 4,096; the place is the first such stop. Checked before a
@@ -98,6 +105,7 @@ enum polgamir_number {
     POLGAMIR_REFUSED_BLEND = 5,
     POLGAMIR_REFUSED_START_OR_TARGET = 6,
     POLGAMIR_REFUSED_ACCELERATING_TARGET = 7,
+    POLGAMIR_REFUSED_WINDOWS = 13,
     POLGAMIR_REFUSED_NOT_REACHABLE = 8,
     POLGAMIR_REFUSED_NO_COMMON_ARRIVAL = 9,
     POLGAMIR_REFUSED_TABLE_TOO_SHORT = 10,
@@ -119,8 +127,9 @@ static inline const char *polgamir_refusal_text(uint32_t number)
         return "a velocity is above the speed limit, the target acceleration is above the acceleration limit, the target tick is "
                "more than 4096 ticks from tick 0, or a position is not -134217728 to 134217727";
     case POLGAMIR_REFUSED_ACCELERATING_TARGET: return "the target accelerates while the swing of its pole shrinks";
-    case POLGAMIR_REFUSED_NOT_REACHABLE: return "not every axis can arrive at the asked tick";
-    case POLGAMIR_REFUSED_NO_COMMON_ARRIVAL: return "no tick from 1 to 4096 suits every axis";
+    case POLGAMIR_REFUSED_WINDOWS: return "windows are lacking, more than 32, out of order or closed at once, or the dwell is above 4096";
+    case POLGAMIR_REFUSED_NOT_REACHABLE: return "not every axis can arrive at the asked tick, or it fits no window";
+    case POLGAMIR_REFUSED_NO_COMMON_ARRIVAL: return "no tick from 1 to 4096 suits every axis and fits a window where some are given";
     case POLGAMIR_REFUSED_TABLE_TOO_SHORT: return "the table is too short for rows 0 to the arrival, or the list for a tour's stops";
     case POLGAMIR_REFUSED_STOPS: return "a tour has more than 64 stops, or a dwell above 4096";
     default: return "a number that this header does not have";
@@ -203,6 +212,20 @@ typedef struct polgamir_axis {
     float second_peak;
 } polgamir_axis;
 
+/* A window of ticks. Arrival N fits it if opening <= N, N < closing and N + dwell <= closing. Windows may touch; they do not join. */
+typedef struct polgamir_window {
+    uint32_t opening;
+    uint32_t closing;
+} polgamir_window;
+
+/* Windows of a job, and how long the head stays from its arrival on. */
+typedef struct polgamir_windows {
+    uint32_t given;                         /* 0 for a job without windows: what follows is then not looked at */
+    uint32_t dwell;                         /* 0 to 4,096 ticks */
+    uint64_t count;                         /* 1 to 32 */
+    polgamir_window list[POLGAMIR_WINDOWS]; /* the first `count`, in the order of their ticks */
+} polgamir_windows;
+
 /*
  * A job. `polgamir_job job = {0};` is a job with no axis and the least arrival, to be filled in. What is left at 0 in an axis of the
  * mask is a start or a target of 0 at rest, a fixed target and no blend; its limits and its damping have to be said.
@@ -211,6 +234,7 @@ typedef struct polgamir_job {
     uint32_t mask;                     /* bit i is set where axis i takes part: 1 to 63 */
     uint32_t asked;                    /* 0 for the least arrival, or the arrival asked for, 1 to 4,096 */
     polgamir_axis axes[POLGAMIR_AXES]; /* an axis that is not in the mask is never looked at */
+    polgamir_windows windows;
 } polgamir_job;
 
 /* Plans a job, and writes its table to the `table_cells` cells at `table`. Its refusals are 1, 3 to 10 and 12. */

@@ -26,7 +26,7 @@ fn axis(speed_limit: u32, acceleration_limit: u32, half_period: u32, second_weig
 fn one(axis: Axis) -> Job {
     let mut axes = [UNSET; 6];
     axes[0] = axis;
-    Job { mask: 1, asked: 0, axes }
+    Job { mask: 1, asked: 0, axes, windows: None }
 }
 
 /// Six axes whose own least arrivals are 3,960 to 4,000.
@@ -164,7 +164,7 @@ fn by_row(name: &str, job: &Job, arrival: u32) {
 /// is the time of 20 sums an axis, and 11 of them are taken off.
 fn rows_alone(name: &str, axes: u32, arrival: u32) {
     let slow = |speed: u32| {
-        let mut job = Job { mask: (1 << axes) - 1, asked: arrival, axes: [UNSET; 6] };
+        let mut job = Job { mask: (1 << axes) - 1, asked: arrival, axes: [UNSET; 6], windows: None };
         for i in 0..axes as usize {
             job.axes[i] = axis(speed, 1, 30 * i as u32, 128, 70 * (i as i64 + 1));
         }
@@ -218,7 +218,7 @@ fn tour(name: &str) {
 fn main() {
     let short = one(axis(10, 1, 4, 100, 56));
     let long = one(axis(100, 1, 40, 128, 185_900));
-    let wide = Job { mask: 63, asked: 0, axes: six() };
+    let wide = Job { mask: 63, asked: 0, axes: six(), windows: None };
     let never = one(axis(1, 1, 0, 128, 100_000_000));
 
     // The first second or two of a process run slower here, and are not counted.

@@ -361,7 +361,7 @@ fn arrival(job: &Job, search: Search) -> Result<u32, Answer> {
     let failing =
         |fails: &dyn Fn(&Axis) -> bool| -> u32 { job.set().filter(|(_, axis)| fails(axis)).map(|(i, _)| 1 << i).sum() };
     if job.asked == 0 {
-        let alone = |axis: &Axis| least(&Job { mask: 1, asked: 0, axes: [*axis; 6] });
+        let alone = |axis: &Axis| least(&Job { mask: 1, asked: 0, axes: [*axis; 6], windows: None });
         return least(job).ok_or_else(|| refusal(9, failing(&|axis| alone(axis).is_none()), 0));
     }
     if job.set().all(|(_, axis)| reaches(axis, job.asked)) {

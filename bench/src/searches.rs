@@ -6,7 +6,7 @@ use outside::reference::{Axis, Damping, Job, Target, UNSET};
 pub fn out_of_reach() -> Job {
     let target = Target::Fixed { position: 100_000_000, velocity: 0 };
     let axis = Axis { speed_limit: 1, acceleration_limit: 1, damping: Damping::Weight(128), target, ..UNSET };
-    Job { mask: 63, asked: 0, axes: [axis; 6] }
+    Job { mask: 63, asked: 0, axes: [axis; 6], windows: None }
 }
 
 /// Six axes that lead each other on, in seven turns. Each starts at its speed limit and is to pass its target at that
@@ -27,7 +27,7 @@ pub fn in_turns() -> Job {
         passing(592, 589),
         passing(535, 532),
     ];
-    Job { mask: 63, asked: 0, axes }
+    Job { mask: 63, asked: 0, axes, windows: None }
 }
 
 /// Some axes whose targets accelerate, far ahead and at a speed that the axes can reach: the ends can be joined at every
@@ -35,5 +35,5 @@ pub fn in_turns() -> Job {
 pub fn accelerating(axes: u32) -> Job {
     let target = Target::Moving { position: 130_000_000, velocity: 0, acceleration: 1, tick: 0 };
     let axis = Axis { speed_limit: 5_000, acceleration_limit: 2, damping: Damping::Weight(128), target, ..UNSET };
-    Job { mask: (1 << axes) - 1, asked: 0, axes: [axis; 6] }
+    Job { mask: (1 << axes) - 1, asked: 0, axes: [axis; 6], windows: None }
 }

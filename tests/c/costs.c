@@ -17,7 +17,7 @@
 #define PAINT 0xA5
 
 /* The bytes that the header says a call takes by itself, for a job and for a tour. */
-#define JOB_STACK 8000
+#define JOB_STACK 12000
 #define TOUR_STACK 20000
 
 /* Seconds of processor time, some times what the header says of a 2.5 GHz core: room for a slower or a busy machine, not for another order. */

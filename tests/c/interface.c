@@ -37,7 +37,16 @@ _Static_assert(sizeof(polgamir_axis) == 88, "polgamir_axis");
 AT(polgamir_job, mask, 0);
 AT(polgamir_job, asked, 4);
 AT(polgamir_job, axes, 8);
-_Static_assert(sizeof(polgamir_job) == 536, "polgamir_job");
+AT(polgamir_job, windows, 536);
+_Static_assert(sizeof(polgamir_job) == 808, "polgamir_job");
+AT(polgamir_windows, given, 0);
+AT(polgamir_windows, dwell, 4);
+AT(polgamir_windows, count, 8);
+AT(polgamir_windows, list, 16);
+_Static_assert(sizeof(polgamir_windows) == 272, "polgamir_windows");
+AT(polgamir_window, opening, 0);
+AT(polgamir_window, closing, 4);
+_Static_assert(sizeof(polgamir_window) == 8, "polgamir_window");
 AT(polgamir_stop, positions, 0);
 AT(polgamir_stop, dwell, 48);
 _Static_assert(sizeof(polgamir_stop) == 56, "polgamir_stop");
@@ -83,13 +92,15 @@ static bool is(polgamir_answer answer, uint32_t number, uint64_t place, uint32_t
 #define CELLS 3000
 static int64_t table[CELLS];
 
-/* A job of one axis, no two values of which are the same; what its other axes hold is of no effect. It lands at tick 300. */
+/* A job of one axis, no two values of which are the same; what its other axes and its windows hold, which are not given, is of no
+ * effect. It lands at tick 300. */
 static polgamir_job distinct(unsigned axis)
 {
     polgamir_job job;
     memset(&job, 0x81, sizeof job);
     job.mask = 1u << axis;
     job.asked = 300;
+    job.windows.given = 0;
     job.axes[axis] = (polgamir_axis){
         .start_position = -701,
         .start_velocity = 11,
@@ -247,12 +258,12 @@ static void takes_null(void)
 /* Every number has a text of its own. */
 static void has_texts(void)
 {
-    for (uint32_t number = 0; number <= POLGAMIR_REFUSED_DAMPING + 1; number++) {
+    for (uint32_t number = 0; number <= POLGAMIR_REFUSED_WINDOWS + 1; number++) {
         for (uint32_t other = 0; other < number; other++) {
             expect(strcmp(polgamir_refusal_text(number), polgamir_refusal_text(other)) != 0, "two numbers with one text", other);
         }
     }
-    expect(polgamir_refusal_text(POLGAMIR_REFUSED_DAMPING + 1) == polgamir_refusal_text(UINT32_MAX), "a number above the last", 0);
+    expect(polgamir_refusal_text(POLGAMIR_REFUSED_WINDOWS + 1) == polgamir_refusal_text(UINT32_MAX), "a number above the last", 0);
 }
 
 /* A tour of one axis, whose legs and refusals are worked out by hand: from 0, with L = 10, M = 1 and no blend, 4 units take 4 ticks. */
@@ -289,6 +300,27 @@ static void tours(unsigned axis)
     expect(answer.number == 0 && answer.mask == 0 && answer.total == 0, "a tour of no stops", axis);
 }
 
+/* Windows: one axis from 0 to 4 with L = 10, M = 1 and no blend, which alone arrives at tick 4. */
+static void windows(unsigned axis)
+{
+    polgamir_job job = {.mask = 1u << axis};
+    job.axes[axis] = (polgamir_axis){.target_position = 4, .speed_limit = 10, .acceleration_limit = 1, .second_weight = 128};
+    job.windows = (polgamir_windows){.given = 0, .dwell = 5000, .count = 0};
+    expect(polgamir_plan_job(job, table, CELLS).arrival == 4, "windows that are not given", axis);
+    job.windows = (polgamir_windows){.given = 1, .dwell = 2, .count = 2, .list = {{0, 5}, {5, 9}}};
+    expect(polgamir_plan_job(job, table, CELLS).arrival == 5, "touching windows do not join", axis);
+    job.windows.count = 1;
+    expect(is(polgamir_plan_job(job, table, CELLS), 9, 0, 0), "no window holds arrival and dwell", axis);
+    job.asked = 4;
+    expect(is(polgamir_plan_job(job, table, CELLS), 8, 0, 0), "an asked arrival outside the window", axis);
+    job.windows.count = 0;
+    expect(is(polgamir_plan_job(job, table, CELLS), 13, 0, 0), "an empty list", axis);
+    job.windows.count = 33;
+    expect(is(polgamir_plan_job(job, table, CELLS), 13, 32, 0), "more than 32 windows", axis);
+    job.windows = (polgamir_windows){.given = 1, .count = 2, .list = {{0, 5}, {4, 9}}};
+    expect(is(polgamir_plan_job(job, table, CELLS), 13, 1, 0), "a window that opens before the one before it closes", axis);
+}
+
 int main(void)
 {
     expect(polgamir_version() == POLGAMIR_VERSION, "the library's version is the header's", 0);
@@ -296,6 +328,7 @@ int main(void)
         reads_the_ends(axis);
         reads_the_limits(axis);
         tours(axis);
+        windows(axis);
         reads_the_damping(axis);
     }
     takes_null();

@@ -1,14 +1,14 @@
 """What cases are made of: axes, planning cases and groups.
 
-A planning case is a name, an input (job words, or a mask, an asked arrival and
-six typed axes) and a number of lent cells. What is expected of it is never
-written here: the reference computes it.
+A planning case is a name, an input (job words, or a mask, an asked arrival, six
+typed axes and perhaps windows) and a number of lent cells. What is expected of
+it is never written here: the reference computes it.
 """
 
 import random
 from typing import List, NamedTuple, Optional
 
-from reference import Axis, Job, Outcome, RestPoint, State, encode, plan_typed, plan_words
+from reference import Axis, Job, Outcome, RestPoint, State, Windows, encode, plan_typed, plan_words
 
 LOWEST, HIGHEST = -2 ** 63, 2 ** 63 - 1     # the ends of a 64-bit signed number
 MOST = 2 ** 32 - 1                          # the end of a 32-bit unsigned one
@@ -25,13 +25,14 @@ class Case(NamedTuple):
     asked: int
     axes: List[Axis]            # six
     lent: int
+    windows: Optional[Windows] = None
 
 
 def outcome(case: Case, lent: List[int]) -> Outcome:
     """What the reference answers, and the lent cells as the call leaves them."""
     if case.words is not None:
         return plan_words(case.words, lent)
-    return plan_typed(case.mask, case.asked, case.axes, lent)
+    return plan_typed(case.mask, case.asked, case.axes, lent, case.windows)
 
 
 class Group(NamedTuple):

@@ -12,6 +12,7 @@ from builders import (HIGHEST, LOWEST, MOST, Case, Group, axis, by_values, by_wo
 from dampingcases import damping, drawn_damping, drawn_weights, weights
 from reference import Axis, RestPoint, State
 from tourcases import drawn_tours, tours
+from windowcases import drawn_windows, windows
 
 
 # --- Field cases and traps -------------------------------------------------

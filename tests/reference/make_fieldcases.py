@@ -13,13 +13,14 @@ cases into a folder.
 
 import os
 import sys
-from typing import List, NamedTuple, Tuple
+from typing import List, NamedTuple, Optional, Tuple
 
 import cases
 from builders import UNSET, outcome
 from damping import Peaks, Ratio
-from reference import Answer, Axis
+from reference import Answer, Axis, Windows
 from tourcases import TourCase, drawn_tours, tours
+from windowcases import drawn_windows, windows
 
 CRATE = os.path.join(os.path.dirname(os.path.abspath(__file__)), '../../crates/fieldcases')
 BUFFER = 73760                  # the cells of the program's buffer
@@ -133,6 +134,16 @@ def case_lines(e: Expected, shown: Outcome, cells: List[Tuple[int, int]]) -> Lis
     return lines + [', '.join([' cells %d' % len(cells)] + pairs)]
 
 
+def windows_text(windows: Optional[Windows]) -> str:
+    """Whether windows are given, the dwell, their count and the first 32. Where
+    none are given the rest would be refused if it were looked at."""
+    dwell, pairs, count = 4097, [(2, 1)], 33
+    if windows is not None:
+        dwell, pairs, count = windows.dwell, windows.pairs[:32], len(windows.pairs)
+    return '%d dwell %d of %d: %d' % (windows is not None, dwell, count, len(pairs)) + ''.join(
+        ', %d %d' % tuple(pair) for pair in pairs)
+
+
 def job_lines(case: cases.Case) -> List[str]:
     head = '"%s" lent %d' % (case.name, case.lent)
     if case.words is not None:
@@ -141,7 +152,8 @@ def job_lines(case: cases.Case) -> List[str]:
         lines += [' ' + ' '.join(words[i:i + 10]) for i in range(0, len(words), 10)]
     else:
         listed = sum(1 << bit for bit in range(6) if case.axes[bit] != UNSET)
-        lines = ['%s typed mask %d asked %d listed %d' % (head, case.mask, case.asked, listed)]
+        lines = ['%s typed mask %d asked %d laser %s listed %d' % (
+            head, case.mask, case.asked, windows_text(case.windows), listed)]
         lines += [axis_line(axis) for axis in case.axes if axis != UNSET]
     return lines
 
@@ -223,7 +235,8 @@ def tour_groups() -> List[cases.Group]:
 
 
 def drawn_groups(seed: int, count: int) -> List[cases.Group]:
-    return [cases.drawn(seed, count), cases.drawn_damping(seed, count // 3), cases.Group('drawn tours', 'Random tours.', drawn_tours(seed, count))]
+    return [cases.drawn(seed, count), cases.drawn_damping(seed, count // 3), drawn_windows(seed, count // 3),
+            cases.Group('drawn tours', 'Random tours.', drawn_tours(seed, count))]
 
 
 def is_stored(folder: str, pair: Tuple[str, str]) -> bool:
@@ -237,7 +250,7 @@ def main(words: List[str]) -> int:
     if words[:1] == ['--drawn'] and len(words) == 4:
         write(words[3], texts(drawn_groups(int(words[1]), int(words[2]))))
         return 0
-    pair = texts(cases.groups() + tour_groups(), wrong_on_purpose())
+    pair = texts(cases.groups() + [windows(), drawn_windows()] + tour_groups(), wrong_on_purpose())
     if words == ['--check']:
         same = is_stored(CRATE, pair)
         print('as stored' if same else 'not as stored')

@@ -20,6 +20,8 @@ from damping import Damping, weight_of
 FINE = 256                      # fine steps in a unit; also A + B
 LAST_TICK = 4096                # the latest arrival
 AXES = 6                        # bits 0 to 5 of the mask
+MOST_WINDOWS = 32
+MOST_DWELL = 4096
 PROGRAM_BYTES = 256             # what the table program reads
 PROGRAM_CELLS = 8192            # what the table program lends
 
@@ -49,10 +51,17 @@ class Axis(NamedTuple):
     target: Union[RestPoint, State]
 
 
+class Windows(NamedTuple):
+    """Request 2.5."""
+    pairs: List[Tuple[int, int]]    # an opening and a closing tick each
+    dwell: int
+
+
 class Job(NamedTuple):
     mask: int
     asked: int                  # 0: the least arrival
     axes: Dict[int, Axis]       # by bit, for each set bit of the mask
+    windows: Optional[Windows] = None
 
 
 class Answer(NamedTuple):
@@ -360,7 +369,7 @@ def words_of_bytes(data: bytes) -> List[int]:
     return words + [0] if whole < len(data) else words
 
 
-# --- Refusals 3 to 12 ------------------------------------------------------
+# --- Refusals 3 to 7, 12, 13 -----------------------------------------------
 
 def breaks_4(axis: Axis) -> bool:
     return not (1 <= axis.speed_limit <= 1048576
@@ -410,19 +419,46 @@ def check_axes(job: Job, checks) -> None:
                 raise Refused(Answer(number, place=bit))
 
 
+def check_windows(windows: Windows) -> None:
+    """Refusal 13."""
+    if not windows.pairs:
+        raise Refused(Answer(13, place=0))
+    if len(windows.pairs) > MOST_WINDOWS or windows.dwell > MOST_DWELL:
+        raise Refused(Answer(13, place=MOST_WINDOWS))
+    closed = 0
+    for place, (opening, closing) in enumerate(windows.pairs):
+        if closing <= opening or opening < closed:
+            raise Refused(Answer(13, place=place))
+        closed = closing
+
+
 def checked(job: Job) -> Job:
-    """Refusals 3 to 7, or the job with every weight entered by hand."""
+    """Refusals 3 to 13, save those of arrival and table: 8, 9, 10; or the job
+    with every weight entered by hand."""
     if job.asked > LAST_TICK:
         raise Refused(Answer(3, place=1))
     check_axes(job, ENTERED)
     job = job._replace(axes={bit: weighed(axis) for bit, axis in job.axes.items()})
     check_axes(job, WEIGHED)
+    if job.windows is not None:
+        check_windows(job.windows)
     return job
+
+
+# --- The arrival: refusals 8, 9, 10 ----------------------------------------
+
+def fits(job: Job, arrival: int) -> bool:
+    """Whether an arrival fits a window, where the job brings some (request 2.5)."""
+    if job.windows is None:
+        return True
+    dwell = job.windows.dwell
+    return any(opening <= arrival < closing and arrival + dwell <= closing
+               for opening, closing in job.windows.pairs)
 
 
 def least_common_arrival(job: Job) -> Optional[int]:
     for arrival in range(1, LAST_TICK + 1):
-        if all(reachable(axis, arrival) for axis in job.axes.values()):
+        if fits(job, arrival) and all(reachable(axis, arrival) for axis in job.axes.values()):
             return arrival
     return None
 
@@ -433,6 +469,7 @@ def mask_where(job: Job, test) -> int:
 
 
 def reaches_none(axis: Axis) -> bool:
+    """Alone, and whatever the windows are."""
     return not any(reachable(axis, n) for n in range(1, LAST_TICK + 1))
 
 
@@ -440,7 +477,7 @@ def arrival_of(job: Job) -> int:
     """Refusals 8 and 9, or the arrival of a job that passed the checks."""
     if job.asked:
         failing = mask_where(job, lambda axis: not reachable(axis, job.asked))
-        if failing:
+        if failing or not fits(job, job.asked):
             raise Refused(Answer(8, mask=failing))
         return job.asked
     arrival = least_common_arrival(job)
@@ -482,16 +519,17 @@ def plan_words(words: List[int], lent: List[int]) -> Outcome:
     return refusing(lambda: plan_job(decode(words), lent), lent)
 
 
-def typed_job(mask: int, asked: int, axes: List[Axis]) -> Job:
+def typed_job(mask: int, asked: int, axes: List[Axis], windows: Optional[Windows] = None) -> Job:
     """The job of typed values: six axes, those off the mask never looked at."""
     if not mask_is_good(mask):
         raise Refused(Answer(1))
-    return Job(mask, asked, {bit: axes[bit] for bit in range(AXES) if mask >> bit & 1})
+    return Job(mask, asked, {bit: axes[bit] for bit in range(AXES) if mask >> bit & 1}, windows)
 
 
-def plan_typed(mask: int, asked: int, axes: List[Axis], lent: List[int]) -> Outcome:
+def plan_typed(mask: int, asked: int, axes: List[Axis], lent: List[int],
+               windows: Optional[Windows] = None) -> Outcome:
     """From typed values."""
-    return refusing(lambda: plan_job(typed_job(mask, asked, axes), lent), lent)
+    return refusing(lambda: plan_job(typed_job(mask, asked, axes, windows), lent), lent)
 
 
 def printed(answer: Answer, cells: List[int]) -> str:

@@ -34,10 +34,10 @@ def plan(axes, asked=0, lent=8192):
     return typed
 
 
-def typed_plan(axes, asked=0, lent=8192):
+def typed_plan(axes, asked=0, lent=8192, windows=None):
     """The outcome from typed values alone."""
     by_bit = placed(axes)
-    return ref.plan_typed(mask_of(by_bit), asked, [by_bit.get(i, UNSET) for i in range(6)], [7] * lent)
+    return ref.plan_typed(mask_of(by_bit), asked, [by_bit.get(i, UNSET) for i in range(6)], [7] * lent, windows)
 
 
 def same(what, found, expected):
@@ -398,6 +398,52 @@ def weights_by_hand(rng, count=30):
             same('by hand', typed_plan([one]), typed_plan([one._replace(second_weight=b)]))
 
 
+# --- Laser windows (request 2.5) -------------------------------------------
+
+def window_readings():
+    def through(pairs, dwell=0, axes=(to(4),), asked=0):
+        return typed_plan(list(axes), asked, windows=ref.Windows(list(pairs), dwell))
+
+    far = to(100000000, speed_limit=1)
+    refuses('an empty list', through([]), 13, place=0)
+    refuses('33 windows', through([(2 * k, 2 * k + 1) for k in range(33)]), 13, place=32)
+    arrives('32 windows', through([(2 * k, 2 * k + 1) for k in range(32)]), 4)
+    refuses('a long dwell first', through([(5, 2)], 4097), 13, place=32)
+    refuses('a bad window', through([(0, 3), (5, 5)]), 13, place=1)
+    refuses('an early one', through([(0, 3), (2, 5)]), 13, place=1)
+    arrives('windows do not join', through([(0, 5), (5, 9)], 2), 5)
+    refuses('the closing tick', through([(0, 4)]), 9)
+    arrives('the dwell up to the closing', through([(0, 6)], 2), 4)
+    refuses('8 names axes first', through([(7, 9)], asked=3), 8, mask=1)
+    refuses('8 with mask 0', through([(7, 9)], asked=4), 8)
+    refuses('9 with mask 0', through([(1, 2)]), 9)
+    refuses('9 without the windows', through([(1, 2)], axes=(to(4), far)), 9, mask=2)
+    refuses('13 before 8', through([], asked=3), 13)
+    refuses('3 before 13', through([], asked=4097), 3, place=1)
+
+
+def ticks_of(pair, dwell):
+    """The arrivals that a window holds, as a set: those from which every tick
+    up to the end of the dwell is in it, the closing itself only as that end."""
+    opening, closing = pair
+    return {n for n in range(opening, closing) if n + dwell <= closing}
+
+
+def windows_by_trial(rng, count=60):
+    """The least common arrival among those of the windows, one by one."""
+    for _ in range(count):
+        axes = [random_axis(rng) for _ in range(rng.choice([1, 2]))]
+        ends = sorted(rng.sample(range(200), 2 * rng.randint(1, 6)))
+        pairs, dwell = list(zip(ends[::2], ends[1::2])), rng.choice([0, 0, 1, 5, 20])
+        held = sorted(set().union(*(ticks_of(pair, dwell) for pair in pairs)))
+        least = next((n for n in held if typed_plan(axes, asked=n)[0].number == 0 and n > 0), None)
+        answer = typed_plan(axes, windows=ref.Windows(pairs, dwell))
+        if least is None:
+            same('nothing in the windows', answer[0].number, 9)
+        else:
+            same('the least in the windows', answer, typed_plan(axes, asked=least))
+
+
 def main():
     rng = random.Random(1)
     field_cases()
@@ -412,8 +458,10 @@ def main():
     rounding_to_single(rng)
     damping_readings()
     weights_by_hand(rng)
+    window_readings()
+    windows_by_trial(rng)
     print('reference: field cases, traps, settled readings, ranges, definitions, rounding, demand 3,',
-          'tours, damping: ok')
+          'tours, damping, windows: ok')
     return 0
 
 

@@ -148,8 +148,10 @@ fn weights_taken(sheet: &Sheet) -> Vec<String> {
 fn no_words(sheet: &Sheet, error: &NoWords) -> String {
     let error = match error {
         NoWords::Number(error) => error,
-        NoWords::Damping { axis } => {
-            return refusal::damping_lines(sheet, *axis).join("; ");
+        NoWords::Damping { axis } => return refusal::damping_lines(sheet, *axis).join("; "),
+        NoWords::Windows => {
+            let line = sheet.line_of_window(0).or(sheet.line_of_dwell()).unwrap_or(0);
+            return format!("line {line}: expected no windows, for job words have none");
         }
         other => return other.to_string(),
     };

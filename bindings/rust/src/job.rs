@@ -3,6 +3,7 @@
 use std::num::NonZeroU32;
 
 use crate::damping::Damping;
+use crate::windows::{Window, Windows};
 use crate::AXES;
 
 /// A position with a velocity.
@@ -65,7 +66,7 @@ pub struct Axis {
 /// When a job is to arrive.
 #[derive(Debug, Clone, Copy, PartialEq, Eq, Hash, Default)]
 pub enum Arrival {
-    /// At the least tick that every axis can reach.
+    /// At the least tick that every axis can reach and that fits a window, where the job has windows.
     #[default]
     Earliest,
     /// At this tick and no other, 1 to 4,096.
@@ -112,17 +113,19 @@ pub struct Job {
     pub arrival: Arrival,
     /// The axes by their number, 0 to 5; an axis that does not take part is `None`.
     pub axes: [Option<Axis>; AXES],
+    /// The windows that the arrival is to fit; `None` is a job without windows, which an empty list is not.
+    pub windows: Option<Windows>,
 }
 
 impl Job {
     /// A job without axes that asks for the earliest arrival.
     pub const fn earliest() -> Job {
-        Job { arrival: Arrival::Earliest, axes: [None; AXES] }
+        Job { arrival: Arrival::Earliest, axes: [None; AXES], windows: None }
     }
 
     /// A job without axes that asks to arrive at a tick, 1 to 4,096; as in job words, 0 asks for the earliest arrival.
     pub fn arriving_at(tick: u32) -> Job {
-        Job { arrival: Arrival::from(tick), axes: [None; AXES] }
+        Job { arrival: Arrival::from(tick), ..Job::earliest() }
     }
 
     /// This job with an axis entered, in place of any that had the number before.
@@ -133,6 +136,13 @@ impl Job {
     #[must_use]
     pub fn with_axis(mut self, number: usize, axis: Axis) -> Job {
         self.axes[number] = Some(axis);
+        self
+    }
+
+    /// This job with windows and a dwell in place of any that it had.
+    #[must_use]
+    pub fn with_windows(mut self, dwell: u32, windows: &[Window]) -> Job {
+        self.windows = Some(Windows::new(dwell, windows));
         self
     }
 

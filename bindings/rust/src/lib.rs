@@ -53,6 +53,7 @@ mod refusal;
 mod rows;
 pub mod sheet;
 mod tour;
+mod windows;
 mod words;
 
 pub use damping::Damping;
@@ -62,6 +63,7 @@ pub use range::OutOfRange;
 pub use refusal::{AxisMask, Refusal};
 pub use rows::{in_units, Motion, Row, Rows};
 pub use tour::{Schedule, Stop, Tour, TourAxis, TourRefusal, LONGEST_DWELL, MOST_STOPS};
+pub use windows::{Window, Windows, MOST_WINDOWS};
 pub use words::{NoWords, PayloadError, WordError, WordFault, WordKind};
 
 /// A job has at most this many axes, numbered from 0.

@@ -4,6 +4,7 @@ use crate::damping::Damping;
 use crate::job::{Axis, Job, RestPoint, State, Target};
 use crate::refusal::Answer;
 use crate::tour::{Stop, Tour, TourAxis};
+use crate::windows::{Window, Windows, MOST_WINDOWS};
 use crate::AXES;
 
 /// `polgamir_answer` of `include/polgamir.h`, field by field.
@@ -49,6 +50,17 @@ struct CJob {
     mask: u32,
     asked: u32,
     axes: [CAxis; AXES],
+    windows: CWindows,
+}
+
+/// `polgamir_windows`, field by field.
+#[repr(C)]
+#[derive(Default)]
+struct CWindows {
+    given: u32,
+    dwell: u32,
+    count: u64,
+    list: [Window; MOST_WINDOWS],
 }
 
 /// `polgamir_limits`, field by field.
@@ -152,13 +164,21 @@ impl From<&Axis> for CAxis {
     }
 }
 
+impl From<&Windows> for CWindows {
+    fn from(windows: &Windows) -> CWindows {
+        let (dwell, count) = (windows.dwell(), windows.count() as u64);
+        CWindows { given: 1, dwell, count, list: windows.room() }
+    }
+}
+
 impl From<&Job> for CJob {
     fn from(job: &Job) -> CJob {
         let mut axes = [CAxis::default(); AXES];
         for (number, axis) in job.entered() {
             axes[number] = axis.into();
         }
-        CJob { mask: job.mask(), asked: job.arrival.number(), axes }
+        let windows = job.windows.as_ref().map(CWindows::from).unwrap_or_default();
+        CJob { mask: job.mask(), asked: job.arrival.number(), axes, windows }
     }
 }
 
@@ -209,7 +229,7 @@ pub(crate) fn plan_tour(tour: &Tour, stops: &[Stop], arrivals: &mut [u32]) -> (A
 
 #[cfg(test)]
 mod tests {
-    use super::{CAnswer, CAxis, CJob, CLimits, CTour, CTourAnswer, Stop};
+    use super::{CAnswer, CAxis, CJob, CLimits, CTour, CTourAnswer, CWindows, Stop, Window};
     use std::mem::{offset_of, size_of};
 
     /// The layout that the header's structs have on x86-64; `tests/c/interface.c` holds the header to the same numbers.
@@ -242,8 +262,23 @@ mod tests {
             size_of::<CAxis>(),
         ];
         assert_eq!(axis, [0, 8, 16, 24, 32, 40, 48, 52, 56, 60, 64, 68, 72, 76, 80, 88]);
-        let job = [offset_of!(CJob, mask), offset_of!(CJob, asked), offset_of!(CJob, axes), size_of::<CJob>()];
-        assert_eq!(job, [0, 4, 8, 536]);
+        let job = [
+            offset_of!(CJob, mask),
+            offset_of!(CJob, asked),
+            offset_of!(CJob, axes),
+            offset_of!(CJob, windows),
+            size_of::<CJob>(),
+        ];
+        assert_eq!(job, [0, 4, 8, 536, 808]);
+        let windows = [
+            offset_of!(CWindows, given),
+            offset_of!(CWindows, dwell),
+            offset_of!(CWindows, count),
+            offset_of!(CWindows, list),
+            size_of::<CWindows>(),
+        ];
+        assert_eq!(windows, [0, 4, 8, 16, 272]);
+        assert_eq!((offset_of!(Window, opening), offset_of!(Window, closing), size_of::<Window>()), (0, 4, 8));
     }
     /// The same of what a tour has.
     #[test]

@@ -27,7 +27,9 @@ pub fn draw(title: &str, sheet: &Sheet) -> Result<String, Refusal> {
     let sways = sheet.job.entered().any(|(_, axis)| axis.half_period > 0);
     let unblended = sways.then(|| Planned::of(&without_blend(&sheet.job)));
     let compared = unblended.as_ref().and_then(|unblended| unblended.as_ref().ok());
-    let ticks = Ticks { arrival: planned.arrival, last: planned.arrival + time_after(&sheet.job, planned.arrival) };
+    let dwell = sheet.job.windows.map_or(0, |windows| windows.dwell());
+    let last = planned.arrival + time_after(&sheet.job, planned.arrival).max(dwell + dwell / 4);
+    let ticks = Ticks { arrival: planned.arrival, last };
     let stacks = sheet.job.entered().map(|(number, axis)| Stack {
         title: sheet.axis_title(number),
         pole: pole_of(axis),
@@ -37,24 +39,28 @@ pub fn draw(title: &str, sheet: &Sheet) -> Result<String, Refusal> {
         title: heading(title, sheet, planned.arrival),
         stacks: stacks.collect(),
         columns: page::columns_for(sheet.job.entered().count()),
-        legend: legend(compared.is_some()),
-        caption: caption(unblended.as_ref()),
-        time: timeline(ticks),
+        legend: legend(&sheet.job, compared.is_some()),
+        caption: caption(unblended.as_ref()) + &windows_told(&sheet.job),
+        time: timeline(&sheet.job, ticks),
     };
     Ok(page.draw())
 }
 
-/// The arrival and the time after it.
-fn timeline(ticks: Ticks) -> Timeline {
+/// The arrival, the time after it and the windows.
+fn timeline(job: &Job, ticks: Ticks) -> Timeline {
+    let mut spans = vec![Span { from: ticks.arrival, to: ticks.last, colour: colour::AFTER }];
+    for window in job.windows.iter().flat_map(|windows| windows.list()) {
+        spans.push(Span { from: window.opening, to: window.closing, colour: colour::WINDOW });
+    }
     Timeline {
         last: ticks.last,
-        spans: vec![Span { from: ticks.arrival, to: ticks.last, colour: colour::AFTER }],
+        spans,
         marks: vec![Mark { tick: ticks.arrival, label: format!("arrival {}", ticks.arrival) }],
     }
 }
 
-/// What the lines of a job's picture stand for; the last of them only where the picture compares.
-fn legend(compares: bool) -> Vec<(&'static str, Sample)> {
+/// What the lines and areas of a job's picture stand for; the sway without the blend only where the picture compares.
+fn legend(job: &Job, compares: bool) -> Vec<(&'static str, Sample)> {
     let mut legend = vec![
         ("plan", Sample::Line(stroke::PLAN)),
         ("target", Sample::Line(stroke::TARGET)),
@@ -64,12 +70,18 @@ fn legend(compares: bool) -> Vec<(&'static str, Sample)> {
         legend.push(("sway without the blend, and its arrival", Sample::Line(stroke::UNBLENDED)));
     }
     legend.push(("after arrival", Sample::Area(colour::AFTER)));
+    if job.windows.is_some() {
+        legend.push(("window", Sample::Area(colour::WINDOW)));
+    }
     legend
 }
 
 /// The title of the picture.
 fn heading(title: &str, sheet: &Sheet, arrival: u32) -> String {
     match sheet.job.arrival {
+        Arrival::Earliest if sheet.job.windows.is_some() => {
+            format!("{title}: arrival at tick {arrival}, the earliest that fits a window")
+        }
         Arrival::Earliest => format!("{title}: arrival at tick {arrival}, the earliest"),
         Arrival::At(_) => format!("{title}: arrival at tick {arrival}, as asked"),
     }
@@ -95,6 +107,14 @@ fn caption(unblended: Option<&Result<Planned, Refusal>>) -> String {
         Err(refusal) => format!("which is refused with {} and not drawn", refusal.number()),
     };
     format!("{SWAY} {LEFT} Without the blend: the same job planned with half period 0 on every axis, {comparison}.")
+}
+
+/// What the windows of a job are, after another sentence.
+fn windows_told(job: &Job) -> String {
+    match &job.windows {
+        None => String::new(),
+        Some(windows) => format!(" Windows: the head arrives in one and stays {} ticks within it.", windows.dwell()),
+    }
 }
 
 /// The job with half period 0 on every axis.

@@ -33,7 +33,7 @@ pub fn plan<'t>(job: &Job, table: &'t mut [i64]) -> Result<Accepted<'t>, Refusal
 ///
 /// # Errors
 ///
-/// The first refusal in checking order, of those in [`Refusal`] except 12: words have a weight.
+/// The first refusal in checking order, of those in [`Refusal`] except 12 and 13: words have a weight, and no windows.
 pub fn plan_words<'t>(words: &[u32], table: &'t mut [i64]) -> Result<Accepted<'t>, Refusal> {
     let answer = library::plan_words(words, table);
     Accepted::from_answer(answer, table)

@@ -2,6 +2,8 @@
 
 use std::fmt;
 
+use crate::tour::LONGEST_DWELL;
+use crate::windows::MOST_WINDOWS;
 use crate::{AXES, LATEST_ARRIVAL};
 
 /// What a call returns besides the table: the numbers of the C interface's answer.
@@ -99,14 +101,21 @@ pub enum Refusal {
         /// The first such axis.
         axis: usize,
     },
-    /// 8: the asked arrival is not reachable for every axis.
+    /// 13: the window list is empty, there are more than 32 windows, or then the dwell is above 4,096; then a window's closing is
+    /// not above its opening, or it opens before the previous one closes.
+    Windows {
+        /// 0 for an empty list, 32 for too many windows or too long a dwell, else the first such window.
+        place: usize,
+    },
+    /// 8: the asked arrival is not reachable for every axis, or fits no window.
     NotReachable {
-        /// The axes for which it is not.
+        /// The axes for which it is not reachable; none where it fits no window alone.
         axes: AxisMask,
     },
-    /// 9: no arrival was asked for, and from 1 to 4,096 there is none that all axes have in common.
+    /// 9: no arrival was asked for, and from 1 to 4,096 there is none that all axes have in common and that fits a window, where
+    /// the job has windows.
     NoCommonArrival {
-        /// The axes that alone reach none, perhaps no axis.
+        /// The axes that alone reach none, whatever the windows; perhaps no axis.
         axes: AxisMask,
     },
     /// 10: the lent table has fewer than 3 × axes × (arrival + 1) cells.
@@ -146,6 +155,7 @@ impl Refusal {
             9 => Refusal::NoCommonArrival { axes },
             10 => Refusal::TableTooShort { arrival },
             12 => Refusal::Damping { axis: index },
+            13 => Refusal::Windows { place: index },
             _ => Refusal::Other { number, place, axes, arrival },
         }
     }
@@ -164,14 +174,16 @@ impl Refusal {
             Refusal::NoCommonArrival { .. } => 9,
             Refusal::TableTooShort { .. } => 10,
             Refusal::Damping { .. } => 12,
+            Refusal::Windows { .. } => 13,
             Refusal::Other { number, .. } => number,
         }
     }
 
-    /// The place: a word's index for 2, 1 for 3, the axis for 4 to 7 and 12, and 0 where no place is named.
+    /// The place: a word's index for 2, 1 for 3, the axis for 4 to 7 and 12, the window or 32 for 13, and 0 where no place is named.
     pub const fn place(&self) -> u64 {
         match *self {
             Refusal::Words { index } => index as u64,
+            Refusal::Windows { place } => place as u64,
             Refusal::AskedArrival => 1,
             Refusal::Other { place, .. } => place,
             _ => match self.axis() {
@@ -247,9 +259,24 @@ impl Refusal {
                 "on axis {axis} the target's `acceleration` is not 0, while `half_period` is not 0 and the weight of \
                  `damping` is not 128"
             ),
+            Refusal::Windows { place: MOST_WINDOWS } => write!(
+                f,
+                "`windows` has more than {MOST_WINDOWS} windows, or its dwell is above {LONGEST_DWELL}"
+            ),
+            Refusal::Windows { place: 0 } => write!(f, "`windows` is an empty list, or window 0 does not close after it opens"),
+            Refusal::Windows { place } => {
+                let before = place - 1;
+                write!(f, "window {place} does not close after it opens, or opens before window {before} closes")
+            }
+            Refusal::NotReachable { axes } if axes.is_empty() => {
+                write!(f, "every axis can arrive at the tick that `arrival` asks for, but it fits no window")
+            }
             Refusal::NotReachable { axes } => write!(f, "{axes} cannot arrive at the tick that `arrival` asks for"),
             Refusal::NoCommonArrival { axes } if axes.is_empty() => {
-                write!(f, "each axis can arrive, but no tick from 1 to {LATEST_ARRIVAL} suits all of them")
+                write!(
+                    f,
+                    "each axis can arrive, but no tick from 1 to {LATEST_ARRIVAL} suits all of them and the windows, if any"
+                )
             }
             Refusal::NoCommonArrival { axes } => write!(f, "{axes} can arrive at no tick from 1 to {LATEST_ARRIVAL}"),
             Refusal::TableTooShort { arrival } => {

@@ -31,6 +31,7 @@ use std::fmt;
 
 use crate::damping::Damping;
 use crate::job::{Arrival, Axis, Job, RestPoint, Target};
+use crate::windows::Window;
 use crate::words::WordKind;
 
 pub use line::SheetLine;
@@ -65,6 +66,16 @@ impl Sheet {
     /// sheet that was not read from text has no lines.
     pub fn line_of(&self, axis: Option<usize>, entry: WordKind) -> Option<usize> {
         self.notes.line_of(axis, entry)
+    }
+
+    /// The line, from 1, that a window stands on.
+    pub fn line_of_window(&self, index: usize) -> Option<usize> {
+        self.notes.windows.get(index).copied()
+    }
+
+    /// The line, from 1, that the dwell in the windows stands on.
+    pub fn line_of_dwell(&self) -> Option<usize> {
+        self.notes.dwell
     }
 
     /// What to call an axis: `axis 0`, or `axis 0 pan` where the sheet names it.
@@ -169,12 +180,18 @@ fn remark(entry: WordKind) -> &'static str {
     }
 }
 
-/// Writes the sheet in full, in a form that reads back as the same sheet.
+/// Writes the sheet in full, in a form that reads back as the same sheet, but for windows after the 32nd.
 impl fmt::Display for Sheet {
     fn fmt(&self, f: &mut fmt::Formatter<'_>) -> fmt::Result {
         match self.job.arrival {
             Arrival::Earliest => writeln!(f, "arrival earliest")?,
             Arrival::At(tick) => writeln!(f, "arrival {tick}")?,
+        }
+        if let Some(windows) = &self.job.windows {
+            writeln!(f, "dwell {}", windows.dwell())?;
+            for Window { opening, closing } in windows.list() {
+                writeln!(f, "window {opening} {closing}")?;
+            }
         }
         for (number, axis) in self.job.entered() {
             writeln!(f, "\n{}", self.axis_title(number))?;

@@ -11,7 +11,7 @@ use crate::AXES;
 /// A tour has at most this many stops.
 pub const MOST_STOPS: usize = 64;
 
-/// The longest stay at a stop, in ticks.
+/// The longest dwell, at a stop or in a window, in ticks.
 pub const LONGEST_DWELL: u32 = 4096;
 
 /// A stop of a tour. It is laid out as the library's, so that a row of stops is lent as it stands.

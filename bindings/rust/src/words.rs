@@ -187,6 +187,8 @@ pub enum NoWords {
         /// The first such axis.
         axis: usize,
     },
+    /// The job has windows, and words have none.
+    Windows,
 }
 
 impl From<PayloadError> for NoWords {
@@ -200,6 +202,7 @@ impl fmt::Display for NoWords {
         match self {
             NoWords::Number(error) => error.fmt(f),
             NoWords::Damping { axis } => write!(f, "axis {axis}: the damping as measured has no weight"),
+            NoWords::Windows => f.write_str("the job has windows, and job words have none"),
         }
     }
 }
@@ -215,8 +218,11 @@ impl Job {
     ///
     /// # Errors
     ///
-    /// The first axis whose damping as measured has no weight, else the first number that does not fit the 28 bits of its word.
+    /// Windows, which words do not have; else the first axis whose damping as measured has no weight; else the first number that does not fit the 28 bits of its word.
     pub fn to_words(&self) -> Result<Vec<u32>, NoWords> {
+        if self.windows.is_some() {
+            return Err(NoWords::Windows);
+        }
         if let Some((axis, _)) = self.entered().find(|(_, axis)| axis.damping.weight().is_none()) {
             return Err(NoWords::Damping { axis });
         }
@@ -243,7 +249,7 @@ impl Job {
         let mut reader = Reader { words, index: 0 };
         let mask = reader.mask()?;
         let arrival = Arrival::from(reader.unsigned(WordKind::Arrival)?);
-        let mut job = Job { arrival, axes: [None; AXES] };
+        let mut job = Job { arrival, ..Job::earliest() };
         let mut previous_is_fixed = false;
         for number in (0..AXES).filter(|number| mask >> number & 1 == 1) {
             let axis = reader.axis(previous_is_fixed)?;

@@ -110,6 +110,8 @@ fn wrong_tours_are_told_with_their_line() {
     assert_eq!(told, "line 7: expected no `target`, found `target` beside `stop` of line 8");
     let told = told_with("axis 1 pan", "arrival 4\naxis 1 pan");
     assert_eq!(told, "line 1: expected no `arrival`, found `arrival` beside `stop` of line 8");
+    let told = told_with("axis 1 pan", "window 0 9\naxis 1 pan");
+    assert_eq!(told, "line 1: expected no `window`, found `window` beside `stop` of line 8");
     let told = told_with("  weight 128\n", "");
     assert_eq!(told, "line 1: expected `weight`, `shrinks` or `peaks` for axis 1, found none among its lines");
     let expected = "line 1: expected at least one of `axis 0` to `axis 5`, found the end of the sheet";

@@ -1,5 +1,5 @@
-//! The examples of the repository: each job of `jobs/` is its sheet's, and its text is what the table program prints. A tour has a
-//! sheet alone.
+//! The examples of the repository: each job of `jobs/` is its sheet's, and its text is what the table program prints. A tour and a
+//! job with windows have a sheet alone.
 
 use std::fs;
 use std::path::{Path, PathBuf};
@@ -51,8 +51,11 @@ fn printed(words: &[u32]) -> String {
 #[test]
 fn every_job_is_its_sheets_and_prints_its_text() {
     let jobs = names("jobs", "job");
-    let of_a_job = |name: &String| matches!(sheet_text(name).parse(), Ok(Setup::Job(_)));
-    assert_eq!(jobs, names("sheets", "sheet").into_iter().filter(of_a_job).collect::<Vec<_>>());
+    let has_words = |name: &String| match sheet_text(name).parse() {
+        Ok(Setup::Job(sheet)) => sheet.job.windows.is_none(),
+        _ => false,
+    };
+    assert_eq!(jobs, names("sheets", "sheet").into_iter().filter(has_words).collect::<Vec<_>>());
     assert_eq!(jobs, names("jobs", "txt"));
     assert!(jobs.len() >= 6);
     for name in jobs {

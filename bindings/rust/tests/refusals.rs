@@ -64,6 +64,30 @@ fn all() -> Vec<(Refusal, &'static str, SheetLine, &'static str)> {
              weight of `damping` is not 128",
         ),
         (
+            Refusal::Windows { place: 0 },
+            "refused 13 place 0 axes 0 arrival 0",
+            ReadTheArrival,
+            "refused with 13: `windows` is an empty list, or window 0 does not close after it opens",
+        ),
+        (
+            Refusal::Windows { place: 2 },
+            "refused 13 place 2 axes 0 arrival 0",
+            ReadTheArrival,
+            "refused with 13: window 2 does not close after it opens, or opens before window 1 closes",
+        ),
+        (
+            Refusal::Windows { place: 32 },
+            "refused 13 place 32 axes 0 arrival 0",
+            ReadTheArrival,
+            "refused with 13: `windows` has more than 32 windows, or its dwell is above 4096",
+        ),
+        (
+            Refusal::NotReachable { axes: AxisMask(0) },
+            "refused 8 place 0 axes 0 arrival 0",
+            ReadTheArrival,
+            "refused with 8: every axis can arrive at the tick that `arrival` asks for, but it fits no window",
+        ),
+        (
             Refusal::NotReachable { axes: AxisMask(0b100101) },
             "refused 8 place 0 axes 37 arrival 0",
             ReadTheArrival,
@@ -79,7 +103,7 @@ fn all() -> Vec<(Refusal, &'static str, SheetLine, &'static str)> {
             Refusal::NoCommonArrival { axes: AxisMask(0) },
             "refused 9 place 0 axes 0 arrival 0",
             EnterStartAndTarget,
-            "refused with 9: each axis can arrive, but no tick from 1 to 4096 suits all of them",
+            "refused with 9: each axis can arrive, but no tick from 1 to 4096 suits all of them and the windows, if any",
         ),
         (
             Refusal::TableTooShort { arrival: 4 },
@@ -103,7 +127,7 @@ fn sentences_speak_of_fields() {
 fn every_number_of_a_job_has_its_case() {
     let mut numbers: Vec<u32> = all().iter().map(|(refusal, ..)| refusal.number()).collect();
     numbers.dedup();
-    assert_eq!(numbers, [1, 2, 3, 4, 12, 5, 6, 7, 8, 9, 10]);
+    assert_eq!(numbers, [1, 2, 3, 4, 12, 5, 6, 7, 13, 8, 9, 10]);
 }
 
 #[test]

@@ -6,6 +6,8 @@ use mathlib.Core.Path.{_≡_, refl, ap, _∙_}
 use mathlib.Core.Bool.{Bool, true, false}
 use mathlib.Core.Option.{Option, none, some}
 use Rattle.model.specs.Outcome.{leastFrom}
+use Rattle.model.proofs.LeastTick.{Result}
+use Rattle.arrival.specs.Arrivals.{orZero}
 
 -- ---- what a loop over the ticks before `after` has before it
 
@@ -46,27 +48,12 @@ module _ (test : ℕ → Bool) (after : ℕ) where
   unfolding rest
   begun n = refl
 
--- ---- what is found: a candidate that passes
+-- ---- 0 stands for none, since no candidate is 0
 
-pub record Passes (test : ℕ → Bool) (first count n : ℕ) : Type 0 where
-  pub low : first ≤ n
-  pub high : n < first + count
-  pub passes : test n ≡ true
+pub is-some : (o : Option ℕ) → (orZero o ≡ 0 → ⊥) → o ≡ some (orZero o)
+is-some none h = absurd (h refl)
+is-some (some n) h = refl
 
-abbrev pub IfFound : (ℕ → Bool) → ℕ → ℕ → Option ℕ → Type 0
-IfFound test first count none = Unit
-IfFound test first count (some n) = Passes test first count n
-
-pub found-passes : (test : ℕ → Bool) (first count : ℕ) → IfFound test first count (leastFrom test first count)
-found-passes test first zero = tt
-found-passes test first (suc count) =
-    go (test first) refl (wider (leastFrom test (suc first) count) (found-passes test (suc first) count))
-  where
-    wider : (o : Option ℕ) → IfFound test (suc first) count o → IfFound test first (suc count) o
-    wider none h = tt
-    wider (some n) h = record { low = omega arith; high = omega arith; passes = h .passes }
-
-    go : (b : Bool) → test first ≡ b → IfFound test first (suc count) (leastFrom test (suc first) count)
-        → IfFound test first (suc count) (elim b [ true ↦ some first | false ↦ leastFrom test (suc first) count ])
-    go true e h = record { low = omega arith; high = omega arith; passes = e }
-    go false e h = h
+pub is-none : (test : ℕ → Bool) (k count : ℕ) (o : Option ℕ) → 1 ≤ k → Result test k count o → orZero o ≡ 0 → o ≡ none
+is-none test k count none h r e = refl
+is-none test k count (some n) h r e = absurd (omega (arith, r .first))

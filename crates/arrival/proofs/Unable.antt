@@ -14,14 +14,14 @@ use Rattle.model.specs.Job.{JobAxis, setAxes, maskWhere}
 use Rattle.model.specs.Outcome.{allReach, leastFrom, leastArrival}
 use Rattle.arrival.specs.Arrivals.{orZero, cannotArrive, bitOf}
 use Rattle.arrival.proofs.SetAxes.{pick, from, axisAt, from-more, from-none}
-use Rattle.arrival.proofs.Search.{IfFound, found-passes}
+use Rattle.model.proofs.LeastTick.{Result, result}
 
 -- ---- one axis
 
 -- 0 stands for none, since no candidate is 0
-zero-is-none : (test : ℕ → Bool) (o : Option ℕ) → IfFound test 1 4096 o → eqb (orZero o) 0 ≡ elim o as (λ _. Bool) [ some n ↦ false | none ↦ true ]
+zero-is-none : (test : ℕ → Bool) (o : Option ℕ) → Result test 1 4096 o → eqb (orZero o) 0 ≡ elim o as (λ _. Bool) [ some n ↦ false | none ↦ true ]
 zero-is-none test none h = refl
-zero-is-none test (some n) h = ne-eqb n 0 (λ e. omega arith)
+zero-is-none test (some n) h = ne-eqb n 0 (λ e. omega (arith, h .first))
 
 -- the axis alone, as axis 0 of mask 1
 pub reaches-none : (n asked : ℕ) (x : Axis) → asked ≡ 0
@@ -29,7 +29,7 @@ pub reaches-none : (n asked : ℕ) (x : Axis) → asked ≡ 0
 unfolding cannotArrive
 reaches-none n asked x z e =
     ap (λ (k : ℕ). eqb k 0) e
-    ∙ zero-is-none (allReach alone) (leastArrival alone) (found-passes (allReach alone) 1 4096)
+    ∙ zero-is-none (allReach alone) (leastArrival alone) (result (allReach alone) 1 4096)
     ∙ sym (ap (λ (k : ℕ). cannotArrive k x) z)
   where
     alone : List JobAxis

@@ -1,15 +1,19 @@
 -- What the search for an arrival gives back, from the definitions of `Outcome`.
-use Prim.Native.Nat.{ℕ, zero, suc, _%_, _≤_, _<_}
+use Prim.Native.Nat.{ℕ, zero, suc, _-_, _%_, _≤_, _<_}
 use mathlib.Core.Path.{_≡_}
-use mathlib.Core.Bool.{Bool, true, false, cond, not}
+use mathlib.Core.Bool.{Bool, true, false, cond, not, _&&_}
 use mathlib.Core.Option.{Option, none, some}
-use mathlib.Core.List.{List}
+use mathlib.Core.List.{List, [], _∷_}
 use lib.Dec.{eqb}
 use Rattle.model.specs.declared.Axis.{Axis}
+use Rattle.model.specs.declared.Window.{Window}
+use Rattle.model.specs.declared.Windows.{Windows}
+use Rattle.model.specs.Windows.{inWindows}
+use Rattle.windows.specs.Ticks.{firstTick, afterLast}
 use Rattle.model.specs.Motion.{reachable}
 use Rattle.model.specs.Job.{JobAxis, maskWhere}
 use Rattle.model.specs.Refusals.{lastTick}
-use Rattle.model.specs.Outcome.{allReach, leastArrival, reachesNone}
+use Rattle.model.specs.Outcome.{allReach, leastFrom, reachesNone}
 use Rattle.arrival.specs.declared.Arrival.{Arrival}
 
 -- ---- the arrival
@@ -30,20 +34,29 @@ abbrev pub askedOr : List JobAxis → ℕ → Bool → Arrival
 askedOr xs n true = found n
 askedOr xs n false = refused 8 (maskWhere (λ x. not (reachable x n)) xs)
 
-abbrev pub arrivalFor : List JobAxis → ℕ → Arrival
-arrivalFor xs zero = leastOr xs (leastArrival xs)
-arrivalFor xs (suc n) = askedOr xs (suc n) (allReach xs (suc n))
+abbrev pub arrivesIn : Windows → List JobAxis → ℕ → Bool
+arrivesIn w xs n = inWindows w n && allReach xs n
 
--- what `arrival_of` gives back for the axes xs
-pub record ArrivalIs (xs : List JobAxis) (asked : ℕ) (r : Arrival) : Type 0 where
+abbrev pub arrivalFor : Windows → List JobAxis → ℕ → Arrival
+arrivalFor w xs zero = leastOr xs (leastFrom (arrivesIn w xs) 1 lastTick)
+arrivalFor w xs (suc n) = askedOr xs (suc n) (arrivesIn w xs (suc n))
+
+-- what `arrival_of` gives back for the windows w and the axes xs
+pub record ArrivalIs (w : Windows) (xs : List JobAxis) (asked : ℕ) (r : Arrival) : Type 0 where
   -- number, mask and tick, from the definitions
-  pub is : r ≡ arrivalFor xs asked
+  pub is : r ≡ arrivalFor w xs asked
   -- number 0: the tick is from 1 to 4,096, and every axis reaches it
   pub first : r .number ≡ 0 → 1 ≤ r .tick
   pub last : r .number ≡ 0 → r .tick ≤ lastTick
   pub reached : r .number ≡ 0 → allReach xs (r .tick) ≡ true
 
 -- ---- its parts
+
+-- the least that passes a test, of the ticks of each window in turn
+abbrev pub searched : (ℕ → Bool) → ℕ → List Window → Option ℕ
+searched test dwell [] = none
+searched test dwell (w ∷ ws) =
+    elim (leastFrom test (firstTick w) (afterLast dwell w - firstTick w)) [ some n ↦ some n | none ↦ searched test dwell ws ]
 
 abbrev pub orZero : Option ℕ → ℕ
 orZero none = 0

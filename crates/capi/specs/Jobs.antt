@@ -1,22 +1,24 @@
 -- What the structs of include/polgamir.h stand for.
 use Prim.Native.Nat.{ℕ}
-use mathlib.Core.Bool.{cond}
+use mathlib.Core.Bool.{cond, not}
 use mathlib.Core.List.{map}
 use lib.Dec.{eqb}
 use lib.Ieee.{Float}
-use Rattle.model.specs.Outcome.{Input, typed}
 use Rattle.model.specs.declared.Answer.{Answer}
 use Rattle.model.specs.declared.Axis.{Axis}
 use Rattle.model.specs.declared.Damping.the-variants.{Ratio, Peaks}
+use Rattle.model.specs.declared.Job.{Job}
 use Rattle.model.specs.declared.RestPoint.{RestPoint}
 use Rattle.model.specs.declared.State.{State}
 use Rattle.model.specs.declared.Target.{Target}
 use Rattle.model.specs.declared.Target.the-variants.{Fixed, Moving}
 use Rattle.model.specs.declared.Weight.{Weight}
 use Rattle.model.specs.declared.Weight.the-variants.{Given, Measured}
+use Rattle.model.specs.declared.Windows.{Windows}
 use Rattle.capi.specs.declared.PolgamirAnswer.{PolgamirAnswer}
 use Rattle.capi.specs.declared.PolgamirAxis.{PolgamirAxis}
 use Rattle.capi.specs.declared.PolgamirJob.{PolgamirJob}
+use Rattle.capi.specs.declared.PolgamirWindows.{PolgamirWindows}
 
 -- ---- an axis
 
@@ -57,8 +59,11 @@ axisOf a =
 
 -- ---- a job
 
-abbrev pub jobOf : PolgamirJob → Input
-jobOf j = typed (j .mask) (j .asked) (map axisOf (j .axes))
+abbrev pub windowsOf : PolgamirWindows → Windows
+windowsOf w = record { given = not (eqb (w .given) 0); dwell = w .dwell; count = w .count; list = w .list }
+
+abbrev pub jobOf : PolgamirJob → Job
+jobOf j = record { mask = j .mask; asked = j .asked; axes = map axisOf (j .axes); windows = windowsOf (j .windows) }
 
 -- ---- an answer
 

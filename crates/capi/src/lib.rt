@@ -5,15 +5,18 @@ mod tours;
 use model::Answer;
 use model::Axis;
 use model::Damping;
+use model::Job;
 use model::RestPoint;
 use model::State;
 use model::Target;
 use model::Weight;
+use model::Window;
+use model::Windows;
 ghost use mathlib.Core.Path.{_≡_};
 ghost use mathlib.Core.List.{map};
 ghost use Rattle.model.specs.Outcome as Input;
 ghost use Rattle.planner.specs.Promise.{Promise};
-ghost use Rattle.capi.specs.Jobs.{startOf, fixedOf, movingOf, targetOf, weightOf, axisOf, jobOf, answerOf};
+ghost use Rattle.capi.specs.Jobs.{startOf, fixedOf, movingOf, targetOf, weightOf, axisOf, windowsOf, jobOf, answerOf};
 
 // What a call gives back, laid out as the header's `polgamir_answer`.
 #[repr(C)]
@@ -45,12 +48,22 @@ pub struct PolgamirAxis {
     pub second_peak: f32,
 }
 
+// Windows, laid out as the header's `polgamir_windows`. They are given where the first field is not 0.
+#[repr(C)]
+pub struct PolgamirWindows {
+    pub given: u32,
+    pub dwell: u32,
+    pub count: usize,
+    pub list: [Window; 32],
+}
+
 // A job, laid out as the header's `polgamir_job`.
 #[repr(C)]
 pub struct PolgamirJob {
     pub mask: u32,
     pub asked: u32,
     pub axes: [PolgamirAxis; 6],
+    pub windows: PolgamirWindows,
 }
 
 // The planner's answer in the header's layout.
@@ -160,6 +173,35 @@ fn axes_of(list: [PolgamirAxis; 6]) -> [Axis; 6]
     axes
 }
 
+// ---- a job
+
+fn windows_of(w: PolgamirWindows) -> Windows
+    ensures { λ r. ⌜ r ≡ windowsOf w ⌝ }
+{
+    let list = w.list;
+    Windows {
+        given: w.given != 0,
+        dwell: w.dwell,
+        count: w.count,
+        list: list,
+    }
+}
+
+fn job_of(job: PolgamirJob) -> Job
+    ensures { λ r. ⌜ r ≡ jobOf job ⌝ }
+{
+    let list = job.axes;
+    let axes = axes_of(list);
+    let brought = job.windows;
+    let windows = windows_of(brought);
+    Job {
+        mask: job.mask,
+        asked: job.asked,
+        axes: axes,
+        windows: windows,
+    }
+}
+
 // ---- the calls
 
 // The version of the library, 1,000,000 * major + 1,000 * minor + patch, as the header it belongs to says.
@@ -181,13 +223,12 @@ pub extern "C" fn polgamir_plan_words(words: &[u32], table: &mut [i64]) -> Polga
 }
 
 // Plans the axes of a job that its mask names and writes their rows into the table. The asked arrival is a tick from 1 to 4,096, or 0 for
-// the least that every axis reaches. The other axes are not looked at.
-// Gives back what the call for words gives; its refusals are 1, 3 to 10 and 12.
+// the least that every axis reaches and that fits a window where windows are given. The other axes are not looked at.
+// Gives back what the call for words gives; its refusals are 1, 3 to 10, 12 and 13.
 #[no_mangle]
 pub extern "C" fn polgamir_plan_job(job: PolgamirJob, table: &mut [i64]) -> PolgamirAnswer
-    ensures { λ r. ⌜ Promise (jobOf job) (now (table .entry)) (answerOf r) (now (table .exit)) ⌝ }
+    ensures { λ r. ⌜ Promise (Input.typed (jobOf job)) (now (table .entry)) (answerOf r) (now (table .exit)) ⌝ }
 {
-    let list = job.axes;
-    let axes = axes_of(list);
-    returned(planner::plan_typed(job.mask, job.asked, axes, table))
+    let typed = job_of(job);
+    returned(planner::plan_job(typed, table))
 }

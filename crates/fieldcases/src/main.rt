@@ -8,6 +8,7 @@ use model::Answer;
 use model::Axis;
 use model::AxisLimits;
 use model::Damping;
+use model::Job;
 use model::RestPoint;
 use model::State;
 use model::Stop;
@@ -15,6 +16,8 @@ use model::Target;
 use model::TourAnswer;
 use model::TourSettings;
 use model::Weight;
+use model::Window;
+use model::Windows;
 use tour::StopRow;
 ghost use mathlib.Core.Path.{_≡_};
 ghost use Prim.Native.Nat.{_≤_, _<_};
@@ -215,6 +218,43 @@ fn axes_at(text: &[u8], from: usize) -> [Axis; 6] {
     axes
 }
 
+// The windows: whether they are given, the dwell, their count, how many of them are listed, and these. The others are of zeros.
+fn windows_at(text: &[u8], from: usize) -> Windows {
+    let unset = window_at(text, text.len());
+    let mut list = [unset; 32];
+    let listed = nth_low(text, from, 3) as usize;
+    let mut at = after(text, from, 4);
+    let mut i = 0;
+    while i < 32 {
+        if i < listed {
+            let window = window_at(text, at);
+            list[i] = window;
+            at = after(text, at, 2);
+        }
+        i += 1;
+    }
+    Windows {
+        given: nth_low(text, from, 0) == 1,
+        dwell: nth_low(text, from, 1),
+        count: nth_low(text, from, 2) as usize,
+        list: list,
+    }
+}
+
+fn window_at(text: &[u8], from: usize) -> Window {
+    Window {
+        opening: nth_low(text, from, 0),
+        closing: nth_low(text, from, 1),
+    }
+}
+
+fn after_windows(text: &[u8], from: usize) -> usize {
+    let listed = nth_low(text, from, 3);
+    let openings = after(text, from, 4);
+    let closings = after(text, openings, listed);
+    after(text, closings, listed)
+}
+
 // Reads a count of words and so many words, or as many as there is room for, and answers how many.
 fn read_words(text: &[u8], from: usize, words: &mut [u32]) -> usize
     ensures { λ r. ⌜ Counts r (now (words .exit)) ⌝ }
@@ -241,12 +281,24 @@ fn plan_words(text: &[u8], from: usize, table: &mut [i64]) -> Answer {
     planner::plan_words(&words[..count], table)
 }
 
-// A call from typed values: the mask, the asked arrival and the six axes.
+// The job of typed values: the mask, the asked arrival, the windows and the six axes.
+fn job_at(text: &[u8], from: usize) -> Job {
+    let windows_from = after(text, from, 2);
+    let windows = windows_at(text, windows_from);
+    let axes_from = after_windows(text, windows_from);
+    let axes = axes_at(text, axes_from);
+    Job {
+        mask: nth_low(text, from, 0),
+        asked: nth_low(text, from, 1),
+        axes: axes,
+        windows: windows,
+    }
+}
+
+// A call from typed values.
 fn plan_typed(text: &[u8], from: usize, table: &mut [i64]) -> Answer {
-    let mask = nth_low(text, from, 0);
-    let asked = nth_low(text, from, 1);
-    let axes = axes_at(text, after(text, from, 2));
-    planner::plan_typed(mask, asked, axes, table)
+    let job = job_at(text, from);
+    planner::plan_job(job, table)
 }
 
 // The limits and the blend of an axis of a tour, which come after its start.

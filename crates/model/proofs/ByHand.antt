@@ -1,8 +1,7 @@
 -- A job with damping as measured has the outcome of the same job with each B entered by hand: `measured-is-by-hand`. Of one axis every
 -- definition but refusal 12 reads the weight as a number only, so that both sides compute to the same.
 use Prim.Native.Nat.{ℕ, zero, suc, _+_, _/_, _%_, _^_}
-use native.Mathlib.Omega.{arith}
-use mathlib.Core.Path.{_≡_, refl, sym, ap, ap₂, _∙_}
+use mathlib.Core.Path.{_≡_, refl, ap, ap₂, _∙_}
 use mathlib.Core.Bool.{Bool, true, false, not, _&&_}
 use mathlib.Core.Option.{Option, none, some}
 use mathlib.Core.List.{List, [], _∷_, _++_, map}
@@ -12,14 +11,16 @@ use lib.ListN.{length, drop}
 use Rattle.model.specs.declared.Axis.{Axis}
 use Rattle.model.specs.declared.Target.{Target}
 use Rattle.model.specs.declared.Target.the-variants.{Fixed, Moving}
+use Rattle.model.specs.declared.Job as Typed
+use Rattle.model.specs.Windows.{noWindows, inWindows, refused13}
 use Rattle.model.specs.Motion.{reachable}
 use Rattle.model.specs.Rows.{track, row, table, cells, concat, tabulate}
-use Rattle.model.specs.Job.{Job, JobAxis, axesOf, typedJob, maskWhere, setAxes, byHand, axesByHand, jobByHand}
+use Rattle.model.specs.Job.{Job, JobAxis, axesOf, jobOf, maskWhere, setAxes, byHand, axesByHand, jobByHand}
 use Rattle.model.specs.Words.{goodMask}
 use Rattle.model.specs.Refusals.{lastTick, limitsRefused, dampingRefused, blendRefused, valuesRefused, accelerationRefused}
 use Rattle.model.specs.Refusals.{restAllowed, targetAllowed, AllPassed}
-use Rattle.model.specs.Outcome.{Outcome, typed, call, refuse, allReach, leastFrom, leastArrival, reachesNone, cellsNeeded, tableOver}
-use Rattle.model.specs.Outcome.{accept, filled, arrived, firstAxis, axisRefusals, tested, jobOutcome, outcomeOfTyped}
+use Rattle.model.specs.Outcome.{Outcome, typed, call, refuse, allReach, leastFrom, arrives, reachesNone, cellsNeeded, tableOver}
+use Rattle.model.specs.Outcome.{filled, arrived, firstAxis, axisRefusals, tested, jobOutcome}
 
 -- ---- the axes
 
@@ -73,12 +74,16 @@ pub reach-by-hand : (l : List JobAxis) (n : ℕ) → allReach (axesByHand l) n �
 reach-by-hand [] n = refl
 reach-by-hand (x ∷ l) n = ap (λ (b : Bool). elim (reachable (x .axis) n) as (λ _. Bool) [ true ↦ b | false ↦ false ]) (reach-by-hand l n)
 
-least-by-hand : (l : List JobAxis) → leastArrival (axesByHand l) ≡ leastArrival l
-least-by-hand l = ap (λ (t : ℕ → Bool). leastFrom t 1 lastTick) (λ i n. reach-by-hand l n i)
+arrives-by-hand : (j : Job) (n : ℕ) → arrives (jobByHand j) n ≡ arrives j n
+arrives-by-hand j n = ap (λ (b : Bool). inWindows (j .windows) n && b) (reach-by-hand (j .axes) n)
+
+least-by-hand : (j : Job) → leastFrom (arrives (jobByHand j)) 1 lastTick ≡ leastFrom (arrives j) 1 lastTick
+least-by-hand j = ap (λ (t : ℕ → Bool). leastFrom t 1 lastTick) (λ i n. arrives-by-hand j n i)
 
 none-by-hand : Blind (λ x. reachesNone x)
 none-by-hand x =
-    ap (λ (o : Option ℕ). elim o as (λ _. Bool) [ some n ↦ false | none ↦ true ]) (least-by-hand (record { number = 0; axis = x } ∷ []))
+    ap (λ (o : Option ℕ). elim o as (λ _. Bool) [ some n ↦ false | none ↦ true ])
+    (least-by-hand (record { mask = 0; asked = 0; axes = record { number = 0; axis = x } ∷ []; windows = noWindows }))
 
 -- ---- the table
 
@@ -121,13 +126,13 @@ filled-by-hand j n lent = λ i. by-room (ltb (length lent) (cellsNeeded (length-
 pub arrived-by-hand : (j : Job) (asked : ℕ) (lent : List ℤ) → arrived (jobByHand j) asked lent ≡ arrived j asked lent
 arrived-by-hand j zero lent =
     λ i.
-    elim (least-by-hand (j .axes) i) as (λ _. Outcome) [
+    elim (least-by-hand j i) as (λ _. Outcome) [
       | some n ↦ filled-by-hand j n lent i
       | none ↦ refuse 9 0 (mask-by-hand (λ x. reachesNone x) none-by-hand (j .axes) i) 0 lent
     ]
 arrived-by-hand j (suc n) lent =
     λ i.
-    elim (reach-by-hand (j .axes) (suc n) i) as (λ _. Outcome) [
+    elim (arrives-by-hand j (suc n) i) as (λ _. Outcome) [
       | true ↦ filled-by-hand j (suc n) lent i
       | false ↦ refuse 8 0 (mask-by-hand (λ x. not (reachable x (suc n))) (λ x. refl) (j .axes) i) 0 lent
     ]
@@ -142,7 +147,10 @@ rest-by-hand j lent =
         | some k ↦ refuse 6 k 0 0 lent
         | none ↦ elim (first-by-hand accelerationRefused (λ x. refl) (j .axes) i) as (λ _. Outcome) [
           | some k ↦ refuse 7 k 0 0 lent
-          | none ↦ arrived-by-hand j (j .asked) lent i
+          | none ↦ elim (refused13 (j .windows)) as (λ _. Outcome) [
+            | some p ↦ refuse 13 p 0 0 lent
+            | none ↦ arrived-by-hand j (j .asked) lent i
+          ]
         ]
       ]
     ]
@@ -182,9 +190,13 @@ module _ (j : Job) (lent : List ℤ) where
   masked true h = asked (leb (j .asked) lastTick) h
   masked false h = refl
 
+-- the same job of typed values with the number B of each axis given
+abbrev pub typedByHand : Typed.Job → Typed.Job
+typedByHand t = record { mask = t .mask; asked = t .asked; axes = map byHand (t .axes); windows = t .windows }
+
 -- unless 12 refuses it
-pub measured-is-by-hand : (m a : ℕ) (six : List Axis) (lent : List ℤ) → (call (typed m a six) lent .number ≡ 12 → ⊥)
-    → call (typed m a (map byHand six)) lent ≡ call (typed m a six) lent
-measured-is-by-hand m a six lent h =
-    ap (λ (l : List JobAxis). byMask (record { mask = m; asked = a; axes = l }) lent (goodMask m)) (set-by-hand 0 m six)
-    ∙ masked (typedJob m a six) lent (goodMask m) h
+pub measured-is-by-hand : (t : Typed.Job) (lent : List ℤ) → (call (typed t) lent .number ≡ 12 → ⊥) → call (typed (typedByHand t)) lent ≡ call (typed t) lent
+measured-is-by-hand t lent h =
+    ap (λ (l : List JobAxis). byMask (record { mask = t .mask; asked = t .asked; axes = l; windows = t .windows }) lent (goodMask (t .mask)))
+    (set-by-hand 0 (t .mask) (t .axes))
+    ∙ masked (jobOf t) lent (goodMask (t .mask)) h

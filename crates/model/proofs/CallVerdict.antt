@@ -9,9 +9,10 @@ use lib.Dec.{T, eqb, leb, ltb, leb→le, ltb→lt, nltb→le, nleb→lt}
 use lib.IntN.{ℤ}
 use borrow.Author.Tests.{eq-eqb}
 use Rattle.model.specs.declared.Axis.{Axis}
-use Rattle.model.specs.Job.{Job, JobAxis, setFrom, setAxes, typedJob, setBits}
+use Rattle.model.specs.declared.Job as Typed
+use Rattle.model.specs.Job.{Job, JobAxis, setFrom, setAxes, jobOf, setBits}
 use Rattle.model.specs.Words.{Reading, Reader, got, wrong, _>>=_, field, axis, axes, ending}
-use Rattle.model.specs.Words.{afterMask, kind, payload, goodMask, Decoded, noMask, badWord, job, decode}
+use Rattle.model.specs.Words.{readJob, afterMask, kind, payload, goodMask, Decoded, noMask, badWord, job, decode}
 use Rattle.model.specs.Outcome.{Outcome, Input, words, typed, call, refuse, jobOutcome}
 use Rattle.model.specs.Verdict.{MaskOutside, MaskWordWrong, CallVerdict, words1, words2, wordsJob, typed1, typedJobs}
 use Rattle.model.proofs.Masks.{Ascends, ascends-from}
@@ -94,9 +95,9 @@ ending-gives j i (w ∷ u ∷ ws) o k vs e = go (eqb (kind w) 15 && eqb (payload
 -- a job that was read has its axes in ascending order
 job-ascends : (m i : ℕ) (ws : List ℕ) (o : Job) (k : ℕ) (vs : List ℕ) → afterMask m i ws ≡ got o k vs → Ascends 0 (o .axes)
 job-ascends m i ws o k vs e =
-    let a = before (field 2) (λ asked. _>>=_ (axes (setBits m)) (λ xs. ending (record { mask = m; asked = asked; axes = xs }))) i ws o k vs e in
-    let b = before (axes (setBits m)) (λ xs. ending (record { mask = m; asked = a .value; axes = xs })) (a .index) (a .rest) o k vs (a .then) in
-    subst (λ (j : Job). Ascends 0 (j .axes)) (ending-gives (record { mask = m; asked = a .value; axes = b .value }) (b .index) (b .rest) o k vs (b .then))
+    let a = before (field 2) (λ asked. _>>=_ (axes (setBits m)) (λ xs. ending (readJob m asked xs))) i ws o k vs e in
+    let b = before (axes (setBits m)) (λ xs. ending (readJob m (a .value) xs)) (a .index) (a .rest) o k vs (a .then) in
+    subst (λ (j : Job). Ascends 0 (j .axes)) (ending-gives (readJob m (a .value) (b .value)) (b .index) (b .rest) o k vs (b .then))
     (axes-ascend (setBits m) 0 (a .index) (a .rest) (b .value) (b .index) (b .rest) (set-rising 6 0 m) (b .first))
 
 -- ---- masks
@@ -151,12 +152,12 @@ by-mask : (lent : List ℤ) (w : ℕ) (ws : List ℕ) (b : Bool) → (T (not b) 
 by-mask lent w ws true f d = by-reading lent w ws (afterMask (payload w) 1 ws) refl d
 by-mask lent w ws false f d = words1 (w ∷ ws) (f tt) is-refusal
 
-by-typed-mask : (lent : List ℤ) (m asked : ℕ) (six : List Axis) (b : Bool) → (T b → (1 ≤ m) × (m ≤ 63)) → (T (not b) → MaskOutside m)
-    → CallVerdict lent (elim b as (λ z. Outcome) [ true ↦ jobOutcome (typedJob m asked six) lent | false ↦ refuse 1 0 0 0 lent ]) (typed m asked six)
-by-typed-mask lent m asked six true f g = typedJobs m asked six (f tt .0) (f tt .1) (verdict (typedJob m asked six) lent (set-ascends 0 m six))
-by-typed-mask lent m asked six false f g = typed1 m asked six (g tt) is-refusal
+by-typed-mask : (lent : List ℤ) (t : Typed.Job) (b : Bool) → (T b → (1 ≤ t .mask) × (t .mask ≤ 63)) → (T (not b) → MaskOutside (t .mask))
+    → CallVerdict lent (elim b as (λ z. Outcome) [ true ↦ jobOutcome (jobOf t) lent | false ↦ refuse 1 0 0 0 lent ]) (typed t)
+by-typed-mask lent t true f g = typedJobs t (f tt .0) (f tt .1) (verdict (jobOf t) lent (set-ascends 0 (t .mask) (t .axes)))
+by-typed-mask lent t false f g = typed1 t (g tt) is-refusal
 
 pub call-verdict : (q : Input) (lent : List ℤ) → CallVerdict lent (call q lent) q
 call-verdict (words []) lent = words1 [] tt is-refusal
 call-verdict (words (w ∷ ws)) lent = by-mask lent w ws (eqb (kind w) 1 && goodMask (payload w)) (word-wrong w ws) refl
-call-verdict (typed m asked six) lent = by-typed-mask lent m asked six (goodMask m) (mask-inside m) (mask-outside m)
+call-verdict (typed t) lent = by-typed-mask lent t (goodMask (t .mask)) (mask-inside (t .mask)) (mask-outside (t .mask))

@@ -11,7 +11,7 @@ use lib.IntN.{ℤ, pos, natAbs, _+ℤ_, _-ℤ_, _*ℤ_}
 use Rattle.model.specs.declared.Axis.{Axis}
 use Rattle.whole.specs.Integers.{nearest}
 use Rattle.model.specs.Rows.{track, blend, cells, table}
-use Rattle.model.specs.Job.{Job, JobAxis, axesOf, typedJob}
+use Rattle.model.specs.Job.{Job, JobAxis, axesOf, jobOf}
 use Rattle.model.specs.Words.{Decoded, noMask, badWord, job}
 use Rattle.model.specs.Motion.{reachable}
 use Rattle.model.specs.Demand.{tableIn, cellAt, positionCell, velocityCell, accelerationCell, Lands, Carries, SwayCancelled}
@@ -22,7 +22,7 @@ use Rattle.whole.proofs.Elements.{at-below, element}
 use Rattle.model.proofs.CellPlaces.{table-length, table-at}
 use Rattle.model.specs.Refusals.{Ready, AllPassed}
 use Rattle.model.specs.Verdict.{Among, IsArrival, Verdict, CallVerdict, words1, words2, wordsJob, typed1, typedJobs}
-use Rattle.model.specs.Verdict.{accepted, refused3, refused4, refused12, refused5, refused6, refused7, refused8, refused9, refused10}
+use Rattle.model.specs.Verdict.{accepted, refused3, refused4, refused12, refused13, refused5, refused6, refused7, refused8, refused9, refused10}
 use Rattle.model.specs.Quantities.{speedLimit, accelerationLimit}
 use Rattle.model.proofs.CellLimits as L
 use Rattle.model.proofs.ExactStart as S
@@ -162,7 +162,7 @@ all-ready j n p a i x q =
     (record {
       passed = g;
       tick = a .last;
-      reach = T-true (reachable (y .0 .axis) n) (reach-is (y .0 .axis) n g .0 (a .reached (y .0) (y .1 .0)));
+      reach = T-true (reachable (y .0 .axis) n) (reach-is (y .0 .axis) n g .0 (a .arrives .reached (y .0) (y .1 .0)));
     })
 
 -- what holds of the table of every job that can be planned holds of every accepted call
@@ -171,7 +171,7 @@ module _ (Claim : List Axis → ℕ → List ℤ → Type 0)
     → ((i : ℕ) (x : Axis) → getElem? xs i ≡ some x → Ready x n) → Claim xs n lent) where
   -- only an accepted job has number 0
   by-verdict : (j : Job) (lent : List ℤ) (o : Outcome) → Verdict j lent o → o .number ≡ 0 → Claim (axesOf j) (o .arrival) (o .cells)
-  by-verdict j lent o (accepted n p a room e) z =
+  by-verdict j lent o (accepted n p w a room e) z =
       subst (λ (m : ℕ). Claim (axesOf j) m (o .cells)) (sym (e .arrival))
       (holds (axesOf j) n (o .cells) (drop (cellsNeeded (length (axesOf j)) n) lent) (e .cells) (all-ready j n p a))
   by-verdict j lent o (refused3 a e) z = absurd (let n = e .number in omega arith)
@@ -180,17 +180,18 @@ module _ (Claim : List Axis → ℕ → List ℤ → Type 0)
   by-verdict j lent o (refused5 i a b c d e) z = absurd (let n = e .number in omega arith)
   by-verdict j lent o (refused6 i a b c d f e) z = absurd (let n = e .number in omega arith)
   by-verdict j lent o (refused7 i a b c d f g e) z = absurd (let n = e .number in omega arith)
-  by-verdict j lent o (refused8 m a b c d f e) z = absurd (let n = e .number in omega arith)
-  by-verdict j lent o (refused9 m a b c d e) z = absurd (let n = e .number in omega arith)
-  by-verdict j lent o (refused10 n a b c e) z = absurd (let n = e .number in omega arith)
+  by-verdict j lent o (refused13 p a b c d e) z = absurd (let n = e .number in omega arith)
+  by-verdict j lent o (refused8 m a b c w d f e) z = absurd (let n = e .number in omega arith)
+  by-verdict j lent o (refused9 m a b w c d e) z = absurd (let n = e .number in omega arith)
+  by-verdict j lent o (refused10 n a w b c e) z = absurd (let n = e .number in omega arith)
 
   by-call : (q : Input) (lent : List ℤ) (o : Outcome) → CallVerdict lent o q → o .number ≡ 0 → Claim (inputAxes q) (o .arrival) (o .cells)
   by-call q lent o (words1 ws a e) z = absurd (let n = e .number in omega arith)
   by-call q lent o (words2 ws p a e) z = absurd (let n = e .number in omega arith)
   by-call q lent o (wordsJob ws j d v) z =
       subst (λ (xs : List Axis). Claim xs (o .arrival) (o .cells)) (sym (ap axesRead d)) (by-verdict j lent o v z)
-  by-call q lent o (typed1 m asked six a e) z = absurd (let n = e .number in omega arith)
-  by-call q lent o (typedJobs m asked six a b v) z = by-verdict (typedJob m asked six) lent o v z
+  by-call q lent o (typed1 t a e) z = absurd (let n = e .number in omega arith)
+  by-call q lent o (typedJobs t a b v) z = by-verdict (jobOf t) lent o v z
 
   of-calls : (q : Input) (lent : List ℤ) → call q lent .number ≡ 0 → Claim (inputAxes q) (call q lent .arrival) (call q lent .cells)
   of-calls q lent z = by-call q lent (call q lent) (call-verdict q lent) z

@@ -1,8 +1,12 @@
--- The starred field cases A to J, by computing the definitions.
+-- The starred field cases A to J, and cases of laser windows, by computing the definitions.
 use mathlib.Core.Path.{refl}
 use Rattle.model.specs.Leg.{cruise}
-use Rattle.model.specs.Cases.{Starred}
+use Rattle.model.specs.Cases.{Starred, WindowCasesHold}
 
 pub starred : Starred
 unfolding cruise
 starred = refl
+
+pub window-cases : WindowCasesHold
+unfolding cruise
+window-cases = refl

@@ -1,6 +1,6 @@
 -- A tour of stops (paper 02, request 2.1): the leg to each stop is a typed job, from rest to rest, that seeks its least arrival.
 use Prim.Native.Nat.{ℕ, suc, _+_}
-use mathlib.Core.Bool.{Bool, true, false}
+use mathlib.Core.Bool.{true, false}
 use mathlib.Core.Option.{Option, none, some}
 use mathlib.Core.List.{List, [], _∷_, _++_}
 use lib.IntN.{ℤ, pos}
@@ -13,7 +13,9 @@ use Rattle.model.specs.declared.Stop.{Stop}
 use Rattle.model.specs.declared.AxisLimits.{AxisLimits}
 use Rattle.model.specs.declared.TourSettings.{TourSettings}
 use Rattle.model.specs.declared.TourAnswer.{TourAnswer}
-use Rattle.model.specs.Outcome.{Input, typed, answerOfTyped}
+use Rattle.model.specs.declared.Job.{Job}
+use Rattle.model.specs.Windows.{noWindows}
+use Rattle.model.specs.Outcome.{answerOf}
 
 -- ---- a leg
 
@@ -35,12 +37,12 @@ legAxes (l ∷ ls) [] qs = []
 legAxes (l ∷ ls) (p ∷ ps) [] = []
 legAxes (l ∷ ls) (p ∷ ps) (q ∷ qs) = legAxis l p q ∷ legAxes ls ps qs
 
--- the typed job of the leg between two positions: it asks for its least arrival
-abbrev pub legJob : TourSettings → List ℤ → List ℤ → Input
-legJob t here there = typed (t .mask) 0 (legAxes (t .limits) here there)
+-- the typed job of the leg between two positions: it asks for its least arrival, and brings no windows
+abbrev pub legJob : TourSettings → List ℤ → List ℤ → Job
+legJob t here there = record { mask = t .mask; asked = 0; axes = legAxes (t .limits) here there; windows = noWindows }
 
 abbrev pub legAnswer : TourSettings → List ℤ → List ℤ → Answer
-legAnswer t here there = answerOfTyped (t .mask) 0 (legAxes (t .limits) here there)
+legAnswer t here there = answerOf (legJob t here there)
 
 -- ---- all legs
 

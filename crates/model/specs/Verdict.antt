@@ -9,12 +9,14 @@ use mathlib.Core.Logic.{_↔_, _⊎_}
 use lib.IntN.{ℤ}
 use lib.ListN.{length, drop, getElem?}
 use Rattle.model.specs.declared.Axis.{Axis}
+use Rattle.model.specs.declared.Job as Typed
 use Rattle.model.specs.Motion.{Reachable}
+use Rattle.model.specs.Windows.{brought, FitsOne, WindowsWrong, WindowsRight}
 use Rattle.model.specs.Rows.{table}
-use Rattle.model.specs.Job.{Job, JobAxis, axesOf, typedJob, bit}
+use Rattle.model.specs.Job.{Job, JobAxis, axesOf, jobOf, bit}
 use Rattle.model.specs.Words.{kind, payload, decode, badWord, job}
 use Rattle.model.specs.Refusals.{limitsRefused, dampingRefused, blendRefused, valuesRefused, accelerationRefused, AllPassed}
-use Rattle.model.specs.Outcome.{Outcome, Input, words, typed, cellsNeeded}
+use Rattle.model.specs.Outcome.{Outcome, Input, words, typed, cellsNeeded, jobOutcome}
 
 -- ---- the two kinds of answer
 
@@ -67,12 +69,21 @@ AllReachable xs n = (x : JobAxis) → Among xs x → Reachable (x .axis) n
 abbrev pub ReachesNone : Axis → Type 0
 ReachesNone x = (n : ℕ) → 1 ≤ n → n ≤ 4096 → Reachable x n → ⊥
 
--- the arrival of a job: the asked one, or where none is asked the least from 1 to 4,096, that every axis reaches
+-- every axis reaches tick n, and it fits a window where the job brings some
+pub record Arrives (j : Job) (n : ℕ) : Type 0 where
+  pub fits : j .windows .given ≡ true → FitsOne n (j .windows .dwell) (brought (j .windows))
+  pub reached : AllReachable (j .axes) n
+
+-- the arrival of a job: the asked one, or where none is asked the least from 1 to 4,096
 pub record IsArrival (j : Job) (n : ℕ) : Type 0 where
   pub first : 1 ≤ n
   pub last : n ≤ 4096
-  pub reached : AllReachable (j .axes) n
-  pub asked : (j .asked ≡ n) ⊎ ((j .asked ≡ 0) × ((k : ℕ) → 1 ≤ k → k < n → AllReachable (j .axes) k → ⊥))
+  pub arrives : Arrives j n
+  pub asked : (j .asked ≡ n) ⊎ ((j .asked ≡ 0) × ((k : ℕ) → 1 ≤ k → k < n → Arrives j k → ⊥))
+
+-- the windows that a job brings are right
+abbrev pub WindowsPass : Job → Type 0
+WindowsPass j = j .windows .given ≡ true → WindowsRight (j .windows)
 
 -- ---- from refusal 3 on: a job whose mask and words passed
 
@@ -88,20 +99,46 @@ pub data Verdict (j : Job) (lent : List ℤ) (o : Outcome) : Type 0 where
   refused7 : (i : ℕ) → j .asked ≤ 4096 → NoneRefused limitsRefused (j .axes) → NoneRefused dampingRefused (j .axes)
       → NoneRefused blendRefused (j .axes) → NoneRefused valuesRefused (j .axes) → FirstRefused accelerationRefused (j .axes) i
       → Refuses o 7 i 0 0 lent → Verdict j lent o
-  -- an arrival is asked for, and the mask names exactly the axes that do not reach it, of which there is one
-  refused8 : (m : ℕ) → 1 ≤ j .asked → j .asked ≤ 4096 → AllPassed (j .axes)
-      → (AllReachable (j .axes) (j .asked) → ⊥) → Names (λ x. Reachable x (j .asked) → ⊥) (j .axes) m
+  -- windows are brought, and they are not right
+  refused13 : (p : ℕ) → j .asked ≤ 4096 → AllPassed (j .axes) → j .windows .given ≡ true → WindowsWrong (j .windows) p
+      → Refuses o 13 p 0 0 lent → Verdict j lent o
+  -- an arrival is asked for that an axis does not reach or that fits no window, and the mask names exactly the axes that do not reach it
+  refused8 : (m : ℕ) → 1 ≤ j .asked → j .asked ≤ 4096 → AllPassed (j .axes) → WindowsPass j
+      → (Arrives j (j .asked) → ⊥) → Names (λ x. Reachable x (j .asked) → ⊥) (j .axes) m
       → Refuses o 8 0 m 0 lent → Verdict j lent o
-  -- none is asked for, no common one exists, and the mask names exactly the axes that alone reach none
-  refused9 : (m : ℕ) → j .asked ≡ 0 → AllPassed (j .axes)
-      → ((n : ℕ) → 1 ≤ n → n ≤ 4096 → AllReachable (j .axes) n → ⊥) → Names ReachesNone (j .axes) m
+  -- none is asked for, none exists, and the mask names exactly the axes that alone reach none, whatever the windows
+  refused9 : (m : ℕ) → j .asked ≡ 0 → AllPassed (j .axes) → WindowsPass j
+      → ((n : ℕ) → 1 ≤ n → n ≤ 4096 → Arrives j n → ⊥) → Names ReachesNone (j .axes) m
       → Refuses o 9 0 m 0 lent → Verdict j lent o
-  refused10 : (n : ℕ) → AllPassed (j .axes) → IsArrival j n → length lent < cellsNeeded (length (j .axes)) n
+  refused10 : (n : ℕ) → AllPassed (j .axes) → WindowsPass j → IsArrival j n → length lent < cellsNeeded (length (j .axes)) n
       → Refuses o 10 0 0 n lent → Verdict j lent o
-  accepted : (n : ℕ) → AllPassed (j .axes) → IsArrival j n → cellsNeeded (length (j .axes)) n ≤ length lent
+  accepted : (n : ℕ) → AllPassed (j .axes) → WindowsPass j → IsArrival j n → cellsNeeded (length (j .axes)) n ≤ length lent
       → Accepts o j n lent → Verdict j lent o
 
--- ---- the two calls
+-- ---- 8 and 9 of a job that every refusal before them lets pass
+
+pub record Passing (j : Job) : Type 0 where
+  pub asked : j .asked ≤ 4096
+  pub axes : AllPassed (j .axes)
+  pub windows : WindowsPass j
+
+-- every axis reaches tick n, and windows are brought of which none holds it
+pub record OutsideWindows (j : Job) (n : ℕ) : Type 0 where
+  pub reached : AllReachable (j .axes) n
+  pub given : j .windows .given ≡ true
+  pub outside : FitsOne n (j .windows .dwell) (brought (j .windows)) → ⊥
+
+-- 8 with mask 0 comes exactly where the asked arrival is such a tick
+abbrev pub EightOutside : Type 0
+EightOutside = (j : Job) (lent : List ℤ) → Passing j → 1 ≤ j .asked
+    → ((jobOutcome j lent .number ≡ 8) × (jobOutcome j lent .mask ≡ 0)) ↔ OutsideWindows j (j .asked)
+
+-- 9 comes exactly where no arrival from 1 to 4,096 is reached by every axis and fits a window
+abbrev pub NineNowhere : Type 0
+NineNowhere = (j : Job) (lent : List ℤ) → Passing j → j .asked ≡ 0
+    → (jobOutcome j lent .number ≡ 9) ↔ ((n : ℕ) → 1 ≤ n → n ≤ 4096 → Arrives j n → ⊥)
+
+-- ---- the calls
 
 -- a mask that names no axis or one that there is not
 abbrev pub MaskOutside : ℕ → Type 0
@@ -116,5 +153,5 @@ pub data CallVerdict (lent : List ℤ) (o : Outcome) : Input → Type 0 where
   words1 : (ws : List ℕ) → MaskWordWrong ws → Refuses o 1 0 0 0 lent → CallVerdict lent o (words ws)
   words2 : (ws : List ℕ) (p : ℕ) → decode ws ≡ badWord p → Refuses o 2 p 0 0 lent → CallVerdict lent o (words ws)
   wordsJob : (ws : List ℕ) (j : Job) → decode ws ≡ job j → Verdict j lent o → CallVerdict lent o (words ws)
-  typed1 : (m asked : ℕ) (six : List Axis) → MaskOutside m → Refuses o 1 0 0 0 lent → CallVerdict lent o (typed m asked six)
-  typedJobs : (m asked : ℕ) (six : List Axis) → 1 ≤ m → m ≤ 63 → Verdict (typedJob m asked six) lent o → CallVerdict lent o (typed m asked six)
+  typed1 : (t : Typed.Job) → MaskOutside (t .mask) → Refuses o 1 0 0 0 lent → CallVerdict lent o (typed t)
+  typedJobs : (t : Typed.Job) → 1 ≤ t .mask → t .mask ≤ 63 → Verdict (jobOf t) lent o → CallVerdict lent o (typed t)

@@ -2,7 +2,7 @@
 -- definitions with no table lent.
 use Prim.Native.Nat.{ℕ, zero, suc, _≤_}
 use native.Mathlib.Omega.{arith}
-use mathlib.Core.Path.{_≡_, refl, sym, ap, subst, _∙_}
+use mathlib.Core.Path.{_≡_, refl, sym, ap, _∙_}
 use mathlib.Core.Bool.{Bool, true, false, false≢true}
 use mathlib.Core.Option.{Option, none, some}
 use mathlib.Core.List.{List, [], _∷_}
@@ -12,15 +12,19 @@ use lib.IntN.{ℤ}
 use borrow.Author.Tests.{ne-eqb, eqb-true, eqb-false}
 use Rattle.model.specs.declared.Axis.{Axis}
 use Rattle.model.specs.declared.Answer.{Answer}
-use Rattle.model.specs.Job.{Job, JobAxis, typedJob}
+use Rattle.model.specs.declared.Job as Typed
+use Rattle.model.specs.declared.Windows.{Windows}
+use Rattle.model.specs.Windows.{refused13}
+use Rattle.model.specs.Job.{Job, JobAxis, jobOf}
 use Rattle.model.specs.Words.{goodMask}
 use Rattle.model.specs.Refusals.{lastTick, AllPassed}
-use Rattle.model.specs.Outcome.{Outcome, outcomeOf, refuse, accept, filled, jobOutcome, cellsNeeded, outcomeOfTyped, firstAxis, axisRefusals, leastArrival, allReach, beforeTen, answerOfTyped}
+use Rattle.model.specs.Outcome.{Outcome, outcomeOf, refuse, accept, filled, jobOutcome, cellsNeeded, firstAxis}
+use Rattle.model.specs.Outcome.{axisRefusals, leastFrom, allReach, beforeTen, answerOf}
 use Rattle.model.proofs.BeforeTen.{before-filled}
 use Rattle.arrival.specs.declared.Arrival.{Arrival}
-use Rattle.arrival.specs.Arrivals.{leastOr, askedOr, arrivalFor}
+use Rattle.arrival.specs.Arrivals.{leastOr, askedOr, arrivesIn, arrivalFor}
 use Rattle.planner.specs.declared.Refusal.{Refusal}
-use Rattle.planner.specs.Stages.{firstRefusal, checkedFor, Settled}
+use Rattle.planner.specs.Stages.{windowRefusal, firstRefusal, checkedFor, Settled}
 use Rattle.planner.specs.Promise.{Answered}
 use Rattle.planner.proofs.Checks.{Lacks, lacks}
 use Rattle.planner.proofs.Calls.{mask-refused, mask-passed}
@@ -80,43 +84,51 @@ settled-is j r s = go (eqb (r .number) 0) refl
         s .accepted zero ∙ sym (before-filled j (r .arrival) []) ∙ ap (beforeTen (j .mask)) (s .found zero [])
     go false e = sym (before-ten (j .mask) r (s .not-ten)) ∙ ap (beforeTen (j .mask)) (s .refused (eqb-false (r .number) 0 e) [])
 
-module _ (m asked : ℕ) (six : List Axis) (r : Answer) where
-  pub answered : goodMask m ≡ true → Settled (typedJob m asked six) r → Answered m asked six r
-  unfolding answerOfTyped
+module _ (t : Typed.Job) (r : Answer) where
+  pub answered : goodMask (t .mask) ≡ true → Settled (jobOf t) r → Answered t r
+  unfolding answerOf
   answered good s =
       record {
-        is = settled-is (typedJob m asked six) r s ∙ ap (beforeTen m) (mask-passed m asked six [] good);
+        is = settled-is (jobOf t) r s ∙ ap (beforeTen (t .mask)) (mask-passed t [] good);
         last = s .last;
       }
 
-  pub no-mask : goodMask m ≡ false → r ≡ record { number = 1; place = 0; mask = 0; arrival = 0 } → Answered m asked six r
-  unfolding answerOfTyped
+  pub no-mask : goodMask (t .mask) ≡ false → r ≡ record { number = 1; place = 0; mask = 0; arrival = 0 } → Answered t r
+  unfolding answerOf
   no-mask bad e =
       record {
-        is = e ∙ ap (beforeTen m) (mask-refused m asked six [] bad);
+        is = e ∙ ap (beforeTen (t .mask)) (mask-refused t [] bad);
         last = let a = ap (λ (s : Answer). s .arrival) e in omega arith;
       }
 
 -- ---- no check and no search answers 10
 
-tests-not-ten : (ts : List (ℕ × (Axis → Bool))) (xs : List JobAxis) → Lacks 10 ts → firstRefusal ts xs .number ≡ 10 → ⊥
-tests-not-ten [] xs n e = omega arith
-tests-not-ten (t ∷ ts) xs (n, ns) e = go (firstAxis (t .1) xs) (tests-not-ten ts xs ns) e
+windows-not-ten : (w : Windows) → windowRefusal w .number ≡ 10 → ⊥
+windows-not-ten w e = go (refused13 w) e
   where
-    go : (o : Option ℕ) → (firstRefusal ts xs .number ≡ 10 → ⊥)
-        → (elim o as (λ _. Refusal) [ some i ↦ record { number = t .0; place = i } | none ↦ firstRefusal ts xs ]) .number ≡ 10 → ⊥
+    go : (o : Option ℕ) → (elim o as (λ _. Refusal) [ some p ↦ record { number = 13; place = p } | none ↦ record { number = 0; place = 0 } ]) .number ≡ 10 → ⊥
+    go (some p) e = omega arith
+    go none e = omega arith
+
+tests-not-ten : (ts : List (ℕ × (Axis → Bool))) (xs : List JobAxis) (w : Windows) → Lacks 10 ts → firstRefusal ts xs w .number ≡ 10 → ⊥
+tests-not-ten [] xs w n e = windows-not-ten w e
+tests-not-ten (t ∷ ts) xs w (n, ns) e = go (firstAxis (t .1) xs) (tests-not-ten ts xs w ns) e
+  where
+    go : (o : Option ℕ) → (firstRefusal ts xs w .number ≡ 10 → ⊥)
+        → (elim o as (λ _. Refusal) [ some i ↦ record { number = t .0; place = i } | none ↦ firstRefusal ts xs w ]) .number ≡ 10 → ⊥
     go (some i) h e = n e
     go none h e = h e
 
 pub check-not-ten : (j : Job) (c : Refusal) → c ≡ checkedFor j → c .number ≡ 10 → ⊥
 check-not-ten j c is e = go (leb (j .asked) lastTick) (sym (ap (λ (r : Refusal). r .number) is) ∙ e)
   where
-    go : (b : Bool) → (elim b as (λ _. Refusal) [ true ↦ firstRefusal axisRefusals (j .axes) | false ↦ record { number = 3; place = 1 } ]) .number ≡ 10 → ⊥
-    go true e = tests-not-ten axisRefusals (j .axes) (lacks 10 axisRefusals refl) e
+    go : (b : Bool)
+        → (elim b as (λ _. Refusal) [ true ↦ firstRefusal axisRefusals (j .axes) (j .windows) | false ↦ record { number = 3; place = 1 } ]) .number ≡ 10 → ⊥
+    go true e = tests-not-ten axisRefusals (j .axes) (j .windows) (lacks 10 axisRefusals refl) e
     go false e = omega arith
 
-pub arrival-not-ten : (xs : List JobAxis) (asked : ℕ) (f : Arrival) → f ≡ arrivalFor xs asked → f .number ≡ 10 → ⊥
-arrival-not-ten xs asked f is e = go asked (sym (ap (λ (r : Arrival). r .number) is) ∙ e)
+pub arrival-not-ten : (w : Windows) (xs : List JobAxis) (asked : ℕ) (f : Arrival) → f ≡ arrivalFor w xs asked → f .number ≡ 10 → ⊥
+arrival-not-ten w xs asked f is e = go asked (sym (ap (λ (r : Arrival). r .number) is) ∙ e)
   where
     least : (o : Option ℕ) → leastOr xs o .number ≡ 10 → ⊥
     least (some n) e = omega arith
@@ -126,6 +138,6 @@ arrival-not-ten xs asked f is e = go asked (sym (ap (λ (r : Arrival). r .number
     one n true e = omega arith
     one n false e = omega arith
 
-    go : (n : ℕ) → arrivalFor xs n .number ≡ 10 → ⊥
-    go zero e = least (leastArrival xs) e
-    go (suc n) e = one (suc n) (allReach xs (suc n)) e
+    go : (n : ℕ) → arrivalFor w xs n .number ≡ 10 → ⊥
+    go zero e = least (leastFrom (arrivesIn w xs) 1 lastTick) e
+    go (suc n) e = one (suc n) (arrivesIn w xs (suc n)) e

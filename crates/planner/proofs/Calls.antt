@@ -8,11 +8,11 @@ use mathlib.Core.List.{List}
 use lib.IntN.{ℤ}
 use lib.Dec.{ltb, leb}
 use borrow.Author.Tests.{leb-true}
-use Rattle.model.specs.declared.Axis.{Axis}
+use Rattle.model.specs.declared.Job as Typed
 use Rattle.model.specs.declared.Answer.{Answer}
-use Rattle.model.specs.Job.{typedJob}
+use Rattle.model.specs.Job.{jobOf}
 use Rattle.model.specs.Words.{goodMask, Decoded, noMask, badWord, job, decode}
-use Rattle.model.specs.Outcome.{Outcome, Input, refuse, jobOutcome, outcomeOfTyped, outcomeOfWords, call, inputAxes}
+use Rattle.model.specs.Outcome.{Outcome, Input, refuse, jobOutcome, outcomeOfJob, outcomeOfWords, call, inputAxes}
 use Rattle.model.specs.Demand.{Demand3}
 use Rattle.words.specs.declared.DecodedJob.{DecodedJob}
 use Rattle.words.specs.Decoding.{decodedJob, Decodes}
@@ -29,17 +29,17 @@ promise q entry r exit g =
       fitted = g .fitted;
     }
 
--- ---- typed values
+-- ---- a job of typed values
 
-module _ (m asked : ℕ) (six : List Axis) (lent : List ℤ) where
+module _ (t : Typed.Job) (lent : List ℤ) where
   by-mask : Bool → Outcome
-  by-mask b = elim b [ true ↦ jobOutcome (typedJob m asked six) lent | false ↦ refuse 1 0 0 0 lent ]
+  by-mask b = elim b [ true ↦ jobOutcome (jobOf t) lent | false ↦ refuse 1 0 0 0 lent ]
 
-  pub mask-refused : goodMask m ≡ false → refuse 1 0 0 0 lent ≡ outcomeOfTyped m asked six lent
+  pub mask-refused : goodMask (t .mask) ≡ false → refuse 1 0 0 0 lent ≡ outcomeOfJob t lent
   unfolding by-mask
   mask-refused e = sym (ap by-mask e)
 
-  pub mask-passed : goodMask m ≡ true → jobOutcome (typedJob m asked six) lent ≡ outcomeOfTyped m asked six lent
+  pub mask-passed : goodMask (t .mask) ≡ true → jobOutcome (jobOf t) lent ≡ outcomeOfJob t lent
   unfolding by-mask
   mask-passed e = sym (ap by-mask e)
 
@@ -67,6 +67,11 @@ module _ (ws : List ℕ) (lent : List ℤ) (d : DecodedJob) (is : Decodes ws d) 
       go (badWord p) h = refl
       go (job j) h = absurd (h refl)
 
-  pub words-passed : d .number ≡ 0 → jobOutcome (typedJob (d .mask) (d .asked) (d .axes)) lent ≡ outcomeOfWords ws lent
+  -- the outcome of the words is that of the job that they hold
+  pub words-passed : d .number ≡ 0 → outcomeOfJob (d .job) lent ≡ outcomeOfWords ws lent
   unfolding by-words
-  words-passed z = sym (ap by-words (is .typed z))
+  words-passed z = sym (mask-passed (d .job) lent (is .allowed z)) ∙ sym (ap by-words (is .typed z))
+
+-- a stage that ends in a call
+pub kept : (q : Input) (entry : List ℤ) (r : Answer) (exit : List ℤ) → Promise q entry r exit → Gives (call q entry) r exit
+kept q entry r exit p = record { outcome = p .outcome; fitted = p .fitted }

@@ -1,4 +1,4 @@
--- Refusals 3, 4, 12 and 5 to 7, in checking order.
+-- Refusals 3, 4, 12, 5 to 7 and 13, in checking order.
 use Prim.Native.Nat.{ℕ, zero, suc, _+_, _<_, _≤_}
 use native.Mathlib.Omega.{arith}
 use mathlib.Core.Path.{_≡_, refl, sym, ap, _∙_}
@@ -10,12 +10,14 @@ use lib.ListN.{drop, getD}
 use lib.Dec.{eqb, leb}
 use borrow.Author.Tests.{le-leb, lt-leb, leb-true, ne-eqb, eqb-false}
 use Rattle.model.specs.declared.Axis.{Axis}
+use Rattle.model.specs.declared.Windows.{Windows}
+use Rattle.model.specs.Windows.{refused13}
 use Rattle.model.specs.Job.{Job, JobAxis}
 use Rattle.model.specs.Refusals.{AllPassed, lastTick, limitsRefused, dampingRefused, blendRefused, valuesRefused, accelerationRefused}
 use Rattle.model.specs.Outcome.{Outcome, refuse, firstAxis, axisRefusals, tested, arrived, jobOutcome}
 use Rattle.motion.specs.Motions.{refusalTest}
 use Rattle.planner.specs.declared.Refusal.{Refusal}
-use Rattle.planner.specs.Stages.{firstRefusal, checkedFor, Checked}
+use Rattle.planner.specs.Stages.{windowRefusal, firstRefusal, checkedFor, Checked}
 
 abbrev Tests : Type 0
 Tests = List (ℕ × (Axis → Bool))
@@ -41,17 +43,17 @@ rules-more (suc (suc (suc zero))) h = refl
 rules-more (suc (suc (suc (suc zero)))) h = refl
 rules-more (suc (suc (suc (suc (suc i))))) h = absurd (omega arith)
 
-module _ (xs : List JobAxis) where
+module _ (xs : List JobAxis) (w : Windows) where
   -- the first refusal of the tests from test i on
   pub from : ℕ → Refusal
-  from i = firstRefusal (rulesFrom i) xs
+  from i = firstRefusal (rulesFrom i) xs w
 
   by : ℕ → Option ℕ → Refusal
-  by i o = elim o [ some k ↦ record { number = numberAt i; place = k } | none ↦ firstRefusal (rulesFrom (i + 1)) xs ]
+  by i o = elim o [ some k ↦ record { number = numberAt i; place = k } | none ↦ firstRefusal (rulesFrom (i + 1)) xs w ]
 
   opened : (i : ℕ) → i < 5 → from i ≡ by i (firstAxis (refusalTest (numberAt i)) xs)
   unfolding from by
-  opened i h = ap (λ (ts : Tests). firstRefusal ts xs) (rules-more i h)
+  opened i h = ap (λ (ts : Tests). firstRefusal ts xs w) (rules-more i h)
 
   -- n is the number of test i
   module _ (i n : ℕ) (h : i < 5) (is : n ≡ numberAt i) where
@@ -66,20 +68,20 @@ module _ (xs : List JobAxis) where
     unfolding from by
     refused-later e = answered ∙ ap (by i) e
 
-  pub none-refused : (i : ℕ) → i ≡ 5 → from i ≡ record { number = 0; place = 0 }
+  pub none-refused : (i : ℕ) → i ≡ 5 → from i ≡ windowRefusal w
   unfolding from
-  none-refused i e = ap (λ (k : ℕ). firstRefusal (rulesFrom k) xs) e
+  none-refused i e = ap (λ (k : ℕ). firstRefusal (rulesFrom k) xs w) e
 
-  pub begun : from 0 ≡ firstRefusal axisRefusals xs
+  pub begun : from 0 ≡ firstRefusal axisRefusals xs w
   unfolding from
   begun = refl
 
 -- ---- what number 0 says
 
--- no test of a list holds of an axis
-abbrev Clear : Tests → List JobAxis → Type 0
-Clear [] xs = Unit
-Clear (t ∷ ts) xs = (firstAxis (t .1) xs ≡ none) × Clear ts xs
+-- no test of a list holds of an axis, and 13 refuses no window
+abbrev Clear : Tests → List JobAxis → Windows → Type 0
+Clear [] xs w = refused13 w ≡ none
+Clear (t ∷ ts) xs w = (firstAxis (t .1) xs ≡ none) × Clear ts xs w
 
 -- no test of a list has number k
 abbrev pub Lacks : ℕ → Tests → Type 0
@@ -102,13 +104,17 @@ lacks k (t ∷ ts) e = go (eqb (t .0) k) refl e (lacks k ts)
 all-numbered : Lacks 0 axisRefusals
 all-numbered = lacks 0 axisRefusals refl
 
-clear : (ts : Tests) (xs : List JobAxis) → Lacks 0 ts → firstRefusal ts xs .number ≡ 0 → Clear ts xs
-clear [] xs n z = tt
-clear (t ∷ ts) xs (n, ns) z = go (firstAxis (t .1) xs) refl z (clear ts xs ns)
+clear : (ts : Tests) (xs : List JobAxis) (w : Windows) → Lacks 0 ts → firstRefusal ts xs w .number ≡ 0 → Clear ts xs w
+clear [] xs w n z = go (refused13 w) z
+  where
+    go : (o : Option ℕ) → (elim o as (λ _. Refusal) [ some p ↦ record { number = 13; place = p } | none ↦ record { number = 0; place = 0 } ]) .number ≡ 0 → o ≡ none
+    go (some p) z = absurd (omega arith)
+    go none z = refl
+clear (t ∷ ts) xs w (n, ns) z = go (firstAxis (t .1) xs) refl z (clear ts xs w ns)
   where
     go : (o : Option ℕ) → firstAxis (t .1) xs ≡ o
-        → (elim o as (λ _. Refusal) [ some i ↦ record { number = t .0; place = i } | none ↦ firstRefusal ts xs ]) .number ≡ 0
-        → (firstRefusal ts xs .number ≡ 0 → Clear ts xs) → Clear (t ∷ ts) xs
+        → (elim o as (λ _. Refusal) [ some i ↦ record { number = t .0; place = i } | none ↦ firstRefusal ts xs w ]) .number ≡ 0
+        → (firstRefusal ts xs w .number ≡ 0 → Clear ts xs w) → Clear (t ∷ ts) xs w
     go (some i) e z h = absurd (n z)
     go none e z h = (e, h z)
 
@@ -120,22 +126,22 @@ split f x xs e = go (f (x .axis)) e
     go true e = absurd (let z : _≡_ {A = ℕ} 0 1 = cc in omega arith)
     go false e = (refl, e)
 
-all-passed : (xs : List JobAxis) → Clear axisRefusals xs → AllPassed xs
-all-passed [] c = tt
-all-passed (x ∷ xs) (l, (d, (b, (v, (a, _))))) =
+all-passed : (xs : List JobAxis) (w : Windows) → Clear axisRefusals xs w → AllPassed xs
+all-passed [] w c = tt
+all-passed (x ∷ xs) w (l, (d, (b, (v, (a, r))))) =
     let l' = split limitsRefused x xs l in
     let d' = split dampingRefused x xs d in
     let b' = split blendRefused x xs b in
     let v' = split valuesRefused x xs v in
     let a' = split accelerationRefused x xs a in (
       record { limits = l' .0; damping = d' .0; blend = b' .0; values = v' .0; acceleration = a' .0 },
-      all-passed xs (l' .1, (d' .1, (b' .1, (v' .1, (a' .1, tt))))),
+      all-passed xs w (l' .1, (d' .1, (b' .1, (v' .1, (a' .1, r))))),
     )
 
 -- ---- what `check` gives back
 
 by-asked : Job → Bool → Refusal
-by-asked j b = elim b [ true ↦ firstRefusal axisRefusals (j .axes) | false ↦ record { number = 3; place = 1 } ]
+by-asked j b = elim b [ true ↦ firstRefusal axisRefusals (j .axes) (j .windows) | false ↦ record { number = 3; place = 1 } ]
 
 pub checked : (j : Job) (r : Refusal) → r ≡ checkedFor j → Checked j r
 unfolding by-asked
@@ -143,16 +149,17 @@ checked j r e = go (leb (j .asked) lastTick) refl
   where
     go : (b : Bool) → leb (j .asked) lastTick ≡ b → Checked j r
     go true t =
-        let first : r ≡ firstRefusal axisRefusals (j .axes) = e ∙ ap (by-asked j) t in
+        let first : r ≡ firstRefusal axisRefusals (j .axes) (j .windows) = e ∙ ap (by-asked j) t in
         let number = ap (λ (q : Refusal). q .number) first in
         record {
           is = e;
           asked = λ z. leb-true (j .asked) lastTick t;
-          passed = λ z. all-passed (j .axes) (clear axisRefusals (j .axes) all-numbered (sym number ∙ z));
+          passed = λ z. all-passed (j .axes) (j .windows) (clear axisRefusals (j .axes) (j .windows) all-numbered (sym number ∙ z));
+          windows = λ z. clear axisRefusals (j .axes) (j .windows) all-numbered (sym number ∙ z) .1 .1 .1 .1 .1;
         }
     go false t =
         let number = ap (λ (q : Refusal). q .number) (e ∙ ap (by-asked j) t) in
-        record { is = e; asked = λ z. absurd (omega arith); passed = λ z. absurd (omega arith) }
+        record { is = e; asked = λ z. absurd (omega arith); passed = λ z. absurd (omega arith); windows = λ z. absurd (omega arith) }
 
 module _ (j : Job) (r : Refusal) where
   -- refusal 3
@@ -160,8 +167,8 @@ module _ (j : Job) (r : Refusal) where
   unfolding by-asked
   asked-late h e = checked j r (e ∙ sym (ap (by-asked j) (lt-leb (j .asked) lastTick h)))
 
-  -- the refusals of an axis, or none
-  pub asked-in-time : j .asked ≤ lastTick → r ≡ firstRefusal axisRefusals (j .axes) → Checked j r
+  -- the refusals of an axis, 13, or none
+  pub asked-in-time : j .asked ≤ lastTick → r ≡ firstRefusal axisRefusals (j .axes) (j .windows) → Checked j r
   unfolding by-asked
   asked-in-time h e = checked j r (e ∙ sym (ap (by-asked j) (le-leb (j .asked) lastTick h)))
 
@@ -170,12 +177,18 @@ module _ (j : Job) (r : Refusal) where
 abbrev pub afterChecks : Job → List ℤ → Refusal → Outcome
 afterChecks j lent r = cond (eqb (r .number) 0) (arrived j (j .asked) lent) (refuse (r .number) (r .place) 0 0 lent)
 
-tests-are : (ts : Tests) (j : Job) (lent : List ℤ) → Lacks 0 ts → afterChecks j lent (firstRefusal ts (j .axes)) ≡ tested ts j lent
-tests-are [] j lent n = refl
+tests-are : (ts : Tests) (j : Job) (lent : List ℤ) → Lacks 0 ts → afterChecks j lent (firstRefusal ts (j .axes) (j .windows)) ≡ tested ts j lent
+tests-are [] j lent n = go (refused13 (j .windows))
+  where
+    go : (o : Option ℕ)
+        → afterChecks j lent (elim o [ some p ↦ record { number = 13; place = p } | none ↦ record { number = 0; place = 0 } ])
+        ≡ (elim o as (λ _. Outcome) [ some p ↦ refuse 13 p 0 0 lent | none ↦ arrived j (j .asked) lent ])
+    go (some p) = refl
+    go none = refl
 tests-are (t ∷ ts) j lent (n, ns) = go (firstAxis (t .1) (j .axes)) (tests-are ts j lent ns)
   where
-    go : (o : Option ℕ) → afterChecks j lent (firstRefusal ts (j .axes)) ≡ tested ts j lent
-        → afterChecks j lent (elim o [ some i ↦ record { number = t .0; place = i } | none ↦ firstRefusal ts (j .axes) ])
+    go : (o : Option ℕ) → afterChecks j lent (firstRefusal ts (j .axes) (j .windows)) ≡ tested ts j lent
+        → afterChecks j lent (elim o [ some i ↦ record { number = t .0; place = i } | none ↦ firstRefusal ts (j .axes) (j .windows) ])
         ≡ (elim o as (λ _. Outcome) [ some i ↦ refuse (t .0) i 0 0 lent | none ↦ tested ts j lent ])
     go (some i) h = ap (λ (b : Bool). cond b (arrived j (j .asked) lent) (refuse (t .0) i 0 0 lent)) (ne-eqb (t .0) 0 n)
     go none h = h
@@ -183,7 +196,21 @@ tests-are (t ∷ ts) j lent (n, ns) = go (firstAxis (t .1) (j .axes)) (tests-are
 pub checks-are : (j : Job) (lent : List ℤ) → afterChecks j lent (checkedFor j) ≡ jobOutcome j lent
 checks-are j lent = go (leb (j .asked) lastTick)
   where
-    go : (b : Bool) → afterChecks j lent (elim b [ true ↦ firstRefusal axisRefusals (j .axes) | false ↦ record { number = 3; place = 1 } ])
+    go : (b : Bool) → afterChecks j lent (elim b [ true ↦ firstRefusal axisRefusals (j .axes) (j .windows) | false ↦ record { number = 3; place = 1 } ])
         ≡ (elim b as (λ _. Outcome) [ true ↦ tested axisRefusals j lent | false ↦ refuse 3 1 0 0 lent ])
     go true = tests-are axisRefusals j lent all-numbered
     go false = refl
+
+-- ---- refusal 13, or number 0
+
+module _ (w : Windows) where
+  by-window : Option ℕ → Refusal
+  by-window o = elim o [ some p ↦ record { number = 13; place = p } | none ↦ record { number = 0; place = 0 } ]
+
+  pub window-wrong : (p : ℕ) → refused13 w ≡ some p → record { number = 13; place = p } ≡ windowRefusal w
+  unfolding by-window
+  window-wrong p e = sym (ap by-window e)
+
+  pub window-right : refused13 w ≡ none → record { number = 0; place = 0 } ≡ windowRefusal w
+  unfolding by-window
+  window-right e = sym (ap by-window e)

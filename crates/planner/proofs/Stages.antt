@@ -12,9 +12,10 @@ use lib.Dec.{eqb, lit<}
 use borrow.Author.Tests.{lt-ltb, le-ltb, eq-eqb, ne-eqb}
 use Rattle.model.specs.declared.Axis.{Axis}
 use Rattle.model.specs.declared.Answer.{Answer}
-use Rattle.model.specs.Job.{Job, JobAxis, setBits, setAxes, axesOf, typedJob, byHand, axesByHand}
+use Rattle.model.specs.declared.Windows.{Windows}
+use Rattle.model.specs.Job.{Job, JobAxis, setBits, setAxes, axesOf, typedJob, jobWith, byHand, axesByHand}
 use Rattle.model.specs.Refusals.{lastTick, AllPassed}
-use Rattle.model.specs.Outcome.{accept, Outcome, outcomeOf, refuse, allReach, leastArrival, cellsNeeded, tableOver, filled, arrived, jobOutcome}
+use Rattle.model.specs.Outcome.{accept, Outcome, outcomeOf, refuse, allReach, leastFrom, arrives, cellsNeeded, tableOver, filled, arrived, jobOutcome}
 use Rattle.arrival.specs.declared.Arrival.{Arrival}
 use Rattle.arrival.specs.Arrivals.{leastOr, askedOr, arrivalFor}
 use Rattle.arrival.proofs.SetAxes.{six-axes-bits, six-bits}
@@ -59,22 +60,22 @@ module _ (j : Job) (lent : List ℤ) (c : Refusal) (is : c ≡ checkedFor j) whe
 
 -- ---- with the weights by hand
 
-module _ (m asked : ℕ) (axes given : List Axis) (is : given ≡ map byHand axes) where
+module _ (m asked : ℕ) (axes given : List Axis) (w : Windows) (is : given ≡ map byHand axes) where
   axes-given : setAxes 0 m given ≡ axesByHand (setAxes 0 m axes)
   axes-given = ap (setAxes 0 m) is ∙ set-by-hand 0 m axes
 
   pub given-passed : AllPassed (setAxes 0 m axes) → AllPassed (setAxes 0 m given)
   given-passed p = subst AllPassed (sym axes-given) (passed-by-hand (setAxes 0 m axes) p)
 
-  pub given-arrives : (lent : List ℤ) → arrived (typedJob m asked given) asked lent ≡ arrived (typedJob m asked axes) asked lent
+  pub given-arrives : (lent : List ℤ) → arrived (jobWith m asked given w) asked lent ≡ arrived (jobWith m asked axes w) asked lent
   given-arrives lent =
-      ap (λ (l : List JobAxis). arrived (record { mask = m; asked = asked; axes = l }) asked lent) axes-given
-      ∙ arrived-by-hand (typedJob m asked axes) asked lent
+      ap (λ (l : List JobAxis). arrived (record { mask = m; asked = asked; axes = l; windows = w }) asked lent) axes-given
+      ∙ arrived-by-hand (jobWith m asked axes w) asked lent
 
-  pub given-filled : (n : ℕ) (lent : List ℤ) → filled (typedJob m asked given) n lent ≡ filled (typedJob m asked axes) n lent
+  pub given-filled : (n : ℕ) (lent : List ℤ) → filled (jobWith m asked given w) n lent ≡ filled (jobWith m asked axes w) n lent
   given-filled n lent =
-      ap (λ (l : List JobAxis). filled (record { mask = m; asked = asked; axes = l }) n lent) axes-given
-      ∙ filled-by-hand (typedJob m asked axes) n lent
+      ap (λ (l : List JobAxis). filled (record { mask = m; asked = asked; axes = l; windows = w }) n lent) axes-given
+      ∙ filled-by-hand (jobWith m asked axes w) n lent
 
   pub given-reached : (n : ℕ) → allReach (setAxes 0 m given) n ≡ true → allReach (setAxes 0 m axes) n ≡ true
   given-reached n e = sym (ap (λ (l : List JobAxis). allReach l n) axes-given ∙ reach-by-hand (setAxes 0 m axes) n) ∙ e
@@ -85,21 +86,21 @@ module _ (j : Job) (lent : List ℤ) where
   abbrev afterArrival : Arrival → Outcome
   afterArrival f = cond (eqb (f .number) 0) (filled j (f .tick) lent) (refuse (f .number) 0 (f .mask) 0 lent)
 
-  arrivals-are : (asked : ℕ) → afterArrival (arrivalFor (j .axes) asked) ≡ arrived j asked lent
-  arrivals-are zero = go (leastArrival (j .axes))
+  arrivals-are : (asked : ℕ) → afterArrival (arrivalFor (j .windows) (j .axes) asked) ≡ arrived j asked lent
+  arrivals-are zero = go (leastFrom (arrives j) 1 lastTick)
     where
       go : (o : Option ℕ) → afterArrival (leastOr (j .axes) o)
           ≡ (elim o as (λ _. Outcome) [ some n ↦ filled j n lent | none ↦ refuse 9 0 (leastOr (j .axes) none .mask) 0 lent ])
       go (some n) = refl
       go none = refl
-  arrivals-are (suc n) = go (allReach (j .axes) (suc n))
+  arrivals-are (suc n) = go (arrives j (suc n))
     where
       go : (b : Bool) → afterArrival (askedOr (j .axes) (suc n) b)
           ≡ (elim b as (λ _. Outcome) [ true ↦ filled j (suc n) lent | false ↦ refuse 8 0 (askedOr (j .axes) (suc n) false .mask) 0 lent ])
       go true = refl
       go false = refl
 
-  module _ (f : Arrival) (is : f ≡ arrivalFor (j .axes) (j .asked)) where
+  module _ (f : Arrival) (is : f ≡ arrivalFor (j .windows) (j .axes) (j .asked)) where
     by-arrival : (b : Bool) → eqb (f .number) 0 ≡ b
         → cond b (filled j (f .tick) lent) (refuse (f .number) 0 (f .mask) 0 lent) ≡ arrived j (j .asked) lent
     by-arrival b e =

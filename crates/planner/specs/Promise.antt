@@ -1,16 +1,16 @@
--- What the two calls for a table promise, `plan_words` and `plan_typed`. Neither asks anything of its caller: any words, any typed values
--- and any lent table will do.
-use Prim.Native.Nat.{ℕ, _<_, _≤_}
+-- What the two calls for a table promise, `plan_words` and `plan_job`. Neither asks anything of its caller: any words, any job of typed
+-- values and any lent table will do.
+use Prim.Native.Nat.{_<_, _≤_}
 use mathlib.Core.Path.{_≡_}
 use mathlib.Core.List.{List}
 use lib.IntN.{ℤ}
 use lib.ListN.{length}
 use Rattle.model.specs.declared.Answer.{Answer}
+use Rattle.model.specs.declared.Job.{Job}
 use Rattle.model.specs.Job.{setBits}
 use Rattle.model.specs.Refusals.{lastTick}
-use Rattle.model.specs.Outcome.{Input, outcomeOf, call, inputAxes, cellsNeeded, answerOfTyped}
+use Rattle.model.specs.Outcome.{Input, outcomeOf, call, inputAxes, cellsNeeded, answerOf}
 use Rattle.model.specs.Demand.{Demand3}
-use Rattle.model.specs.declared.Axis.{Axis}
 
 -- the rows are in the lent table: a caller may walk them by the mask and the arrival of the answer
 pub record Fitted (r : Answer) (exit : List ℤ) : Type 0 where
@@ -28,7 +28,7 @@ pub record Promise (q : Input) (entry : List ℤ) (r : Answer) (exit : List ℤ)
   pub demand3 : r .number ≡ 0 → Demand3 (inputAxes q) (r .arrival) exit
   pub fitted : r .number ≡ 0 → Fitted r exit
 
--- what `answer_typed` promises: the answer of a call with typed values before refusal 10
-pub record Answered (m asked : ℕ) (six : List Axis) (r : Answer) : Type 0 where
-  pub is : r ≡ answerOfTyped m asked six
+-- what `answer_of` promises: the answer to a job of typed values before refusal 10
+pub record Answered (t : Job) (r : Answer) : Type 0 where
+  pub is : r ≡ answerOf t
   pub last : r .arrival ≤ lastTick

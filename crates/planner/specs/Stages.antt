@@ -8,6 +8,8 @@ use lib.IntN.{ℤ}
 use lib.Dec.{eqb, leb}
 use Rattle.model.specs.declared.Axis.{Axis}
 use Rattle.model.specs.declared.Answer.{Answer}
+use Rattle.model.specs.declared.Windows.{Windows}
+use Rattle.model.specs.Windows.{refused13}
 use Rattle.model.specs.Job.{Job, JobAxis}
 use Rattle.model.specs.Refusals.{AllPassed, lastTick}
 use Rattle.model.specs.Outcome.{Outcome, outcomeOf, firstAxis, axisRefusals, allReach, filled, jobOutcome}
@@ -34,22 +36,27 @@ pub record Settled (j : Job) (r : Answer) : Type 0 where
   pub passed : r .number ≡ 0 → AllPassed (j .axes)
   pub reached : r .number ≡ 0 → allReach (j .axes) (r .arrival) ≡ true
 
--- ---- refusals 3, 4, 12 and 5 to 7
+-- ---- refusals 3, 4, 12, 5 to 7 and 13
 
--- the first refusal of a list of numbered tests, or number 0
-abbrev pub firstRefusal : List (ℕ × (Axis → Bool)) → List JobAxis → Refusal
-firstRefusal [] xs = record { number = 0; place = 0 }
-firstRefusal (t ∷ ts) xs = elim (firstAxis (t .1) xs) [ some i ↦ record { number = t .0; place = i } | none ↦ firstRefusal ts xs ]
+-- refusal 13, or number 0
+abbrev pub windowRefusal : Windows → Refusal
+windowRefusal w = elim (refused13 w) [ some p ↦ record { number = 13; place = p } | none ↦ record { number = 0; place = 0 } ]
+
+-- the first refusal of a list of numbered tests, or then 13, or number 0
+abbrev pub firstRefusal : List (ℕ × (Axis → Bool)) → List JobAxis → Windows → Refusal
+firstRefusal [] xs w = windowRefusal w
+firstRefusal (t ∷ ts) xs w = elim (firstAxis (t .1) xs) [ some i ↦ record { number = t .0; place = i } | none ↦ firstRefusal ts xs w ]
 
 abbrev pub checkedFor : Job → Refusal
-checkedFor j = elim (leb (j .asked) lastTick) [ true ↦ firstRefusal axisRefusals (j .axes) | false ↦ record { number = 3; place = 1 } ]
+checkedFor j = elim (leb (j .asked) lastTick) [ true ↦ firstRefusal axisRefusals (j .axes) (j .windows) | false ↦ record { number = 3; place = 1 } ]
 
 -- what `check` gives back for a job
 pub record Checked (j : Job) (r : Refusal) : Type 0 where
   pub is : r ≡ checkedFor j
-  -- number 0: the asked arrival and the axes have passed
+  -- number 0: the asked arrival, the axes and the windows have passed
   pub asked : r .number ≡ 0 → j .asked ≤ lastTick
   pub passed : r .number ≡ 0 → AllPassed (j .axes)
+  pub windows : r .number ≡ 0 → refused13 (j .windows) ≡ none
 
 abbrev pub foundAxis : FirstAxis → Option ℕ
 foundAxis (At i) = some i

@@ -1,8 +1,8 @@
 -- The small tours, by computation.
 use mathlib.Core.Path.{refl}
-use Rattle.model.specs.Outcome.{answerOfTyped}
+use Rattle.model.specs.Outcome.{answerOf}
 use Rattle.tour.specs.Cases.{Small}
 
 pub small : Small
-unfolding answerOfTyped
+unfolding answerOf
 small = refl

@@ -7,7 +7,7 @@ use lib.ListN.{length, getD}
 use Rattle.model.specs.declared.Stop.{Stop}
 use Rattle.model.specs.declared.TourSettings.{TourSettings}
 use Rattle.model.specs.declared.TourAnswer.{TourAnswer}
-use Rattle.model.specs.Outcome.{Input, call, inputAxes, cellsNeeded}
+use Rattle.model.specs.Outcome.{Input, typed, call, inputAxes, cellsNeeded}
 use Rattle.model.specs.Demand.{Demand3}
 use Rattle.model.specs.Tour.{legJob, tourOutcome, tourOutcomeOf}
 use Rattle.tour.specs.Rows.{noStop}
@@ -23,7 +23,7 @@ departsAt n stops arrivals zero = n
 departsAt n stops arrivals (suc i) = getD arrivals i 0 + getD stops i noStop .dwell
 
 abbrev pub legTo : TourSettings → List ℤ → List Stop → ℕ → Input
-legTo t here stops i = legJob t (leavesFrom here stops i) (getD stops i noStop .positions)
+legTo t here stops i = typed (legJob t (leavesFrom here stops i) (getD stops i noStop .positions))
 
 -- its typed job, called with any table that has room, is accepted, arrives after `ticks` and gives a table that meets demand 3
 pub record LegPlanned (t : TourSettings) (here : List ℤ) (n : ℕ) (stops : List Stop) (arrivals : List ℕ) (i : ℕ) : Type 0 where

@@ -11,6 +11,7 @@
 use model::Answer;
 use model::Axis;
 use model::AxisLimits;
+use model::Job;
 use model::RestPoint;
 use model::Stop;
 use model::Target;
@@ -21,7 +22,7 @@ ghost use mathlib.Core.Option.{none};
 ghost use mathlib.Core.List.{[], _++_};
 ghost use Prim.Native.Nat.{_<_, _≤_};
 ghost use lib.ListN.{length, take, drop};
-ghost use Rattle.model.specs.Tour.{legAxes, legsFrom, firstLongDwell};
+ghost use Rattle.model.specs.Tour.{legAxes, legJob, legsFrom, firstLongDwell};
 ghost use Rattle.tour.specs.Promise.{TourPromise};
 ghost use Rattle.tour.specs.Rows.{emptyRow, withStop, heldOf, rowOf, rowStops};
 ghost use Rattle.tour.specs.Parts.{legAxisAt, LegIs, foundStop, legsIn};
@@ -148,8 +149,22 @@ fn leg_row(
 pub fn leg_answer(settings: TourSettings, here: [i64; 6], there: [i64; 6]) -> Answer
     ensures { λ r. ⌜ LegIs settings here there r ⌝ }
 {
+    let job = leg_job(settings, here, there);
+    planner::answer_of(job)
+}
+
+// The typed job of a leg, without windows.
+fn leg_job(settings: TourSettings, here: [i64; 6], there: [i64; 6]) -> Job
+    ensures { λ r. ⌜ r ≡ legJob settings here there ⌝ }
+{
     let axes = leg_axes(settings, here, there);
-    planner::answer_typed(settings.mask, 0, axes)
+    let windows = windows::no_windows();
+    Job {
+        mask: settings.mask,
+        asked: 0,
+        axes: axes,
+        windows: windows,
+    }
 }
 
 // The axes of a leg.

@@ -13,10 +13,10 @@ use lib.Dec.{eqb, ltb}
 use borrow.Author.Tests.{ltb-true, ltb-false, lt-ltb, le-ltb}
 use Rattle.model.specs.declared.Axis.{Axis}
 use Rattle.model.specs.Job.{Job, JobAxis, setBits}
-use Rattle.model.specs.Words.{kind, payload, Reading, got, wrong, axes, ending, afterMask, goodMask, noMask, badWord, job, decode}
+use Rattle.model.specs.Words.{kind, payload, Reading, got, wrong, axes, ending, readJob, afterMask, goodMask, noMask, badWord, job, decode}
 use Rattle.words.specs.declared.AxesReading.{AxesReading}
 use Rattle.words.specs.declared.DecodedJob.{DecodedJob}
-use Rattle.words.specs.Decoding.{unsetAxes, placed, refusedJob, decodedJob, decidedJob}
+use Rattle.words.specs.Decoding.{unsetAxes, placed, wordJob, refusedJob, decodedJob, decidedJob}
 use Rattle.words.specs.ByIndex.{isKind, isEnd, payloadAt, readAll, begun}
 use Rattle.words.proofs.Reader.{on, field-yes, field-no, inside, outside, there}
 use Rattle.words.proofs.AxesWords.{Matches, reads}
@@ -78,11 +78,8 @@ module _ {A : Type 0} (a : A) (ws : List ℕ) (i : ℕ) where
 
 -- ---- from the mask on
 
-abbrev jobOf : ℕ → ℕ → List JobAxis → Job
-jobOf m asked xs = record { mask = m; asked = asked; axes = xs }
-
 abbrev accepted : ℕ → ℕ → List Axis → DecodedJob
-accepted m asked six = record { number = 0; place = 0; mask = m; asked = asked; axes = six }
+accepted m asked six = record { number = 0; place = 0; job = wordJob m asked six }
 
 -- once the axes are read, by the tests of the end word
 abbrev closed : ℕ → ℕ → ℕ → List Axis → Bool → Bool → DecodedJob
@@ -91,7 +88,7 @@ closed m asked i six b l = cond b (cond l (refusedJob 2 (i + 1)) (accepted m ask
 -- a reading of axes that the code's reading s matches
 module _ (ws : List ℕ) (m asked : ℕ) (s : AxesReading) where
   abbrev read : Reading (List JobAxis) → DecodedJob
-  read r = decidedJob (on (λ xs. ending (jobOf m asked xs)) r)
+  read r = decidedJob (on (λ xs. ending (readJob m asked xs)) r)
 
   stopped-is : (r : Reading (List JobAxis)) → Matches ws unsetAxes s r → s .got ≡ false → read r ≡ refusedJob 2 (s .at)
   stopped-is (got xs j vs) (a, b, c, d) e = absurd (true≢false (sym a ∙ e))
@@ -100,13 +97,13 @@ module _ (ws : List ℕ) (m asked : ℕ) (s : AxesReading) where
   closed-is : (r : Reading (List JobAxis)) → Matches ws unsetAxes s r → s .got ≡ true
       → read r ≡ closed m asked (s .at) (s .axes) (isEnd ws (s .at)) (ltb (s .at + 1) (length ws))
   closed-is (got xs j vs) (a, b, c, d) e =
-      ap (λ (us : List ℕ). decidedJob (ending (jobOf m asked xs) j us)) c
-      ∙ ap (λ (k : ℕ). decidedJob (ending (jobOf m asked xs) k (drop k ws))) (sym b)
-      ∙ ap decidedJob (ending-is (jobOf m asked xs) ws (s .at))
+      ap (λ (us : List ℕ). decidedJob (ending (readJob m asked xs) j us)) c
+      ∙ ap (λ (k : ℕ). decidedJob (ending (readJob m asked xs) k (drop k ws))) (sym b)
+      ∙ ap decidedJob (ending-is (readJob m asked xs) ws (s .at))
       ∙ decided (isEnd ws (s .at)) (ltb (s .at + 1) (length ws))
       ∙ ap (λ (six : List Axis). closed m asked (s .at) six (isEnd ws (s .at)) (ltb (s .at + 1) (length ws))) (sym d)
     where
-      decided : (b l : Bool) → decidedJob (ends (jobOf m asked xs) (s .at) b l) ≡ closed m asked (s .at) (placed xs unsetAxes) b l
+      decided : (b l : Bool) → decidedJob (ends (readJob m asked xs) (s .at) b l) ≡ closed m asked (s .at) (placed xs unsetAxes) b l
       decided true true = refl
       decided true false = refl
       decided false l = refl
@@ -117,7 +114,7 @@ module _ (ws : List ℕ) (m : ℕ) where
   after = decidedJob (afterMask m 1 (drop 1 ws))
 
   abbrev by-asked : Reading ℕ → DecodedJob
-  by-asked r = decidedJob (on (λ a i vs. on (λ xs. ending (jobOf m a xs)) (axes (setBits m) i vs)) r)
+  by-asked r = decidedJob (on (λ a i vs. on (λ xs. ending (readJob m a xs)) (axes (setBits m) i vs)) r)
 
   pub no-asked : isKind ws 1 2 ≡ false → refusedJob 2 1 ≡ after
   no-asked e = sym (ap by-asked (field-no ws 2 1 e))
@@ -134,7 +131,7 @@ module _ (ws : List ℕ) (m : ℕ) where
     unfolding axes-read
     after-is =
         ap by-asked (field-yes ws 2 1 e)
-        ∙ ap (λ (k : ℕ). decidedJob (on (λ xs. ending (jobOf m k xs)) (axes (setBits m) 2 (drop 2 ws)))) (sym a)
+        ∙ ap (λ (k : ℕ). decidedJob (on (λ xs. ending (readJob m k xs)) (axes (setBits m) 2 (drop 2 ws)))) (sym a)
 
     pub wrong-axis : s .got ≡ false → refusedJob 2 (s .at) ≡ after
     wrong-axis h = sym (after-is ∙ stopped-is ws m asked s axes-read matches h)

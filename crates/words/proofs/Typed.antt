@@ -1,16 +1,18 @@
 -- A decoded job as typed values: its axes, placed at their numbers among six, are its axes again.
 use Prim.Native.Nat.{ℕ, zero, suc, _+_, _/_, _%_, _<_, _≤_}
 use native.Mathlib.Omega.{arith}
-use mathlib.Core.Path.{_≡_, refl, sym, ap, _∙_}
+use mathlib.Core.Path.{_≡_, refl, sym, ap, ap₂, _∙_}
 use mathlib.Core.Bool.{Bool, true, false, _&&_}
 use mathlib.Core.List.{List, [], _∷_, map}
 use lib.ListN.{getD, length, drop, set, length-set, drop-of-length-le}
 use lib.Seq.{drop-cons, getD-set-same, getD-set-other}
 use lib.Dec.{eqb}
 use Rattle.model.specs.declared.Axis.{Axis}
-use Rattle.model.specs.Job.{Job, JobAxis, setFrom, setBits, setAxes, typedJob, unsetAxis}
+use Rattle.model.specs.declared.Windows.{Windows}
+use Rattle.model.specs.Windows.{noWindows}
+use Rattle.model.specs.Job.{Job, JobAxis, setFrom, setBits, setAxes, jobOf, unsetAxis}
 use Rattle.model.specs.Words.{Reading, got, wrong, _>>=_, give, kind, payload, field, axis, axes, ending}
-use Rattle.model.specs.Words.{afterMask, goodMask, Decoded, noMask, badWord, job, decode}
+use Rattle.model.specs.Words.{readJob, afterMask, goodMask, Decoded, noMask, badWord, job, decode}
 use Rattle.words.specs.declared.DecodedJob.{DecodedJob}
 use Rattle.words.specs.Decoding.{unsetAxes, placed, decodedJob, Decodes}
 use Rattle.words.proofs.Reader.{on}
@@ -111,9 +113,9 @@ axes-numbered (n ∷ ns) i ws = first (axis i ws) (axes-numbered ns)
     first (got x j vs) h = others x (axes ns j vs) (h j vs)
     first (wrong p) h = tt
 
--- a job of mask m whose axes have the numbers of its set bits
+-- a job of mask m whose axes have the numbers of its set bits; words bring no windows
 abbrev OfMask : ℕ → Job → Type 0
-OfMask m j = (j .mask ≡ m) × (numbers (j .axes) ≡ setBits m)
+OfMask m j = (j .mask ≡ m) × (numbers (j .axes) ≡ setBits m) × (j .windows ≡ noWindows)
 
 abbrev JobOf : ℕ → Reading Job → Type 0
 JobOf m (got j i vs) = OfMask m j
@@ -136,11 +138,11 @@ after-mask-job : (m i : ℕ) (ws : List ℕ) → JobOf m (afterMask m i ws)
 after-mask-job m i ws = asked (field 2 i ws)
   where
     by-axes : (a : ℕ) (r : Reading (List JobAxis)) → Numbered (setBits m) r
-        → JobOf m (on (λ xs. ending (record { mask = m; asked = a; axes = xs })) r)
-    by-axes a (got xs j vs) e = ending-job m (record { mask = m; asked = a; axes = xs }) j vs (refl, e)
+        → JobOf m (on (λ xs. ending (readJob m a xs)) r)
+    by-axes a (got xs j vs) e = ending-job m (readJob m a xs) j vs (refl, e, refl)
     by-axes a (wrong p) e = tt
 
-    asked : (r : Reading ℕ) → JobOf m (on (λ a. _>>=_ (axes (setBits m)) (λ xs. ending (record { mask = m; asked = a; axes = xs }))) r)
+    asked : (r : Reading ℕ) → JobOf m (on (λ a. _>>=_ (axes (setBits m)) (λ xs. ending (readJob m a xs))) r)
     asked (got a j vs) = by-axes a (axes (setBits m) j vs) (axes-numbered (setBits m) j vs)
     asked (wrong p) = tt
 
@@ -148,14 +150,14 @@ after-mask-job m i ws = asked (field 2 i ws)
 abbrev Sound : Decoded → Type 0
 Sound noMask = Unit
 Sound (badWord p) = Unit
-Sound (job j) = (goodMask (j .mask) ≡ true) × (numbers (j .axes) ≡ setBits (j .mask))
+Sound (job j) = (goodMask (j .mask) ≡ true) × (numbers (j .axes) ≡ setBits (j .mask)) × (j .windows ≡ noWindows)
 
 sound : (ws : List ℕ) → Sound (decode ws)
 sound [] = tt
 sound (w ∷ ws) = go (eqb (kind w) 1) (goodMask (payload w)) refl
   where
     by-reading : goodMask (payload w) ≡ true → (r : Reading Job) → JobOf (payload w) r → Sound (elim r [ got j i rest ↦ job j | wrong p ↦ badWord p ])
-    by-reading e (got j i rest) (p, q) = (ap (λ (m : ℕ). goodMask m) p ∙ e, q ∙ ap (λ (m : ℕ). setBits m) (sym p))
+    by-reading e (got j i rest) (p, q, r) = (ap (λ (m : ℕ). goodMask m) p ∙ e, q ∙ ap (λ (m : ℕ). setBits m) (sym p), r)
     by-reading e (wrong p) h = tt
 
     go : (a b : Bool) → goodMask (payload w) ≡ b
@@ -168,21 +170,21 @@ pub decodes : (ws : List ℕ) (r : DecodedJob) → r ≡ decodedJob (decode ws) 
 decodes ws r e =
     record {
       decoded = e;
-      typed = λ z. typed-of (decode ws) (sound ws) (zero-of z) ∙ ap (λ (s : DecodedJob). job (typedJob (s .mask) (s .asked) (s .axes))) (sym e);
-      allowed = λ z. ap (λ (s : DecodedJob). goodMask (s .mask)) e ∙ allowed-of (decode ws) (sound ws) (zero-of z);
+      typed = λ z. typed-of (decode ws) (sound ws) (zero-of z) ∙ ap (λ (s : DecodedJob). job (jobOf (s .job))) (sym e);
+      allowed = λ z. ap (λ (s : DecodedJob). goodMask (s .job .mask)) e ∙ allowed-of (decode ws) (sound ws) (zero-of z);
     }
   where
     zero-of : r .number ≡ 0 → decodedJob (decode ws) .number ≡ 0
     zero-of z = sym (ap (λ (s : DecodedJob). s .number) e) ∙ z
 
-    typed-of : (d : Decoded) → Sound d → decodedJob d .number ≡ 0 → d ≡ job (typedJob (decodedJob d .mask) (decodedJob d .asked) (decodedJob d .axes))
+    typed-of : (d : Decoded) → Sound d → decodedJob d .number ≡ 0 → d ≡ job (jobOf (decodedJob d .job))
     typed-of noMask h z = absurd (omega arith)
     typed-of (badWord p) h z = absurd (omega arith)
-    typed-of (job j) (g, ns) z =
-        ap (λ (xs : List JobAxis). job (record { mask = j .mask; asked = j .asked; axes = xs }))
-        (sym (axes-again 6 0 (j .mask) (j .axes) unsetAxes refl ns))
+    typed-of (job j) (g, ns, w) z =
+        ap₂ (λ (xs : List JobAxis) (v : Windows). job (record { mask = j .mask; asked = j .asked; axes = xs; windows = v }))
+        (sym (axes-again 6 0 (j .mask) (j .axes) unsetAxes refl ns)) w
 
-    allowed-of : (d : Decoded) → Sound d → decodedJob d .number ≡ 0 → goodMask (decodedJob d .mask) ≡ true
+    allowed-of : (d : Decoded) → Sound d → decodedJob d .number ≡ 0 → goodMask (decodedJob d .job .mask) ≡ true
     allowed-of noMask h z = absurd (omega arith)
     allowed-of (badWord p) h z = absurd (omega arith)
     allowed-of (job j) h z = h .0

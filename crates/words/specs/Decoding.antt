@@ -5,7 +5,9 @@ use mathlib.Core.Bool.{true}
 use mathlib.Core.List.{List, [], _∷_}
 use lib.ListN.{set, replicate}
 use Rattle.model.specs.declared.Axis.{Axis}
-use Rattle.model.specs.Job.{Job, JobAxis, typedJob, unsetAxis}
+use Rattle.model.specs.declared.Job as Typed
+use Rattle.model.specs.Windows.{noWindows}
+use Rattle.model.specs.Job.{Job, JobAxis, jobOf, unsetAxis}
 use Rattle.model.specs.Words.{Reading, got, wrong, Decoded, noMask, badWord, job, decode, goodMask}
 use Rattle.words.specs.declared.DecodedJob.{DecodedJob}
 
@@ -18,11 +20,15 @@ abbrev pub placed : List JobAxis → List Axis → List Axis
 placed [] six = six
 placed (x ∷ xs) six = placed xs (set six (x .number) (x .axis))
 
+-- the typed values of a job of words, which bring no windows
+abbrev pub wordJob : ℕ → ℕ → List Axis → Typed.Job
+wordJob m asked six = record { mask = m; asked = asked; axes = six; windows = noWindows }
+
 abbrev pub acceptedJob : Job → DecodedJob
-acceptedJob j = record { number = 0; place = 0; mask = j .mask; asked = j .asked; axes = placed (j .axes) unsetAxes }
+acceptedJob j = record { number = 0; place = 0; job = wordJob (j .mask) (j .asked) (placed (j .axes) unsetAxes) }
 
 abbrev pub refusedJob : ℕ → ℕ → DecodedJob
-refusedJob number place = record { number = number; place = place; mask = 0; asked = 0; axes = unsetAxes }
+refusedJob number place = record { number = number; place = place; job = wordJob 0 0 unsetAxes }
 
 -- refusal 1, refusal 2 with its place, or the job
 abbrev pub decodedJob : Decoded → DecodedJob
@@ -39,6 +45,6 @@ decidedJob (wrong p) = refusedJob 2 p
 pub record Decodes (ws : List ℕ) (r : DecodedJob) : Type 0 where
   -- every field, from the definition
   pub decoded : r ≡ decodedJob (decode ws)
-  -- number 0: the definition's job is that of the mask, the asked arrival and the six axes as typed values, and the mask is allowed
-  pub typed : r .number ≡ 0 → decode ws ≡ job (typedJob (r .mask) (r .asked) (r .axes))
-  pub allowed : r .number ≡ 0 → goodMask (r .mask) ≡ true
+  -- number 0: the definition's job is that of the typed values, and the mask is allowed
+  pub typed : r .number ≡ 0 → decode ws ≡ job (jobOf (r .job))
+  pub allowed : r .number ≡ 0 → goodMask (r .job .mask) ≡ true

@@ -1,6 +1,6 @@
 //! The calls of the static library, as include/polgamir.h declares them.
 
-use crate::reference::{Answer, Axis, Damping, Job, Stop, Target, Tour, Toured};
+use crate::reference::{Answer, Axis, Damping, Job, Stop, Target, Tour, Toured, Window, Windows};
 
 /// `polgamir_answer`.
 #[repr(C)]
@@ -61,6 +61,39 @@ pub struct CAxis {
     pub damping: CDamping,
 }
 
+/// `polgamir_window`.
+#[repr(C)]
+#[derive(Clone, Copy)]
+pub struct CWindow {
+    pub opening: u32,
+    pub closing: u32,
+}
+
+/// `polgamir_windows`.
+#[repr(C)]
+#[derive(Clone, Copy)]
+pub struct CWindows {
+    pub given: u32,
+    pub dwell: u32,
+    pub count: usize,
+    pub list: [CWindow; 32],
+}
+
+impl CWindows {
+    /// Windows in C's layout, with `fill` where there are none.
+    fn of(windows: Option<Windows>, fill: u64) -> CWindows {
+        let unread = CWindow { opening: fill as u32, closing: (fill >> 32) as u32 };
+        let Some(Windows { dwell, count, list }) = windows else {
+            return CWindows { given: 0, dwell: fill as u32, count: fill as usize, list: [unread; 32] };
+        };
+        let mut all = CWindows { given: 1, dwell, count: count as usize, list: [unread; 32] };
+        for (window, &Window { opening, closing }) in all.list.iter_mut().zip(&list).take(count as usize) {
+            *window = CWindow { opening, closing };
+        }
+        all
+    }
+}
+
 /// `polgamir_job`.
 #[repr(C)]
 #[derive(Clone, Copy)]
@@ -68,6 +101,7 @@ pub struct CJob {
     pub mask: u32,
     pub asked: u32,
     pub axes: [CAxis; 6],
+    pub windows: CWindows,
 }
 
 extern "C" {
@@ -105,7 +139,12 @@ impl CAxis {
 impl CJob {
     /// A job in C's layout, with `fill` where nothing is looked at.
     pub fn of(job: &Job, fill: u64) -> CJob {
-        CJob { mask: job.mask, asked: job.asked, axes: job.axes.map(|axis| CAxis::of(&axis, fill)) }
+        CJob {
+            mask: job.mask,
+            asked: job.asked,
+            axes: job.axes.map(|axis| CAxis::of(&axis, fill)),
+            windows: CWindows::of(job.windows, fill),
+        }
     }
 }
 

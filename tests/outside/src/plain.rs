@@ -32,7 +32,7 @@ pub fn one(axis: Axis) -> Job {
 pub fn job(axes: &[Axis]) -> Job {
     let mut all = [UNSET; 6];
     all[..axes.len()].copy_from_slice(axes);
-    Job { mask: (1 << axes.len()) - 1, asked: 0, axes: all }
+    Job { mask: (1 << axes.len()) - 1, asked: 0, axes: all, windows: None }
 }
 
 /// The job with an asked arrival.

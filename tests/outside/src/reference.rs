@@ -8,6 +8,7 @@ mod planning;
 mod program;
 mod single;
 mod tour;
+mod windows;
 mod words;
 
 pub use damping::Damping;
@@ -16,4 +17,5 @@ pub use planned::{Exact, Planned};
 pub use program::{printed, words_of};
 pub use single::Single;
 pub use tour::{Stop, Tour, Toured, MOST_STOPS};
+pub use windows::{Window, Windows, MOST_WINDOWS};
 pub use words::{decode, plan_words};

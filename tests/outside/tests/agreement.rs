@@ -13,21 +13,21 @@ struct Comparison {
     got: Vec<i64>,
     want: Vec<i64>,
     /// How many calls gave each number.
-    seen: [usize; 13],
+    seen: [usize; 14],
     /// How many jobs that search past tick `LONG` are still tried; the others are left out, since such a search takes
     /// milliseconds.
     long_searches: usize,
 }
 
 /// The numbers that planning can give.
-const NUMBERS: [usize; 12] = [0, 1, 2, 3, 4, 5, 6, 7, 8, 9, 10, 12];
+const NUMBERS: [usize; 13] = [0, 1, 2, 3, 4, 5, 6, 7, 8, 9, 10, 12, 13];
 
 /// A search that ends later than this, or nowhere, is a long one.
 const LONG: i64 = 200;
 
 impl Comparison {
     fn new(seed: u64, long_searches: usize) -> Comparison {
-        Comparison { random: Random::new(seed), got: Vec::new(), want: Vec::new(), seen: [0; 13], long_searches }
+        Comparison { random: Random::new(seed), got: Vec::new(), want: Vec::new(), seen: [0; 14], long_searches }
     }
 
     /// Lends both sides the same cells.
@@ -102,6 +102,10 @@ impl Comparison {
             self.typed(&job, cells);
             let damaged = jobs::damaged_job(&mut self.random, &job);
             self.typed(&damaged, cells);
+            let windowed = jobs::windowed(&mut self.random, &job);
+            self.typed(&windowed, cells);
+            let badly_windowed = jobs::badly_windowed(&mut self.random, &job);
+            self.typed(&badly_windowed, cells);
             let words = jobs::words(&job);
             self.words(&words, cells);
             let damaged = jobs::damaged_words(&mut self.random, &words);
@@ -113,7 +117,7 @@ impl Comparison {
 #[test]
 fn near_jobs_agree() {
     let mut comparison = Comparison::new(1, 20);
-    comparison.run(Reach::Near, 40_000, 60);
+    comparison.run(Reach::Near, 30_000, 60);
     comparison.report("near", 145_000);
     assert!(NUMBERS.iter().all(|&n| comparison.seen[n] > 0), "{:?}", comparison.seen);
 }
@@ -121,7 +125,7 @@ fn near_jobs_agree() {
 #[test]
 fn quick_jobs_agree() {
     let mut comparison = Comparison::new(2, 20);
-    comparison.run(Reach::Quick, 10_000, 100);
+    comparison.run(Reach::Quick, 8_000, 100);
     comparison.report("quick", 33_000);
     assert!(comparison.seen[0] > 1_000);
 }
@@ -150,14 +154,17 @@ fn late_jobs_agree() {
     for n in 0..200 {
         let job = jobs::late_job(&mut comparison.random);
         let cells = 3 * job.count() * 4_097;
-        if n % 2 == 0 {
-            comparison.typed(&job, cells);
-        } else {
-            comparison.words(&jobs::words(&job), cells);
+        match n % 3 {
+            0 => comparison.typed(&job, cells),
+            1 => comparison.words(&jobs::words(&job), cells),
+            _ => {
+                let windowed = jobs::late_windowed(&mut comparison.random, &job);
+                comparison.typed(&windowed, cells);
+            }
         }
     }
     comparison.report("late", 200);
-    assert!(comparison.seen[0] > 100 && comparison.seen[9] > 30, "{:?}", comparison.seen);
+    assert!(comparison.seen[0] > 80 && comparison.seen[9] > 30, "{:?}", comparison.seen);
 }
 
 #[test]

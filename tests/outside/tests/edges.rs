@@ -3,7 +3,7 @@
 
 use outside::jobs::{ratio_ends, with_signed, with_unsigned, SIGNED_ENDS, SINGLE_ENDS, UNSIGNED_ENDS};
 use outside::library;
-use outside::reference::{Answer, Axis, Damping, Job, Single, Target, UNSET};
+use outside::reference::{Answer, Axis, Damping, Job, Single, Target, Window, Windows, UNSET};
 
 const FIXED: Axis = Axis {
     start_position: 0,
@@ -35,7 +35,7 @@ fn at_every_end<T: Copy>(fields: usize, ends: &[T], with: fn(Axis, usize, T) -> 
         for i in 0..6 {
             for j in 0..fields {
                 for &value in ends {
-                    let mut job = Job { mask: 63, asked, axes: [axis; 6] };
+                    let mut job = Job { mask: 63, asked, axes: [axis; 6], windows: None };
                     job.axes[i] = with(axis, j, value);
                     agrees(&job, 3 * 6 * rows);
                     job.mask = 1 << i;
@@ -60,7 +60,7 @@ fn every_unsigned_value_at_every_end() {
 fn damped(i: usize, damping: Damping) -> [Job; 2] {
     let mut axes = [FIXED; 6];
     axes[i].damping = damping;
-    [63, 1 << i].map(|mask| Job { mask, asked: 9, axes })
+    [63, 1 << i].map(|mask| Job { mask, asked: 9, axes, windows: None })
 }
 
 #[test]
@@ -97,7 +97,7 @@ fn two_values_at_ends_on_two_axes() {
             for k in 0..4 {
                 for value in [i64::MIN, 134_217_728, i64::MAX] {
                     for limit in [0, 129, 257, u32::MAX] {
-                        let mut job = Job { mask: 63, asked: 9, axes: [MOVING; 6] };
+                        let mut job = Job { mask: 63, asked: 9, axes: [MOVING; 6], windows: None };
                         job.axes[first] = with_signed(MOVING, j, value);
                         job.axes[second] = with_unsigned(MOVING, k, limit);
                         agrees(&job, 3 * 6 * 10);
@@ -109,12 +109,36 @@ fn two_values_at_ends_on_two_axes() {
 }
 
 #[test]
+fn every_window_at_every_end() {
+    let windowed = |asked, windows| Job { mask: 4, asked, axes: [FIXED; 6], windows: Some(windows) };
+    for first in UNSIGNED_ENDS {
+        for second in UNSIGNED_ENDS {
+            for dwell in [0, 1, 4_096, 4_097, u32::MAX] {
+                agrees(&windowed(9, Windows::new(dwell, &[(first, second)])), 3 * 10);
+                agrees(&windowed(9, Windows::new(dwell, &[(0, first), (second, u32::MAX)])), 3 * 10);
+            }
+        }
+        let full: Vec<(u32, u32)> = (0..32).map(|i| (i, i + 1)).collect();
+        agrees(&windowed(0, Windows { count: first, ..Windows::new(0, &full) }), 3 * 10);
+    }
+    for place in 0..32 {
+        let mut windows = Windows::new(0, &[(1, 2); 32]);
+        for (i, window) in windows.list.iter_mut().enumerate() {
+            *window = Window { opening: 3 * i as u32, closing: 3 * i as u32 + 3 };
+        }
+        windows.list[place].closing -= 3;
+        let answer = agrees(&windowed(9, windows), 3 * 10);
+        assert_eq!((answer.number, answer.place), (13, place as u64));
+    }
+}
+
+#[test]
 fn every_mask_and_every_bit_beyond() {
     for mask in 0..130 {
-        agrees(&Job { mask, asked: 0, axes: [FIXED; 6] }, 3 * 6 * 8);
+        agrees(&Job { mask, asked: 0, axes: [FIXED; 6], windows: None }, 3 * 6 * 8);
     }
     for bit in 6..32 {
-        let answer = agrees(&Job { mask: 1 | 1 << bit, asked: 0, axes: [FIXED; 6] }, 100);
+        let answer = agrees(&Job { mask: 1 | 1 << bit, asked: 0, axes: [FIXED; 6], windows: None }, 100);
         assert_eq!(answer, Answer { number: 1, place: 0, mask: 0, arrival: 0 });
     }
 }
@@ -137,7 +161,7 @@ fn axes_off_the_mask_are_never_looked_at() {
                 *axis = MOVING;
             }
         }
-        let job = Job { mask, asked: 0, axes };
+        let job = Job { mask, asked: 0, axes, windows: None };
         let cells = 3 * mask.count_ones() as usize * 12;
         let answer = agrees(&job, cells);
         assert_eq!((answer.number, answer.mask), (0, mask));
@@ -147,13 +171,13 @@ fn axes_off_the_mask_are_never_looked_at() {
 #[test]
 fn asked_arrivals_at_every_end() {
     for asked in UNSIGNED_ENDS.into_iter().chain([3, 4, 5, 4_095]) {
-        agrees(&Job { mask: 8, asked, axes: [FIXED; 6] }, 3 * 4_097);
+        agrees(&Job { mask: 8, asked, axes: [FIXED; 6], windows: None }, 3 * 4_097);
     }
 }
 
 #[test]
 fn tables_of_every_length() {
-    let job = Job { mask: 0b100101, asked: 6, axes: [FIXED; 6] };
+    let job = Job { mask: 0b100101, asked: 6, axes: [FIXED; 6], windows: None };
     for cells in 0..200 {
         let answer = agrees(&job, cells);
         assert_eq!(answer.number, if cells < 3 * 3 * 7 { 10 } else { 0 });
@@ -167,7 +191,7 @@ fn the_largest_table() {
         axis.start_velocity = i as i64 - 3;
         axis.half_period = 50 * i as u32;
     }
-    let job = Job { mask: 63, asked: 4_096, axes };
+    let job = Job { mask: 63, asked: 4_096, axes, windows: None };
     assert_eq!(agrees(&job, 73_746).number, 0);
     assert_eq!(agrees(&job, 73_745).number, 10);
 }
@@ -176,7 +200,7 @@ fn the_largest_table() {
 fn any_number_but_zero_is_a_moving_target() {
     let mut axes = [UNSET; 6];
     axes[2] = MOVING;
-    let job = Job { mask: 4, asked: 0, axes };
+    let job = Job { mask: 4, asked: 0, axes, windows: None };
     let mut want = vec![0; 60];
     let answer = job.plan(&mut want);
     for kind in [1, 2, 256, 65_536, 1 << 31, u64::from(u32::MAX)] {
@@ -188,7 +212,7 @@ fn any_number_but_zero_is_a_moving_target() {
 
 #[test]
 fn many_threads_at_once() {
-    let job = Job { mask: 63, asked: 200, axes: [MOVING; 6] };
+    let job = Job { mask: 63, asked: 200, axes: [MOVING; 6], windows: None };
     let mut want = vec![0; 3 * 6 * 201];
     let answer = job.plan(&mut want);
     std::thread::scope(|scope| {

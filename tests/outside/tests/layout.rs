@@ -3,7 +3,7 @@
 
 use std::mem::{offset_of, size_of};
 
-use outside::library::{version, CAxis, CJob};
+use outside::library::{version, CAxis, CJob, CWindow, CWindows};
 
 #[test]
 fn structs_are_laid_out_as_in_c() {
@@ -26,8 +26,24 @@ fn structs_are_laid_out_as_in_c() {
         size_of::<CAxis>(),
     ];
     assert_eq!(axis, [0, 8, 16, 24, 32, 40, 48, 52, 56, 60, 64, 68, 72, 76, 80, 88]);
-    let job = [offset_of!(CJob, mask), offset_of!(CJob, asked), offset_of!(CJob, axes), size_of::<CJob>()];
-    assert_eq!(job, [0, 4, 8, 536]);
+    let windows = [
+        offset_of!(CWindows, given),
+        offset_of!(CWindows, dwell),
+        offset_of!(CWindows, count),
+        offset_of!(CWindows, list),
+        offset_of!(CWindow, opening),
+        offset_of!(CWindow, closing),
+        size_of::<CWindows>(),
+    ];
+    assert_eq!(windows, [0, 4, 8, 16, 0, 4, 272]);
+    let job = [
+        offset_of!(CJob, mask),
+        offset_of!(CJob, asked),
+        offset_of!(CJob, axes),
+        offset_of!(CJob, windows),
+        size_of::<CJob>(),
+    ];
+    assert_eq!(job, [0, 4, 8, 536, 808]);
 }
 
 /// A file of the repository.

@@ -103,7 +103,7 @@ fn other_text(text: &str) -> Option<&'static str> {
         "refused" => Some("a printed refusal"),
         "total" => Some("a printed tour"),
         "arrival" if first_words.next().is_some_and(is_below_a_printed_arrival) => Some("a printed table"),
-        "arrival" | "axis" | "stop" => Some(
+        "arrival" | "axis" | "stop" | "window" | "dwell" => Some(
             "a set-up sheet: `polgamir plan` plans a job, `polgamir tour` a tour, `polgamir words` writes job words",
         ),
         _ => None,

@@ -2,7 +2,8 @@
 
 use polgamir::sheet::{Sheet, SheetLine, TourSheet};
 use polgamir::{
-    Arrival, AxisMask, Damping, Refusal, TourRefusal, WordKind, AXES, LATEST_ARRIVAL, LONGEST_DWELL, MOST_STOPS,
+    Arrival, AxisMask, Damping, Refusal, TourRefusal, Window, Windows, WordKind, AXES, LATEST_ARRIVAL, LONGEST_DWELL,
+    MOST_STOPS, MOST_WINDOWS,
 };
 
 /// The refusal's line as the table program prints it, what is wrong, which line of the crew's sheet to look at and what to turn,
@@ -69,9 +70,17 @@ fn cause(sheet: &Sheet, refusal: &Refusal) -> String {
         Refusal::AcceleratingTarget { .. } => {
             format!("the target of {title} accelerates while the swing of its pole shrinks")
         }
+        Refusal::Windows { .. } => "the windows cannot be used as they stand".into(),
+        Refusal::NotReachable { axes } if axes.is_empty() => {
+            let asked = sheet.job.arrival.number();
+            format!("every axis can arrive at tick {asked}, but it fits no window; {}", arrivals_that_do(sheet))
+        }
         Refusal::NotReachable { axes } => {
             let asked = sheet.job.arrival.number();
             format!("{} cannot arrive at tick {asked}; {}", titles(sheet, *axes), arrivals_that_do(sheet))
+        }
+        Refusal::NoCommonArrival { axes } if axes.is_empty() && sheet.job.windows.is_some() => {
+            format!("each axis can arrive, but no tick from 1 to {LATEST_ARRIVAL} suits all of them and fits a window")
         }
         Refusal::NoCommonArrival { axes } if axes.is_empty() => {
             format!("each axis can arrive, but no tick from 1 to {LATEST_ARRIVAL} suits all of them")
@@ -98,6 +107,16 @@ fn remedy(sheet: &Sheet, refusal: &Refusal) -> String {
         Refusal::StartOrTarget { .. } => "enter where the axis is and goes, within what its limits allow".into(),
         Refusal::AcceleratingTarget { .. } => {
             "enter target acceleration 0, or weight 128 where the swing does not shrink".into()
+        }
+        Refusal::Windows { .. } => {
+            format!(
+                "enter 1 to {MOST_WINDOWS} windows in the order of their ticks, and a dwell from 0 to {LONGEST_DWELL}"
+            )
+        }
+        Refusal::NotReachable { axes } | Refusal::NoCommonArrival { axes }
+            if axes.is_empty() && sheet.job.windows.is_some() =>
+        {
+            "ask for another tick, or look whether the site permits other windows or a shorter dwell does".into()
         }
         Refusal::NotReachable { .. } if least_arrival(sheet).is_some() => {
             "ask for such a tick or for the earliest, or raise limits as far as the motors allow".into()
@@ -146,6 +165,7 @@ fn lines(sheet: &Sheet, refusal: &Refusal) -> Vec<String> {
         let place = place(sheet, None, WordKind::Arrival);
         lines.push(format!("{place}arrival {}", sheet.job.arrival.number()));
     }
+    lines.extend(window_lines(sheet, refusal));
     for number in refusal.axis().into_iter().chain(refusal.mask().axes()) {
         lines.extend(guilty_lines(sheet, number, refusal.number()));
         if let Refusal::Damping { axis } = refusal {
@@ -154,6 +174,44 @@ fn lines(sheet: &Sheet, refusal: &Refusal) -> Vec<String> {
         lines.extend(concerned_lines(sheet, number, concerns(refusal)));
     }
     lines
+}
+
+/// The lines about windows that a refusal is about: those at fault, or all where the arrival fits none.
+fn window_lines(sheet: &Sheet, refusal: &Refusal) -> Vec<String> {
+    let Some(windows) = &sheet.job.windows else {
+        return Vec::new();
+    };
+    let at = |line: Option<usize>| line.map(|line| format!("line {line}: ")).unwrap_or_default();
+    let dwell = format!("{}dwell {}", at(sheet.line_of_dwell()), windows.dwell());
+    let window = |(index, window): (usize, &Window)| {
+        format!("{}window {} {}", at(sheet.line_of_window(index)), window.opening, window.closing)
+    };
+    let all = windows.list().iter().enumerate();
+    match *refusal {
+        Refusal::Windows { .. } if windows.count() == 0 => vec![dwell + ", expected a `window` beside it"],
+        Refusal::Windows { place: MOST_WINDOWS } if windows.count() > MOST_WINDOWS => {
+            vec![format!("{}the first window too many", at(sheet.line_of_window(MOST_WINDOWS)))]
+        }
+        Refusal::Windows { place: MOST_WINDOWS } => vec![format!("{dwell}, expected 0 to {LONGEST_DWELL}")],
+        Refusal::Windows { place } => {
+            all.skip(place).take(1).map(|at| window(at) + &wrong_window(windows, place)).collect()
+        }
+        Refusal::NotReachable { axes } | Refusal::NoCommonArrival { axes } if axes.is_empty() => {
+            all.map(window).chain([dwell]).collect()
+        }
+        _ => Vec::new(),
+    }
+}
+
+/// What is expected of a window that is at fault.
+fn wrong_window(windows: &Windows, place: usize) -> String {
+    let window = windows.list()[place];
+    match place.checked_sub(1).map(|before| windows.list()[before]) {
+        Some(before) if window.opening < before.closing && window.closing > window.opening => {
+            format!(", expected an opening from {} on, where the window before it closes", before.closing)
+        }
+        _ => format!(", expected a closing above {}", window.opening),
+    }
 }
 
 /// Where an entry stands, where its sheet was read from lines.

@@ -22,6 +22,8 @@ pub mod colour {
     pub const FRAME: &str = "#B4BCC4";
     /// The time after arrival.
     pub const AFTER: &str = "#F3F5F8";
+    /// The windows of a job.
+    pub const WINDOW: &str = "#FCEFC7";
     /// The stay at a stop.
     pub const DWELL: &str = "#E6EDF5";
 }

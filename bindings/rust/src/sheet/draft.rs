@@ -90,7 +90,11 @@ impl Draft {
         }
         let damping = |kind: &WordKind| if *kind == WordKind::SecondWeight { DAMPING } else { kind.name() };
         let names: Vec<&str> = ENTRIES.iter().map(damping).collect();
-        fault(line, format!("`arrival`, `axis`, `stop`, `target` or one of: {}", names.join(", ")), quoted(words))
+        fault(
+            line,
+            format!("`arrival`, `window`, `dwell`, `axis`, `stop`, `target` or one of: {}", names.join(", ")),
+            quoted(words),
+        )
     }
 
     /// Takes an entry that is a number.

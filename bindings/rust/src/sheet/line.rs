@@ -57,9 +57,10 @@ impl SheetLine {
             Refusal::StartOrTarget { .. } | Refusal::AcceleratingTarget { .. } | Refusal::NoCommonArrival { .. } => {
                 SheetLine::EnterStartAndTarget
             }
-            Refusal::AskedArrival | Refusal::NotReachable { .. } | Refusal::TableTooShort { .. } => {
-                SheetLine::ReadTheArrival
-            }
+            Refusal::AskedArrival
+            | Refusal::Windows { .. }
+            | Refusal::NotReachable { .. }
+            | Refusal::TableTooShort { .. } => SheetLine::ReadTheArrival,
             Refusal::Words { .. } | Refusal::Other { .. } => SheetLine::ReadTheRefusal,
         }
     }

@@ -10,6 +10,10 @@ pub struct Notes {
     pub names: [Option<String>; AXES],
     /// The lines of the entries.
     pub lines: Vec<EntryLine>,
+    /// The lines of the windows.
+    pub windows: Vec<usize>,
+    /// The line of the dwell in them.
+    pub dwell: Option<usize>,
 }
 
 /// The line of an entry.

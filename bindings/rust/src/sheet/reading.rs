@@ -8,6 +8,7 @@ use super::text::{after, fault, quoted, whole_number};
 use super::{Setup, Sheet, SheetError, TourSheet};
 use crate::job::{Arrival, Job};
 use crate::tour::{Stop, Tour};
+use crate::windows::{Window, Windows};
 use crate::words::WordKind;
 use crate::AXES;
 
@@ -69,6 +70,8 @@ struct Reading {
     arrival: Option<Arrival>,
     drafts: Vec<Draft>,
     stops: Vec<StopDraft>,
+    windows: Vec<Window>,
+    dwell: Option<u32>,
 }
 
 /// A stop being read: its positions are told apart when all axes are known.
@@ -93,9 +96,15 @@ impl Reading {
         if let Some(rest) = after(words, "stop") {
             return self.take_stop(rest);
         }
+        if let Some(rest) = after(words, "window") {
+            return self.take_window(rest);
+        }
+        if let Some(rest) = after(words, "dwell") {
+            return self.take_dwell(rest);
+        }
         match self.drafts.last_mut() {
             Some(draft) => draft.take(self.line, words),
-            None => fault(self.line, "`arrival`, `axis` or `stop`", quoted(words)),
+            None => fault(self.line, "`arrival`, `window`, `dwell`, `axis` or `stop`", quoted(words)),
         }
     }
 
@@ -148,6 +157,49 @@ impl Reading {
         Ok(())
     }
 
+    /// Takes a window: its opening and its closing tick.
+    fn take_window(&mut self, rest: &[&str]) -> Result<(), SheetError> {
+        let window = match rest {
+            [opening, closing] => opening.parse().ok().zip(closing.parse().ok()),
+            _ => None,
+        };
+        let Some((opening, closing)) = window else {
+            return fault(
+                self.line,
+                "an opening and a closing tick, from 0 to 4294967295, after `window`",
+                quoted(rest),
+            );
+        };
+        self.windows.push(Window { opening, closing });
+        self.notes.windows.push(self.line);
+        Ok(())
+    }
+
+    /// Takes the dwell in the windows.
+    fn take_dwell(&mut self, rest: &[&str]) -> Result<(), SheetError> {
+        if let Some(line) = self.notes.dwell {
+            return fault(self.line, "one `dwell`", format!("another beside that of line {line}"));
+        }
+        self.dwell = match rest {
+            [dwell] => dwell.parse().ok(),
+            _ => None,
+        };
+        self.notes.dwell = Some(self.line);
+        match self.dwell {
+            Some(_) => Ok(()),
+            None => fault(self.line, "a whole number of ticks from 0 to 4096 after `dwell`", quoted(rest)),
+        }
+    }
+
+    /// The windows, where the sheet has a dwell; without one it has no windows.
+    fn windows(&self) -> Result<Option<Windows>, SheetError> {
+        match (self.dwell, self.notes.windows.first()) {
+            (None, None) => Ok(None),
+            (None, Some(&line)) => fault(line, "`dwell` beside `window`", "none on the sheet"),
+            (Some(dwell), _) => Ok(Some(Windows::new(dwell, &self.windows))),
+        }
+    }
+
     /// Ends the sheet.
     fn finish(mut self) -> Result<Setup, SheetError> {
         self.drafts.sort_by_key(|draft| draft.number);
@@ -175,16 +227,26 @@ impl Reading {
             return self.ends_without("`arrival earliest`, `arrival` with a tick, or the `stop` of a tour");
         };
         job.arrival = arrival;
+        job.windows = self.windows()?;
         if self.drafts.is_empty() {
             return self.ends_without("at least one of `axis 0` to `axis 5`");
         }
         Ok(Sheet { job, notes: self.notes })
     }
 
+    /// The first line about windows, with its name.
+    fn window_line(&self) -> Option<(&'static str, usize)> {
+        let window = self.notes.windows.first().map(|&line| ("window", line));
+        window.or(self.notes.dwell.map(|line| ("dwell", line)))
+    }
+
     /// The sheet of a tour whose first stop stands on a line.
     fn tour(self, first_stop: usize) -> Result<TourSheet, SheetError> {
         if let Some(line) = self.notes.line_of(None, WordKind::Arrival) {
             return fault(line, "no `arrival`", format!("`arrival` beside `stop` of line {first_stop}"));
+        }
+        if let Some((name, line)) = self.window_line() {
+            return fault(line, format!("no `{name}`"), format!("`{name}` beside `stop` of line {first_stop}"));
         }
         let mut tour = Tour::new();
         for draft in &self.drafts {

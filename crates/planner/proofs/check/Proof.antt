@@ -5,22 +5,22 @@ use mathlib.Core.List.{List}
 use lib.ListN.{getD}
 use borrow.Author.Needs.{needs}
 use Rattle.model.specs.Outcome.{axisRefusals}
-use Rattle.model.specs.Job.{setAxes, typedJob}
+use Rattle.model.specs.Job.{setAxes, jobWith}
 use Rattle.planner.specs.Stages.{firstRefusal, foundAxis}
 use Rattle.planner.proofs.Checks.{numbers, from, begun, refused-here, refused-later, none-refused, asked-late, asked-in-time}
 use Rattle.planner.proofs.check.Statement.{statement}
 use Rattle.planner.proofs.check.Tie as tie
 
 abbrev Inv-loop : tie.InvT-loop
-Inv-loop mask asked axes order i₀ i =
+Inv-loop mask asked axes windows order i₀ i =
     record {
-      first : from (setAxes 0 mask axes) i ≡ firstRefusal axisRefusals (setAxes 0 mask axes);
+      first : from (setAxes 0 mask axes) windows i ≡ firstRefusal axisRefusals (setAxes 0 mask axes) windows;
       numbers : order ≡ numbers;
       low : i ≤ 5;
     }
 
 abbrev μ-loop : tie.MeasureT-loop
-μ-loop mask asked axes order i₀ i = 5 - i
+μ-loop mask asked axes windows order i₀ i = 5 - i
 
 refusal-of-requires : tie.Need-refusal-of-requires Inv-loop μ-loop
 refusal-of-requires c κs = search needs
@@ -28,12 +28,12 @@ refusal-of-requires c κs = search needs
 returns : tie.Need-returns Inv-loop μ-loop
 returns c =
     let a = c .before .before .args in
-    asked-late (typedJob (a .mask) (a .asked) (a .axes)) (c .refusal-of .result) (c .before .if1 .taken) (c .refusal-of .ensures)
+    asked-late (jobWith (a .mask) (a .asked) (a .axes) (a .windows)) (c .refusal-of .result) (c .before .if1 .taken) (c .refusal-of .ensures)
 
 loop-holds : tie.Need-loop-holds Inv-loop μ-loop
 loop-holds c =
     let a = c .before .args in
-    record { first = begun (setAxes 0 (a .mask) (a .axes)); numbers = refl; low = omega arith }
+    record { first = begun (setAxes 0 (a .mask) (a .axes)) (a .windows); numbers = refl; low = omega arith }
 
 mul-number : tie.Need-mul-number Inv-loop μ-loop
 mul-number c = search needs
@@ -57,9 +57,9 @@ returns-2 c =
     let xs = setAxes 0 (a .mask) (a .axes) in
     let r = c .refusal-of2 in
     let at = sym (c .before .before .before .before .first-refused .ensures) ∙ ap foundAxis (c .before .before .first .given .1) in
-    let is = refused-here xs (l .i) _ (omega arith) (ap (λ (o : List ℕ). getD o (l .i) 0) (l .inv .numbers)) _ at in
+    let is = refused-here xs (a .windows) (l .i) _ (omega arith) (ap (λ (o : List ℕ). getD o (l .i) 0) (l .inv .numbers)) _ at in
     let in-time = c .before .before .before .before .before .before .before .if1 .left in
-    asked-in-time (typedJob (a .mask) (a .asked) (a .axes)) (r .result) in-time (r .ensures ∙ sym is ∙ l .inv .first)
+    asked-in-time (jobWith (a .mask) (a .asked) (a .axes) (a .windows)) (r .result) in-time (r .ensures ∙ sym is ∙ l .inv .first)
 
 enum-told : tie.Need-enum-told Inv-loop μ-loop
 enum-told c = search needs
@@ -77,23 +77,23 @@ loop-again c =
     let xs = setAxes 0 (a .mask) (a .axes) in
     let nowhere = sym (c .before .before .first-refused .ensures) ∙ ap foundAxis (c .enum-told .given .1) in
     record {
-      first = sym (refused-later xs (l .i) _ (omega arith) (ap (λ (o : List ℕ). getD o (l .i) 0) (l .inv .numbers)) nowhere) ∙ l .inv .first;
+      first = sym (refused-later xs (a .windows) (l .i) _ (omega arith) (ap (λ (o : List ℕ). getD o (l .i) 0) (l .inv .numbers)) nowhere) ∙ l .inv .first;
       numbers = l .inv .numbers;
       low = omega arith;
     }
 
-refusal-of-requires-3 : tie.Need-refusal-of-requires-3 Inv-loop μ-loop
-refusal-of-requires-3 c κs = search needs
+window-refusal-requires : tie.Need-window-refusal-requires Inv-loop μ-loop
+window-refusal-requires c κs = search needs
 
 returns-3 : tie.Need-returns-3 Inv-loop μ-loop
 returns-3 c =
     let l = c .before .before .loop in
     let a = c .before .before .before .before .args in
     let xs = setAxes 0 (a .mask) (a .axes) in
-    let r = c .refusal-of3 in
-    let is = none-refused xs (l .i) (omega arith) in
+    let r = c .window-refusal in
+    let is = none-refused xs (a .windows) (l .i) (omega arith) in
     let in-time = c .before .before .before .if1 .left in
-    asked-in-time (typedJob (a .mask) (a .asked) (a .axes)) (r .result) in-time (r .ensures ∙ sym is ∙ l .inv .first)
+    asked-in-time (jobWith (a .mask) (a .asked) (a .axes) (a .windows)) (r .result) in-time (r .ensures ∙ sym is ∙ l .inv .first)
 
 pub check-spec : {M : Type 1} → statement M
 check-spec =
@@ -114,5 +114,5 @@ check-spec =
     add-i
     loop-less
     loop-again
-    refusal-of-requires-3
+    window-refusal-requires
     returns-3)

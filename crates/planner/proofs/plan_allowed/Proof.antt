@@ -1,6 +1,4 @@
-use native.Mathlib.Omega.{arith}
 use borrow.Author.Needs.{needs}
-use Rattle.model.specs.Job.{typedJob}
 use Rattle.planner.proofs.Stages.{ended, onward}
 use Rattle.planner.proofs.plan_allowed.Statement.{statement}
 use Rattle.planner.proofs.plan_allowed.Tie as tie

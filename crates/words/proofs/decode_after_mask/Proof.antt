@@ -1,5 +1,6 @@
-use mathlib.Core.Path.{sym, _∙_}
+use mathlib.Core.Path.{sym, ap, _∙_}
 use borrow.Author.Tests.{not-true, not-false}
+use Rattle.model.specs.declared.Job as Typed
 use Rattle.words.proofs.JobWords.{no-asked, wrong-axis, no-end, left-over, whole-job}
 use Rattle.words.proofs.Reader.{there}
 use borrow.Author.Needs.{needs}
@@ -78,17 +79,21 @@ returns-4 c =
     c .refused4 .ensures
     ∙ left-over (a .words .now) (a .mask) asked (k .result) (k .ensures) (s .result) (s .ensures .0) got end more
 
+job-of-requires : tie.Need-job-of-requires
+job-of-requires c κs = search needs
+
 returns-5 : tie.Need-returns-5
 returns-5 c =
-    let a = c .before .before .before .before .before .before .before .before .before .before .before .args in
-    let k = c .before .before .before .before .before .before .before .payload in
-    let s = c .before .before .before .before .before .before .read-axes in
-    let kind = c .before .before .before .before .before .before .before .before .before .is-kind .ensures in
-    let asked = sym kind ∙ not-false _ (c .before .before .before .before .before .before .before .before .if1 .left) in
-    let got = not-false _ (c .before .before .before .before .if2 .left) in
-    let end = sym (c .before .before .before .is-end .ensures) ∙ not-false _ (c .before .before .if3 .left) in
-    let last = c .before .if4 .left in
-    whole-job (a .words .now) (a .mask) asked (k .result) (k .ensures) (s .result) (s .ensures .0) got end last
+    let a = c .before .before .before .before .before .before .before .before .before .before .before .before .args in
+    let k = c .before .before .before .before .before .before .before .before .payload in
+    let s = c .before .before .before .before .before .before .before .read-axes in
+    let kind = c .before .before .before .before .before .before .before .before .before .before .is-kind .ensures in
+    let asked = sym kind ∙ not-false _ (c .before .before .before .before .before .before .before .before .before .if1 .left) in
+    let got = not-false _ (c .before .before .before .before .before .if2 .left) in
+    let end = sym (c .before .before .before .before .is-end .ensures) ∙ not-false _ (c .before .before .before .if3 .left) in
+    let last = c .before .before .if4 .left in
+    ap (λ (t : Typed.Job). record { number = 0; place = 0; job = t }) (c .job-of .ensures)
+    ∙ whole-job (a .words .now) (a .mask) asked (k .result) (k .ensures) (s .result) (s .ensures .0) got end last
 
 pub decode-after-mask-spec : {M : Type 1} → statement M
 decode-after-mask-spec =
@@ -108,4 +113,5 @@ decode-after-mask-spec =
     add-refused
     refused-requires-4
     returns-4
+    job-of-requires
     returns-5)

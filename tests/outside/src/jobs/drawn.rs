@@ -108,7 +108,7 @@ pub fn job(random: &mut Random, reach: Reach) -> Job {
             *slot = axis(random, reach, ticks);
         }
     }
-    Job { mask, asked: asked as u32, axes }
+    Job { mask, asked: asked as u32, axes, windows: None }
 }
 
 /// An axis from rest to rest that arrives about the tick, not before it, or not long after.
@@ -181,5 +181,5 @@ pub fn late_job(random: &mut Random) -> Job {
             };
         }
     }
-    Job { mask, asked: 0, axes }
+    Job { mask, asked: 0, axes, windows: None }
 }

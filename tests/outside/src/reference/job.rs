@@ -1,6 +1,6 @@
 //! What a call takes and what it returns: answers, targets, axes and jobs.
 
-use super::Damping;
+use super::{Damping, Windows};
 
 /// What a call returns.
 #[derive(Clone, Copy, Debug, PartialEq, Eq)]
@@ -49,6 +49,7 @@ pub struct Job {
     pub mask: u32,
     pub asked: u32,
     pub axes: [Axis; 6],
+    pub windows: Option<Windows>,
 }
 
 pub const LATEST: i64 = 4096;

@@ -34,6 +34,11 @@ fn breaks(number: u32, axis: &Axis) -> bool {
 }
 
 impl Job {
+    /// Whether an arrival fits a window, where there are some.
+    fn fits(&self, arrival: i64) -> bool {
+        self.windows.is_none_or(|windows| windows.fit(arrival))
+    }
+
     fn all_reach(&self, arrival: i64) -> bool {
         self.set().all(|(_, axis)| Planned::reaching(axis, arrival).is_some())
     }
@@ -42,15 +47,16 @@ impl Job {
         self.set().filter(|(_, axis)| fails(axis)).map(|(i, _)| 1 << i).sum()
     }
 
-    /// The refusal by 3 or by a number of an axis, if there is one.
+    /// The refusal by 3, by a number of an axis or by 13, if there is one.
     fn refused(&self) -> Option<Answer> {
         if i64::from(self.asked) > LATEST {
             return Some(refusal(3, 1, 0, 0));
         }
-        OF_AN_AXIS.into_iter().find_map(|number| {
+        let of_an_axis = OF_AN_AXIS.into_iter().find_map(|number| {
             let (i, _) = self.set().find(|(_, axis)| breaks(number, axis))?;
             Some(refusal(number, i as u64, 0, 0))
-        })
+        });
+        of_an_axis.or_else(|| self.windows?.refused())
     }
 
     /// Whether the job asks for the least arrival and has none up to a tick: a long search, for whoever tries tick
@@ -60,7 +66,7 @@ impl Job {
     }
 
     fn reaches_none_up_to(&self, tick: i64) -> bool {
-        !(1..=tick).any(|n| self.all_reach(n))
+        !(1..=tick).any(|n| self.fits(n) && self.all_reach(n))
     }
 
     /// The arrival, or the refusal by 3 to 9.
@@ -76,9 +82,10 @@ impl Job {
         if self.asked != 0 {
             let asked = i64::from(self.asked);
             let late = self.mask_of(|axis| Planned::reaching(axis, asked).is_none());
-            return if late == 0 { Ok(asked) } else { Err(refusal(8, 0, late, 0)) };
+            // The mask is 0 where every axis reaches an arrival that fits no window.
+            return if late == 0 && self.fits(asked) { Ok(asked) } else { Err(refusal(8, 0, late, 0)) };
         }
-        (1..=LATEST).find(|&n| self.all_reach(n)).ok_or_else(|| {
+        (1..=LATEST).find(|&n| self.fits(n) && self.all_reach(n)).ok_or_else(|| {
             let never = self.mask_of(|axis| (1..=LATEST).all(|n| Planned::reaching(axis, n).is_none()));
             refusal(9, 0, never, 0)
         })

@@ -30,7 +30,7 @@ impl Tour {
             let target = Target::Fixed { position: to[i], velocity: 0 };
             *axis = Axis { start_position: from[i], start_velocity: 0, target, ..self.axes[i] };
         }
-        Job { mask: self.mask, asked: 0, axes }
+        Job { mask: self.mask, asked: 0, axes, windows: None }
     }
 
     /// Refusal 11: too many stops, or then a dwell that is too long.

@@ -77,7 +77,7 @@ pub fn decode(words: &[u32]) -> Result<Job, Answer> {
         }
     }
     reader.end()?;
-    Ok(Job { mask, asked, axes })
+    Ok(Job { mask, asked, axes, windows: None })
 }
 
 /// The call with job words.

@@ -1,0 +1,194 @@
+-- Searching the ticks of each window in turn finds the least tick that fits a window and passes: `searched-is`. Windows in order do not
+-- overlap, so that a tick of a later window is later.
+use Prim.Native.Nat.{ℕ, suc, _+_, _-_, _<_, _≤_}
+use native.Mathlib.Omega.{arith}
+use mathlib.Core.Path.{_≡_, refl, sym, ap, ap₂, subst, _∙_}
+use mathlib.Core.Bool.{Bool, true, false, _&&_, false≢true}
+use mathlib.Core.Option.{Option, none, some}
+use mathlib.Core.List.{List, [], _∷_}
+use lib.Dec.{eqb, leb}
+use lib.ListN.{length, getD, take, drop}
+use Rattle.whole.proofs.Elements.{none-some}
+use Rattle.model.specs.declared.Window.{Window}
+use Rattle.model.specs.declared.Windows.{Windows}
+use Rattle.model.specs.Windows.{brought, fits, fitsOne, fine, firstWrong, windowsRefused, refused13}
+use Rattle.model.specs.Job.{JobAxis}
+use Rattle.model.specs.Outcome.{leastFrom, allReach}
+use Rattle.model.proofs.WindowsInWords.{none-wrong}
+use Rattle.windows.specs.Ticks.{firstTick, afterLast}
+use Rattle.windows.proofs.Ticks.{Fit, fit-is, fit-ticks, ticks-fit, first-above}
+use Rattle.windows.proofs.Listed.{noWindow, split}
+use Rattle.model.proofs.LeastTick.{Least, Result, result, one-result}
+use Rattle.arrival.specs.Arrivals.{arrivesIn, searched, orZero}
+use Rattle.arrival.proofs.Search.{is-some, is-none}
+
+-- ---- windows in order, the one before them having closed at tick c
+
+pub record Ordered (i c : ℕ) (w : Window) (l : List Window) : Type 0 where
+  pub closes : w .opening < w .closing
+  pub follows : c ≤ w .opening
+  pub later : firstWrong (suc i) (w .closing) l ≡ none
+
+ordered : (i c : ℕ) (w : Window) (l : List Window) → firstWrong i c (w ∷ l) ≡ none → Ordered i c w l
+ordered i c w l e =
+    let r = none-wrong i c (w ∷ l) e 0 w refl in
+    record { closes = r .closes; follows = r .follows; later = go (fine c w) e }
+  where
+    go : (b : Bool) → _≡_ {A = Option ℕ} (elim b as (λ _. Option ℕ) [ true ↦ firstWrong (suc i) (w .closing) l | false ↦ some i ]) none
+        → firstWrong (suc i) (w .closing) l ≡ none
+    go true e = e
+    go false e = absurd (none-some (sym e))
+
+module _ (test : ℕ → Bool) (dwell : ℕ) where
+  -- a tick that fits one of them is at c or later
+  after : (i c : ℕ) (l : List Window) → firstWrong i c l ≡ none → (n : ℕ) → fitsOne n dwell l ≡ true → c ≤ n
+  after i c [] e n f = absurd (false≢true f)
+  after i c (w ∷ l) e n f =
+      let o = ordered i c w l e in
+      go (fits n dwell w) (fit-is n dwell w) o f (after (suc i) (w .closing) l (o .later) n)
+    where
+      go : (b : Bool) → (b ≡ true → Fit n dwell w) → Ordered i c w l → (elim b as (λ _. Bool) [ true ↦ true | false ↦ fitsOne n dwell l ]) ≡ true
+          → (fitsOne n dwell l ≡ true → w .closing ≤ n) → c ≤ n
+      go true g o f h = let k = g refl in omega (arith, k .opened, o .follows)
+      go false g o f h = let k = h f in omega (arith, o .closes, o .follows)
+
+  abbrev both : List Window → ℕ → Bool
+  both l n = fitsOne n dwell l && test n
+
+  -- ---- the first window, and those after it
+
+  module _ (w : Window) (l : List Window) where
+    -- a tick that fits one of them and passes: in the first window, or in one of the later ones
+    of-first : (Q : Type 0) (n : ℕ) → both (w ∷ l) n ≡ true → (fits n dwell w ≡ true → test n ≡ true → Q) → (fits n dwell w ≡ false → both l n ≡ true → Q) → Q
+    of-first Q n e f g = go (fits n dwell w) refl e
+      where
+        go : (b : Bool) → fits n dwell w ≡ b → (elim b as (λ _. Bool) [ true ↦ true | false ↦ fitsOne n dwell l ]) && test n ≡ true → Q
+        go true p e = f p e
+        go false p e = g p e
+
+    in-first : (n : ℕ) → fits n dwell w ≡ true → test n ≡ true → both (w ∷ l) n ≡ true
+    in-first n e t = λ i. (elim (e i) as (λ _. Bool) [ true ↦ true | false ↦ fitsOne n dwell l ]) && t i
+
+    in-later : (n : ℕ) → both l n ≡ true → both (w ∷ l) n ≡ true
+    in-later n e = go (fits n dwell w) (fitsOne n dwell l) (test n) e
+      where
+        go : (b c t : Bool) → c && t ≡ true → (elim b as (λ _. Bool) [ true ↦ true | false ↦ c ]) && t ≡ true
+        go true true t e = e
+        go true false t e = absurd (false≢true e)
+        go false c t e = e
+
+    fits-of : (n : ℕ) → both l n ≡ true → fitsOne n dwell l ≡ true
+    fits-of n e = go (fitsOne n dwell l) e
+      where
+        go : (c : Bool) → c && test n ≡ true → c ≡ true
+        go true e = refl
+        go false e = absurd (false≢true e)
+
+    abbrev count : ℕ
+    count = afterLast dwell w - firstTick w
+
+    -- found in the first window
+    found : (n : ℕ) → ((k : ℕ) → both l k ≡ true → w .closing ≤ k) → Least test (firstTick w) count n → Least (both (w ∷ l)) 1 4096 n
+    found n far r =
+        let t = ticks-fit n dwell w (r .first) (omega (arith, r .last, r .first)) in
+        let f = fit-is n dwell w (t .2) in
+        record {
+          first = t .0;
+          last = omega (arith, t .1);
+          passes = in-first n (t .2) (r .passes);
+          least = λ k a b e.
+              of-first ⊥ k e
+              (λ p q. let s = fit-ticks k dwell w a (omega (arith, t .1)) p in r .least k (s .0) b q)
+              (λ p q. let s = far k q in omega (arith, f .within));
+        }
+
+    missed : Result test (firstTick w) count none → (k : ℕ) → 1 ≤ k → k ≤ 4096 → fits k dwell w ≡ true → test k ≡ true → ⊥
+    missed r k a b p q = let s = fit-ticks k dwell w a b p in r k (s .0) (omega (arith, s .1, s .0)) q
+
+    -- not found there
+    onward : (o : Option ℕ) → Result test (firstTick w) count none → Result (both l) 1 4096 o → Result (both (w ∷ l)) 1 4096 o
+    onward none none-here h = λ k a b e. of-first ⊥ k e (missed none-here k a (omega arith)) (λ p q. h k a b q)
+    onward (some n) none-here h =
+        record {
+          first = h .first;
+          last = h .last;
+          passes = in-later n (h .passes);
+          least = λ k a b e. of-first ⊥ k e (missed none-here k a (omega (arith, h .last))) (λ p q. h .least k a b q);
+        }
+
+  -- ---- all windows
+
+  searched-least : (i c : ℕ) (l : List Window) → firstWrong i c l ≡ none → Result (both l) 1 4096 (searched test dwell l)
+  searched-least i c [] e = λ k a b f. absurd (false≢true f)
+  searched-least i c (w ∷ l) e =
+      let o = ordered i c w l e in
+      go (leastFrom test (firstTick w) (count w l)) (result test (firstTick w) (count w l)) (o .later) (searched-least (suc i) (w .closing) l (o .later))
+    where
+      go : (o : Option ℕ) → Result test (firstTick w) (count w l) o → firstWrong (suc i) (w .closing) l ≡ none → Result (both l) 1 4096 (searched test dwell l)
+          → Result (both (w ∷ l)) 1 4096 (elim o as (λ _. Option ℕ) [ some n ↦ some n | none ↦ searched test dwell l ])
+      go none r s h = onward w l (searched test dwell l) r h
+      go (some n) r s h = found w l n (λ k q. after (suc i) (w .closing) l s k (fits-of w l k q)) r
+
+  pub searched-is : (l : List Window) → firstWrong 0 0 l ≡ none → searched test dwell l ≡ leastFrom (λ n. fitsOne n dwell l && test n) 1 4096
+  searched-is l e = one-result (both l) 1 4096 (searched test dwell l) (leastFrom (both l) 1 4096) (searched-least 0 0 l e) (result (both l) 1 4096)
+
+-- ---- what a loop over the first `count` windows of a list has before it
+
+module _ (test : ℕ → Bool) (dwell : ℕ) (list : List Window) (count i : ℕ) (inside : i < length (take count list)) (below : i < count) where
+  abbrev others : List Window
+  others = drop (i + 1) (take count list)
+
+  abbrev window : Window
+  window = getD list i noWindow
+
+  by-window : Option ℕ → Option ℕ
+  by-window o = elim o [ some n ↦ some n | none ↦ searched test dwell others ]
+
+  -- the least tick n of window i, its first tick being a and the one after its last b
+  module _ (a b n : ℕ) (first : a ≡ firstTick window) (last : b ≡ afterLast dwell window) (is : n ≡ orZero (leastFrom test a (b - a))) where
+    opened : searched test dwell (drop i (take count list)) ≡ by-window (leastFrom test a (b - a))
+    unfolding by-window
+    opened =
+        ap (searched test dwell) (split list count i inside below)
+        ∙ ap₂ (λ (k m : ℕ). by-window (leastFrom test k (m - k))) (sym first) (sym last)
+
+    pub in-window : (n ≡ 0 → ⊥) → searched test dwell (drop i (take count list)) ≡ some n
+    unfolding by-window
+    in-window h = opened ∙ ap by-window (is-some (leastFrom test a (b - a)) (λ z. h (is ∙ z))) ∙ ap some (sym is)
+
+    pub past-window : n ≡ 0 → searched test dwell (drop i (take count list)) ≡ searched test dwell others
+    unfolding by-window
+    past-window z =
+        opened
+        ∙ ap by-window
+        (is-none test a (b - a) (leastFrom test a (b - a)) (subst (λ (k : ℕ). 1 ≤ k) (sym first) (first-above 0 dwell window))
+        (result test a (b - a)) (sym is ∙ z))
+
+-- ---- with windows and without
+
+in-order : (w : Windows) → refused13 w ≡ none → w .given ≡ true → firstWrong 0 0 (brought w) ≡ none
+in-order w e t = by-given (w .given) t e
+  where
+    by-count : (a b : Bool)
+        → _≡_ {A = Option ℕ} (elim a as (λ _. Option ℕ) [ true ↦ some 0 | false ↦ elim b as (λ _. Option ℕ) [ true ↦ firstWrong 0 0 (brought w) | false ↦ some 32 ] ]) none
+        → firstWrong 0 0 (brought w) ≡ none
+    by-count true b e = absurd (none-some (sym e))
+    by-count false true e = e
+    by-count false false e = absurd (none-some (sym e))
+
+    by-given : (b : Bool) → b ≡ true → _≡_ {A = Option ℕ} (elim b as (λ _. Option ℕ) [ true ↦ windowsRefused w | false ↦ none ]) none
+        → firstWrong 0 0 (brought w) ≡ none
+    by-given true t e = by-count (eqb (w .count) 0) (leb (w .count) 32 && leb (w .dwell) 4096) e
+    by-given false t e = absurd (false≢true t)
+
+module _ (w : Windows) (xs : List JobAxis) where
+  tried : Bool → Option ℕ
+  tried b = leastFrom (λ n. (elim b as (λ _. Bool) [ true ↦ fitsOne n (w .dwell) (brought w) | false ↦ true ]) && allReach xs n) 1 4096
+
+  pub with-windows : refused13 w ≡ none → w .given ≡ true → searched (allReach xs) (w .dwell) (brought w) ≡ leastFrom (arrivesIn w xs) 1 4096
+  unfolding tried
+  with-windows e t = searched-is (allReach xs) (w .dwell) (brought w) (in-order w e t) ∙ ap tried (sym t)
+
+  pub without-windows : w .given ≡ false → leastFrom (allReach xs) 1 4096 ≡ leastFrom (arrivesIn w xs) 1 4096
+  unfolding tried
+  without-windows t = ap tried (sym t)

@@ -1,0 +1,169 @@
+// The windows of a job (paper 02, 2.5): whether an arrival fits one, and refusal 13.
+use model::Window;
+use model::Windows;
+ghost use mathlib.Core.Path.{_≡_};
+ghost use Prim.Native.Nat.{_≤_};
+ghost use lib.ListN.{take};
+ghost use mathlib.Core.Bool.{true};
+ghost use mathlib.Core.Option.{none};
+ghost use Rattle.model.specs.Windows.{noWindows, fits, fitsOne, inWindows, fine, firstWrong, windowsRefused, refused13};
+ghost use Rattle.windows.specs.Places.{placeOf};
+ghost use Rattle.windows.specs.Ticks.{firstTick, upToLast, afterLast};
+
+// Whether an arrival fits a window: at its opening or later, below its closing, and its dwell ends at the closing or before.
+fn fits(tick: u32, dwell: u32, window: Window) -> bool
+    requires { ⌜ tick ≤ 4096 ⌝ }
+    requires { ⌜ dwell ≤ 4096 ⌝ }
+    ensures { λ r. ⌜ r ≡ fits tick dwell window ⌝ }
+{
+    if window.opening <= tick {
+        if tick < window.closing {
+            return tick + dwell <= window.closing;
+        }
+    }
+    false
+}
+
+// Whether an arrival is allowed by the windows of a job: any where it brings none, else one that fits a window.
+pub fn allows(windows: Windows, tick: u32) -> bool
+    requires { ⌜ refused13 windows ≡ none ⌝ }
+    requires { ⌜ tick ≤ 4096 ⌝ }
+    ensures { λ r. ⌜ r ≡ inWindows windows tick ⌝ }
+{
+    if windows.given {
+        let list = windows.list;
+        return fits_one(tick, windows.dwell, list, windows.count);
+    }
+    true
+}
+
+// Whether an arrival fits one of the first `count` windows of a list.
+fn fits_one(tick: u32, dwell: u32, list: [Window; 32], count: usize) -> bool
+    requires { ⌜ tick ≤ 4096 ⌝ }
+    requires { ⌜ dwell ≤ 4096 ⌝ }
+    requires { ⌜ count ≤ 32 ⌝ }
+    ensures { λ r. ⌜ r ≡ fitsOne tick dwell (take count list) ⌝ }
+{
+    let mut i: usize = 0;
+    while i < count {
+        let window = list[i];
+        if fits(tick, dwell, window) {
+            return true;
+        }
+        i += 1;
+    }
+    false
+}
+
+// The place of a refusal, or none.
+pub enum Place {
+    At(usize),
+    Nowhere,
+}
+
+// Whether a window closes after it opens, and opens at a tick or later.
+fn fine(window: Window, from: u32) -> bool
+    ensures { λ r. ⌜ r ≡ fine from window ⌝ }
+{
+    if window.opening < window.closing {
+        return from <= window.opening;
+    }
+    false
+}
+
+// The first window that does not close after it opens, or that opens before the one before it closes.
+fn first_wrong(list: [Window; 32], count: usize) -> Place
+    requires { ⌜ count ≤ 32 ⌝ }
+    ensures { λ r. ⌜ placeOf r ≡ firstWrong 0 0 (take count list) ⌝ }
+{
+    let mut closed: u32 = 0;
+    let mut i: usize = 0;
+    while i < count {
+        let window = list[i];
+        if !fine(window, closed) {
+            return Place::At(i);
+        }
+        closed = window.closing;
+        i += 1;
+    }
+    Place::Nowhere
+}
+
+// The place of refusal 13, or none.
+pub fn refused(windows: Windows) -> Place
+    ensures { λ r. ⌜ placeOf r ≡ refused13 windows ⌝ }
+{
+    if windows.given {
+        let list = windows.list;
+        return wrong_place(list, windows.count, windows.dwell);
+    }
+    Place::Nowhere
+}
+
+// The same of windows that are given.
+fn wrong_place(list: [Window; 32], count: usize, dwell: u32) -> Place
+    ensures { λ r. ⌜ placeOf r ≡ windowsRefused (record { given = true; dwell = dwell; count = count; list = list }) ⌝ }
+{
+    if count == 0 {
+        return Place::At(0);
+    }
+    if count <= 32 {
+        if dwell <= 4096 {
+            return first_wrong(list, count);
+        }
+    }
+    Place::At(32)
+}
+
+// What a job brings that brings no windows: zero in every field.
+pub fn no_windows() -> Windows
+    ensures { λ r. ⌜ r ≡ noWindows ⌝ }
+{
+    let unset = Window {
+        opening: 0,
+        closing: 0,
+    };
+    Windows {
+        given: false,
+        dwell: 0,
+        count: 0,
+        list: [unset; 32],
+    }
+}
+
+// ---- the ticks of a window
+
+// The first tick from 1 on that is not before the opening.
+pub fn first_tick(window: Window) -> u32
+    ensures { λ r. ⌜ r ≡ firstTick window ⌝ }
+{
+    if window.opening == 0 {
+        return 1;
+    }
+    window.opening
+}
+
+// The tick after the last one, up to 4,096, that fits the window; where none does, a tick that is not after the window's first.
+pub fn after_last(window: Window, dwell: u32) -> u32
+    requires { ⌜ dwell ≤ 4096 ⌝ }
+    ensures { λ r. ⌜ r ≡ afterLast dwell window ⌝ }
+{
+    let closing = window.closing;
+    if dwell == 0 {
+        return up_to_last(closing);
+    }
+    if closing < dwell {
+        return 0;
+    }
+    up_to_last(closing - dwell + 1)
+}
+
+// A tick, or 4,097 where it is later.
+fn up_to_last(tick: u32) -> u32
+    ensures { λ r. ⌜ r ≡ upToLast tick ⌝ }
+{
+    if 4097 < tick {
+        return 4097;
+    }
+    tick
+}
