@@ -70,6 +70,8 @@ uint32_t polgamir_version(void);
  * and an arrival; fields not named below are 0. The numbers, in checking order; each is checked over all axes, lowest first,
  * before the next number; word indices count from 0; a call with typed values checks its mask by 1 and then goes on at 3:
  *
+ * 11  A tour has more than 64 stops (place 64), or then a dwell above 4,096 (the place is the first such stop); only a tour gets it,
+ *     before its legs.
  *  1  The mask word is absent, not of kind 1, or its payload is 0 or above 63.
  *  2  A word is not of a kind allowed next, the end payload is not 0, or words are lacking or left over; the place is the first
  *     such word's index, or the word count where words are lacking.
@@ -81,22 +83,21 @@ uint32_t polgamir_version(void);
  *  6  Start or target velocity exceeds L in size, target acceleration exceeds M in size, target tick exceeds 4,096 in size, or a
  *     typed position is outside -134,217,728 to 134,217,727; the place is the axis.
  *  7  The target accelerates while h is not 0 and B is not 128; the place is the axis.
- * 13  The window list is empty (place 0); there are more than 32 windows, or then the dwell is above 4,096 (place 32); then the
- *     first window whose closing is not above its opening or that opens before the previous one closes (the place is its index).
+ * 13  The window list is empty (place 0); there are more than 32 windows, or then the dwell is above 4,096 (place 32); then a
+ *     window's closing is not above its opening, or it opens before the previous one closes (the place is the first such window).
  *  8  The asked arrival is not reachable for every axis, or fits no window; the mask names the axes for which it is not reachable,
  *     and is 0 where it is for all.
- *  9  No common arrival is asked for and none exists in 1 to 4,096 that fits a window where windows are given; the mask, perhaps 0,
- *     names axes that alone reach none, whatever the windows.
- * 10  The lent table has fewer than 3 * axes * (N + 1) cells; the arrival is N. Of a tour: the lent list is shorter than the stops;
+ *  9  No common arrival is asked for and none exists in 1 to 4,096, or none that fits a window; the mask, perhaps 0, names axes that
+ *     alone reach none, whatever the windows.
+ * 10  The lent table has fewer than 3 * axes * (N + 1) cells; the arrival is N. Of a tour, the lent list is shorter than the stops;
  *     the place is the number of stops.
- * 11  A tour has more than 64 stops; the place is 64. Or a dwell is above 4,096; the place is the first such stop. Checked before a
- *     tour's legs, so before 1; only a tour gets it.
  *
  * L is the speed limit, 1 to 1,048,576; M the acceleration limit, 1 to 65,536; h the half period, 0 to 256 ticks, 0 meaning no
  * blend; B the second weight, 1 to 128. A place that is an axis is the axis's number, 0 to 5.
  */
 enum polgamir_number {
     POLGAMIR_ACCEPTED = 0,
+    POLGAMIR_REFUSED_STOPS = 11,
     POLGAMIR_REFUSED_MASK = 1,
     POLGAMIR_REFUSED_WORDS = 2,
     POLGAMIR_REFUSED_ASKED_ARRIVAL = 3,
@@ -108,8 +109,7 @@ enum polgamir_number {
     POLGAMIR_REFUSED_WINDOWS = 13,
     POLGAMIR_REFUSED_NOT_REACHABLE = 8,
     POLGAMIR_REFUSED_NO_COMMON_ARRIVAL = 9,
-    POLGAMIR_REFUSED_TABLE_TOO_SHORT = 10,
-    POLGAMIR_REFUSED_STOPS = 11
+    POLGAMIR_REFUSED_TABLE_TOO_SHORT = 10
 };
 
 /* What a number says, in a sentence without its full stop. */
@@ -117,6 +117,7 @@ static inline const char *polgamir_refusal_text(uint32_t number)
 {
     switch (number) {
     case POLGAMIR_ACCEPTED: return "the job is accepted";
+    case POLGAMIR_REFUSED_STOPS: return "a tour has more than 64 stops, or a dwell above 4096";
     case POLGAMIR_REFUSED_MASK: return "the mask names no axis, or one above 5";
     case POLGAMIR_REFUSED_WORDS: return "a word is of a wrong kind, lacking or left over";
     case POLGAMIR_REFUSED_ASKED_ARRIVAL: return "the asked arrival is above 4096";
@@ -131,7 +132,6 @@ static inline const char *polgamir_refusal_text(uint32_t number)
     case POLGAMIR_REFUSED_NOT_REACHABLE: return "not every axis can arrive at the asked tick, or it fits no window";
     case POLGAMIR_REFUSED_NO_COMMON_ARRIVAL: return "no tick from 1 to 4096 suits every axis and fits a window where some are given";
     case POLGAMIR_REFUSED_TABLE_TOO_SHORT: return "the table is too short for rows 0 to the arrival, or the list for a tour's stops";
-    case POLGAMIR_REFUSED_STOPS: return "a tour has more than 64 stops, or a dwell above 4096";
     default: return "a number that this header does not have";
     }
 }
@@ -140,7 +140,7 @@ static inline const char *polgamir_refusal_text(uint32_t number)
 typedef struct polgamir_answer {
     uint32_t number;  /* a polgamir_number: 0 where the job is accepted, else the refusal's number */
     uint32_t mask;    /* bit i stands for axis i */
-    uint64_t place;   /* a word's index or an axis's number */
+    uint64_t place;   /* a word's index, an axis's number or a window's index */
     uint32_t arrival; /* the arrival tick N */
 } polgamir_answer;
 
@@ -237,7 +237,10 @@ typedef struct polgamir_job {
     polgamir_windows windows;
 } polgamir_job;
 
-/* Plans a job, and writes its table to the `table_cells` cells at `table`. Its refusals are 1, 3 to 10 and 12. */
+/*
+ * Plans a job, and writes its table to the `table_cells` cells at `table`. Its refusals, in checking order, are 1, 3, 4, 12, 5, 6, 7, 13,
+ * 8, 9 and 10.
+ */
 polgamir_answer polgamir_plan_job(polgamir_job job, int64_t *table, size_t table_cells);
 
 /* A tour has at most this many stops, and a dwell at most this many ticks. */

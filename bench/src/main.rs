@@ -179,7 +179,7 @@ fn rows_alone(name: &str, axes: u32, arrival: u32) {
     println!("| {name} | {} rows | {proved:.1} | {plain:.1} | {:.2} |", arrival + 1, proved / plain);
 }
 
-/// A tour of 64 stops of six axes. The legs take about 70 ticks each.
+/// A tour of 64 stops of six axes. The legs take about 60 ticks each.
 fn many_stops() -> (Tour, Vec<Stop>) {
     let axes = six().map(|axis| Axis { speed_limit: 1_000, acceleration_limit: 20, half_period: 12, ..axis });
     let stop =
@@ -215,6 +215,23 @@ fn tour(name: &str) {
     println!("| {name} | total {total} | {proved:.0} | {plain:.0} | {:.2} |", proved / plain);
 }
 
+/// Prints the searches: of the jobs whose whole calls are timed, and of jobs that are made for a long one.
+fn search_table(short: &Job, long: &Job, wide: &Job, never: &Job) {
+    println!("| least arrival, search alone | outcome | library, ns | plain Rust, ns | ratio | by ticks, ns |");
+    println!("|---|---|---|---|---|---|");
+    search("one axis, short", short);
+    search("one axis, long", long);
+    search("six axes", wide);
+    search("one axis out of reach", never);
+    search("six axes out of reach", &searches::out_of_reach());
+    search("six axes that lead each other on", &searches::in_turns());
+    search("six axes, 32 windows", &searches::in_windows(*wide));
+    search("six axes out of reach, 32 windows", &searches::in_windows(searches::out_of_reach()));
+    search("one target that accelerates, out of reach", &searches::accelerating(1));
+    search("six targets that accelerate, out of reach", &searches::accelerating(6));
+    println!();
+}
+
 fn main() {
     let short = one(axis(10, 1, 4, 100, 56));
     let long = one(axis(100, 1, 40, 128, 185_900));
@@ -230,17 +247,7 @@ fn main() {
     let wide_arrival = whole("six axes", &wide);
     whole("out of reach", &never);
     println!();
-    println!("| least arrival, search alone | outcome | library, ns | plain Rust, ns | ratio | by ticks, ns |");
-    println!("|---|---|---|---|---|---|");
-    search("one axis, short", &short);
-    search("one axis, long", &long);
-    search("six axes", &wide);
-    search("one axis out of reach", &never);
-    search("six axes out of reach", &searches::out_of_reach());
-    search("six axes that lead each other on", &searches::in_turns());
-    search("one target that accelerates, out of reach", &searches::accelerating(1));
-    search("six targets that accelerate, out of reach", &searches::accelerating(6));
-    println!();
+    search_table(&short, &long, &wide, &never);
     println!("| asked arrival, whole call | outcome | library, ns | plain Rust, ns | ratio |");
     println!("|---|---|---|---|---|");
     whole("one axis, short", &Job { asked: short_arrival, ..short });

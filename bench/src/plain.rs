@@ -4,7 +4,9 @@
 //! track an axis, each planned velocity by its region. Beside it the search by ticks, which tries every candidate with
 //! sums of its own.
 
-use outside::reference::{Answer, Axis, Damping, Job, Target};
+use std::ops::RangeInclusive;
+
+use outside::reference::{Answer, Axis, Damping, Job, Target, Window};
 
 const LATEST: u32 = 4096;
 
@@ -218,12 +220,13 @@ fn next_reached(axis: &Axis, n: u32, last: u32) -> u32 {
     ends(axis, first).leg.next_with_list(drift, latest) as u32 + axis.half_period
 }
 
-/// The least common arrival: in each turn every axis leads on from the candidate so far to the next one that it reaches,
-/// until a turn moves nothing.
-fn least_arrival(job: &Job) -> Option<u32> {
-    let mut n = 1;
-    while n <= LATEST {
-        let next = job.set().fold(n, |k, (_, axis)| next_reached(axis, k, LATEST));
+/// The least common arrival in the ticks of a span: in each turn every axis leads on from the candidate so far to the next
+/// one that it reaches, until a turn moves nothing.
+fn least_in(job: &Job, span: RangeInclusive<u32>) -> Option<u32> {
+    let last = *span.end();
+    let mut n = *span.start();
+    while n <= last {
+        let next = job.set().fold(n, |k, (_, axis)| next_reached(axis, k, last));
         if next == n {
             return Some(n);
         }
@@ -232,9 +235,20 @@ fn least_arrival(job: &Job) -> Option<u32> {
     None
 }
 
+/// The least common arrival; of a job with windows, window by window.
+fn least_arrival(job: &Job) -> Option<u32> {
+    let Some(windows) = &job.windows else {
+        return least_in(job, 1..=LATEST);
+    };
+    let room = windows.dwell.max(1);
+    let ticks = |window: &Window| window.opening.max(1)..=window.closing.saturating_sub(room).min(LATEST);
+    windows.list[..windows.count as usize].iter().find_map(|window| least_in(job, ticks(window)))
+}
+
 /// The same by ticks: every candidate is tried, with sums of its own.
 fn least_by_ticks(job: &Job) -> Option<u32> {
-    (1..=LATEST).find(|&n| job.set().all(|(_, axis)| reaches(axis, n)))
+    let fits = |n: u32| job.windows.as_ref().map_or(true, |windows| windows.fit(i64::from(n)));
+    (1..=LATEST).find(|&n| fits(n) && job.set().all(|(_, axis)| reaches(axis, n)))
 }
 
 /// An axis on its way through the rows: its planned velocities in three regions, and its track.
@@ -331,7 +345,7 @@ fn refusal(number: u32, mask: u32, arrival: u32) -> Answer {
     Answer { number, place: 0, mask, arrival }
 }
 
-/// Refusals 3 to 7 are tested as the library tests them; the jobs that are timed pass.
+/// Refusals 3 to 7 are tested as the library tests them, and 13 where windows are brought; the jobs that are timed pass.
 fn passes(job: &Job) -> bool {
     job.asked <= LATEST
         && job
@@ -341,6 +355,7 @@ fn passes(job: &Job) -> bool {
         && job.set().all(|(_, x)| x.start_velocity.unsigned_abs() <= u64::from(x.speed_limit))
         && job.set().all(|(_, x)| x.target.velocity().unsigned_abs() <= u64::from(x.speed_limit))
         && job.set().all(|(_, x)| x.target.acceleration() == 0 || x.half_period == 0 || weight_of(x) == 128)
+        && job.windows.as_ref().map_or(true, |windows| windows.refused().is_none())
 }
 
 /// How the least common arrival is searched for.
@@ -352,7 +367,7 @@ pub enum Search {
     Ticks,
 }
 
-/// The arrival of a job that passes refusals 1 to 7, or the refusal 8 or 9.
+/// The arrival of a job that passes the refusals before 8, or the refusal 8 or 9. No job with windows asks for an arrival.
 fn arrival(job: &Job, search: Search) -> Result<u32, Answer> {
     let least = |job: &Job| match search {
         Search::Running => least_arrival(job),
@@ -370,7 +385,7 @@ fn arrival(job: &Job, search: Search) -> Result<u32, Answer> {
     Err(refusal(8, failing(&|axis| !reaches(axis, job.asked)), 0))
 }
 
-/// Plans a job that passes refusals 1 to 7.
+/// Plans a job that passes the refusals before 8.
 pub fn plan(job: &Job, search: Search, table: &mut [i64]) -> Answer {
     assert!(passes(job));
     let arrival = match arrival(job, search) {

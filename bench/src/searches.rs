@@ -1,6 +1,6 @@
 //! Jobs whose search for the least arrival takes long.
 
-use outside::reference::{Axis, Damping, Job, Target, UNSET};
+use outside::reference::{Axis, Damping, Job, Target, Windows, UNSET};
 
 /// Six axes that reach no arrival: each tries every candidate alone, after one of them has led past the last for all.
 pub fn out_of_reach() -> Job {
@@ -36,4 +36,10 @@ pub fn accelerating(axes: u32) -> Job {
     let target = Target::Moving { position: 130_000_000, velocity: 0, acceleration: 1, tick: 0 };
     let axis = Axis { speed_limit: 5_000, acceleration_limit: 2, damping: Damping::Weight(128), target, ..UNSET };
     Job { mask: (1 << axes) - 1, asked: 0, axes: [axis; 6], windows: None }
+}
+
+/// A job with as many windows as there may be, side by side over all candidates.
+pub fn in_windows(job: Job) -> Job {
+    let pairs: [(u32, u32); 32] = std::array::from_fn(|i| (128 * i as u32, 128 * (i as u32 + 1)));
+    Job { windows: Some(Windows::new(0, &pairs)), ..job }
 }

@@ -1,5 +1,6 @@
 /*
- * Plans a job of two axes and walks the rows of its table, then shows a refusal and the same calls from job words.
+ * Plans a job of two axes and walks the rows of its table, then shows a refusal, an arrival in a window, the same calls from job words,
+ * and a tour of two stops.
  *
  *     make -C examples/c run
  */
@@ -23,7 +24,7 @@ static unsigned axes_of(uint32_t mask)
 /* Prints the rows of an accepted job, in fine steps, or the refusal. */
 static void show(polgamir_answer answer, const int64_t *table)
 {
-    if (answer.number != 0) {
+    if (answer.number != POLGAMIR_ACCEPTED) {
         printf("refused %" PRIu32 " place %" PRIu64 " axes %" PRIu32 " arrival %" PRIu32 ": %s\n", answer.number, answer.place,
                answer.mask, answer.arrival, polgamir_refusal_text(answer.number));
         return;
@@ -80,6 +81,12 @@ int main(void)
     job.asked = 4;
     show(polgamir_plan_job(job, table, CELLS), table);
 
+    /* Its least arrival in a window that also holds a dwell of 2 ticks: at 8 the first one closes too soon, the second opens at 10. */
+    job.asked = 0;
+    job.windows = (polgamir_windows){.given = 1, .dwell = 2, .count = 2, .list = {{0, 9}, {10, 14}}};
+    answer = polgamir_plan_job(job, table, CELLS);
+    printf("in a window: arrival %" PRIu32 "\n", answer.arrival);
+
     /* One axis from words: from rest at 0 to rest at 1, asked to arrive at tick 4. */
     static const uint32_t words[] = {
         0x10000001, 0x20000004, 0x30000000, 0x40000000, 0x5000000A, 0x60000001,
@@ -90,5 +97,18 @@ int main(void)
 
     /* Its table needs 15 cells. */
     show(polgamir_plan_words(words, word_count, table, 14), table);
+
+    /* Axis 0 on its pole over two stops, from 0 to 6, where it stays for 5 ticks, and to -2: arrivals count from the tour's start. */
+    polgamir_tour tour = {.mask = 1u << 0};
+    tour.limits[0] = (polgamir_limits){
+        .speed_limit = 10, .acceleration_limit = 1, .half_period = 3, .damping_kind = POLGAMIR_RATIO, .swing_ratio = 0.5f};
+    static const polgamir_stop stops[] = {{.positions = {6}, .dwell = 5}, {.positions = {-2}, .dwell = 0}};
+    uint32_t arrivals[2];
+    polgamir_tour_answer toured = polgamir_plan_tour(tour, stops, 2, arrivals, 2);
+    if (toured.number != POLGAMIR_ACCEPTED) {
+        printf("refused %" PRIu32 " at stop %" PRIu64 ": %s\n", toured.number, toured.place, polgamir_refusal_text(toured.number));
+        return 1;
+    }
+    printf("tour: stop 0 at tick %" PRIu32 ", stop 1 at tick %" PRIu32 ", total %" PRIu32 "\n", arrivals[0], arrivals[1], toured.total);
     return 0;
 }

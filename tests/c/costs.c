@@ -162,6 +162,13 @@ static size_t run(void)
         job.axes[i] = to(0, 1048576, 65536, 0);
     }
     measure("out of reach for the last axis", 9);
+    for (unsigned i = 0; i < POLGAMIR_WINDOWS; i++) {
+        job.windows.list[i] = (polgamir_window){.opening = 128 * i, .closing = 128 * (i + 1)};
+    }
+    job.windows.given = 1;
+    job.windows.count = POLGAMIR_WINDOWS;
+    measure("out of reach for the last axis, in windows", 9);
+    job.windows.given = 0;
     return most_stack;
 }
 

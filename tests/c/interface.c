@@ -92,8 +92,10 @@ static bool is(polgamir_answer answer, uint32_t number, uint64_t place, uint32_t
 #define CELLS 3000
 static int64_t table[CELLS];
 
-/* A job of one axis, no two values of which are the same; what its other axes and its windows hold, which are not given, is of no
- * effect. It lands at tick 300. */
+/*
+ * A job of one axis, no two values of which are the same; what its other axes hold is of no effect, nor are windows that are not given. It
+ * lands at tick 300.
+ */
 static polgamir_job distinct(unsigned axis)
 {
     polgamir_job job;

@@ -25,7 +25,8 @@ plan    Plans a job. Prints the arrival, then the table: for each tick and each 
           --plain        print as the table program does: the cells alone, or the refusal's line alone
           --cells COUNT  lend a table of so many cells, up to 73746 (the table program has 8192); else it is
                          large enough
-words   Writes the job's words, in hexadecimal.
+words   Writes the job's words, in hexadecimal. They hold the weight of damping as measured; a job with windows has
+        none.
           --bytes        write bytes, each word little-endian, as the table program reads them
 show    Reads job words, hexadecimal text or bytes, and prints their set-up sheet.
           --bytes        take the file as bytes
@@ -35,7 +36,8 @@ tour    Plans a tour of stops. Prints the total and each stop's arrival, in tick
           --units        print the tables in units
           --plain        print numbers alone: the total, then for each stop its number and arrival
 plot    Draws the plan: position, velocity, acceleration with their limits and the target's, and the sway of the
-        pole beside the sway that the same job would leave without the blend. Of a tour it draws the timeline.
+        pole beside the sway that the same job would leave without the blend. Windows are shaded. Of a tour it draws
+        the timeline.
 
 A JOB is a set-up sheet, which docs/SHEET.md describes, or a file of job words. A TOUR is a sheet with stops. `-` in
 place of a file to read is standard input. `-o FILE` writes to a file, `-o -` to standard output; a refusal is

@@ -79,29 +79,29 @@ pub enum Refusal {
         /// The first such axis.
         axis: usize,
     },
-    /// 12: of damping as measured, also where the half period is 0, the first peak is not above 0, or the ratio is not a number
+    /// 12: of damping as measured, also when the half period is 0: the first peak is not above zero, or the ratio is not a number
     /// above 0 and at most 1.
     Damping {
         /// The first such axis.
         axis: usize,
     },
-    /// 5: the half period or the weight of the damping is outside its range.
+    /// 5: the half period or the weight of the damping is outside its range, the weight also when the half period is 0.
     Blend {
         /// The first such axis.
         axis: usize,
     },
-    /// 6: start or target velocity exceeds the speed limit, target acceleration exceeds the acceleration limit, the target tick
-    /// exceeds 4,096 in size, or a position is outside −134,217,728 to 134,217,727.
+    /// 6: start or target velocity exceeds the speed limit in size, target acceleration exceeds the acceleration limit in size,
+    /// target tick exceeds 4,096 in size, or a position is outside −134,217,728 to 134,217,727.
     StartOrTarget {
         /// The first such axis.
         axis: usize,
     },
-    /// 7: the target accelerates on a damped pole: the half period is not 0 and the weight of the damping is not 128.
+    /// 7: the target accelerates while the half period is not 0 and the weight of the damping is not 128.
     AcceleratingTarget {
         /// The first such axis.
         axis: usize,
     },
-    /// 13: the window list is empty, there are more than 32 windows, or then the dwell is above 4,096; then a window's closing is
+    /// 13: the window list is empty; there are more than 32 windows, or then the dwell is above 4,096; then a window's closing is
     /// not above its opening, or it opens before the previous one closes.
     Windows {
         /// 0 for an empty list, 32 for too many windows or too long a dwell, else the first such window.
@@ -109,11 +109,10 @@ pub enum Refusal {
     },
     /// 8: the asked arrival is not reachable for every axis, or fits no window.
     NotReachable {
-        /// The axes for which it is not reachable; none where it fits no window alone.
+        /// The axes for which it is not reachable; none where it is for all.
         axes: AxisMask,
     },
-    /// 9: no arrival was asked for, and from 1 to 4,096 there is none that all axes have in common and that fits a window, where
-    /// the job has windows.
+    /// 9: no common arrival is asked for and none exists in 1 to 4,096, or none that fits a window.
     NoCommonArrival {
         /// The axes that alone reach none, whatever the windows; perhaps no axis.
         axes: AxisMask,

@@ -172,7 +172,7 @@ pub struct Schedule {
 #[derive(Debug, Clone, Copy, PartialEq, Eq, Hash)]
 #[non_exhaustive]
 pub enum TourRefusal {
-    /// 11: there are more than 64 stops, or a dwell is above 4,096.
+    /// 11: a tour has more than 64 stops, or then a dwell above 4,096.
     Stops {
         /// 64 where there are more, else the first stop with such a dwell.
         stop: usize,
@@ -184,7 +184,7 @@ pub enum TourRefusal {
         /// What the leg's job is refused with: 1, 4, 12, 5, 6 or 9.
         refusal: Refusal,
     },
-    /// 10: the lent list has fewer entries than there are stops.
+    /// 10: the lent list is shorter than the stops.
     ListTooShort {
         /// The number of stops.
         stops: usize,

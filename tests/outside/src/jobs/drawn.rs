@@ -19,7 +19,7 @@ fn half_period(random: &mut Random, most: i64) -> i64 {
     }
 }
 
-/// An axis that passes refusals 4 to 7 and that may well arrive after about `ticks` ticks.
+/// An axis that passes refusals 4, 12 and 5 to 7, and that may well arrive after about `ticks` ticks.
 fn fitting_axis(random: &mut Random, speed: i64, acceleration: i64, ticks: i64) -> Axis {
     let h = half_period(random, 256.min(ticks));
     let damping = damping(random);

@@ -69,7 +69,7 @@ impl Job {
         !(1..=tick).any(|n| self.fits(n) && self.all_reach(n))
     }
 
-    /// The arrival, or the refusal by 3 to 9.
+    /// The arrival, or the first of refusals 3, 4, 12, 5, 6, 7, 13, 8 and 9.
     fn arrival(&self) -> Result<i64, Answer> {
         if let Some(refused) = self.refused() {
             return Err(refused);
