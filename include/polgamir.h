@@ -68,7 +68,8 @@ uint32_t polgamir_version(void);
  *
  * An accepted job returns number 0, place 0, its own mask and its arrival N. A refusal returns its number, a place, an axis mask
  * and an arrival; fields not named below are 0. The numbers, in checking order; each is checked over all axes, lowest first,
- * before the next number; word indices count from 0; a call with typed values checks its mask by 1 and then goes on at 3:
+ * before the next number; word indices count from 0; a call with typed values checks its mask by 1 and then goes on at 3; 7 is not
+ * used:
  *
  * 11  A tour has more than 64 stops (place 64), or then a dwell above 4,096 (the place is the first such stop); only a tour gets it,
  *     before its legs.
@@ -82,7 +83,6 @@ uint32_t polgamir_version(void);
  *  5  h or B is outside its range, B also when h is 0; the place is the axis.
  *  6  Start or target velocity exceeds L in size, target acceleration exceeds M in size, target tick exceeds 4,096 in size, or a
  *     typed position is outside -134,217,728 to 134,217,727; the place is the axis.
- *  7  The target accelerates while h is not 0 and B is not 128; the place is the axis.
  * 13  The window list is empty (place 0); there are more than 32 windows, or then the dwell is above 4,096 (place 32); then a
  *     window's closing is not above its opening, or it opens before the previous one closes (the place is the first such window).
  *  8  The asked arrival is not reachable for every axis, or fits no window; the mask names the axes for which it is not reachable,
@@ -105,7 +105,6 @@ enum polgamir_number {
     POLGAMIR_REFUSED_DAMPING = 12,
     POLGAMIR_REFUSED_BLEND = 5,
     POLGAMIR_REFUSED_START_OR_TARGET = 6,
-    POLGAMIR_REFUSED_ACCELERATING_TARGET = 7,
     POLGAMIR_REFUSED_WINDOWS = 13,
     POLGAMIR_REFUSED_NOT_REACHABLE = 8,
     POLGAMIR_REFUSED_NO_COMMON_ARRIVAL = 9,
@@ -127,7 +126,6 @@ static inline const char *polgamir_refusal_text(uint32_t number)
     case POLGAMIR_REFUSED_START_OR_TARGET:
         return "a velocity is above the speed limit, the target acceleration is above the acceleration limit, the target tick is "
                "more than 4096 ticks from tick 0, or a position is not -134217728 to 134217727";
-    case POLGAMIR_REFUSED_ACCELERATING_TARGET: return "the target accelerates while the swing of its pole shrinks";
     case POLGAMIR_REFUSED_WINDOWS: return "windows are lacking, more than 32, out of order or closed at once, or the dwell is above 4096";
     case POLGAMIR_REFUSED_NOT_REACHABLE: return "not every axis can arrive at the asked tick, or it fits no window";
     case POLGAMIR_REFUSED_NO_COMMON_ARRIVAL: return "no tick from 1 to 4096 suits every axis and fits a window where some are given";
@@ -238,7 +236,7 @@ typedef struct polgamir_job {
 } polgamir_job;
 
 /*
- * Plans a job, and writes its table to the `table_cells` cells at `table`. Its refusals, in checking order, are 1, 3, 4, 12, 5, 6, 7, 13,
+ * Plans a job, and writes its table to the `table_cells` cells at `table`. Its refusals, in checking order, are 1, 3, 4, 12, 5, 6, 13,
  * 8, 9 and 10.
  */
 polgamir_answer polgamir_plan_job(polgamir_job job, int64_t *table, size_t table_cells);

@@ -159,21 +159,32 @@ fn by_row(name: &str, job: &Job, arrival: u32) {
     println!("| {name} | {} rows | {proved:.1} | {plain:.1} | {:.2} |", arrival + 1, proved / plain);
 }
 
+/// Axis i with a speed limit, on its way to rest, slowly.
+fn to_rest(speed: u32, i: u32) -> Axis {
+    axis(speed, 1, 30 * i, 128, 70 * (i64::from(i) + 1))
+}
+
+/// An axis on the finer grid, slowly on its way to tick 1,999, by when its target has turned back.
+fn to_follow(speed: u32, _: u32) -> Axis {
+    let target = Target::Moving { position: 70, velocity: -1, acceleration: 1, tick: 1_998 };
+    Axis { target, ..axis(speed, 1, 1, 100, 0) }
+}
+
 /// Prints what a row and axis takes without the search for the cruise. A speed limit of 1 and one of 1,048,576 give the
-/// same rows here; the search takes 10 sums for the one and 30 for the other, and 1 for the remainder. Their difference
-/// is the time of 20 sums an axis, and 11 of them are taken off.
-fn rows_alone(name: &str, axes: u32, arrival: u32) {
+/// same rows here; the search takes 10 sums for the one and 30 for the other, 18 and 38 on the finer grid, and 1 for the
+/// remainder. Their difference is the time of 20 sums an axis, and those of the first, 11 or 19, are taken off.
+fn rows_alone(name: &str, axes: u32, arrival: u32, sums: f64, way: fn(u32, u32) -> Axis) {
     let slow = |speed: u32| {
         let mut job = Job { mask: (1 << axes) - 1, asked: arrival, axes: [UNSET; 6], windows: None };
-        for i in 0..axes as usize {
-            job.axes[i] = axis(speed, 1, 30 * i as u32, 128, 70 * (i as i64 + 1));
+        for i in 0..axes {
+            job.axes[i as usize] = way(speed, i);
         }
         job
     };
     let cells = cells_of(&slow(1), arrival);
     let count = (cells / 3) as f64;
     let rounds = rounds([(&slow(1), cells), (&slow(1 << 20), cells), (&slow(1), cells - 1)]);
-    let alone = |[least, most, refused]: [f64; 3]| (least - refused - 11.0 / 20.0 * (most - least)) / count;
+    let alone = |[least, most, refused]: [f64; 3]| (least - refused - sums / 20.0 * (most - least)) / count;
     let proved = alone(fastest(rounds.iter().map(|round| round.map(|times| times.0))));
     let plain = alone(fastest(rounds.iter().map(|round| round.map(|times| times.1))));
     println!("| {name} | {} rows | {proved:.1} | {plain:.1} | {:.2} |", arrival + 1, proved / plain);
@@ -237,6 +248,8 @@ fn main() {
     let long = one(axis(100, 1, 40, 128, 185_900));
     let wide = Job { mask: 63, asked: 0, axes: six(), windows: None };
     let never = one(axis(1, 1, 0, 128, 100_000_000));
+    let follow = Target::Moving { position: 0, velocity: 0, acceleration: 1, tick: 0 };
+    let finer = one(Axis { target: follow, ..axis(10_000, 5, 40, 100, 0) });
 
     // The first second or two of a process run slower here, and are not counted.
     time([(&short, 60), (&long, 6_000)]);
@@ -253,18 +266,21 @@ fn main() {
     whole("one axis, short", &Job { asked: short_arrival, ..short });
     whole("one axis, long", &Job { asked: long_arrival, ..long });
     whole("six axes", &Job { asked: wide_arrival, ..wide });
+    whole("one axis, finer grid", &Job { asked: long_arrival, ..finer });
     println!();
     println!("| velocities and rows, by row and axis | outcome | library, ns | plain Rust, ns | ratio |");
     println!("|---|---|---|---|---|");
     by_row("one axis, short", &short, short_arrival);
     by_row("one axis, long", &long, long_arrival);
     by_row("six axes", &wide, wide_arrival);
+    by_row("one axis, finer grid", &finer, long_arrival);
     println!();
     println!("| rows alone, by row and axis | outcome | library, ns | plain Rust, ns | ratio |");
     println!("|---|---|---|---|---|");
-    rows_alone("one axis", 1, 1_999);
-    rows_alone("one axis", 1, 4_096);
-    rows_alone("six axes", 6, 4_096);
+    rows_alone("one axis", 1, 1_999, 11.0, to_rest);
+    rows_alone("one axis", 1, 4_096, 11.0, to_rest);
+    rows_alone("six axes", 6, 4_096, 11.0, to_rest);
+    rows_alone("one axis, finer grid", 1, 1_999, 19.0, to_follow);
     println!();
     println!("| a tour | outcome | library, ns | plain Rust, ns | ratio |");
     println!("|---|---|---|---|---|");

@@ -22,6 +22,8 @@ struct Leg {
 struct Ends {
     first_position: i64,
     change_after: i64,
+    /// Grid steps in a fine step.
+    finer: i64,
     leg: Leg,
 }
 
@@ -33,19 +35,21 @@ fn ends(axis: &Axis, arrival: u32) -> Ends {
         Target::Moving { position, velocity, acceleration, tick } => (position, velocity, acceleration, tick),
     };
     let d = ticks - t;
+    let finer = if a != 0 && h != 0 && b != 128 { 256 } else { 1 };
+    let correction = 2 * b * h * h * (b - 128) * a;
     let target_velocity = v + a * d;
-    let first_position = 512 * axis.start_position + 2 * b * h * axis.start_velocity;
-    let last_position = 256 * (2 * p + 2 * v * d + a * d * d) + 2 * b * h * target_velocity;
-    let (first, last) = (256 * axis.start_velocity, 256 * target_velocity + b * h * a);
+    let first_position = finer * (512 * axis.start_position + 2 * b * h * axis.start_velocity);
+    let last_position = finer * (256 * (2 * p + 2 * v * d + a * d * d) + 2 * b * h * target_velocity) + correction;
+    let (first, last) = (finer * 256 * axis.start_velocity, finer * (256 * target_velocity + b * h * a));
     let leg = Leg {
-        limit: 256 * i64::from(axis.speed_limit),
-        slope: 256 * i64::from(axis.acceleration_limit),
+        limit: finer * 256 * i64::from(axis.speed_limit),
+        slope: finer * 256 * i64::from(axis.acceleration_limit),
         first,
         last,
         ticks,
         sum: (last_position - first_position - first - last) >> 1,
     };
-    Ends { first_position, change_after: 256 * a, leg }
+    Ends { first_position, change_after: finer * 256 * a, finer, leg }
 }
 
 /// The second weight, which the jobs timed here give as a number.
@@ -264,8 +268,10 @@ struct Track {
     ticks: i64,
     change_after: i64,
     half_period: i64,
+    /// The weights of the blend, times the steps of 1/65,536 unit in a grid step.
+    first_weight: i64,
     second_weight: i64,
-    /// 256 times the blended position, in half fine steps, and the blended velocity at the row's tick.
+    /// The blended position, in half 1/65,536 of a fine step, and the blended velocity at the row's tick.
     position: i64,
     velocity: i64,
 }
@@ -281,12 +287,15 @@ fn nearest(x: i64, by: i64) -> i64 {
 
 impl Track {
     fn new(axis: &Axis, arrival: u32) -> Track {
-        let Ends { first_position, change_after, leg } = ends(axis, arrival);
+        let Ends { first_position, change_after, finer, leg } = ends(axis, arrival);
         let cruise = leg.cruise();
         let raised = leg.sum - leg.sum_at(cruise);
-        let (half_period, second_weight) = (i64::from(axis.half_period), i64::from(weight_of(axis)));
-        let position = 256 * first_position - 2 * second_weight * half_period * leg.first;
-        let velocity = 256 * leg.first;
+        let half_period = i64::from(axis.half_period);
+        let scale = 256 / finer;
+        let second_weight = scale * i64::from(weight_of(axis));
+        let first_weight = scale * 256 - second_weight;
+        let position = scale * 256 * first_position - 2 * second_weight * half_period * leg.first;
+        let velocity = scale * 256 * leg.first;
         let Ramps { rise, up, fall, down } = leg.ramps(cruise);
         let Leg { first, last, ticks, .. } = leg;
         Track {
@@ -301,6 +310,7 @@ impl Track {
             ticks,
             change_after,
             half_period,
+            first_weight,
             second_weight,
             position,
             velocity,
@@ -333,8 +343,9 @@ impl Track {
     /// The three cells of the row at a tick, after which the track stands one tick on.
     fn row(&mut self, tick: i64) -> [i64; 3] {
         let ahead = self.planned(tick + 1);
-        let next = (256 - self.second_weight) * ahead + self.second_weight * self.behind(tick + 1);
-        let cells = [nearest(self.position, 512), nearest(self.velocity, 256), nearest(next - self.velocity, 256)];
+        let next = self.first_weight * ahead + self.second_weight * self.behind(tick + 1);
+        let cells =
+            [nearest(self.position, 131_072), nearest(self.velocity, 65_536), nearest(next - self.velocity, 65_536)];
         self.position += self.velocity + next;
         self.velocity = next;
         cells
@@ -345,7 +356,7 @@ fn refusal(number: u32, mask: u32, arrival: u32) -> Answer {
     Answer { number, place: 0, mask, arrival }
 }
 
-/// Refusals 3 to 7 are tested as the library tests them, and 13 where windows are brought; the jobs that are timed pass.
+/// Refusals 3 to 6 are tested as the library tests them, and 13 where windows are brought; the jobs that are timed pass.
 fn passes(job: &Job) -> bool {
     job.asked <= LATEST
         && job
@@ -354,7 +365,6 @@ fn passes(job: &Job) -> bool {
         && job.set().all(|(_, x)| x.half_period <= 256 && (1..=128).contains(&weight_of(x)))
         && job.set().all(|(_, x)| x.start_velocity.unsigned_abs() <= u64::from(x.speed_limit))
         && job.set().all(|(_, x)| x.target.velocity().unsigned_abs() <= u64::from(x.speed_limit))
-        && job.set().all(|(_, x)| x.target.acceleration() == 0 || x.half_period == 0 || weight_of(x) == 128)
         && job.windows.as_ref().map_or(true, |windows| windows.refused().is_none())
 }
 

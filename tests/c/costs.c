@@ -110,6 +110,16 @@ static polgamir_axis to(int64_t position, uint32_t speed_limit, uint32_t acceler
     return axis;
 }
 
+/* An axis to a target that accelerates, on a damped pole for one axis and on an undamped one for the next. */
+static polgamir_axis accelerating(unsigned i, int64_t position)
+{
+    polgamir_axis axis = to(position, 5000, 2, 4);
+    axis.target_kind = POLGAMIR_MOVING;
+    axis.target_acceleration = 1;
+    axis.second_weight = i % 2 == 0 ? 100 : 128;
+    return axis;
+}
+
 /* The same job from words, with positions from 0 up. */
 static void as_words(void)
 {
@@ -169,6 +179,14 @@ static size_t run(void)
     job.windows.count = POLGAMIR_WINDOWS;
     measure("out of reach for the last axis, in windows", 9);
     job.windows.given = 0;
+    for (unsigned i = 0; i < POLGAMIR_AXES; i++) {
+        job.axes[i] = accelerating(i, 130000000);
+    }
+    measure("out of reach of targets that accelerate", 9);
+    for (unsigned i = 0; i < POLGAMIR_AXES; i++) {
+        job.axes[i] = accelerating(i, 0);
+    }
+    measure("a table beside targets that accelerate", 0);
     return most_stack;
 }
 

@@ -93,8 +93,8 @@ static bool is(polgamir_answer answer, uint32_t number, uint64_t place, uint32_t
 static int64_t table[CELLS];
 
 /*
- * A job of one axis, no two values of which are the same; what its other axes hold is of no effect, nor are windows that are not given. It
- * lands at tick 300.
+ * A job of one axis, no two values of which are the same; what its other axes hold, and its windows, which are not given, is of no
+ * effect. It lands at tick 300.
  */
 static polgamir_job distinct(unsigned axis)
 {
@@ -122,7 +122,7 @@ static polgamir_job distinct(unsigned axis)
 /* The job is refused with this number, for this axis where the number names one. */
 static void refused(const char *what, unsigned axis, polgamir_job job, uint32_t number)
 {
-    bool names_axis = (number >= 4 && number <= 7) || number == 12;
+    bool names_axis = (number >= 4 && number <= 6) || number == 12;
     uint32_t mask = number == 8 ? 1u << axis : 0;
     memset(table, 0x55, sizeof table);
     expect(is(polgamir_plan_job(job, table, CELLS), number, names_axis ? axis : number == 3, mask), what, axis);
@@ -134,6 +134,14 @@ static void refused(const char *what, unsigned axis, polgamir_job job, uint32_t 
 static bool accepted(polgamir_job job)
 {
     return polgamir_plan_job(job, table, CELLS).number == 0;
+}
+
+/* On a damped pole as on an undamped one the last row is that of a target which accelerates by 3. */
+static void lands_beside(unsigned axis, polgamir_job job)
+{
+    expect(accepted(job) && table[3 * 300 + 2] == 256 * 3, "an accelerating target", axis);
+    expect(table[3 * 300 + 1] == 256 * (-13 + 3 * 13), "an accelerating target's velocity", axis);
+    expect(table[3 * 300] == 256 * (902 - 13 * 13) + 128 * 3 * 13 * 13, "an accelerating target's position", axis);
 }
 
 /* Row 0 is the start, row 300 the target 13 ticks after its own tick, as an accepted call writes them. */
@@ -153,9 +161,9 @@ static void reads_the_ends(unsigned axis)
     expect(accepted(job) && table[3 * 300] == 256 * 902, "a fixed target has no tick", axis);
     job = distinct(axis);
     job.axes[axis].target_acceleration = 3;
+    lands_beside(axis, job);
     job.axes[axis].second_weight = 128;
-    expect(accepted(job) && table[3 * 300 + 2] == 256 * 3, "an accelerating target", axis);
-    expect(table[3 * 300 + 1] == 256 * (-13 + 3 * 13), "an accelerating target's velocity", axis);
+    lands_beside(axis, job);
 }
 
 /* One field at a time is taken past its range, by the names of the fields: the refusal list says which number it gets. */
@@ -182,7 +190,6 @@ static void reads_the_limits(unsigned axis)
     WITH(target_acceleration, 208, 6);
     WITH(target_tick, 4097, 6);
     WITH(target_tick, -4097, 6);
-    WITH(target_acceleration, 207, 7);
 #undef WITH
     polgamir_job job = distinct(axis);
     job.asked = 4097;
@@ -257,12 +264,14 @@ static void takes_null(void)
     expect(is(polgamir_plan_job(empty, NULL, 0), 1, 0, 0), "a job with no axis", 0);
 }
 
-/* Every number has a text of its own. */
+/* Every number has a text of its own; 7 is not used, and has that of a number above the last. */
 static void has_texts(void)
 {
     for (uint32_t number = 0; number <= POLGAMIR_REFUSED_WINDOWS + 1; number++) {
         for (uint32_t other = 0; other < number; other++) {
-            expect(strcmp(polgamir_refusal_text(number), polgamir_refusal_text(other)) != 0, "two numbers with one text", other);
+            bool unused = other == 7 && number == POLGAMIR_REFUSED_WINDOWS + 1;
+            bool same = strcmp(polgamir_refusal_text(number), polgamir_refusal_text(other)) == 0;
+            expect(same == unused, "two numbers with one text", other);
         }
     }
     expect(polgamir_refusal_text(POLGAMIR_REFUSED_WINDOWS + 1) == polgamir_refusal_text(UINT32_MAX), "a number above the last", 0);

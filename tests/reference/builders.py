@@ -98,7 +98,6 @@ def random_axis(rng: random.Random) -> Axis:
     kind = rng.randint(0, 2)
     if kind:
         a = rng.randint(-acceleration, acceleration) // 4 if kind == 2 else 0
-        weight = 128 if a else weight
         target += (a, rng.randint(-9, 40))
     start = (rng.randint(-900, 900), rng.choice([0, rng.randint(-speed, speed)]))
     return axis(start=start, speed_limit=speed, acceleration_limit=acceleration,

@@ -115,6 +115,11 @@ SIX_MOVING = [axis(target=(0, 1, 0, 0)),
 LARGE = Axis(RestPoint(-134217728, -1048576), 1048576, 65536, 256, 128,
              RestPoint(134217727, 1048576))
 
+# Accelerating targets on damped poles: the grid of 1/65,536 unit
+CORRECTED = axis(acceleration_limit=2, half_period=3, second_weight=100, target=(0, 0, 1, 0))
+CHASED = axis(speed_limit=100, acceleration_limit=10, half_period=2, second_weight=64, target=(3, 1, 2, 0))
+LARGE_CORRECTED = LARGE._replace(second_weight=127, target=State(134217727, -1048576, 4096, 400))
+
 LONG = to(-12345, half_period=9, second_weight=51)
 
 
@@ -170,6 +175,43 @@ def accepted() -> Group:
     ]
     return Group('accepted', 'Accepted jobs of every kind, and the edges of the lent cells.',
                  cases + half_periods() + lent_cells())
+
+
+def corrected() -> Group:
+    cases = [
+        typed('accelerating, damped', [CORRECTED], lent=21),
+        typed('accelerating, damped, the other way', [CORRECTED._replace(target=State(0, 0, -1, 0))], lent=21),
+        job('accelerating, damped, by words', [CORRECTED], asked=6, lent=21),
+        typed('accelerating, damped, one too early', [CORRECTED], asked=5, lent=21),
+        typed('cruise and remainder on the grid', [CHASED], asked=6, lent=21),
+        typed('from target tick 20', [axis(half_period=2, second_weight=100, target=(0, 0, 1, 20))], asked=20, lent=63),
+        job('a job with both grids', [CORRECTED, to(9), axis(acceleration_limit=3, half_period=2, second_weight=1,
+                                                              target=(4, 1, -2, 3))], lent=400),
+        typed('the largest numbers, accelerating, damped', [LARGE_CORRECTED], lent=8192),
+        typed('the largest numbers, least weight',
+              [LARGE_CORRECTED._replace(second_weight=1, start=RestPoint(134217727, 1048576),
+                                        target=State(-134217728, 1048576, -4096, 400))], lent=8192),
+        typed('the largest gain', [axis(speed_limit=1048576, acceleration_limit=65536, half_period=256,
+                                        second_weight=64, target=(0, 0, 4000, 300))], lent=8192),
+        typed('the largest gain, the other way', [axis(speed_limit=1048576, acceleration_limit=65536, half_period=256,
+                                                       second_weight=64, target=(0, 0, -4000, 300))], lent=8192),
+        typed('the largest acceleration', [axis(speed_limit=1048576, acceleration_limit=65536, half_period=3,
+                                                second_weight=77, target=(900000, -300000, 65536, 0))], lent=300),
+        typed('a far target tick, damped', [axis(speed_limit=1048576, acceleration_limit=65536, half_period=256,
+                                                 second_weight=64, target=(134217727, 300, 250, 4096))], lent=8192),
+        typed('out of reach at every tick', [axis(half_period=256, second_weight=1, target=(0, 0, 1, 0))]),
+        typed('a cell short', [CHASED], asked=6, lent=20),
+        typed('a grid for each axis', {0: to(4), 1: CHASED, 4: CHASED._replace(second_weight=128), 5: CHASED._replace(half_period=0)},
+              lent=300),
+    ]
+    speed = CHASED._replace(speed_limit=12)
+    cases += [typed('planned speed, asked %d' % n, [speed], asked=n, lent=40) for n in range(2, 9)]
+    for b in (1, 2, 63, 127):
+        for h in (1, 17, 256):
+            one = axis(start=(5, -9), speed_limit=30000, acceleration_limit=900, half_period=h, second_weight=b,
+                       target=(-77, 40, 60, 9))
+            cases.append(typed('accelerating, half period %d, weight %d' % (h, b), [one], lent=3 * (h + 90)))
+    return Group('corrected', 'Accelerating targets on damped poles.', cases)
 
 
 # --- Refusals by words -----------------------------------------------------
@@ -281,10 +323,8 @@ def refused_values() -> Group:
         typed('target position 134217728', [to(134217728)]),
         typed('target position -134217728', [axis(start=(-134217728, 0), target=(-134217728, 0))]),
         typed('moving target position -134217729', {3: axis(target=(-134217729, 0, 0, 0))}),
-        typed('6 before 7', [axis(half_period=1, second_weight=1, target=(0, 0, 1, 0)),
-                             axis(start=(0, 11))]),
-        typed('an accelerating target, damped',
-              {1: axis(half_period=256, second_weight=1, target=(0, 0, -1, 0))}),
+        typed('6 beside an accelerating target, damped',
+              [axis(half_period=1, second_weight=1, target=(0, 0, 1, 0)), axis(start=(0, 11))]),
         typed('an accelerating target, no half period',
               [axis(second_weight=1, target=(0, 0, 1, 0))]),
         typed('a target of constant speed, damped',
@@ -384,7 +424,8 @@ def mirrors() -> Group:
               ('half fine steps', to(1, half_period=1), 54), ('half period 7, weight 1', to(9, half_period=7, second_weight=1), 0),
               ('half period 3, weight 64', axis(start=(2, 1), half_period=3, second_weight=64, target=(40, -3)), 0),
               ('weight 127', axis(start=(-2, 3), half_period=2, second_weight=127, target=(5, 1, 0, 2)), 0),
-              ('accelerating, half period 5', axis(acceleration_limit=2, half_period=5, speed_limit=40, target=(3, 1, 1, 4)), 0))
+              ('accelerating, half period 5', axis(acceleration_limit=2, half_period=5, speed_limit=40, target=(3, 1, 1, 4)), 0),
+              ('accelerating, damped', CHASED, 6))
     cases = []
     for name, one, asked in chosen:
         cases += [typed(name + ', right', [one], asked, lent=180), typed(name + ', left', [mirror(one)], asked, lent=180)]
@@ -392,5 +433,5 @@ def mirrors() -> Group:
 
 
 def groups() -> List[Group]:
-    return [field(), readings(), accepted(), refused_words(), refused_values(), hostile(),
+    return [field(), readings(), accepted(), corrected(), refused_words(), refused_values(), hostile(),
             damping(), mirrors(), drawn(), drawn_damping(count=10)]

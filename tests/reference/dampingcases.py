@@ -146,8 +146,6 @@ def refused_jobs() -> List[Case]:
         typed('10 for a measured axis', [on(ratio(0.5))], lent=20),
         typed('8 for a measured axis', [on(ratio(0.5), half_period=4)], asked=4),
         typed('9 for a measured axis', [on(ratio(0.5), 100000000, speed_limit=1)]),
-        typed('a measured accelerating target, not quite 1',
-              [axis(half_period=1, second_weight=ratio(0.999), target=(0, 0, 1, 0))]),
     ] + [typed('ratio %s' % name, {3: on(Ratio(bits))}) for name, bits in SPECIAL if weight_of(Ratio(bits)) is None]
 
 
@@ -157,6 +155,11 @@ def accepted_jobs() -> List[Case]:
         typed('six axes, asked', SIX, asked=60, lent=1098),
         typed('a measured accelerating target, ratio 1',
               [axis(half_period=1, acceleration_limit=2, second_weight=ratio(1), target=(0, 0, 1, 0))], lent=60),
+        typed('a measured accelerating target, not quite 1',
+              [axis(half_period=1, acceleration_limit=2, second_weight=ratio(0.999), target=(0, 0, 1, 0))], lent=60),
+        typed('a measured accelerating target, peaks 97, 31',
+              [axis(speed_limit=900, acceleration_limit=90, half_period=9, second_weight=peaks(97, 31), target=(7, 30, -20, 4))],
+              lent=90),
         typed('a measured accelerating target, no half period',
               [axis(second_weight=ratio(0.25), target=(0, 0, 1, 0))]),
         typed('a measured moving target',
@@ -211,8 +214,7 @@ def drawn_damping(seed: int = 23, count: int = 20) -> Group:
     for k in range(count):
         axes = {bit: random_axis(rng) for bit in sorted(rng.sample(range(6), rng.choice([1, 1, 2, 3, 6])))}
         for bit, one in axes.items():
-            measured = one.half_period == 0 or not getattr(one.target, 'acceleration', 0)
-            if measured and rng.randrange(2):
+            if rng.randrange(2):
                 axes[bit] = one._replace(second_weight=random_damping(rng))
         cases.append(typed('drawn damping %d' % k, axes, rng.choice([0, 0, 0, 0, 90]), lent=8192))
     return Group('drawn damping', 'Random jobs with measured damping.', cases)

@@ -8,8 +8,9 @@ follows. Damping as measured is in `damping.py`, a tour of stops in `tour.py`.
     python3 reference.py < job       the table program: job words in, text out
     python3 reference.py --selftest  the paper's cases, and checks by definition
 
-Units: a fine step is 1/256 unit. Planned positions are counted in half fine
-steps, planned velocities and accelerations in fine steps (rule 1).
+Units: a fine step is 1/256 unit. An axis is planned on a grid of its own, of
+1/256 or 1/65,536 unit: planned positions are counted in half grid steps, planned
+velocities and accelerations in grid steps (rule 1).
 """
 
 import sys
@@ -91,6 +92,17 @@ def target_at(axis: Axis, tick: int, arrival: int) -> Tuple[int, int]:
 
 # --- Planned motion --------------------------------------------------------
 
+def is_corrected(axis: Axis) -> bool:
+    """An accelerating target on a damped pole (request 2.6)."""
+    return (acceleration_of(axis.target) != 0 and axis.half_period != 0
+            and axis.second_weight != 128)
+
+
+def finer(axis: Axis) -> int:
+    """The grid steps in a fine step."""
+    return 65536 // FINE if is_corrected(axis) else 1
+
+
 class Ends(NamedTuple):
     """Where the planned motion starts and lands, for one arrival N."""
     ticks: int                  # T = N - h
@@ -99,25 +111,26 @@ class Ends(NamedTuple):
     end_position: int
     end_velocity: int
     end_acceleration: int       # from tick T on
-    limit: int                  # 256 L
-    step: int                   # 256 M
+    limit: int                  # L, in grid steps
+    step: int                   # M, in grid steps
 
 
 def planned_ends(axis: Axis, arrival: int) -> Ends:
-    """Rules 2 and 3."""
-    h, b = axis.half_period, axis.second_weight
+    """Rules 2 and 3, carried over to the axis's grid, and the gain of 2.6."""
+    h, b, f = axis.half_period, axis.second_weight, finer(axis)
     ticks = arrival - h
     a = acceleration_of(axis.target)
     twice_y, y_velocity = target_at(axis, ticks, arrival)
+    gain = 2 * b * h * h * (b - 128) * a if is_corrected(axis) else 0
     return Ends(
         ticks=ticks,
-        start_position=512 * axis.start.position + 2 * b * h * axis.start.velocity,
-        start_velocity=256 * axis.start.velocity,
-        end_position=256 * twice_y + 2 * b * h * y_velocity,
-        end_velocity=256 * y_velocity + b * h * a,
-        end_acceleration=256 * a,
-        limit=256 * axis.speed_limit,
-        step=256 * axis.acceleration_limit)
+        start_position=f * (512 * axis.start.position + 2 * b * h * axis.start.velocity),
+        start_velocity=f * 256 * axis.start.velocity,
+        end_position=f * (256 * twice_y + 2 * b * h * y_velocity) + gain,
+        end_velocity=f * (256 * y_velocity + b * h * a),
+        end_acceleration=f * 256 * a,
+        limit=f * 256 * axis.speed_limit,
+        step=f * 256 * axis.acceleration_limit)
 
 
 def twice_required_sum(e: Ends) -> int:
@@ -245,8 +258,8 @@ def plan_axis(axis: Axis, arrival: int) -> Planned:
 
 
 def blended(axis: Axis, planned: Planned, k: int) -> Tuple[int, int, int]:
-    """The exact blends at tick k, each times 256: half fine steps for the
-    position, fine steps for velocity and acceleration."""
+    """The exact blends at tick k, each times 256: half grid steps for the
+    position, grid steps for velocity and acceleration."""
     b = axis.second_weight
     first, second = planned.at(k), planned.at(k - axis.half_period)
     return tuple((FINE - b) * x + b * y for x, y in zip(first, second))
@@ -259,9 +272,11 @@ def nearest(numerator: int, denominator: int) -> int:
 
 
 def row_cells(axis: Axis, planned: Planned, k: int) -> List[int]:
+    """The blends in fine steps, rounded once."""
     position, velocity, acceleration = blended(axis, planned, k)
-    return [nearest(position, 2 * FINE), nearest(velocity, FINE),
-            nearest(acceleration, FINE)]
+    divisor = FINE * finer(axis)
+    return [nearest(position, 2 * divisor), nearest(velocity, divisor),
+            nearest(acceleration, divisor)]
 
 
 def table_cells(job: Job, arrival: int) -> List[int]:
@@ -369,7 +384,7 @@ def words_of_bytes(data: bytes) -> List[int]:
     return words + [0] if whole < len(data) else words
 
 
-# --- Refusals 3 to 7, 12, 13 -----------------------------------------------
+# --- Refusals 3 to 6, 12, 13; 7 is never given (request 2.6) ---------------
 
 def breaks_4(axis: Axis) -> bool:
     return not (1 <= axis.speed_limit <= 1048576
@@ -391,11 +406,6 @@ def breaks_6(axis: Axis) -> bool:
             or not -134217728 <= target.position <= 134217727)
 
 
-def breaks_7(axis: Axis) -> bool:
-    return (acceleration_of(axis.target) != 0 and axis.half_period != 0
-            and axis.second_weight != 128)
-
-
 def breaks_12(axis: Axis) -> bool:
     """Request 2.3."""
     return not isinstance(axis.second_weight, int) and weight_of(axis.second_weight) is None
@@ -408,7 +418,7 @@ def weighed(axis: Axis) -> Axis:
 
 
 ENTERED = ((4, breaks_4), (12, breaks_12))
-WEIGHED = ((5, breaks_5), (6, breaks_6), (7, breaks_7))
+WEIGHED = ((5, breaks_5), (6, breaks_6))
 
 
 def check_axes(job: Job, checks) -> None:

@@ -170,13 +170,9 @@ def ranges():
             (6, axis(start=(high, 0)), axis(start=(high + 1, 0))),
             (6, to(low), to(low - 1)), (6, to(high), to(high + 1)),
             (6, axis(target=(low, 0, 0, 0)), axis(target=(low - 1, 0, 0, 0))),
-            (6, axis(target=(high, 0, 0, 0)), axis(target=(high + 1, 0, 0, 0))),
-            (7, axis(half_period=1, target=(0, 0, 1, 0)),
-             axis(half_period=1, second_weight=127, target=(0, 0, 1, 0))),
-            (7, axis(second_weight=127, target=(0, 0, 1, 0)),
-             axis(half_period=1, second_weight=127, target=(0, 0, 1, 0)))):
+            (6, axis(target=(high, 0, 0, 0)), axis(target=(high + 1, 0, 0, 0)))):
         passed = ref.plan_typed(1, 0, [inside] * 6, [])[0]
-        assert passed.number > 7, 'inside its range: %r' % (inside,)
+        assert passed.number in (8, 9, 10), 'inside its range: %r' % (inside,)
         refuses('range', ref.plan_typed(4, 0, [outside] * 6, [7]), number, place=2)
 
 
@@ -264,6 +260,18 @@ def negated(planned):
     return ref.Planned(ends, [-v for v in planned.velocities], [-q for q in planned.positions])
 
 
+def on_the_target(one, n):
+    """Rule 3 by its aim: the exact blend is on the target at N, and it starts on
+    the start; in fractions of a unit, whatever the grid is."""
+    planned = ref.plan_axis(one, n)
+    grid = Fraction(1, 256 * 256 * ref.finer(one))
+    twice_y, y_velocity = ref.target_at(one, n, n)
+    p, v, a = (x * grid for x in ref.blended(one, planned, n))
+    same('the exact landing', (p, v, a), (twice_y, y_velocity, ref.acceleration_of(one.target)))
+    p, v, _ = (x * grid for x in ref.blended(one, planned, 0))
+    same('the exact start', (p / 2, v), one.start)
+
+
 def mirrored(one, n, cells):
     """Request 2.4: negating a planned motion negates every cell."""
     planned = negated(ref.plan_axis(one, n))
@@ -295,6 +303,7 @@ def random_jobs(rng, count=80):
             rows = [cells[k * width + 3 * rank:k * width + 3 * rank + 3]
                     for k in range(answer.arrival + 1)]
             demand_3(rng, axes[bit], answer.arrival, rows)
+            on_the_target(axes[bit], answer.arrival)
             mirrored(axes[bit], answer.arrival, rows)
     assert accepted > count // 4, 'too few jobs were accepted to say anything'
 
@@ -380,8 +389,6 @@ def damping_readings():
     refuses('12 where h is 0', typed_plan([axis(second_weight=bad)]), 12)
     refuses('12 before 5', typed_plan([axis(half_period=257), axis(second_weight=bad)]), 12, place=1)
     refuses('4 before 12', typed_plan([axis(second_weight=bad), axis(speed_limit=0)]), 4, place=1)
-    chased = dict(half_period=1, target=(0, 0, 1, 0))
-    refuses('7 of a ratio', typed_plan([axis(second_weight=ratio(0.999), **chased)]), 7)
 
 
 def weights_by_hand(rng, count=30):
@@ -444,6 +451,41 @@ def windows_by_trial(rng, count=60):
             same('the least in the windows', answer, typed_plan(axes, asked=least))
 
 
+# --- Accelerating targets on damped poles (request 2.6) --------------------
+
+def corrected_readings():
+    chased = axis(speed_limit=100, acceleration_limit=10, half_period=2, second_weight=64, target=(3, 1, 2, 0))
+    same('on the grid', arrives('chased', plan([chased], asked=6), 6)[1][2], 1408)
+    rows = arrives('from 20', plan([axis(half_period=2, second_weight=100, target=(0, 0, 1, 20))], asked=20), 20)[1]
+    same('rows 0 to 2', rows[:9], [0, 0, 11, 5, 11, 0, 16, 11, 7])
+    same('rows 18 to 20', rows[54:63], [148, -183, 127, 28, -56, 56, 0, 0, 256])
+    slow = chased._replace(speed_limit=12)
+    same('planned speed', [n for n in range(1, 4097) if ref.reachable(slow, n)], [4, 5])
+    same('grids', [ref.finer(one) for one in (
+        chased, chased._replace(second_weight=128), chased._replace(half_period=0), chased._replace(target=ref.State(3, 1, 0, 0)),
+        to(4, half_period=2, second_weight=64))], [256, 1, 1, 1, 1])
+
+
+def corrected_axes(rng, count=60):
+    """Axes on the finer grid, alone and with large numbers."""
+    accepted = 0
+    while accepted < count:
+        one = random_axis(rng)
+        if accepted % 2:
+            a = rng.choice([-1, 1]) * rng.randint(1, 900)
+            one = one._replace(half_period=rng.randint(1, 256), second_weight=rng.randint(1, 127), speed_limit=1000000,
+                               acceleration_limit=60000, target=ref.State(rng.randint(-9999, 9999), 7, a, rng.randint(0, 300)))
+        if not ref.is_corrected(one):
+            continue
+        answer, cells = plan([one])
+        if answer.number == 0:
+            accepted += 1
+            rows = [cells[3 * k:3 * k + 3] for k in range(answer.arrival + 1)]
+            demand_3(rng, one, answer.arrival, rows)
+            on_the_target(one, answer.arrival)
+            mirrored(one, answer.arrival, rows)
+
+
 def main():
     rng = random.Random(1)
     field_cases()
@@ -460,8 +502,10 @@ def main():
     weights_by_hand(rng)
     window_readings()
     windows_by_trial(rng)
+    corrected_readings()
+    corrected_axes(rng)
     print('reference: field cases, traps, settled readings, ranges, definitions, rounding, demand 3,',
-          'tours, damping, windows: ok')
+          'tours, damping, windows, accelerating targets on damped poles: ok')
     return 0
 
 

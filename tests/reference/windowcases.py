@@ -53,6 +53,8 @@ def found() -> List[Case]:
         windowed('the least common arrival in a window', [(1, 3), (40, 45)], axes=[FLYING, to(1)], lent=250),
         windowed('a measured axis', [(0, 6), (11, 12)], axes=[to(9, half_period=2, second_weight=ratio(0.5))]),
         windowed('a moving target', [(5, 7)], 1, axes=[axis(target=(0, 1, 0, 0))]),
+        windowed('an accelerating target on a damped pole', [(0, 4), (5, 9)], lent=60,
+                 axes=[axis(speed_limit=12, acceleration_limit=10, half_period=2, second_weight=64, target=(3, 1, 2, 0))]),
         windowed('10 for an arrival in a window', [(6, 9)], lent=20),
         windowed('just enough cells for it', [(6, 9)], lent=21),
     ]
@@ -86,7 +88,6 @@ def none_found() -> List[Case]:
 # --- Refusal 13 and its order ----------------------------------------------
 
 def refused() -> List[Case]:
-    damped = axis(target=(0, 0, 1, 0), half_period=1, second_weight=100)
     return [
         windowed('13, an empty list', []),
         windowed('13, an empty list before a long dwell', [], 4097),
@@ -116,7 +117,6 @@ def refused() -> List[Case]:
         windowed('12 before 13', [], axes=[axis(second_weight=ratio(0))]),
         windowed('5 before 13', [], axes=[axis(half_period=257)]),
         windowed('6 before 13', [], axes=[axis(start=(0, 11))]),
-        windowed('7 before 13', [], axes=[damped]),
         windowed('1 before 13', [])._replace(mask=0),
     ]
 
@@ -147,7 +147,7 @@ def drawn_windows(seed: int = 25, count: int = 20) -> Group:
     for k in range(count):
         axes = {bit: random_axis(rng) for bit in sorted(rng.sample(range(6), rng.choice([1, 1, 2, 3])))}
         for bit, one in axes.items():
-            if not getattr(one.target, 'acceleration', 0) and rng.randrange(5) == 0:
+            if rng.randrange(5) == 0:
                 axes[bit] = one._replace(second_weight=random_damping(rng))
         case = typed('drawn windows %d' % k, axes, rng.choice([0, 0, 0, 0, rng.randint(40, 120)]), lent=8192)
         cases.append(case._replace(windows=random_windows(rng)))

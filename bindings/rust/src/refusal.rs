@@ -1,4 +1,4 @@
-//! The refusals: a variant for each number, in checking order, each with its sentence.
+//! The refusals: a variant for each number, in checking order, each with its sentence. Number 7 is not used.
 
 use std::fmt;
 
@@ -96,11 +96,6 @@ pub enum Refusal {
         /// The first such axis.
         axis: usize,
     },
-    /// 7: the target accelerates while the half period is not 0 and the weight of the damping is not 128.
-    AcceleratingTarget {
-        /// The first such axis.
-        axis: usize,
-    },
     /// 13: the window list is empty; there are more than 32 windows, or then the dwell is above 4,096; then a window's closing is
     /// not above its opening, or it opens before the previous one closes.
     Windows {
@@ -149,7 +144,6 @@ impl Refusal {
             4 => Refusal::Limits { axis: index },
             5 => Refusal::Blend { axis: index },
             6 => Refusal::StartOrTarget { axis: index },
-            7 => Refusal::AcceleratingTarget { axis: index },
             8 => Refusal::NotReachable { axes },
             9 => Refusal::NoCommonArrival { axes },
             10 => Refusal::TableTooShort { arrival },
@@ -168,7 +162,6 @@ impl Refusal {
             Refusal::Limits { .. } => 4,
             Refusal::Blend { .. } => 5,
             Refusal::StartOrTarget { .. } => 6,
-            Refusal::AcceleratingTarget { .. } => 7,
             Refusal::NotReachable { .. } => 8,
             Refusal::NoCommonArrival { .. } => 9,
             Refusal::TableTooShort { .. } => 10,
@@ -178,7 +171,7 @@ impl Refusal {
         }
     }
 
-    /// The place: a word's index for 2, 1 for 3, the axis for 4 to 7 and 12, the window or 32 for 13, and 0 where no place is named.
+    /// The place: a word's index for 2, 1 for 3, the axis for 4 to 6 and 12, the window or 32 for 13, and 0 where no place is named.
     pub const fn place(&self) -> u64 {
         match *self {
             Refusal::Words { index } => index as u64,
@@ -192,14 +185,13 @@ impl Refusal {
         }
     }
 
-    /// The axis that refusals 4 to 7 and 12 name.
+    /// The axis that refusals 4 to 6 and 12 name.
     pub const fn axis(&self) -> Option<usize> {
         match *self {
             Refusal::Limits { axis }
             | Refusal::Damping { axis }
             | Refusal::Blend { axis }
-            | Refusal::StartOrTarget { axis }
-            | Refusal::AcceleratingTarget { axis } => Some(axis),
+            | Refusal::StartOrTarget { axis } => Some(axis),
             _ => None,
         }
     }
@@ -252,11 +244,6 @@ impl Refusal {
                 "on axis {axis} a `velocity` of `start` or `target` exceeds `speed_limit` in size, the target's \
                  `acceleration` exceeds `acceleration_limit`, its `tick` exceeds 4096, or a `position` is outside \
                  -134217728 to 134217727"
-            ),
-            Refusal::AcceleratingTarget { axis } => write!(
-                f,
-                "on axis {axis} the target's `acceleration` is not 0, while `half_period` is not 0 and the weight of \
-                 `damping` is not 128"
             ),
             Refusal::Windows { place: MOST_WINDOWS } => write!(
                 f,

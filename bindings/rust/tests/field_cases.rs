@@ -54,6 +54,17 @@ fn b_takes_four_ticks() {
     assert_eq!(positions, [0, 128, 512, 896, 1024]);
 }
 
+/// Request 2.6: the numbers are those of `tests/reference`.
+#[test]
+fn an_accelerating_target_on_a_damped_pole() {
+    let target = Target::Moving(State { position: 0, velocity: 0, acceleration: 1, tick: 0 });
+    let axis = Axis { acceleration_limit: 2, half_period: 3, damping: Damping::Weight(100), ..field_axis(target) };
+    let motions = motions(&Job::earliest().with_axis(0, axis));
+    let positions: Vec<i64> = motions.iter().map(|motion| motion.position).collect();
+    assert_eq!(positions, [0, 156, 589, 1190, 2019, 3181, 4608]);
+    assert_eq!(motions[6], Motion { position: 4608, velocity: 1536, acceleration: 256 });
+}
+
 #[test]
 fn c_is_the_printed_table() {
     let mut table = [7; 17];
@@ -155,7 +166,7 @@ fn the_other_refusals_name_their_places() {
 
     let target = Target::Moving(State { position: 0, velocity: 0, acceleration: 1, tick: 0 });
     let job = Job::earliest().with_axis(4, Axis { half_period: 2, damping: Damping::Weight(127), target, ..axis });
-    assert_eq!(refusal(&job), Refusal::AcceleratingTarget { axis: 4 });
+    assert_eq!(refusal(&job), Refusal::NoCommonArrival { axes: AxisMask(0b1_0000) });
 
     let job = Job::earliest().with_axis(0, field_axis(target)).with_axis(1, field_axis(Target::still(1000)));
     assert_eq!(refusal(&job), Refusal::NoCommonArrival { axes: AxisMask(0) });

@@ -57,13 +57,6 @@ fn all() -> Vec<(Refusal, &'static str, SheetLine, &'static str)> {
              -134217728 to 134217727",
         ),
         (
-            Refusal::AcceleratingTarget { axis: 1 },
-            "refused 7 place 1 axes 0 arrival 0",
-            EnterStartAndTarget,
-            "refused with 7: on axis 1 the target's `acceleration` is not 0, while `half_period` is not 0 and the \
-             weight of `damping` is not 128",
-        ),
-        (
             Refusal::Windows { place: 0 },
             "refused 13 place 0 axes 0 arrival 0",
             ReadTheArrival,
@@ -127,7 +120,7 @@ fn sentences_speak_of_fields() {
 fn every_number_of_a_job_has_its_case() {
     let mut numbers: Vec<u32> = all().iter().map(|(refusal, ..)| refusal.number()).collect();
     numbers.dedup();
-    assert_eq!(numbers, [1, 2, 3, 4, 12, 5, 6, 7, 13, 8, 9, 10]);
+    assert_eq!(numbers, [1, 2, 3, 4, 12, 5, 6, 13, 8, 9, 10]);
 }
 
 #[test]

@@ -224,7 +224,7 @@ pub extern "C" fn polgamir_plan_words(words: &[u32], table: &mut [i64]) -> Polga
 
 // Plans the axes of a job that its mask names and writes their rows into the table. The asked arrival is a tick from 1 to 4,096, or 0 for
 // the least that every axis reaches and that fits a window where windows are given. The other axes are not looked at.
-// Gives back what the call for words gives; its refusals are 1, 3 to 10, 12 and 13.
+// Gives back what the call for words gives; its refusals are 1, 3 to 6, 8 to 10, 12 and 13.
 #[no_mangle]
 pub extern "C" fn polgamir_plan_job(job: PolgamirJob, table: &mut [i64]) -> PolgamirAnswer
     ensures { λ r. ⌜ Promise (Input.typed (jobOf job)) (now (table .entry)) (answerOf r) (now (table .exit)) ⌝ }

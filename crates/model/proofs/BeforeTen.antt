@@ -21,7 +21,7 @@ use Rattle.model.specs.Words.{goodMask}
 use Rattle.model.specs.Refusals.{lastTick}
 use Rattle.model.specs.Outcome.{Outcome, Input, typed, call, inputAxes, refuse, accept, filled, arrived, tested, axisRefusals, jobOutcome}
 use Rattle.model.specs.Outcome.{cellsNeeded, leastFrom, arrives, firstAxis, reachesNone, beforeTen, answerOf}
-use Rattle.model.specs.Verdict.{Verdict, refused3, refused4, refused12, refused5, refused6, refused7, refused13, refused8, refused9, refused10, accepted}
+use Rattle.model.specs.Verdict.{Verdict, refused3, refused4, refused12, refused5, refused6, refused13, refused8, refused9, refused10, accepted}
 use Rattle.model.specs.Verdict.{CallVerdict, typed1, typedJobs}
 use Rattle.model.specs.Demand.{Demand3}
 use Rattle.model.proofs.CallVerdict.{call-verdict}
@@ -141,7 +141,6 @@ module _ (t : Typed.Job) (lent : List ℤ) where
       of-job (refused12 i a b c r) = let z = r .number in absurd (omega arith)
       of-job (refused5 i a b c d r) = let z = r .number in absurd (omega arith)
       of-job (refused6 i a b c d f r) = let z = r .number in absurd (omega arith)
-      of-job (refused7 i a b c d f g r) = let z = r .number in absurd (omega arith)
       of-job (refused13 p a b c d r) = let z = r .number in absurd (omega arith)
       of-job (refused8 n a b c w d f r) = let z = r .number in absurd (omega arith)
       of-job (refused9 n a b w c d r) = let z = r .number in absurd (omega arith)

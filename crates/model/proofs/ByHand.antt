@@ -17,7 +17,8 @@ use Rattle.model.specs.Motion.{reachable}
 use Rattle.model.specs.Rows.{track, row, table, cells, concat, tabulate}
 use Rattle.model.specs.Job.{Job, JobAxis, axesOf, jobOf, maskWhere, setAxes, byHand, axesByHand, jobByHand}
 use Rattle.model.specs.Words.{goodMask}
-use Rattle.model.specs.Refusals.{lastTick, limitsRefused, dampingRefused, blendRefused, valuesRefused, accelerationRefused}
+use Rattle.model.specs.Quantities.{finer}
+use Rattle.model.specs.Refusals.{lastTick, limitsRefused, dampingRefused, blendRefused, valuesRefused}
 use Rattle.model.specs.Refusals.{restAllowed, targetAllowed, AllPassed}
 use Rattle.model.specs.Outcome.{Outcome, typed, call, refuse, allReach, leastFrom, arrives, reachesNone, cellsNeeded, tableOver}
 use Rattle.model.specs.Outcome.{filled, arrived, firstAxis, axisRefusals, tested, jobOutcome}
@@ -38,7 +39,7 @@ values-by-hand x = ap (λ (b : Bool). not (restAllowed x (x .start) && b)) (targ
 pub passed-by-hand : (l : List JobAxis) → AllPassed l → AllPassed (axesByHand l)
 passed-by-hand [] p = tt
 passed-by-hand (x ∷ l) (p, ps) = (
-  record { limits = p .limits; damping = refl; blend = p .blend; values = values-by-hand (x .axis) ∙ p .values; acceleration = p .acceleration },
+  record { limits = p .limits; damping = refl; blend = p .blend; values = values-by-hand (x .axis) ∙ p .values },
   passed-by-hand l ps,
 )
 
@@ -71,6 +72,7 @@ mask-by-hand f h (x ∷ l) =
 -- ---- arrivals
 
 pub reach-by-hand : (l : List JobAxis) (n : ℕ) → allReach (axesByHand l) n ≡ allReach l n
+unfolding finer
 reach-by-hand [] n = refl
 reach-by-hand (x ∷ l) n = ap (λ (b : Bool). elim (reachable (x .axis) n) as (λ _. Bool) [ true ↦ b | false ↦ false ]) (reach-by-hand l n)
 
@@ -89,6 +91,7 @@ none-by-hand x =
 
 row-by-hand : (l : List JobAxis) (n k : ℕ)
     → row (map (track n) (map (λ x. x .axis) (axesByHand l))) k ≡ row (map (track n) (map (λ x. x .axis) l)) k
+unfolding finer
 row-by-hand [] n k = refl
 row-by-hand (x ∷ l) n k = ap (λ (r : List ℤ). cells k (track n (x .axis)) ++ r) (row-by-hand l n k)
 
@@ -108,7 +111,7 @@ abbrev Tests : Type 0
 Tests = List (ℕ × (Axis → Bool))
 
 abbrev afterDamping : Tests
-afterDamping = (5, blendRefused) ∷ (6, valuesRefused) ∷ (7, accelerationRefused) ∷ []
+afterDamping = (5, blendRefused) ∷ (6, valuesRefused) ∷ []
 
 abbrev fromDamping : Tests
 fromDamping = (12, dampingRefused) ∷ afterDamping
@@ -124,6 +127,7 @@ filled-by-hand j n lent = λ i. by-room (ltb (length lent) (cellsNeeded (length-
         ]
 
 pub arrived-by-hand : (j : Job) (asked : ℕ) (lent : List ℤ) → arrived (jobByHand j) asked lent ≡ arrived j asked lent
+unfolding finer
 arrived-by-hand j zero lent =
     λ i.
     elim (least-by-hand j i) as (λ _. Outcome) [
@@ -145,12 +149,9 @@ rest-by-hand j lent =
       | some k ↦ refuse 5 k 0 0 lent
       | none ↦ elim (first-by-hand valuesRefused values-by-hand (j .axes) i) as (λ _. Outcome) [
         | some k ↦ refuse 6 k 0 0 lent
-        | none ↦ elim (first-by-hand accelerationRefused (λ x. refl) (j .axes) i) as (λ _. Outcome) [
-          | some k ↦ refuse 7 k 0 0 lent
-          | none ↦ elim (refused13 (j .windows)) as (λ _. Outcome) [
-            | some p ↦ refuse 13 p 0 0 lent
-            | none ↦ arrived-by-hand j (j .asked) lent i
-          ]
+        | none ↦ elim (refused13 (j .windows)) as (λ _. Outcome) [
+          | some p ↦ refuse 13 p 0 0 lent
+          | none ↦ arrived-by-hand j (j .asked) lent i
         ]
       ]
     ]

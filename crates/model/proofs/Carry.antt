@@ -1,15 +1,17 @@
 -- A row carried on one tick misses the next row by at most 3/2 in position and in velocity: the exact blends follow rule 1, and each
 -- cell is off by a half at most, whichever way halves go.
-use Prim.Native.Nat.{ℕ, suc, _+_, _-_, _≤_, _<_}
+use Prim.Native.Nat.{ℕ, suc, _+_, _-_, _*_, _≤_, _<_}
 use mathlib.Core.Path.{_≡_, refl, sym, ap, ap₂, _∙_, subst, subst₂}
 use mathlib.Core.Logic.{⊎-elim}
 use mathlib.Core.List.{List, [], _∷_}
 use native.Mathlib.Omega.{arith}
+use native.Mathlib.Nat.{le-of-mul-le-mul-left}
 use lib.ListN.{length, replicate, length-append, length-replicate}
 use lib.IntN.{ℤ, pos, natAbs, _+ℤ_, _-ℤ_, _*ℤ_, +ℤ-idr}
 use Rattle.whole.specs.Integers.{nearest}
 use Rattle.whole.proofs.Tests.{lt-or-le}
 use Rattle.whole.proofs.Differences.{whole, all₅, all₇}
+use Rattle.whole.proofs.Laws.{natAbs-*}
 use Rattle.whole.proofs.Ring.{pol, same}
 use Rattle.whole.proofs.Rounding.{WithinHalf, half-iff, nearest-half}
 use Rattle.model.specs.declared.Axis.{Axis}
@@ -17,8 +19,9 @@ use Rattle.model.specs.Quantities.{halfPeriod, secondWeight}
 use Rattle.model.specs.Leg.{chosen}
 use Rattle.model.specs.Motion.{Tick, leg, requiredSum, earlier, changesFrom, accelerations}
 use Rattle.model.specs.Motion.{startPosition, startVelocity, landingTick, landingAcceleration}
-use Rattle.model.specs.Rows.{track, tickAt, tickBack, blend}
+use Rattle.model.specs.Rows.{track, tickAt, tickBack, blend, divisor}
 use Rattle.model.specs.Refusals.{Ready}
+use Rattle.model.proofs.Grid.{divisor-some}
 use Rattle.model.proofs.ReadyAxis as R
 use Rattle.model.proofs.BlendTicks.{tick-start, tick-before, tick-after}
 use Rattle.model.proofs.PlannedMotion.{Follows, run-follows}
@@ -26,24 +29,41 @@ use Rattle.model.proofs.PlannedTarget.{velocities-length}
 
 -- ---- the miss of rounded values, doubled: the roundings add up to 7/2, and the doubled miss is a whole number
 
-half-miss : (q v a p w b r : ℤ) → WithinHalf q 512 p → WithinHalf v 256 w → WithinHalf a 256 b → WithinHalf (q +ℤ pos 2 *ℤ v +ℤ a) 512 r
-    → natAbs (pos 2 *ℤ p +ℤ pos 2 *ℤ w +ℤ b -ℤ pos 2 *ℤ r) ≤ 3
-half-miss = all₇ _ (λ a b c d e f g h i j k l m n. simp (whole, half-iff) (omega arith))
+-- 2 z d is at most (2 n + 1) d in size, so z is at most n
+small : (d n : ℕ) (z : ℤ) → 0 < d → natAbs (pos (2 * d) *ℤ z) ≤ d * (2 * n + 1) → natAbs z ≤ n
+small d n z h q =
+    let l : d * (2 * natAbs z) ≤ d * (2 * n + 1) = subst (λ (m : ℕ). m ≤ d * (2 * n + 1)) (natAbs-* (pos (2 * d)) z ∙ across d (natAbs z)) q in
+    let k : 2 * natAbs z ≤ 2 * n + 1 = le-of-mul-le-mul-left l h in
+    omega arith
+  where
+    across : (d m : ℕ) → 2 * d * m ≡ d * (2 * m)
+    across d m = omega arith
 
-pub miss : (q v a : ℤ)
-    → natAbs (pos 2 *ℤ nearest q 512 +ℤ pos 2 *ℤ nearest v 256 +ℤ nearest a 256 -ℤ pos 2 *ℤ nearest (q +ℤ pos 2 *ℤ v +ℤ a) 512) ≤ 3
-miss q v a =
-    half-miss q v a (nearest q 512) (nearest v 256) (nearest a 256) (nearest (q +ℤ pos 2 *ℤ v +ℤ a) 512)
-    (nearest-half q 512 (omega arith)) (nearest-half v 256 (omega arith)) (nearest-half a 256 (omega arith))
-    (nearest-half (q +ℤ pos 2 *ℤ v +ℤ a) 512 (omega arith))
+half-miss : (d : ℕ) (q v a p w b r : ℤ) → WithinHalf q (2 * d) p → WithinHalf v d w → WithinHalf a d b → WithinHalf (q +ℤ pos 2 *ℤ v +ℤ a) (2 * d) r
+    → natAbs (pos (2 * d) *ℤ (pos 2 *ℤ p +ℤ pos 2 *ℤ w +ℤ b -ℤ pos 2 *ℤ r)) ≤ d * 7
+half-miss d = all₇ _ (λ a b c e f g h i j k l m n o. simp (whole, half-iff) (omega arith))
 
-half-miss-velocity : (v a w b r : ℤ) → WithinHalf v 256 w → WithinHalf a 256 b → WithinHalf (v +ℤ a) 256 r → natAbs (pos 2 *ℤ (w +ℤ b -ℤ r)) ≤ 3
-half-miss-velocity = all₅ _ (λ a b c d e f g h i j. simp (whole, half-iff) (omega arith))
+pub miss : (d : ℕ) → 0 < d → (q v a : ℤ)
+    → natAbs (pos 2 *ℤ nearest q (2 * d) +ℤ pos 2 *ℤ nearest v d +ℤ nearest a d -ℤ pos 2 *ℤ nearest (q +ℤ pos 2 *ℤ v +ℤ a) (2 * d)) ≤ 3
+miss d h q v a =
+    small d 3 (pos 2 *ℤ nearest q (2 * d) +ℤ pos 2 *ℤ nearest v d +ℤ nearest a d -ℤ pos 2 *ℤ nearest (q +ℤ pos 2 *ℤ v +ℤ a) (2 * d)) h
+    (half-miss d q v a (nearest q (2 * d)) (nearest v d) (nearest a d) (nearest (q +ℤ pos 2 *ℤ v +ℤ a) (2 * d))
+    (nearest-half q (2 * d) (omega arith)) (nearest-half v d h) (nearest-half a d h)
+    (nearest-half (q +ℤ pos 2 *ℤ v +ℤ a) (2 * d) (omega arith)))
 
-pub miss-velocity : (v a : ℤ) → natAbs (pos 2 *ℤ (nearest v 256 +ℤ nearest a 256 -ℤ nearest (v +ℤ a) 256)) ≤ 3
-miss-velocity v a =
-    half-miss-velocity v a (nearest v 256) (nearest a 256) (nearest (v +ℤ a) 256)
-    (nearest-half v 256 (omega arith)) (nearest-half a 256 (omega arith)) (nearest-half (v +ℤ a) 256 (omega arith))
+-- here the roundings add up to 3/2, and the miss is a whole number
+half-miss-velocity : (d : ℕ) (v a w b r : ℤ) → WithinHalf v d w → WithinHalf a d b → WithinHalf (v +ℤ a) d r
+    → natAbs (pos (2 * d) *ℤ (w +ℤ b -ℤ r)) ≤ d * 3
+half-miss-velocity d = all₅ _ (λ a b c e f g h i j k. simp (whole, half-iff) (omega arith))
+
+pub miss-velocity : (d : ℕ) → 0 < d → (v a : ℤ) → natAbs (pos 2 *ℤ (nearest v d +ℤ nearest a d -ℤ nearest (v +ℤ a) d)) ≤ 3
+miss-velocity d h v a =
+    twice (nearest v d +ℤ nearest a d -ℤ nearest (v +ℤ a) d)
+    (small d 1 (nearest v d +ℤ nearest a d -ℤ nearest (v +ℤ a) d) h
+    (half-miss-velocity d v a (nearest v d) (nearest a d) (nearest (v +ℤ a) d) (nearest-half v d h) (nearest-half a d h) (nearest-half (v +ℤ a) d h)))
+  where
+    twice : (z : ℤ) → natAbs z ≤ 1 → natAbs (pos 2 *ℤ z) ≤ 3
+    twice z q = omega (arith, natAbs-* (pos 2) z)
 
 -- ---- before tick 0 the motion is uniform
 
@@ -169,15 +189,15 @@ module _ (x : Axis) (n : ℕ) (r : Ready x n) where
 
   -- twice the position to which row k is carried on
   abbrev carried : ℕ → ℤ
-  carried k = pos 2 *ℤ nearest (position k) 512 +ℤ pos 2 *ℤ nearest (velocity k) 256 +ℤ nearest (acceleration k) 256
+  carried k = pos 2 *ℤ nearest (position k) (2 * divisor x) +ℤ pos 2 *ℤ nearest (velocity k) (divisor x) +ℤ nearest (acceleration k) (divisor x)
 
-  pub carries-position : (k : ℕ) → k < n → natAbs (carried k -ℤ pos 2 *ℤ nearest (position (suc k)) 512) ≤ 3
+  pub carries-position : (k : ℕ) → k < n → natAbs (carried k -ℤ pos 2 *ℤ nearest (position (suc k)) (2 * divisor x)) ≤ 3
   carries-position k q =
-      subst (λ (z : ℤ). natAbs (carried k -ℤ pos 2 *ℤ nearest z 512) ≤ 3)
-      (sym (position-follows k q)) (miss (position k) (velocity k) (acceleration k))
+      subst (λ (z : ℤ). natAbs (carried k -ℤ pos 2 *ℤ nearest z (2 * divisor x)) ≤ 3)
+      (sym (position-follows k q)) (miss (divisor x) (divisor-some x) (position k) (velocity k) (acceleration k))
 
   pub carries-velocity : (k : ℕ) → k < n
-      → natAbs (pos 2 *ℤ (nearest (velocity k) 256 +ℤ nearest (acceleration k) 256 -ℤ nearest (velocity (suc k)) 256)) ≤ 3
+      → natAbs (pos 2 *ℤ (nearest (velocity k) (divisor x) +ℤ nearest (acceleration k) (divisor x) -ℤ nearest (velocity (suc k)) (divisor x))) ≤ 3
   carries-velocity k q =
-      subst (λ (z : ℤ). natAbs (pos 2 *ℤ (nearest (velocity k) 256 +ℤ nearest (acceleration k) 256 -ℤ nearest z 256)) ≤ 3)
-      (sym (velocity-follows k q)) (miss-velocity (velocity k) (acceleration k))
+      subst (λ (z : ℤ). natAbs (pos 2 *ℤ (nearest (velocity k) (divisor x) +ℤ nearest (acceleration k) (divisor x) -ℤ nearest z (divisor x))) ≤ 3)
+      (sym (velocity-follows k q)) (miss-velocity (divisor x) (divisor-some x) (velocity k) (acceleration k))

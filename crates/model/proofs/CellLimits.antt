@@ -15,11 +15,13 @@ use Rattle.whole.proofs.Bounds.{add-holds, mul-holds}
 use Rattle.whole.proofs.Rounding.{nearest-half, half-size}
 use Rattle.model.specs.declared.Axis.{Axis}
 use Rattle.model.specs.Quantities.{fineSteps, speedLimit, accelerationLimit, halfPeriod, secondWeight, asMoving}
+use Rattle.model.specs.Quantities.{finer, speedSteps, accelerationSteps}
 use Rattle.model.specs.Leg.{Meets, chosen}
 use Rattle.model.specs.Motion.{Tick, run, changesFrom, leg, displacement, requiredSum}
 use Rattle.model.specs.Motion.{earlier, landingTick, startPosition, startVelocity, landingVelocity, landingAcceleration}
-use Rattle.model.specs.Rows.{track, tickAt, tickBack, blend}
+use Rattle.model.specs.Rows.{track, tickAt, tickBack, blend, divisor}
 use Rattle.model.specs.Refusals.{Ready}
+use Rattle.model.proofs.Grid.{divisor-some}
 use Rattle.model.proofs.PassedAxis.{target-acceleration}
 use Rattle.model.proofs.ReadyAxis as R
 use Rattle.model.proofs.Reaches.{reach-lands, reach-arrives}
@@ -48,7 +50,7 @@ run-change q v (w ∷ ws) αs d (suc k) h =
 -- ---- sizes
 
 -- a velocity that changes steadily lies between its ends
-between : (v a : ℤ) (j h c : ℕ) → j ≤ h → natAbs v ≤ c → natAbs (v +ℤ pos h *ℤ a) ≤ c → natAbs (v +ℤ pos j *ℤ a) ≤ c
+pub between : (v a : ℤ) (j h c : ℕ) → j ≤ h → natAbs v ≤ c → natAbs (v +ℤ pos h *ℤ a) ≤ c → natAbs (v +ℤ pos j *ℤ a) ≤ c
 between v (pos b) j h c q = up v (j * b) (h * b) c (N.mul-le-mul-right b q)
   where
     up : (v : ℤ) (x y c : ℕ) → x ≤ y → natAbs v ≤ c → natAbs (v +ℤ pos y) ≤ c → natAbs (v +ℤ pos x) ≤ c
@@ -97,59 +99,62 @@ module _ (x : Axis) (n : ℕ) (r : Ready x n) where
   late : (j : ℕ) → j ≤ halfPeriod x → tickAt (track n x) (landingTick x n + j) ≡ landed x n j
   late j h = tick-landed x n r j h
 
-  landing-acceleration : natAbs (landingAcceleration x n) ≤ fineSteps * accelerationLimit x
+  landing-acceleration : natAbs (landingAcceleration x n) ≤ accelerationSteps x
   landing-acceleration =
-      mul-holds (pos fineSteps) (asMoving (x .target) n .acceleration) fineSteps (accelerationLimit x) (omega arith)
-      (target-acceleration x (r .passed) n)
+      mul-holds (pos (finer x)) (pos fineSteps *ℤ asMoving (x .target) n .acceleration) (finer x) (fineSteps * accelerationLimit x) (omega arith)
+      (mul-holds (pos fineSteps) (asMoving (x .target) n .acceleration) fineSteps (accelerationLimit x) (omega arith)
+      (target-acceleration x (r .passed) n))
 
-  now-velocity : (k : ℕ) → k ≤ n → natAbs (tickAt (track n x) k .velocity) ≤ fineSteps * speedLimit x
+  now-velocity : (k : ℕ) → k ≤ n → natAbs (tickAt (track n x) k .velocity) ≤ speedSteps x
   unfolding W
   now-velocity k h =
-      by-landing (λ k. k ≤ n → natAbs (tickAt (track n x) k .velocity) ≤ fineSteps * speedLimit x) (landingTick x n) k
+      by-landing (λ k. k ≤ n → natAbs (tickAt (track n x) k .velocity) ≤ speedSteps x) (landingTick x n) k
       (λ q l.
-      subst (λ (v : ℤ). natAbs v ≤ fineSteps * speedLimit x)
+      subst (λ (v : ℤ). natAbs v ≤ speedSteps x)
       (sym
       (run-velocity (startPosition x) (startVelocity x) (chosen (leg x n) (requiredSum x n)) (landingAcceleration x n)
       (replicate (halfPeriod x) (landingAcceleration x n)) (earlier x 0) k (omega (arith, long))))
       (meets .speeds k (omega arith)))
       (λ j e l.
-      subst (λ (t : Tick). natAbs (t .velocity) ≤ fineSteps * speedLimit x) (sym (late j (omega arith)))
-      (between (landingVelocity x n) (landingAcceleration x n) j (halfPeriod x) (fineSteps * speedLimit x) (omega arith)
+      subst (λ (t : Tick). natAbs (t .velocity) ≤ speedSteps x) (sym (late j (omega arith)))
+      (between (landingVelocity x n) (landingAcceleration x n) j (halfPeriod x) (speedSteps x) (omega arith)
       (reach-lands x n (R.reached x n r)) (reach-arrives x n (R.reached x n r))))
       h
 
-  now-acceleration : (k : ℕ) → k ≤ n → natAbs (tickAt (track n x) k .acceleration) ≤ fineSteps * accelerationLimit x
+  now-acceleration : (k : ℕ) → k ≤ n → natAbs (tickAt (track n x) k .acceleration) ≤ accelerationSteps x
   unfolding W
   now-acceleration k h =
-      by-landing (λ k. k ≤ n → natAbs (tickAt (track n x) k .acceleration) ≤ fineSteps * accelerationLimit x) (landingTick x n) k
+      by-landing (λ k. k ≤ n → natAbs (tickAt (track n x) k .acceleration) ≤ accelerationSteps x) (landingTick x n) k
       (λ q l.
-      subst (λ (v : ℤ). natAbs v ≤ fineSteps * accelerationLimit x)
+      subst (λ (v : ℤ). natAbs v ≤ accelerationSteps x)
       (sym
       (run-change (startPosition x) (startVelocity x) (chosen (leg x n) (requiredSum x n))
       (replicate (suc (halfPeriod x)) (landingAcceleration x n)) (earlier x 0) k (omega (arith, long))))
       (meets .changes k q))
-      (λ j e l. subst (λ (t : Tick). natAbs (t .acceleration) ≤ fineSteps * accelerationLimit x) (sym (late j (omega arith))) landing-acceleration)
+      (λ j e l. subst (λ (t : Tick). natAbs (t .acceleration) ≤ accelerationSteps x) (sym (late j (omega arith))) landing-acceleration)
       h
 
-  -- a cell of what is at most c in size before tick 0 and at every tick
-  cell : (f : Tick → ℤ) (c : ℕ) → ((j : ℕ) → natAbs (f (earlier x j)) ≤ c) → ((k : ℕ) → k ≤ n → natAbs (f (tickAt (track n x) k)) ≤ c)
-      → (k : ℕ) → k ≤ n → natAbs (nearest (blend (track n x) k f) 256) ≤ c
+  -- a cell of what is at most c fine steps in size before tick 0 and at every tick
+  cell : (f : Tick → ℤ) (c : ℕ) → ((j : ℕ) → natAbs (f (earlier x j)) ≤ finer x * c) → ((k : ℕ) → k ≤ n → natAbs (f (tickAt (track n x) k)) ≤ finer x * c)
+      → (k : ℕ) → k ≤ n → natAbs (nearest (blend (track n x) k f) (divisor x)) ≤ c
   cell f c a b k h =
-      half-size c (omega arith)
-      (blend-within (secondWeight x) (f (tickAt (track n x) k)) (f (tickBack (track n x) k (halfPeriod x))) c (R.weight-range x n r) (b k h)
-      (back (ltb k (halfPeriod x))))
-      (nearest-half (blend (track n x) k f) 256 (omega arith))
+      half-size c (divisor-some x)
+      (subst (λ (m : ℕ). natAbs (blend (track n x) k f) ≤ m) (sym (N.mul-assoc 256 (finer x) c))
+      (blend-within (secondWeight x) (f (tickAt (track n x) k)) (f (tickBack (track n x) k (halfPeriod x))) (finer x * c) (R.weight-range x n r) (b k h)
+      (back (ltb k (halfPeriod x)))))
+      (nearest-half (blend (track n x) k f) (divisor x) (divisor-some x))
     where
-      back : (t : Bool) → natAbs (f (elim t as (λ y. Tick) [ true ↦ earlier x (halfPeriod x - k) | false ↦ tickAt (track n x) (k - halfPeriod x) ])) ≤ c
+      back : (t : Bool)
+          → natAbs (f (elim t as (λ y. Tick) [ true ↦ earlier x (halfPeriod x - k) | false ↦ tickAt (track n x) (k - halfPeriod x) ])) ≤ finer x * c
       back true = a (halfPeriod x - k)
       back false = b (k - halfPeriod x) (omega arith)
 
-  start-speed : natAbs (startVelocity x) ≤ fineSteps * speedLimit x
+  start-speed : natAbs (startVelocity x) ≤ speedSteps x
   unfolding W
   start-speed = meets .speeds 0 (omega arith)
 
-  pub velocity-cell : (k : ℕ) → k ≤ n → natAbs (nearest (blend (track n x) k (λ s. s .velocity)) 256) ≤ 256 * speedLimit x
+  pub velocity-cell : (k : ℕ) → k ≤ n → natAbs (nearest (blend (track n x) k (λ s. s .velocity)) (divisor x)) ≤ 256 * speedLimit x
   velocity-cell = cell (λ s. s .velocity) (256 * speedLimit x) (λ j. start-speed) now-velocity
 
-  pub acceleration-cell : (k : ℕ) → k ≤ n → natAbs (nearest (blend (track n x) k (λ s. s .acceleration)) 256) ≤ 256 * accelerationLimit x
+  pub acceleration-cell : (k : ℕ) → k ≤ n → natAbs (nearest (blend (track n x) k (λ s. s .acceleration)) (divisor x)) ≤ 256 * accelerationLimit x
   acceleration-cell = cell (λ s. s .acceleration) (256 * accelerationLimit x) (λ j. omega arith) now-acceleration

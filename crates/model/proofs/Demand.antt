@@ -10,7 +10,7 @@ use lib.Seq.{getD-take}
 use lib.IntN.{ℤ, pos, natAbs, _+ℤ_, _-ℤ_, _*ℤ_}
 use Rattle.model.specs.declared.Axis.{Axis}
 use Rattle.whole.specs.Integers.{nearest}
-use Rattle.model.specs.Rows.{track, blend, cells, table}
+use Rattle.model.specs.Rows.{track, blend, divisor, cells, table}
 use Rattle.model.specs.Job.{Job, JobAxis, axesOf, jobOf}
 use Rattle.model.specs.Words.{Decoded, noMask, badWord, job}
 use Rattle.model.specs.Motion.{reachable}
@@ -22,7 +22,7 @@ use Rattle.whole.proofs.Elements.{at-below, element}
 use Rattle.model.proofs.CellPlaces.{table-length, table-at}
 use Rattle.model.specs.Refusals.{Ready, AllPassed}
 use Rattle.model.specs.Verdict.{Among, IsArrival, Verdict, CallVerdict, words1, words2, wordsJob, typed1, typedJobs}
-use Rattle.model.specs.Verdict.{accepted, refused3, refused4, refused12, refused13, refused5, refused6, refused7, refused8, refused9, refused10}
+use Rattle.model.specs.Verdict.{accepted, refused3, refused4, refused12, refused13, refused5, refused6, refused8, refused9, refused10}
 use Rattle.model.specs.Quantities.{speedLimit, accelerationLimit}
 use Rattle.model.proofs.CellLimits as L
 use Rattle.model.proofs.ExactStart as S
@@ -63,13 +63,13 @@ module _ (xs : List Axis) (n : ℕ) (lent rest : List ℤ) (is : lent ≡ table 
         }
 
     p : ℕ → ℤ
-    p k = nearest (blend (track n x) k (λ s. s .position)) 512
+    p k = nearest (blend (track n x) k (λ s. s .position)) (2 * divisor x)
 
     v : ℕ → ℤ
-    v k = nearest (blend (track n x) k (λ s. s .velocity)) 256
+    v k = nearest (blend (track n x) k (λ s. s .velocity)) (divisor x)
 
     a : ℕ → ℤ
-    a k = nearest (blend (track n x) k (λ s. s .acceleration)) 256
+    a k = nearest (blend (track n x) k (λ s. s .acceleration)) (divisor x)
 
     p-is : (k : ℕ) → k ≤ n → p k ≡ positionCell (tableIn xs n lent) i k
     unfolding p
@@ -179,7 +179,6 @@ module _ (Claim : List Axis → ℕ → List ℤ → Type 0)
   by-verdict j lent o (refused12 i a b c e) z = absurd (let n = e .number in omega arith)
   by-verdict j lent o (refused5 i a b c d e) z = absurd (let n = e .number in omega arith)
   by-verdict j lent o (refused6 i a b c d f e) z = absurd (let n = e .number in omega arith)
-  by-verdict j lent o (refused7 i a b c d f g e) z = absurd (let n = e .number in omega arith)
   by-verdict j lent o (refused13 p a b c d e) z = absurd (let n = e .number in omega arith)
   by-verdict j lent o (refused8 m a b c w d f e) z = absurd (let n = e .number in omega arith)
   by-verdict j lent o (refused9 m a b w c d e) z = absurd (let n = e .number in omega arith)

@@ -1,5 +1,5 @@
 -- Row 0 is on the start exactly: the shift of rule 2 is what the blend with the uniform motion before tick 0 takes back.
-use Prim.Native.Nat.{ℕ, _-_, _≤_}
+use Prim.Native.Nat.{ℕ, _-_, _*_, _≤_}
 use mathlib.Core.Path.{_≡_, refl, ap, ap₂, _∙_}
 use mathlib.Core.Bool.{Bool, true, false, not}
 use mathlib.Core.List.{[], _∷_}
@@ -10,10 +10,11 @@ use Rattle.whole.specs.Integers.{nearest}
 use Rattle.whole.proofs.Ring.{pol, same}
 use Rattle.whole.proofs.Rounding.{nearest-whole}
 use Rattle.model.specs.declared.Axis.{Axis}
-use Rattle.model.specs.Quantities.{halfPeriod, secondWeight}
+use Rattle.model.specs.Quantities.{halfPeriod, secondWeight, finer}
 use Rattle.model.specs.Motion.{Tick, earlier, startPosition, startVelocity}
-use Rattle.model.specs.Rows.{track, tickAt, tickBack, blend}
+use Rattle.model.specs.Rows.{track, tickAt, tickBack, blend, divisor}
 use Rattle.model.specs.Refusals.{Ready}
+use Rattle.model.proofs.Grid.{divisor-some}
 use Rattle.model.proofs.ReadyAxis as R
 use Rattle.model.proofs.BlendTicks.{tick-start}
 use Rattle.model.proofs.Landing.{weights}
@@ -57,23 +58,24 @@ module _ (x : Axis) (n : ℕ) (r : Ready x n) where
       ap₂ (λ (y z : ℤ). pos (256 - b) *ℤ y +ℤ pos b *ℤ z) p q
       ∙ ap (λ (a : ℤ). a *ℤ u +ℤ pos b *ℤ w) (weights b (R.weight-range x n r))
 
-  pub start-position : nearest (blend (track n x) 0 (λ s. s .position)) 512 ≡ pos 256 *ℤ x .start .position
+  pub start-position : nearest (blend (track n x) 0 (λ s. s .position)) (2 * divisor x) ≡ pos 256 *ℤ x .start .position
   start-position =
-      ap (λ (z : ℤ). nearest z 512)
+      ap (λ (z : ℤ). nearest z (2 * divisor x))
       (blended (λ s. s .position) (startPosition x) (startPosition x -ℤ pos 2 *ℤ (pos h *ℤ startVelocity x)) (tick-start x n .0) (before-start .0)
-      ∙ taken-back (pos b) (pos h) (x .start .position) (x .start .velocity))
-      ∙ nearest-whole 512 (pos 256 *ℤ x .start .position) (omega arith)
+      ∙ taken-back (pos (finer x)) (pos b) (pos h) (x .start .position) (x .start .velocity))
+      ∙ nearest-whole (2 * divisor x) (pos 256 *ℤ x .start .position) (omega (arith, divisor-some x))
     where
-      taken-back : (b h p v : ℤ)
-          → (pos 256 -ℤ b) *ℤ (pos 512 *ℤ p +ℤ pos 2 *ℤ (b *ℤ h *ℤ v)) +ℤ b *ℤ (pos 512 *ℤ p +ℤ pos 2 *ℤ (b *ℤ h *ℤ v) -ℤ pos 2 *ℤ (h *ℤ (pos 256 *ℤ v)))
-          ≡ pos 512 *ℤ (pos 256 *ℤ p)
-      taken-back b h p v = same (b ∷ h ∷ p ∷ v ∷ []) (search pol depth 20 fits 9000) tt
+      taken-back : (f b h p v : ℤ)
+          → (pos 256 -ℤ b) *ℤ (f *ℤ (pos 512 *ℤ p +ℤ pos 2 *ℤ (b *ℤ h *ℤ v)))
+          +ℤ b *ℤ (f *ℤ (pos 512 *ℤ p +ℤ pos 2 *ℤ (b *ℤ h *ℤ v)) -ℤ pos 2 *ℤ (h *ℤ (f *ℤ (pos 256 *ℤ v))))
+          ≡ pos 2 *ℤ (pos 256 *ℤ f) *ℤ (pos 256 *ℤ p)
+      taken-back f b h p v = same (f ∷ b ∷ h ∷ p ∷ v ∷ []) (search pol depth 20 fits 9000) tt
 
-  pub start-velocity : nearest (blend (track n x) 0 (λ s. s .velocity)) 256 ≡ pos 256 *ℤ x .start .velocity
+  pub start-velocity : nearest (blend (track n x) 0 (λ s. s .velocity)) (divisor x) ≡ pos 256 *ℤ x .start .velocity
   start-velocity =
-      ap (λ (z : ℤ). nearest z 256)
-      (blended (λ s. s .velocity) (startVelocity x) (startVelocity x) (tick-start x n .1) (before-start .1) ∙ as-one (pos b) (startVelocity x))
-      ∙ nearest-whole 256 (startVelocity x) (omega arith)
+      ap (λ (z : ℤ). nearest z (divisor x))
+      (blended (λ s. s .velocity) (startVelocity x) (startVelocity x) (tick-start x n .1) (before-start .1) ∙ as-one (pos (finer x)) (pos b) (x .start .velocity))
+      ∙ nearest-whole (divisor x) (pos 256 *ℤ x .start .velocity) (divisor-some x)
     where
-      as-one : (b v : ℤ) → (pos 256 -ℤ b) *ℤ v +ℤ b *ℤ v ≡ pos 256 *ℤ v
-      as-one b v = same (b ∷ v ∷ []) (search pol depth 20 fits 9000) tt
+      as-one : (f b v : ℤ) → (pos 256 -ℤ b) *ℤ (f *ℤ (pos 256 *ℤ v)) +ℤ b *ℤ (f *ℤ (pos 256 *ℤ v)) ≡ pos 256 *ℤ f *ℤ (pos 256 *ℤ v)
+      as-one f b v = same (f ∷ b ∷ v ∷ []) (search pol depth 20 fits 9000) tt

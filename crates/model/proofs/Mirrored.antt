@@ -1,37 +1,60 @@
 -- Negating a planned motion negates every cell: the blend is linear, and halves go away from zero.
 use Prim.Native.Nat.{ℕ, zero, suc, _*_, _-_, _<_}
 use mathlib.Core.Path.{_≡_, refl, ap, ap₂, _∙_}
-use mathlib.Core.Bool.{Bool, true, false}
+use mathlib.Core.Bool.{Bool, true, false, not, _&&_}
 use mathlib.Core.List.{List, [], _∷_, map}
 use native.Mathlib.Omega.{arith}
-use lib.Dec.{ltb}
+use lib.Dec.{ltb, eqb}
 use lib.ListN.{getD}
 use lib.IntN.{ℤ, pos, negℤ, _+ℤ_, _-ℤ_, _*ℤ_}
 use Rattle.whole.specs.Integers.{nearest}
+use Rattle.whole.proofs.Laws.{natAbs-neg}
 use Rattle.whole.proofs.Ring.{pol, same}
 use Rattle.whole.proofs.Rounding.{nearest-neg}
 use Rattle.model.specs.declared.Axis.{Axis}
-use Rattle.model.specs.Quantities.{halfPeriod, secondWeight}
+use Rattle.model.specs.declared.Target.{Target}
+use Rattle.model.specs.declared.Target.the-variants.{Fixed, Moving}
+use Rattle.model.specs.Quantities.{halfPeriod, secondWeight, accelerates, damped, finer}
 use Rattle.model.specs.Motion.{Tick, earlier, shift}
 use Rattle.model.specs.Rows.{Track, tickAt, tickBack, blend}
-use Rattle.model.specs.Mirror.{negatedTick, negatedAxis, negatedTrack, Mirrored}
+use Rattle.model.specs.Mirror.{negatedTick, negatedTarget, negatedAxis, negatedTrack, Mirrored}
+use Rattle.model.proofs.Grid.{divisor-some}
 
 map-getD : (l : List Tick) (k : ℕ) (d : Tick) → getD (map negatedTick l) k (negatedTick d) ≡ negatedTick (getD l k d)
 map-getD [] k d = refl
 map-getD (s ∷ l) zero d = refl
 map-getD (s ∷ l) (suc k) d = map-getD l k d
 
+accelerates-negated : (t : Target) → accelerates (negatedTarget t) ≡ accelerates t
+accelerates-negated (Fixed r) = refl
+accelerates-negated (Moving m) = ap (λ (n : ℕ). not (eqb n 0)) (natAbs-neg (m .acceleration))
+
+-- the grid stays
+finer-negated : (x : Axis) → finer (negatedAxis x) ≡ finer x
+unfolding finer
+finer-negated x = ap (λ (b : Bool). elim (b && damped x) as (λ _. ℕ) [ true ↦ 256 | false ↦ 1 ]) (accelerates-negated (x .target))
+
 earlier-negated : (x : Axis) (j : ℕ) → earlier (negatedAxis x) j ≡ negatedTick (earlier x j)
 earlier-negated x j =
-    ap₂ (λ (q v : ℤ). record { position = q; velocity = v; acceleration = pos 0 })
-    (place (shift x) (x .start .position) (x .start .velocity) (pos j)) (speed (x .start .velocity))
+    ap (λ (f : ℕ). started (pos f)) (finer-negated x)
+    ∙ ap₂ (λ (q v : ℤ). record { position = q; velocity = v; acceleration = pos 0 })
+    (place (pos (finer x)) (shift x) (x .start .position) (x .start .velocity) (pos j)) (speed (pos (finer x)) (x .start .velocity))
   where
-    place : (s p v i : ℤ) → pos 512 *ℤ negℤ p +ℤ pos 2 *ℤ (s *ℤ negℤ v) -ℤ pos 2 *ℤ (i *ℤ (pos 256 *ℤ negℤ v))
-        ≡ negℤ (pos 512 *ℤ p +ℤ pos 2 *ℤ (s *ℤ v) -ℤ pos 2 *ℤ (i *ℤ (pos 256 *ℤ v)))
-    place s p v i = same (s ∷ p ∷ v ∷ i ∷ []) (search pol depth 20 fits 9000) tt
+    started : ℤ → Tick
+    started f =
+        record {
+          position = f *ℤ (pos 512 *ℤ negℤ (x .start .position) +ℤ pos 2 *ℤ (shift x *ℤ negℤ (x .start .velocity)))
+              -ℤ pos 2 *ℤ (pos j *ℤ (f *ℤ (pos 256 *ℤ negℤ (x .start .velocity))));
+          velocity = f *ℤ (pos 256 *ℤ negℤ (x .start .velocity));
+          acceleration = pos 0;
+        }
 
-    speed : (v : ℤ) → pos 256 *ℤ negℤ v ≡ negℤ (pos 256 *ℤ v)
-    speed v = same (v ∷ []) (search pol depth 20 fits 9000) tt
+    place : (f s p v i : ℤ) → f *ℤ (pos 512 *ℤ negℤ p +ℤ pos 2 *ℤ (s *ℤ negℤ v)) -ℤ pos 2 *ℤ (i *ℤ (f *ℤ (pos 256 *ℤ negℤ v)))
+        ≡ negℤ (f *ℤ (pos 512 *ℤ p +ℤ pos 2 *ℤ (s *ℤ v)) -ℤ pos 2 *ℤ (i *ℤ (f *ℤ (pos 256 *ℤ v))))
+    place f s p v i = same (f ∷ s ∷ p ∷ v ∷ i ∷ []) (search pol depth 20 fits 9000) tt
+
+    speed : (f v : ℤ) → f *ℤ (pos 256 *ℤ negℤ v) ≡ negℤ (f *ℤ (pos 256 *ℤ v))
+    speed f v = same (f ∷ v ∷ []) (search pol depth 20 fits 9000) tt
 
 module _ (t : Track) where
   now-negated : (k : ℕ) → tickAt (negatedTrack t) k ≡ negatedTick (tickAt t k)
@@ -62,7 +85,13 @@ module _ (t : Track) where
 
 pub mirrored : Mirrored
 mirrored t k =
-    λ i. cell-negated t k (λ s. s .position) (λ s. refl) 512 (omega arith) i
-    ∷ cell-negated t k (λ s. s .velocity) (λ s. refl) 256 (omega arith) i
-    ∷ cell-negated t k (λ s. s .acceleration) (λ s. refl) 256 (omega arith) i
+    λ i. cell t (λ s. s .position) (λ s. refl) (λ f. 2 * (256 * f)) (omega (arith, divisor-some (t .axis))) i
+    ∷ cell t (λ s. s .velocity) (λ s. refl) (λ f. 256 * f) (divisor-some (t .axis)) i
+    ∷ cell t (λ s. s .acceleration) (λ s. refl) (λ f. 256 * f) (divisor-some (t .axis)) i
     ∷ []
+  where
+    -- the divisor is one of the grid
+    cell : (t : Track) (f : Tick → ℤ) → ((s : Tick) → f (negatedTick s) ≡ negℤ (f s)) → (d : ℕ → ℕ) → 0 < d (finer (t .axis))
+        → nearest (blend (negatedTrack t) k f) (d (finer (negatedAxis (t .axis)))) ≡ negℤ (nearest (blend t k f) (d (finer (t .axis))))
+    cell t f odd d h =
+        ap (λ (g : ℕ). nearest (blend (negatedTrack t) k f) (d g)) (finer-negated (t .axis)) ∙ cell-negated t k f odd (d (finer (t .axis))) h

@@ -16,7 +16,7 @@ use Rattle.model.specs.declared.Windows.{Windows}
 use Rattle.model.specs.Motion.{reachable}
 use Rattle.model.specs.Windows.{inWindows, refused13, WindowsWrong, empty, tooMany, longDwell, wrongWindow, WindowsRight}
 use Rattle.model.specs.Job.{Job, JobAxis, maskWhere}
-use Rattle.model.specs.Refusals.{lastTick, limitsRefused, dampingRefused, blendRefused, valuesRefused, accelerationRefused, Passed, AllPassed}
+use Rattle.model.specs.Refusals.{lastTick, limitsRefused, dampingRefused, blendRefused, valuesRefused, Passed, AllPassed}
 use Rattle.model.specs.Outcome.{Outcome, refuse, accept, allReach, leastFrom, arrives, cellsNeeded, reachesNone}
 use Rattle.model.specs.Outcome.{firstAxis, axisRefusals, filled, arrived, admitted, tested, jobOutcome}
 use Rattle.model.specs.Verdict.{Arrives, Passing, OutsideWindows, EightOutside, NineNowhere}
@@ -67,10 +67,7 @@ module _ (j : Job) (lent : List ℤ) (p : Passing j) where
       first-none dampingRefused (λ x q. q .damping) (j .axes) (p .axes),
       (
         first-none blendRefused (λ x q. q .blend) (j .axes) (p .axes),
-        (
-          first-none valuesRefused (λ x q. q .values) (j .axes) (p .axes),
-          (first-none accelerationRefused (λ x q. q .acceleration) (j .axes) (p .axes), tt),
-        ),
+        (first-none valuesRefused (λ x q. q .values) (j .axes) (p .axes), tt),
       ),
     ),
   )

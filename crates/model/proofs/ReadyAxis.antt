@@ -1,14 +1,14 @@
 -- What an axis has that can be planned for an arrival: it passed the refusals of one axis and reaches the arrival.
-use Prim.Native.Nat.{ℕ, _*_, _^_, _≤_, _<_}
-use mathlib.Core.Path.{_≡_, sym, subst}
+use Prim.Native.Nat.{ℕ, _^_, _≤_, _<_}
+use mathlib.Core.Path.{sym, subst}
 use native.Mathlib.Omega.{arith}
 use lib.Dec.{T}
-use lib.IntN.{pos}
 use Rattle.model.specs.declared.Axis.{Axis}
-use Rattle.model.specs.Quantities.{fineSteps, speedLimit, accelerationLimit, halfPeriod, secondWeight, asMoving}
+use Rattle.model.specs.Quantities.{halfPeriod, secondWeight, speedSteps, accelerationSteps}
 use Rattle.model.specs.Leg.{feasible}
 use Rattle.model.specs.Motion.{reachable, leg, displacement}
 use Rattle.model.specs.Refusals.{Ready}
+use Rattle.model.proofs.Grid as Grid
 use Rattle.model.proofs.PassedAxis as Passed
 use Rattle.model.proofs.Reaches.{reach-after, reach-feasible}
 
@@ -19,17 +19,14 @@ module _ (x : Axis) (n : ℕ) (r : Ready x n) where
   pub after : halfPeriod x < n
   after = reach-after x n reached
 
-  pub some-acceleration : 0 < fineSteps * accelerationLimit x
-  some-acceleration = omega (arith, Passed.some-acceleration x (r .passed))
+  pub some-acceleration : 0 < accelerationSteps x
+  some-acceleration = Grid.acceleration-some x (Passed.some-acceleration x (r .passed))
 
-  pub speed-range : fineSteps * speedLimit x ≤ 2 ^ 37
-  speed-range = omega (arith, Passed.speed-limit x (r .passed))
+  pub speed-range : speedSteps x ≤ 2 ^ 37
+  speed-range = Grid.speed-range x (Passed.speed-limit x (r .passed))
 
   pub moves : T (feasible (leg x n) (displacement x n))
   moves = reach-feasible x n reached
 
   pub weight-range : secondWeight x ≤ 256
   weight-range = omega (arith, Passed.second-weight x (r .passed))
-
-  pub no-correction : Passed.correction (asMoving (x .target) n .acceleration) (halfPeriod x) (secondWeight x) ≡ pos 0
-  no-correction = Passed.no-correction x (r .passed) n

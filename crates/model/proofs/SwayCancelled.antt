@@ -8,10 +8,11 @@ use lib.IntN.{ℤ, pos, natAbs, _+ℤ_, _-ℤ_, _*ℤ_, +ℤ-invr}
 use Rattle.whole.specs.Integers.{nearest}
 use Rattle.whole.proofs.Rounding.{nearest-half}
 use Rattle.model.specs.declared.Axis.{Axis}
-use Rattle.model.specs.Quantities.{halfPeriod, secondWeight, asMoving}
+use Rattle.model.specs.Quantities.{halfPeriod, secondWeight, asMoving, finer}
 use Rattle.model.specs.Motion.{Tick, earlier, landingTick, landingAcceleration}
-use Rattle.model.specs.Rows.{track, tickAt, tickBack, blend}
+use Rattle.model.specs.Rows.{track, tickAt, tickBack, blend, divisor}
 use Rattle.model.specs.Refusals.{Ready}
+use Rattle.model.proofs.Grid.{divisor-some}
 use Rattle.model.proofs.ReadyAxis as R
 use Rattle.model.specs.Demand.{Swing, Bounded, sway}
 use Rattle.model.proofs.Landing.{exact-acceleration, lands-acceleration}
@@ -29,7 +30,7 @@ module _ (x : Axis) (n : ℕ) (r : Ready x n) where
   abbrev B : ℤ
   B = pos (secondWeight x)
 
-  -- 256 times the exact acceleration of row k, and the planned one of tick k
+  -- the exact acceleration of row k times the divisor, and the planned one of tick k
   abbrev exact : ℕ → ℤ
   exact k = blend (track n x) k (λ s. s .acceleration)
 
@@ -70,15 +71,15 @@ module _ (x : Axis) (n : ℕ) (r : Ready x n) where
       arrival : n ≡ landingTick x n + h
       arrival = omega (arith, R.after x n r)
 
-  last-whole : pos 256 *ℤ nearest (exact n) 256 -ℤ exact n ≡ pos 0
+  last-whole : pos (divisor x) *ℤ nearest (exact n) (divisor x) -ℤ exact n ≡ pos 0
   last-whole =
-      ap₂ (λ (y z : ℤ). pos 256 *ℤ y -ℤ z) (lands-acceleration x n r) (exact-acceleration x n r)
-      ∙ +ℤ-invr (pos 256 *ℤ (pos 256 *ℤ asMoving (x .target) n .acceleration))
+      ap₂ (λ (y z : ℤ). pos (divisor x) *ℤ y -ℤ z) (lands-acceleration x n r) (exact-acceleration x n r)
+      ∙ +ℤ-invr (pos (divisor x) *ℤ (pos 256 *ℤ asMoving (x .target) n .acceleration))
 
-  pub cancelled-rounded : (m G : ℕ) (w : ℕ → ℤ) → n ≤ m → Swing x m w → Bounded m G w → natAbs (sway (λ k. nearest (exact k) 256) w m n) ≤ n * G
+  pub cancelled-rounded : (m G : ℕ) (w : ℕ → ℤ) → n ≤ m → Swing x m w → Bounded m G w → natAbs (sway (λ k. nearest (exact k) (divisor x)) w m n) ≤ n * G
   cancelled-rounded m G w q s b = go n (omega (arith, R.after x n r)) (cancelled-exact m w q s) last-whole
     where
-      go : (i : ℕ) → 0 < i → sway exact w m i ≡ pos 0 → pos 256 *ℤ nearest (exact i) 256 -ℤ exact i ≡ pos 0
-          → natAbs (sway (λ k. nearest (exact k) 256) w m i) ≤ i * G
+      go : (i : ℕ) → 0 < i → sway exact w m i ≡ pos 0 → pos (divisor x) *ℤ nearest (exact i) (divisor x) -ℤ exact i ≡ pos 0
+          → natAbs (sway (λ k. nearest (exact k) (divisor x)) w m i) ≤ i * G
       go zero z e f = absurd (omega arith)
-      go (suc i) z e f = sway-rounded exact (λ k. nearest (exact k) 256) w m G (λ k. nearest-half (exact k) 256 (omega arith)) b i e f
+      go (suc i) z e f = sway-rounded (divisor x) (128 * finer x) (omega arith) (divisor-some x) exact (λ k. nearest (exact k) (divisor x)) w m G (λ k. nearest-half (exact k) (divisor x) (divisor-some x)) b i e f

@@ -18,11 +18,11 @@ use Rattle.model.specs.Windows as W
 use Rattle.model.specs.Windows.{inWindows}
 use Rattle.model.proofs.WindowsInWords.{in-windows, windows-in, windows-wrong, windows-right}
 use Rattle.model.specs.Job.{Job, JobAxis, maskWhere}
-use Rattle.model.specs.Refusals.{lastTick, limitsRefused, dampingRefused, blendRefused, valuesRefused, accelerationRefused, Passed, AllPassed}
+use Rattle.model.specs.Refusals.{lastTick, limitsRefused, dampingRefused, blendRefused, valuesRefused, Passed, AllPassed}
 use Rattle.model.specs.Outcome.{Outcome, refuse, accept, allReach, leastFrom, leastArrival, arrives}
 use Rattle.model.specs.Outcome.{reachesNone, firstAxis, cellsNeeded, filled, arrived, jobOutcome}
 use Rattle.model.specs.Verdict.{Refuses, Accepts, Among, NoneRefused, FirstRefused, Names, AllReachable, ReachesNone, Arrives, IsArrival, WindowsPass, Verdict}
-use Rattle.model.specs.Verdict.{refused3, refused4, refused12, refused13, refused5, refused6, refused7, refused8, refused9, refused10, accepted}
+use Rattle.model.specs.Verdict.{refused3, refused4, refused12, refused13, refused5, refused6, refused8, refused9, refused10, accepted}
 use Rattle.model.proofs.LeastTick.{Least, least-is, none-is}
 use Rattle.model.proofs.Masks.{Ascends, names}
 use Rattle.model.proofs.PassedAxis.{speed-limit, some-acceleration}
@@ -46,13 +46,13 @@ passed-among [] p x m = absurd (none-some (m .1))
 passed-among (y ∷ l) p x m = all-among (λ x. Passed (x .axis)) y l (p .0) (λ z q. passed-among l (p .1) z q) x m
 
 all-passed : (l : List JobAxis) → NoneRefused limitsRefused l → NoneRefused dampingRefused l → NoneRefused blendRefused l
-    → NoneRefused valuesRefused l → NoneRefused accelerationRefused l → AllPassed l
-all-passed [] a b c d e = tt
-all-passed (y ∷ l) a b c d e =
+    → NoneRefused valuesRefused l → AllPassed l
+all-passed [] a b c d = tt
+all-passed (y ∷ l) a b c d =
     let here = first-among y l in (
-      record { limits = a y here; damping = b y here; blend = c y here; values = d y here; acceleration = e y here },
+      record { limits = a y here; damping = b y here; blend = c y here; values = d y here },
       all-passed l (λ x m. a x (later-among y l x m)) (λ x m. b x (later-among y l x m)) (λ x m. c x (later-among y l x m))
-          (λ x m. d x (later-among y l x m)) (λ x m. e x (later-among y l x m)),
+          (λ x m. d x (later-among y l x m)),
     )
 
 -- ---- the first axis that a test refuses
@@ -209,11 +209,8 @@ module _ (j : Job) (lent : List ℤ) (numbered : Ascends 0 (j .axes)) where
       by-option Q (firstAxis blendRefused (j .axes)) _ _ (λ i e. refused5 i h n₄ n₁₂ (first-refused blendRefused (j .axes) i e) is-refusal) (λ e₅.
       let n₅ = none-refused blendRefused (j .axes) e₅ in
       by-option Q (firstAxis valuesRefused (j .axes)) _ _ (λ i e. refused6 i h n₄ n₁₂ n₅ (first-refused valuesRefused (j .axes) i e) is-refusal) (λ e₆.
-      let n₆ = none-refused valuesRefused (j .axes) e₆ in
-      by-option Q (firstAxis accelerationRefused (j .axes)) _ _
-      (λ i e. refused7 i h n₄ n₁₂ n₅ n₆ (first-refused accelerationRefused (j .axes) i e) is-refusal) (λ e₇.
-      let passed = all-passed (j .axes) n₄ n₁₂ n₅ n₆ (none-refused accelerationRefused (j .axes) e₇) in
+      let passed = all-passed (j .axes) n₄ n₁₂ n₅ (none-refused valuesRefused (j .axes) e₆) in
       by-option Q (W.refused13 (j .windows)) _ _
       (λ p e. let x = windows-wrong (j .windows) p e in refused13 p h passed (x .0) (x .1) is-refusal)
-      (λ e. arrived-is (j .asked) refl h passed (windows-right (j .windows) e))))))))
+      (λ e. arrived-is (j .asked) refl h passed (windows-right (j .windows) e)))))))
       (λ t. refused3 (nleb→lt (j .asked) lastTick t) is-refusal)

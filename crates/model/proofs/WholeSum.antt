@@ -1,97 +1,103 @@
--- The required sum is whole for every axis that refusal 7 lets pass: an accelerating target has h = 0 or B = 128, so that Bha is even, and
--- every other term of twice the sum is.
-use Prim.Native.Nat.{ℕ, _*_, _%_}
-use mathlib.Core.Path.{_≡_, refl, ap, _∙_}
-use mathlib.Core.Bool.{Bool, true, false, not, _&&_}
+-- The required sum is whole for every axis: twice the sum is even, term by term. Only the shift's part of the landing velocity, Bha on the fine grid,
+-- needs a reason: a or h is 0, B is 128, or the grid is finer.
+use Prim.Native.Nat.{ℕ, _/_, _%_}
+use mathlib.Core.Path.{_≡_, ap, _∙_}
 use mathlib.Core.List.{[], _∷_}
-use mathlib.Core.Logic.{_⊎_, inl, inr, ⊎-elim}
-use native.Mathlib.Omega.{arith}
-use lib.Dec.{T, eqb, eqb→eq}
-use lib.IntN.{ℤ, pos, natAbs, _+ℤ_, _-ℤ_, _*ℤ_, *ℤ-comm, zero-*ℤ}
-use Rattle.whole.proofs.Laws.{*ℤ-assoc, natAbs-zero}
+use mathlib.Core.Bool.{true}
+use lib.Dec.{eqb}
+use lib.IntN.{ℤ, pos, natAbs, _+ℤ_, _-ℤ_, _*ℤ_}
 use Rattle.whole.proofs.Ring.{same, pol}
 use Rattle.whole.proofs.Rounding.{twice-even}
 use Rattle.model.specs.declared.Axis.{Axis}
 use Rattle.model.specs.declared.State.{State}
-use Rattle.model.specs.declared.Target.{Target}
-use Rattle.model.specs.declared.Target.the-variants.{Fixed, Moving}
-use Rattle.model.specs.Quantities.{halfPeriod, secondWeight, asMoving, twicePositionAt, velocityAt}
+use Rattle.model.specs.Quantities.{halfPeriod, secondWeight, asMoving, twicePositionAt, velocityAt, finestSteps, finer, onGrid}
 use Rattle.model.specs.Leg.{twiceRequired, sumIsWhole}
 use Rattle.model.specs.Motion.{shift, landingTick, leg, displacement}
-use Rattle.model.specs.Refusals.{accelerates, damped, Passed}
+use Rattle.model.proofs.Grid.{Grid, still, unblended, undamped, corrected, grid}
 
 -- z is twice some number
 record Even (z : ℤ) : Type 0 where
   half : ℤ
   twice : z ≡ pos 2 *ℤ half
 
--- ---- Bha is even
+-- ---- the shift's part of the landing velocity: f grid steps in a fine step, B, h and a
 
-no-shift : (z w : ℤ) → z ≡ pos 0 → Even (z *ℤ w)
-no-shift z w e = record { half = pos 0; twice = ap (λ (y : ℤ). y *ℤ w) e ∙ zero-*ℤ w }
+shift-even : (x : Axis) (n : ℕ) → Even (onGrid x (shift x *ℤ asMoving (x .target) n .acceleration))
+shift-even x n = go (grid x)
+  where
+    F : ℤ
+    F = pos (finer x)
 
-no-acceleration : (z w : ℤ) → w ≡ pos 0 → Even (z *ℤ w)
-no-acceleration z w e = record { half = pos 0; twice = *ℤ-comm z w ∙ ap (λ (y : ℤ). y *ℤ z) e ∙ zero-*ℤ z }
+    b : ℤ
+    b = pos (secondWeight x)
 
--- at least one of the three tests of refusal 7 is not met
-unmet : (a h b : Bool) → (not a && (not h && not b)) ≡ false → (T a) ⊎ ((T h) ⊎ (T b))
-unmet true h b e = inl tt
-unmet false true b e = inr (inl tt)
-unmet false false true e = inr (inr tt)
-unmet false false false e = absurd (let z : _≡_ {A = ℕ} 0 1 = cc in omega arith)
+    h : ℤ
+    h = pos (halfPeriod x)
 
-module _ (x : Axis) where
-  unblended : (a : ℤ) → halfPeriod x ≡ 0 → Even (shift x *ℤ a)
-  unblended a e = no-shift (shift x) a (ap pos (ap (λ (h : ℕ). secondWeight x * h) e ∙ zero (secondWeight x)))
-    where
-      zero : (b : ℕ) → b * 0 ≡ 0
-      zero b = omega arith
+    a : ℤ
+    a = asMoving (x .target) n .acceleration
 
-  undamped : (a : ℤ) → secondWeight x ≡ 128 → Even (shift x *ℤ a)
-  undamped a e =
-      record {
-        half = pos (64 * halfPeriod x) *ℤ a;
-        twice =
-            ap (λ (b : ℕ). pos (b * halfPeriod x) *ℤ a) e
-            ∙ ap (λ (n : ℕ). pos n *ℤ a) (twice (halfPeriod x))
-            ∙ *ℤ-assoc (pos 2) (pos (64 * halfPeriod x)) a;
-      }
-    where
-      twice : (h : ℕ) → 128 * h ≡ 2 * (64 * h)
-      twice h = omega arith
+    nothing : (f b h : ℤ) → f *ℤ (b *ℤ h *ℤ pos 0) ≡ pos 2 *ℤ pos 0
+    nothing f b h = same (f ∷ b ∷ h ∷ []) (search pol depth 20 fits 9000) tt
 
-  shift-even : (g : Target) (n : ℕ) → (accelerates g && damped x) ≡ false → Even (shift x *ℤ asMoving g n .acceleration)
-  shift-even (Fixed r) n e = no-acceleration (shift x) (pos 0) refl
-  shift-even (Moving m) n e =
-      ⊎-elim (λ t. no-acceleration (shift x) (m .acceleration) (natAbs-zero (m .acceleration) (eqb→eq (natAbs (m .acceleration)) 0 t)))
-      (λ s. ⊎-elim (λ t. unblended (m .acceleration) (eqb→eq (halfPeriod x) 0 t)) (λ t. undamped (m .acceleration) (eqb→eq (secondWeight x) 128 t)) s)
-      (unmet (eqb (natAbs (m .acceleration)) 0) (eqb (halfPeriod x) 0) (eqb (secondWeight x) 128) e)
+    no-delay : (f b a : ℤ) → f *ℤ (b *ℤ pos 0 *ℤ a) ≡ pos 2 *ℤ pos 0
+    no-delay f b a = same (f ∷ b ∷ a ∷ []) (search pol depth 20 fits 9000) tt
+
+    equal : (f h a : ℤ) → f *ℤ (pos 128 *ℤ h *ℤ a) ≡ pos 2 *ℤ (f *ℤ (pos 64 *ℤ h *ℤ a))
+    equal f h a = same (f ∷ h ∷ a ∷ []) (search pol depth 20 fits 9000) tt
+
+    finer-grid : (b h a : ℤ) → pos finestSteps *ℤ (b *ℤ h *ℤ a) ≡ pos 2 *ℤ (pos (finestSteps / 2) *ℤ (b *ℤ h *ℤ a))
+    finer-grid b h a = same (b ∷ h ∷ a ∷ []) (search pol depth 20 fits 9000) tt
+
+    go : Grid x → Even (F *ℤ (b *ℤ h *ℤ a))
+    go (still e z) = record { half = pos 0; twice = ap (λ (y : ℤ). F *ℤ (b *ℤ h *ℤ y)) (z n) ∙ nothing F b h }
+    go (unblended e z) = record { half = pos 0; twice = ap (λ (k : ℕ). F *ℤ (b *ℤ pos k *ℤ a)) z ∙ no-delay F b a }
+    go (undamped e z) = record { half = F *ℤ (pos 64 *ℤ h *ℤ a); twice = ap (λ (k : ℕ). F *ℤ (pos k *ℤ h *ℤ a)) z ∙ equal F h a }
+    go (corrected e) = record { half = pos (finestSteps / 2) *ℤ (b *ℤ h *ℤ a); twice = ap (λ (k : ℕ). pos k *ℤ (b *ℤ h *ℤ a)) e ∙ finer-grid b h a }
 
 -- ---- twice the required sum is even
 
--- y is twice the target's position at the landing tick, v its velocity there, s the shift, w is Bha, p₀ and v₀ are the start's
-all-even : (y v s w p₀ v₀ : ℤ) → Even w
-    → Even (((pos 256 *ℤ y +ℤ pos 2 *ℤ (s *ℤ v)) -ℤ (pos 512 *ℤ p₀ +ℤ pos 2 *ℤ (s *ℤ v₀))) -ℤ pos 256 *ℤ v₀ -ℤ (pos 256 *ℤ v +ℤ w))
-all-even y v s w p₀ v₀ e =
+-- all but the shift's part
+abbrev rest : ℤ → ℤ → ℤ → ℤ → ℤ → ℤ → ℤ → ℤ
+rest f y v s c p₀ v₀ =
+    f *ℤ (pos 256 *ℤ y +ℤ pos 2 *ℤ (s *ℤ v)) +ℤ pos 2 *ℤ c -ℤ f *ℤ (pos 512 *ℤ p₀ +ℤ pos 2 *ℤ (s *ℤ v₀)) -ℤ f *ℤ (pos 256 *ℤ v₀) -ℤ f *ℤ (pos 256 *ℤ v)
+
+-- f grid steps in a fine step; y is twice the target's position at the landing tick, v its velocity there, s the shift, w is Bha, c half the correction,
+-- p₀ and v₀ are the start's
+all-even : (f y v s w c p₀ v₀ : ℤ) → Even (f *ℤ w)
+    → Even ((f *ℤ (pos 256 *ℤ y +ℤ pos 2 *ℤ (s *ℤ v)) +ℤ pos 2 *ℤ c -ℤ f *ℤ (pos 512 *ℤ p₀ +ℤ pos 2 *ℤ (s *ℤ v₀))) -ℤ f *ℤ (pos 256 *ℤ v₀) -ℤ f *ℤ (pos 256 *ℤ v +ℤ w))
+all-even f y v s w c p₀ v₀ e =
     record {
-      half = pos 128 *ℤ y +ℤ s *ℤ v -ℤ pos 256 *ℤ p₀ -ℤ s *ℤ v₀ -ℤ pos 128 *ℤ v₀ -ℤ pos 128 *ℤ v -ℤ e .half;
-      twice = ap with-last (e .twice) ∙ same (y ∷ v ∷ s ∷ p₀ ∷ v₀ ∷ e .half ∷ []) (search pol depth 30 fits 9000) tt;
+      half = f *ℤ (pos 128 *ℤ y +ℤ s *ℤ v -ℤ pos 256 *ℤ p₀ -ℤ s *ℤ v₀ -ℤ pos 128 *ℤ v₀ -ℤ pos 128 *ℤ v) +ℤ c -ℤ e .half;
+      twice = apart f y v s w c p₀ v₀ ∙ ap (λ (z : ℤ). rest f y v s c p₀ v₀ -ℤ z) (e .twice) ∙ joined f y v s c p₀ v₀ (e .half);
     }
   where
-    with-last : ℤ → ℤ
-    with-last z = ((pos 256 *ℤ y +ℤ pos 2 *ℤ (s *ℤ v)) -ℤ (pos 512 *ℤ p₀ +ℤ pos 2 *ℤ (s *ℤ v₀))) -ℤ pos 256 *ℤ v₀ -ℤ (pos 256 *ℤ v +ℤ z)
+    apart : (f y v s w c p₀ v₀ : ℤ)
+        → (f *ℤ (pos 256 *ℤ y +ℤ pos 2 *ℤ (s *ℤ v)) +ℤ pos 2 *ℤ c -ℤ f *ℤ (pos 512 *ℤ p₀ +ℤ pos 2 *ℤ (s *ℤ v₀))) -ℤ f *ℤ (pos 256 *ℤ v₀) -ℤ f *ℤ (pos 256 *ℤ v +ℤ w)
+        ≡ rest f y v s c p₀ v₀ -ℤ f *ℤ w
+    apart f y v s w c p₀ v₀ = same (f ∷ y ∷ v ∷ s ∷ w ∷ c ∷ p₀ ∷ v₀ ∷ []) (search pol depth 30 fits 9000) tt
+
+    joined : (f y v s c p₀ v₀ e : ℤ) → rest f y v s c p₀ v₀ -ℤ pos 2 *ℤ e
+        ≡ pos 2 *ℤ (f *ℤ (pos 128 *ℤ y +ℤ s *ℤ v -ℤ pos 256 *ℤ p₀ -ℤ s *ℤ v₀ -ℤ pos 128 *ℤ v₀ -ℤ pos 128 *ℤ v) +ℤ c -ℤ e)
+    joined f y v s c p₀ v₀ e = same (f ∷ y ∷ v ∷ s ∷ c ∷ p₀ ∷ v₀ ∷ e ∷ []) (search pol depth 30 fits 9000) tt
 
 whole-half : (z : ℤ) → Even z → eqb (natAbs z % 2) 0 ≡ true
 whole-half z e = ap (λ (n : ℕ). eqb n 0) (ap (λ (y : ℤ). natAbs y % 2) (e .twice) ∙ twice-even (e .half))
 
-pub sum-is-whole : (x : Axis) (n : ℕ) → Passed x → sumIsWhole (leg x n) (displacement x n) ≡ true
-sum-is-whole x n p =
+pub sum-is-whole : (x : Axis) (n : ℕ) → sumIsWhole (leg x n) (displacement x n) ≡ true
+sum-is-whole x n =
     whole-half (twiceRequired (leg x n) (displacement x n))
-    (all-even (twicePositionAt m k) (velocityAt m k) (shift x) (shift x *ℤ m .acceleration) (x .start .position) (x .start .velocity)
-    (shift-even x (x .target) n (p .acceleration)))
+    (all-even (pos (finer x)) (twicePositionAt m k) (velocityAt m k) (shift x) (shift x *ℤ m .acceleration)
+    (b *ℤ (h *ℤ h) *ℤ (b -ℤ pos 128) *ℤ m .acceleration) (x .start .position) (x .start .velocity) (shift-even x n))
   where
     m : State
     m = asMoving (x .target) n
 
     k : ℤ
     k = pos (landingTick x n)
+
+    b : ℤ
+    b = pos (secondWeight x)
+
+    h : ℤ
+    h = pos (halfPeriod x)

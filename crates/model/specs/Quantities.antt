@@ -1,13 +1,15 @@
 -- The quantities of a job and its targets (paper 01, "Quantities").
-use Prim.Native.Nat.{ℕ}
-use lib.IntN.{ℤ, pos, _+ℤ_, _-ℤ_, _*ℤ_}
+use Prim.Native.Nat.{ℕ, _*_}
+use mathlib.Core.Bool.{Bool, true, false, not, _&&_}
+use lib.IntN.{ℤ, pos, natAbs, _+ℤ_, _-ℤ_, _*ℤ_}
+use lib.Dec.{eqb}
 use Rattle.model.specs.declared.Axis.{Axis}
 use Rattle.model.specs.declared.State.{State}
 use Rattle.model.specs.declared.Target.{Target}
 use Rattle.model.specs.declared.Target.the-variants.{Fixed, Moving}
 use Rattle.model.specs.Damping.{weightOf}
 
--- fine steps in a unit: the factor from units to the grid on which velocities are planned
+-- fine steps in a unit
 abbrev pub fineSteps : ℕ
 fineSteps = 256
 
@@ -38,3 +40,32 @@ twicePositionAt m k =
 -- its velocity at tick k: v + ad
 abbrev pub velocityAt : State → ℤ → ℤ
 velocityAt m k = m .velocity +ℤ m .acceleration *ℤ (k -ℤ m .tick)
+
+-- ---- the grid on which an axis is planned
+
+abbrev pub accelerates : Target → Bool
+accelerates (Fixed r) = false
+accelerates (Moving m) = not (eqb (natAbs (m .acceleration)) 0)
+
+-- the blend's two weights differ
+abbrev pub damped : Axis → Bool
+damped x = not (eqb (halfPeriod x) 0) && not (eqb (secondWeight x) 128)
+
+-- steps of 1/65,536 unit in a fine step
+abbrev pub finestSteps : ℕ
+finestSteps = 256
+
+-- grid steps in a fine step: the grid is 1/65,536 unit where the target accelerates and the pole is damped, and else 1/256 unit
+unfoldable pub finer : Axis → ℕ
+finer x = elim (accelerates (x .target) && damped x) [ true ↦ finestSteps | false ↦ 1 ]
+
+-- fine steps as grid steps, and half fine steps as half grid steps
+abbrev pub onGrid : Axis → ℤ → ℤ
+onGrid x z = pos (finer x) *ℤ z
+
+-- L and M in grid steps
+abbrev pub speedSteps : Axis → ℕ
+speedSteps x = finer x * (fineSteps * speedLimit x)
+
+abbrev pub accelerationSteps : Axis → ℕ
+accelerationSteps x = finer x * (fineSteps * accelerationLimit x)

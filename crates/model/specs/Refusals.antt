@@ -1,4 +1,4 @@
--- The refusals that one axis meets by itself (paper 01, "Refusal list", numbers 4 to 7, and paper 02, number 12), and what an axis has that
+-- The refusals that one axis meets by itself (paper 01, "Refusal list", numbers 4 to 6, and paper 02, number 12), and what an axis has that
 -- none of them refuses.
 use Prim.Native.Nat.{ℕ, _≤_}
 use mathlib.Core.Path.{_≡_}
@@ -6,7 +6,7 @@ use mathlib.Core.Bool.{Bool, true, false, not, _&&_}
 use mathlib.Core.List.{List, [], _∷_}
 use lib.IntN.{ℤ, pos, negsuc, natAbs}
 use lib.Signed.{leZ}
-use lib.Dec.{eqb, leb}
+use lib.Dec.{leb}
 use Rattle.model.specs.declared.Axis.{Axis}
 use Rattle.model.specs.declared.RestPoint.{RestPoint}
 use Rattle.model.specs.declared.State.{State}
@@ -63,19 +63,6 @@ targetAllowed x (Moving m) = restAllowed x (record { position = m .position; vel
 abbrev pub valuesRefused : Axis → Bool
 valuesRefused x = not (restAllowed x (x .start) && targetAllowed x (x .target))
 
--- ---- 7: the target accelerates while h is not 0 and B is not 128
-
-abbrev pub accelerates : Target → Bool
-accelerates (Fixed r) = false
-accelerates (Moving m) = not (eqb (natAbs (m .acceleration)) 0)
-
--- the blend's two weights differ
-abbrev pub damped : Axis → Bool
-damped x = not (eqb (halfPeriod x) 0) && not (eqb (secondWeight x) 128)
-
-abbrev pub accelerationRefused : Axis → Bool
-accelerationRefused x = accelerates (x .target) && damped x
-
 -- ---- what an axis has that none of them refuses
 
 pub record Passed (x : Axis) : Type 0 where
@@ -83,7 +70,6 @@ pub record Passed (x : Axis) : Type 0 where
   pub damping : dampingRefused x ≡ false
   pub blend : blendRefused x ≡ false
   pub values : valuesRefused x ≡ false
-  pub acceleration : accelerationRefused x ≡ false
 
 abbrev pub AllPassed : List JobAxis → Type 0
 AllPassed [] = Unit

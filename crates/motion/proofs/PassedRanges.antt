@@ -18,11 +18,11 @@ use Rattle.model.specs.Refusals.{lastTick, within, positionAllowed, velocityAll
 use Rattle.model.proofs.PassedAxis.{speed-limit, half-period, second-weight}
 use Rattle.motion.specs.Motions.{StateRanges, Ranges}
 
-position-within : (p : ℤ) → T (positionAllowed p) → Within (2 ^ 27) p
+position-within : (p : ℤ) → T (positionAllowed p) → Within (2 ^ 34) p
 position-within p t =
     go p (leZ-yes (left (leZ (negsuc 134217727) p) (leZ p (pos 134217727)) t)) (leZ-yes (right (leZ (negsuc 134217727) p) (leZ p (pos 134217727)) t))
   where
-    go : (p : ℤ) → negsuc 134217727 ≤ℤ p → p ≤ℤ pos 134217727 → Within (2 ^ 27) p
+    go : (p : ℤ) → negsuc 134217727 ≤ℤ p → p ≤ℤ pos 134217727 → Within (2 ^ 34) p
     go = all₁ _ (λ a b. simp whole (omega arith))
 
 size-within : (l m : ℕ) (v : ℤ) → l ≤ m → T (leb (natAbs v) l) → Within m v
@@ -43,7 +43,7 @@ limited {x} k =
       «acceleration_limit» = leb→le (accelerationLimit x) 65536 (right (leb 1 (accelerationLimit x)) (leb (accelerationLimit x) 65536) t);
     }
 
-rest-within : (x : Axis) (r : RestPoint) → Limited x → T (restAllowed x r) → Within (2 ^ 27) (r .position) × Within (2 ^ 20) (r .velocity)
+rest-within : (x : Axis) (r : RestPoint) → Limited x → T (restAllowed x r) → Within (2 ^ 34) (r .position) × Within (2 ^ 20) (r .velocity)
 rest-within x r l t =
     let p : Bool = positionAllowed (r .position) in
     let v : Bool = velocityAllowed x (r .velocity) in

@@ -8,21 +8,25 @@ use lib.Dec.{T}
 use lib.IntN.{ℤ, pos, natAbs, _+ℤ_, _*ℤ_}
 use Rattle.whole.specs.Ranges.{Within}
 use Rattle.whole.proofs.Tests.{T-true, true-T}
-use Rattle.whole.proofs.Bounds.{exact, within}
+use Rattle.whole.proofs.Bounds.{exact, within, mul-holds}
 use Rattle.model.specs.declared.Axis.{Axis}
 use Rattle.model.specs.Leg.{feasible}
-use Rattle.model.specs.Quantities.{fineSteps, speedLimit, halfPeriod}
+use Rattle.model.specs.Quantities.{fineSteps, halfPeriod, asMoving, finer, speedSteps}
 use Rattle.model.specs.Motion.{reachable, shift, leg, displacement}
-use Rattle.model.specs.Motion.{startPosition, startVelocity, landingVelocity, landingAcceleration}
+use Rattle.model.specs.Motion.{startPosition, startVelocity, landingVelocity, landingAcceleration, arrivalVelocity}
 use Rattle.model.specs.Refusals.{Ready}
-use Rattle.model.proofs.Reaches.{reach-after, reach-lands, reach-feasible}
+use Rattle.model.proofs.Reaches.{reach-after, reach-lands, reach-arrives, reach-feasible}
+use Rattle.model.proofs.Grid.{finer-range, speed-range, acceleration-range}
 use Rattle.profile.specs.Profiles.{Ranged}
 use Rattle.motion.specs.Motions.{Ranges, profileFor}
 use Rattle.motion.proofs.PassedRanges.{ranges-of}
 
-start-within : (s p v : ℤ) → Within (2 ^ 15) s → Within (2 ^ 27) p → Within (2 ^ 20) v
-    → Within (2 ^ 37) (pos (2 * fineSteps) *ℤ p +ℤ pos 2 *ℤ (s *ℤ v))
+start-within : (s p v : ℤ) → Within (2 ^ 15) s → Within (2 ^ 34) p → Within (2 ^ 20) v
+    → Within (2 ^ 44) (pos (2 * fineSteps) *ℤ p +ℤ pos 2 *ℤ (s *ℤ v))
 start-within s p v h k l = within (search exact depth 20) tt
+
+start-fast : (f v : ℤ) → Within 256 f → Within (2 ^ 20) v → Within (2 ^ 37) (f *ℤ (pos fineSteps *ℤ v))
+start-fast f v g h = within (search exact depth 20) tt
 
 module _ {x : Axis} {n : ℕ} (r : Ready x n) where
   -- ---- the parts of `reachable`
@@ -33,8 +37,11 @@ module _ {x : Axis} {n : ℕ} (r : Ready x n) where
   pub ready-after : halfPeriod x < n
   ready-after = reach-after x n reached
 
-  pub ready-landed : natAbs (landingVelocity x n) ≤ fineSteps * speedLimit x
+  pub ready-landed : natAbs (landingVelocity x n) ≤ speedSteps x
   ready-landed = reach-lands x n reached
+
+  pub ready-arrived : natAbs (arrivalVelocity x n) ≤ speedSteps x
+  ready-arrived = reach-arrives x n reached
 
   pub ready-feasible : feasible (leg x n) (displacement x n) ≡ true
   ready-feasible = T-true (feasible (leg x n) (displacement x n)) (reach-feasible x n reached)
@@ -44,28 +51,32 @@ module _ {x : Axis} {n : ℕ} (r : Ready x n) where
   pub ready-ranges : Ranges x
   ready-ranges = ranges-of (r .passed)
 
-  pub start-position-within : Within (2 ^ 37) (startPosition x)
-  start-position-within =
+  grid-steps : Within 256 (pos (finer x))
+  grid-steps = record { within = finer-range x .1 }
+
+  pub start-position-size : natAbs (startPosition x) ≤ finer x * 2 ^ 44
+  start-position-size =
       let h = ready-ranges in
-      start-within (shift x) (x .start .position) (x .start .velocity)
-      (record { within = mul-le-mul (h .«second_weight») (h .«half_period») }) (h .position) (h .velocity)
+      let s : Within (2 ^ 15) (shift x) = record { within = mul-le-mul (h .«second_weight») (h .«half_period») } in
+      mul-holds (pos (finer x)) (pos (2 * fineSteps) *ℤ x .start .position +ℤ pos 2 *ℤ (shift x *ℤ x .start .velocity)) (finer x) (2 ^ 44) (omega arith)
+      (start-within (shift x) (x .start .position) (x .start .velocity) s (h .position) (h .velocity) .within)
 
-  pub start-velocity-within : Within (2 ^ 28) (startVelocity x)
-  start-velocity-within = let h = ready-ranges in within (search exact depth 9) tt
+  start-velocity-within : Within (2 ^ 37) (startVelocity x)
+  start-velocity-within = start-fast (pos (finer x)) (x .start .velocity) grid-steps (ready-ranges .velocity)
 
-  pub landing-velocity-within : Within (2 ^ 28) (landingVelocity x n)
-  landing-velocity-within = record { within = omega (arith, ready-landed, ready-ranges .«speed_limit») }
-
-  pub landing-acceleration-within : Within (2 ^ 24) (landingAcceleration x n)
-  landing-acceleration-within = let h = ready-ranges .target n (r .tick) in within (search exact depth 9) tt
+  pub landing-acceleration-size : natAbs (landingAcceleration x n) ≤ finer x * 2 ^ 24
+  landing-acceleration-size =
+      let h = ready-ranges .target n (r .tick) in
+      mul-holds (pos (finer x)) (pos fineSteps *ℤ asMoving (x .target) n .acceleration) (finer x) (2 ^ 24) (omega arith)
+      (mul-holds (pos fineSteps) (asMoving (x .target) n .acceleration) fineSteps (2 ^ 16) (omega arith) (h .acceleration .within))
 
   pub profile-ranged : Ranged (profileFor x n)
   profile-ranged =
       let h = ready-ranges in
       record {
-        «speed_limit» = omega (arith, h .«speed_limit»);
-        «acceleration_limit» = omega (arith, h .«acceleration_limit»);
+        «speed_limit» = speed-range x (h .«speed_limit»);
+        «acceleration_limit» = acceleration-range x (h .«acceleration_limit»);
         ticks = omega (arith, r .tick);
-        start = record { within = omega (arith, start-velocity-within .within) };
-        end = record { within = omega (arith, landing-velocity-within .within) };
+        start = start-velocity-within;
+        end = record { within = omega (arith, ready-landed, speed-range x (h .«speed_limit»)) };
       }

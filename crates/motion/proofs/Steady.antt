@@ -6,6 +6,7 @@ use mathlib.Core.Bool.{Bool, true, false, _&&_}
 use mathlib.Core.List.{[], _∷_}
 use mathlib.Core.Logic.{_⊎_, inl, inr}
 use native.Mathlib.Omega.{arith}
+use native.Mathlib.Nat.{mul-le-mul}
 use lib.Dec.{T, leb, ltb, eqb, eqb→eq, leb→le}
 use lib.IntN.{ℤ, pos, negℤ, natAbs, _+ℤ_, _-ℤ_, _*ℤ_}
 use lib.Signed.{shrZ}
@@ -19,15 +20,15 @@ use Rattle.model.specs.declared.RestPoint.{RestPoint}
 use Rattle.model.specs.declared.State.{State}
 use Rattle.model.specs.declared.Target.{Target}
 use Rattle.model.specs.declared.Target.the-variants.{Fixed, Moving}
-use Rattle.model.specs.Quantities.{fineSteps, speedLimit, halfPeriod, asMoving, velocityAt}
+use Rattle.model.specs.Quantities.{fineSteps, speedLimit, halfPeriod, secondWeight, asMoving, velocityAt, accelerates, finer, onGrid, speedSteps}
 use Rattle.model.specs.Leg.{twiceRequired, sumIsWhole, feasible}
 use Rattle.model.specs.Motion.{shift, startPosition, startVelocity, landingVelocity, landingTick, arrivalVelocity, leg, displacement, requiredSum, reachable}
-use Rattle.model.specs.Refusals.{accelerates, positionAllowed, velocityAllowed, restAllowed, motionAllowed, targetAllowed, Passed}
+use Rattle.model.specs.Refusals.{positionAllowed, velocityAllowed, restAllowed, motionAllowed, targetAllowed, Passed}
 use Rattle.model.proofs.WholeSum.{sum-is-whole}
 use Rattle.profile.specs.Profiles.{endsAllowed, sumBetween}
 use Rattle.profile.specs.Running.{withTicks, betweenAt, Next}
 use Rattle.profile.proofs.FeasibleParts.{feasible-parts}
-use Rattle.motion.specs.Motions.{speedOf, drift}
+use Rattle.motion.specs.Motions.{speedOf, driftOf, drift}
 
 -- ---- the target
 
@@ -49,19 +50,22 @@ target-slow x (Moving m) p =
     let r : RestPoint = record { position = m .position; velocity = m .velocity } in
     rest-slow x r (left (restAllowed x r) (motionAllowed x m) p)
 
-fine-slow : (v : ℤ) (l : ℕ) → natAbs v ≤ l → natAbs (pos fineSteps *ℤ v) ≤ fineSteps * l
-fine-slow v l h = rw natAbs-* (omega arith)
+grid-slow : (f : ℕ) (v : ℤ) (l : ℕ) → natAbs v ≤ l → natAbs (pos f *ℤ (pos fineSteps *ℤ v)) ≤ f * (fineSteps * l)
+grid-slow f v l h =
+    let fine : natAbs (pos fineSteps *ℤ v) ≤ fineSteps * l = rw natAbs-* (omega arith) in
+    let same-grid : f ≤ f = omega arith in
+    rw natAbs-* (mul-le-mul same-grid fine)
 
 -- ---- twice the required sum: the target at p with velocity v and acceleration a, d ticks after its own; the shift s; the planned start at q with
--- velocity w
+-- velocity w; f grid steps in a fine step, and what the position gains, 2ga
 
-abbrev twice : ℤ → ℤ → ℤ → ℤ → ℤ → ℤ → ℤ → ℤ
-twice p v a s q w d =
-    ((pos 256 *ℤ (pos 2 *ℤ p +ℤ pos 2 *ℤ (v *ℤ d) +ℤ a *ℤ (d *ℤ d)) +ℤ pos 2 *ℤ (s *ℤ (v +ℤ a *ℤ d))) -ℤ q) -ℤ w
-    -ℤ (pos 256 *ℤ (v +ℤ a *ℤ d) +ℤ s *ℤ a)
+abbrev twice : ℤ → ℤ → ℤ → ℤ → ℤ → ℤ → ℤ → ℤ → ℤ → ℤ
+twice f g s q w p v a d =
+    ((f *ℤ (pos 256 *ℤ (pos 2 *ℤ p +ℤ pos 2 *ℤ (v *ℤ d) +ℤ a *ℤ (d *ℤ d)) +ℤ pos 2 *ℤ (s *ℤ (v +ℤ a *ℤ d))) +ℤ pos 2 *ℤ (g *ℤ a)) -ℤ q) -ℤ w
+    -ℤ f *ℤ (pos 256 *ℤ (v +ℤ a *ℤ d) +ℤ s *ℤ a)
 
-later : (p v s q w d j : ℤ) → twice p v (pos 0) s q w (d +ℤ j) ≡ twice p v (pos 0) s q w d +ℤ pos 2 *ℤ (j *ℤ (pos 256 *ℤ v))
-later p v s q w d j = same (p ∷ v ∷ s ∷ q ∷ w ∷ d ∷ j ∷ []) (search pol depth 30 fits 9000) tt
+later : (f g s q w p v d j : ℤ) → twice f g s q w p v (pos 0) (d +ℤ j) ≡ twice f g s q w p v (pos 0) d +ℤ pos 2 *ℤ (j *ℤ (f *ℤ (pos 256 *ℤ v)))
+later f g s q w p v d j = same (f ∷ g ∷ s ∷ q ∷ w ∷ p ∷ v ∷ d ∷ j ∷ []) (search pol depth 30 fits 9000) tt
 
 before : (n h : ℕ) → h ≤ n → pos (n - h) -ℤ pos n ≡ negℤ (pos h)
 before n h p = simp whole (omega arith)
@@ -77,41 +81,48 @@ module _ (x : Axis) where
   abbrev h : ℕ
   h = halfPeriod x
 
-  -- twice the required sum for a target
+  -- twice the required sum for a target in motion
+  abbrev twiceOf : ℤ → ℤ → ℤ → ℤ → ℤ
+  twiceOf =
+      let b : ℤ = pos (secondWeight x) in
+      twice (pos (finer x)) (b *ℤ (pos h *ℤ pos h) *ℤ (b -ℤ pos 128)) (shift x) (startPosition x) (startVelocity x)
+
   abbrev twiceFor : Target → ℕ → ℤ
   twiceFor t n =
       let m : State = asMoving t n in
-      twice (m .position) (m .velocity) (m .acceleration) (shift x) (startPosition x) (startVelocity x) (pos (n - h) -ℤ m .tick)
+      twiceOf (m .position) (m .velocity) (m .acceleration) (pos (n - h) -ℤ m .tick)
 
-  twice-later : (t : Target) → accelerates t ≡ false → (n k : ℕ) → h ≤ n → n ≤ k → twiceFor t k ≡ twiceFor t n +ℤ pos 2 *ℤ (pos (k - n) *ℤ drift t)
+  twice-later : (t : Target) → accelerates t ≡ false → (n k : ℕ) → h ≤ n → n ≤ k
+      → twiceFor t k ≡ twiceFor t n +ℤ pos 2 *ℤ (pos (k - n) *ℤ onGrid x (driftOf t))
   twice-later (Fixed r) e n k p q =
-      ap (twice (r .position) (r .velocity) (pos 0) (shift x) (startPosition x) (startVelocity x)) (before k h (omega arith) ∙ sym (before n h p))
-      ∙ none (twiceFor (Fixed r) n) (pos (k - n))
+      ap (twiceOf (r .position) (r .velocity) (pos 0)) (before k h (omega arith) ∙ sym (before n h p))
+      ∙ none (twiceFor (Fixed r) n) (pos (k - n)) (pos (finer x))
     where
-      none : (y j : ℤ) → y ≡ y +ℤ pos 2 *ℤ (j *ℤ pos 0)
-      none y j = same (y ∷ j ∷ []) (search pol depth 20 fits 9000) tt
+      none : (y j f : ℤ) → y ≡ y +ℤ pos 2 *ℤ (j *ℤ (f *ℤ pos 0))
+      none y j f = same (y ∷ j ∷ f ∷ []) (search pol depth 20 fits 9000) tt
   twice-later (Moving m) e n k p q =
       let a = still (Moving m) n e in
-      ap (λ (z : ℤ). twice (m .position) (m .velocity) z (shift x) (startPosition x) (startVelocity x) (pos (k - h) -ℤ m .tick)) a
-      ∙ ap (twice (m .position) (m .velocity) (pos 0) (shift x) (startPosition x) (startVelocity x)) (since k n h (m .tick) p q)
-      ∙ later (m .position) (m .velocity) (shift x) (startPosition x) (startVelocity x) (pos (n - h) -ℤ m .tick) (pos (k - n))
-      ∙ ap (λ (z : ℤ). twice (m .position) (m .velocity) z (shift x) (startPosition x) (startVelocity x) (pos (n - h) -ℤ m .tick)
-      +ℤ pos 2 *ℤ (pos (k - n) *ℤ (pos 256 *ℤ m .velocity))) (sym a)
+      let b : ℤ = pos (secondWeight x) in
+      ap (λ (z : ℤ). twiceOf (m .position) (m .velocity) z (pos (k - h) -ℤ m .tick)) a
+      ∙ ap (twiceOf (m .position) (m .velocity) (pos 0)) (since k n h (m .tick) p q)
+      ∙ later (pos (finer x)) (b *ℤ (pos h *ℤ pos h) *ℤ (b -ℤ pos 128)) (shift x) (startPosition x) (startVelocity x) (m .position) (m .velocity)
+      (pos (n - h) -ℤ m .tick) (pos (k - n))
+      ∙ ap (λ (z : ℤ). twiceOf (m .position) (m .velocity) z (pos (n - h) -ℤ m .tick) +ℤ pos 2 *ℤ (pos (k - n) *ℤ onGrid x (driftOf (Moving m)))) (sym a)
 
   -- ---- an axis that passed
   module _ (passed : Passed x) (steady : accelerates (x .target) ≡ false) where
     allowed : T (restAllowed x (x .start) && targetAllowed x (x .target))
     allowed = not-false-T (restAllowed x (x .start) && targetAllowed x (x .target)) (passed .values)
 
-    pub start-slow : natAbs (startVelocity x) ≤ fineSteps * speedLimit x
-    start-slow = fine-slow (x .start .velocity) (speedLimit x) (rest-slow x (x .start) (left (restAllowed x (x .start)) (targetAllowed x (x .target)) allowed))
+    pub start-slow : natAbs (startVelocity x) ≤ speedSteps x
+    start-slow = grid-slow (finer x) (x .start .velocity) (speedLimit x) (rest-slow x (x .start) (left (restAllowed x (x .start)) (targetAllowed x (x .target)) allowed))
 
     pub speed-slow : natAbs (speedOf (x .target)) ≤ speedLimit x
     speed-slow = target-slow x (x .target) (right (restAllowed x (x .start)) (targetAllowed x (x .target)) allowed)
 
-    velocity-is : (n : ℕ) → landingVelocity x n ≡ pos fineSteps *ℤ speedOf (x .target)
+    velocity-is : (n : ℕ) → landingVelocity x n ≡ onGrid x (pos fineSteps *ℤ speedOf (x .target))
     velocity-is n =
-        law (asMoving (x .target) n) (still (x .target) n steady) ∙ ap (λ (z : ℤ). pos fineSteps *ℤ z) (speed-is (x .target) n)
+        ap (onGrid x) (law (asMoving (x .target) n) (still (x .target) n steady) ∙ ap (λ (z : ℤ). pos fineSteps *ℤ z) (speed-is (x .target) n))
       where
         none : (v s d : ℤ) → pos 256 *ℤ (v +ℤ pos 0 *ℤ d) +ℤ s *ℤ pos 0 ≡ pos 256 *ℤ v
         none v s d = same (v ∷ s ∷ d ∷ []) (search pol depth 20 fits 9000) tt
@@ -122,20 +133,21 @@ module _ (x : Axis) where
             ap (λ (z : ℤ). pos 256 *ℤ (m .velocity +ℤ z *ℤ (pos (landingTick x n) -ℤ m .tick)) +ℤ shift x *ℤ z) e
             ∙ none (m .velocity) (shift x) (pos (landingTick x n) -ℤ m .tick)
 
-    pub landing-slow : (n : ℕ) → natAbs (landingVelocity x n) ≤ fineSteps * speedLimit x
+    pub landing-slow : (n : ℕ) → natAbs (landingVelocity x n) ≤ speedSteps x
     landing-slow n =
-        subst (λ (z : ℤ). natAbs z ≤ fineSteps * speedLimit x) (sym (velocity-is n))
-        (fine-slow (speedOf (x .target)) (speedLimit x) speed-slow)
+        subst (λ (z : ℤ). natAbs z ≤ speedSteps x) (sym (velocity-is n))
+        (grid-slow (finer x) (speedOf (x .target)) (speedLimit x) speed-slow)
 
     arrival-is : (n : ℕ) → arrivalVelocity x n ≡ landingVelocity x n
     arrival-is n =
-        ap (λ (z : ℤ). landingVelocity x n +ℤ pos h *ℤ (pos 256 *ℤ z)) (still (x .target) n steady) ∙ none (landingVelocity x n) (pos h)
+        ap (λ (z : ℤ). landingVelocity x n +ℤ pos h *ℤ onGrid x (pos 256 *ℤ z)) (still (x .target) n steady)
+        ∙ none (landingVelocity x n) (pos h) (pos (finer x))
       where
-        none : (v h : ℤ) → v +ℤ h *ℤ (pos 256 *ℤ pos 0) ≡ v
-        none v h = same (v ∷ h ∷ []) (search pol depth 20 fits 9000) tt
+        none : (v h f : ℤ) → v +ℤ h *ℤ (f *ℤ (pos 256 *ℤ pos 0)) ≡ v
+        none v h f = same (v ∷ h ∷ f ∷ []) (search pol depth 20 fits 9000) tt
 
     whole-sum : (n : ℕ) → natAbs (twiceRequired (leg x n) (displacement x n)) % 2 ≡ 0
-    whole-sum n = eqb→eq (natAbs (twiceRequired (leg x n) (displacement x n)) % 2) 0 (true-T (sum-is-whole x n passed))
+    whole-sum n = eqb→eq (natAbs (twiceRequired (leg x n) (displacement x n)) % 2) 0 (true-T (sum-is-whole x n))
 
     module _ (n k : ℕ) (after : h < n) (from : n ≤ k) where
       leg-later : withTicks (leg x n) (k - h) ≡ leg x k
@@ -148,33 +160,33 @@ module _ (x : Axis) where
             accelerationLimit = leg x k .accelerationLimit;
           }
 
-      sum-later : requiredSum x n +ℤ pos (k - n) *ℤ drift (x .target) ≡ requiredSum x k
+      sum-later : requiredSum x n +ℤ pos (k - n) *ℤ drift x ≡ requiredSum x k
       sum-later =
-          sym (half-twice (requiredSum x n +ℤ pos (k - n) *ℤ drift (x .target)))
+          sym (half-twice (requiredSum x n +ℤ pos (k - n) *ℤ drift x))
           ∙ ap (λ (z : ℤ). shrZ z 2)
-          (split (requiredSum x n) (pos (k - n) *ℤ drift (x .target))
-          ∙ ap (λ (z : ℤ). z +ℤ pos 2 *ℤ (pos (k - n) *ℤ drift (x .target))) (twice-half (twiceFor (x .target) n) (whole-sum n))
+          (split (requiredSum x n) (pos (k - n) *ℤ drift x)
+          ∙ ap (λ (z : ℤ). z +ℤ pos 2 *ℤ (pos (k - n) *ℤ drift x)) (twice-half (twiceFor (x .target) n) (whole-sum n))
           ∙ sym (twice-later (x .target) steady n k (omega arith) from))
         where
           split : (a b : ℤ) → pos 2 *ℤ (a +ℤ b) ≡ pos 2 *ℤ a +ℤ pos 2 *ℤ b
           split a b = same (a ∷ b ∷ []) (search pol depth 20 fits 9000) tt
 
-      wanted-is : requiredSum x n +ℤ pos (k - h - (n - h)) *ℤ drift (x .target) ≡ requiredSum x k
-      wanted-is = ap (λ (i : ℕ). requiredSum x n +ℤ pos i *ℤ drift (x .target)) {x = k - h - (n - h)} {y = k - n} (omega arith) ∙ sum-later
+      wanted-is : requiredSum x n +ℤ pos (k - h - (n - h)) *ℤ drift x ≡ requiredSum x k
+      wanted-is = ap (λ (i : ℕ). requiredSum x n +ℤ pos i *ℤ drift x) {x = k - h - (n - h)} {y = k - n} (omega arith) ∙ sum-later
 
-      moves : betweenAt (leg x n) (requiredSum x n) (drift (x .target)) (k - h) ≡ feasible (leg x k) (displacement x k)
+      moves : betweenAt (leg x n) (requiredSum x n) (drift x) (k - h) ≡ feasible (leg x k) (displacement x k)
       moves =
           (λ i. endsAllowed (leg-later i) && sumBetween (leg-later i) (wanted-is i))
           ∙ ap (λ (b : Bool). endsAllowed (leg x k) && b)
-          (and-yes (sumIsWhole (leg x k) (displacement x k)) (sumBetween (leg x k) (requiredSum x k)) (sum-is-whole x k passed) refl)
+          (and-yes (sumIsWhole (leg x k) (displacement x k)) (sumBetween (leg x k) (requiredSum x k)) (sum-is-whole x k) refl)
           ∙ sym (feasible-parts (leg x k) (displacement x k))
 
-      pub reach-later : betweenAt (leg x n) (requiredSum x n) (drift (x .target)) (k - h) ≡ reachable x k
+      pub reach-later : betweenAt (leg x n) (requiredSum x n) (drift x) (k - h) ≡ reachable x k
       reach-later =
           and-yes (ltb h k) _ (ltb-yes {m = h} {n = k} (omega arith))
-          (and-yes (leb (natAbs (landingVelocity x k)) (fineSteps * speedLimit x)) _ (leb-yes (landing-slow k))
-          (and-yes (leb (natAbs (arrivalVelocity x k)) (fineSteps * speedLimit x)) _
-          (leb-yes (subst (λ (z : ℤ). natAbs z ≤ fineSteps * speedLimit x) (sym (arrival-is k)) (landing-slow k))) moves))
+          (and-yes (leb (natAbs (landingVelocity x k)) (speedSteps x)) _ (leb-yes (landing-slow k))
+          (and-yes (leb (natAbs (arrivalVelocity x k)) (speedSteps x)) _
+          (leb-yes (subst (λ (z : ℤ). natAbs z ≤ speedSteps x) (sym (arrival-is k)) (landing-slow k))) moves))
 
   -- no arrival is reached that is not after the half period
   pub reach-after : (k : ℕ) → k ≤ h → reachable x k ≡ false
@@ -195,7 +207,7 @@ none-after x n last p q =
     }
 
 pub next-arrival : (x : Axis) → Passed x → accelerates (x .target) ≡ false → (n last f t : ℕ) → f ≡ max n (suc (halfPeriod x)) → f ≤ last
-    → Next (betweenAt (leg x f) (requiredSum x f) (drift (x .target))) (f - halfPeriod x) (last - halfPeriod x) t
+    → Next (betweenAt (leg x f) (requiredSum x f) (drift x)) (f - halfPeriod x) (last - halfPeriod x) t
     → Next (reachable x) n last (t + halfPeriod x)
 next-arrival x passed steady n last f t e h w =
     record { low = omega (arith, w .low); high = omega (arith, w .high); missed = missed; passed = reached }
@@ -213,5 +225,5 @@ next-arrival x passed steady n last f t e h w =
     reached : t + halfPeriod x ≤ last → reachable x (t + halfPeriod x) ≡ true
     reached l =
         sym (reach-later x passed steady f (t + halfPeriod x) after (omega (arith, w .low)))
-        ∙ ap (betweenAt (leg x f) (requiredSum x f) (drift (x .target))) {x = t + halfPeriod x - halfPeriod x} {y = t} (omega arith)
+        ∙ ap (betweenAt (leg x f) (requiredSum x f) (drift x)) {x = t + halfPeriod x - halfPeriod x} {y = t} (omega arith)
         ∙ w .passed (omega arith)

@@ -4,13 +4,14 @@ use mathlib.Core.Path.{_≡_}
 use mathlib.Core.Bool.{Bool, true, false}
 use mathlib.Core.List.{List, [], _∷_}
 use lib.Dec.{eqb}
-use lib.IntN.{ℤ, pos, _+ℤ_, _*ℤ_}
+use lib.IntN.{ℤ, pos, _+ℤ_, _-ℤ_, _*ℤ_}
 use Rattle.whole.specs.Ranges.{Within, Is}
 use Rattle.model.specs.declared.Axis.{Axis}
 use Rattle.model.specs.declared.State.{State}
 use Rattle.model.specs.declared.Target.{Target}
 use Rattle.model.specs.declared.Target.the-variants.{Fixed, Moving}
 use Rattle.model.specs.Quantities.{fineSteps, speedLimit, accelerationLimit, halfPeriod, secondWeight, asMoving, twicePositionAt, velocityAt}
+use Rattle.model.specs.Quantities.{onGrid, speedSteps, accelerationSteps}
 use Rattle.model.specs.Motion.{shift, startVelocity, landingTick, landingPosition, landingVelocity, landingAcceleration}
 use Rattle.model.specs.Refusals.{lastTick}
 use Rattle.model.specs.Outcome.{axisRefusals}
@@ -18,11 +19,11 @@ use Rattle.profile.specs.declared.Profile.{Profile}
 use Rattle.profile.specs.Profiles.{Ranged}
 use Rattle.motion.specs.declared.Landing.{Landing}
 
--- ---- ranges, in powers of two that hold what refusals 4 to 6 leave
+-- ---- ranges, in powers of two that hold what refusals 4 to 6 leave, and for positions more
 
 -- a target, read as moving
 pub record StateRanges (m : State) : Type 0 where
-  pub position : Within (2 ^ 27) (m .position)
+  pub position : Within (2 ^ 34) (m .position)
   pub velocity : Within (2 ^ 20) (m .velocity)
   pub acceleration : Within (2 ^ 16) (m .acceleration)
   pub tick : Within lastTick (m .tick)
@@ -33,32 +34,39 @@ pub record Ranges (x : Axis) : Type 0 where
   pub «acceleration_limit» : accelerationLimit x ≤ 2 ^ 16
   pub «half_period» : halfPeriod x ≤ 256
   pub «second_weight» : secondWeight x ≤ 128
-  pub position : Within (2 ^ 27) (x .start .position)
+  pub position : Within (2 ^ 34) (x .start .position)
   pub velocity : Within (2 ^ 20) (x .start .velocity)
   -- the target, for every arrival
   pub target : (n : ℕ) → n ≤ lastTick → StateRanges (asMoving (x .target) n)
 
--- ---- rule 3: the planned motion for a target in motion m at tick k, which at the landing tick is `landingPosition` and `landingVelocity`
+-- ---- rule 3: the planned motion for a target in motion m at tick k, which at the landing tick, with the correction, is `landingPosition` and
+-- `landingVelocity`
 
 abbrev pub plannedPosition : Axis → State → ℕ → ℤ
-plannedPosition x m k = pos fineSteps *ℤ twicePositionAt m (pos k) +ℤ pos 2 *ℤ (shift x *ℤ velocityAt m (pos k))
+plannedPosition x m k = onGrid x (pos fineSteps *ℤ twicePositionAt m (pos k) +ℤ pos 2 *ℤ (shift x *ℤ velocityAt m (pos k)))
 
 abbrev pub plannedVelocity : Axis → State → ℕ → ℤ
-plannedVelocity x m k = pos fineSteps *ℤ velocityAt m (pos k) +ℤ shift x *ℤ m .acceleration
+plannedVelocity x m k = onGrid x (pos fineSteps *ℤ velocityAt m (pos k) +ℤ shift x *ℤ m .acceleration)
+
+abbrev pub gain : Axis → State → ℤ
+gain x m =
+    let h : ℤ = pos (halfPeriod x) in
+    let b : ℤ = pos (secondWeight x) in
+    pos 2 *ℤ (b *ℤ (h *ℤ h) *ℤ (b -ℤ pos 128) *ℤ m .acceleration)
 
 -- the landing for arrival n
 pub record LandingIs (x : Axis) (n : ℕ) (r : Landing) : Type 0 where
-  pub position : Is (2 ^ 52) (r .position) (landingPosition x n)
-  pub velocity : Is (2 ^ 39) (r .velocity) (landingVelocity x n)
-  pub acceleration : Is (2 ^ 24) (r .acceleration) (landingAcceleration x n)
+  pub position : Is (2 ^ 59) (r .position) (landingPosition x n)
+  pub velocity : Is (2 ^ 47) (r .velocity) (landingVelocity x n)
+  pub acceleration : Is (2 ^ 32) (r .acceleration) (landingAcceleration x n)
 
 -- ---- rule 4: the profile that stands for the leg of an arrival
 
 abbrev pub profileFor : Axis → ℕ → Profile
 profileFor x n =
     record {
-      «speed_limit» = fineSteps * speedLimit x;
-      «acceleration_limit» = fineSteps * accelerationLimit x;
+      «speed_limit» = speedSteps x;
+      «acceleration_limit» = accelerationSteps x;
       start = startVelocity x;
       end = landingVelocity x n;
       ticks = landingTick x n;
@@ -76,9 +84,13 @@ abbrev pub speedOf : Target → ℤ
 speedOf (Fixed r) = r .velocity
 speedOf (Moving m) = m .velocity
 
-abbrev pub drift : Target → ℤ
-drift (Fixed r) = pos 0
-drift (Moving m) = pos fineSteps *ℤ m .velocity
+-- in fine steps, and on the axis's grid
+abbrev pub driftOf : Target → ℤ
+driftOf (Fixed r) = pos 0
+driftOf (Moving m) = pos fineSteps *ℤ m .velocity
+
+abbrev pub drift : Axis → ℤ
+drift x = onGrid x (driftOf (x .target))
 
 -- ---- the refusals of one axis: the test of a number in a list of numbered tests, and in the list of `model`
 

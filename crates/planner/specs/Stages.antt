@@ -36,7 +36,7 @@ pub record Settled (j : Job) (r : Answer) : Type 0 where
   pub passed : r .number ≡ 0 → AllPassed (j .axes)
   pub reached : r .number ≡ 0 → allReach (j .axes) (r .arrival) ≡ true
 
--- ---- refusals 3, 4, 12, 5 to 7 and 13
+-- ---- refusals 3, 4, 12, 5, 6 and 13
 
 -- refusal 13, or number 0
 abbrev pub windowRefusal : Windows → Refusal

@@ -4,7 +4,7 @@ use Rattle.whole.proofs.Ring.{pol, same}
 use Rattle.whole.proofs.Tests.{choice-yes, choice-no}
 use mathlib.Core.Bool.{true, false}
 use mathlib.Core.List.{[], _∷_}
-use Prim.Native.Nat.{ℕ, zero, suc, _+_, _-_, _<_, _≤_}
+use Prim.Native.Nat.{ℕ, zero, suc, _+_, _-_, _*_, _<_, _≤_}
 use native.Mathlib.Omega.{arith}
 use native.Mathlib.Decide.{decLt}
 use lib.Dec.{ltb}
@@ -14,13 +14,16 @@ use Rattle.whole.specs.Integers.{nearest}
 use Rattle.model.specs.declared.Axis.{Axis}
 use Rattle.model.specs.Quantities.{halfPeriod, secondWeight}
 use Rattle.model.specs.Motion.{Tick, earlier}
-use Rattle.model.specs.Rows.{track, tickAt, tickBack, cells}
+use Rattle.model.specs.Rows.{track, tickAt, tickBack, divisor, cells}
 use Rattle.model.specs.Refusals.{Ready}
 use Rattle.motion.proofs.ReadyAxis.{ready-after}
 use Rattle.rows.specs.declared.AxisPlan.{AxisPlan}
-use Rattle.rows.specs.Plans.{planOf}
+use Rattle.rows.specs.Plans.{scale, planOf}
 use Rattle.rows.specs.Tracks.{plannedAt, velocityBack, mix, blendedVelocity, blendedPosition, axisCells}
-use Rattle.rows.proofs.Blend.{mix-sum, mix-change, mix-start}
+use Rattle.whole.proofs.Rounding.{nearest-times}
+use Rattle.model.proofs.Grid.{divisor-some}
+use Rattle.rows.proofs.Scale.{scale-some, scale-divides}
+use Rattle.rows.proofs.Blend.{mix-sum, mix-change, mix-start, mix-times}
 use Rattle.rows.proofs.Velocities.{back-early, back-late, velocity-is}
 use Rattle.rows.proofs.PlannedTicks.{plannedPosition, planTick, tick-is}
 
@@ -99,20 +102,20 @@ back-goes-on p k some = go (decLt k h)
 -- ---- the blend
 
 -- the position that is carried on is the blend of the two
-position-is : (p : AxisPlan) (k : ℕ) → 0 < p .regions .ticks → p .«second_weight» ≤ 256
-    → blendedPosition p k ≡ mix (p .«second_weight») (plannedPosition p k) (backPosition p k)
+position-is : (p : AxisPlan) (k : ℕ) → 0 < p .regions .ticks
+    → blendedPosition p k ≡ mix (p .«first_weight») (p .«second_weight») (plannedPosition p k) (backPosition p k)
 unfolding blendedPosition blendedVelocity plannedPosition
-position-is p zero some h =
-    sym (mix-start (p .«second_weight») (p .«half_period») (p .origin) (p .regions .start) h)
-    ∙ ap (mix (p .«second_weight») (p .origin)) before
+position-is p zero some =
+    sym (mix-start (p .«first_weight») (p .«second_weight») (p .«half_period») (p .origin) (p .regions .start))
+    ∙ ap (mix (p .«first_weight») (p .«second_weight») (p .origin)) before
   where
     before : earlyPosition p (p .«half_period») ≡ backPosition p 0
     before = ap (earlyPosition p) {x = p .«half_period»} {y = p .«half_period» - 0} (omega arith) ∙ sym (early-position p 0 (omega arith))
-position-is p (suc k) some h =
-    ap (λ (z : ℤ). z +ℤ blendedVelocity p k +ℤ blendedVelocity p (suc k)) (position-is p k some h)
-    ∙ sym (mix-sum (p .«second_weight») (plannedPosition p k) (plannedAt p k) (plannedAt p (suc k))
+position-is p (suc k) some =
+    ap (λ (z : ℤ). z +ℤ blendedVelocity p k +ℤ blendedVelocity p (suc k)) (position-is p k some)
+    ∙ sym (mix-sum (p .«first_weight») (p .«second_weight») (plannedPosition p k) (plannedAt p k) (plannedAt p (suc k))
     (backPosition p k) (velocityBack p k) (velocityBack p (suc k)))
-    ∙ ap (mix (p .«second_weight») (plannedPosition p (suc k))) (back-goes-on p k some)
+    ∙ ap (mix (p .«first_weight») (p .«second_weight») (plannedPosition p (suc k))) (back-goes-on p k some)
 
 -- ---- of an axis and its arrival
 
@@ -155,17 +158,43 @@ module _ (x : Axis) (n k : ℕ) (ready : Ready x n) (last : k ≤ n) where
           ∙ at _ _ _ _ _ _ (sym (late-position p k (omega arith))) (back-late p k (omega arith))
           (ap₂ _-ℤ_ (later (omega arith)) (back-late p k (omega arith)))
 
-  pub cells-are : secondWeight x ≤ 256 → axisCells k p ≡ cells k (track n x)
+  abbrev a : ℕ
+  a = 256 - secondWeight x
+
+  abbrev b : ℕ
+  b = secondWeight x
+
+  -- a blend by the weights of the plan, rounded
+  cell : (y z : ℤ) → nearest (mix (p .«first_weight») (p .«second_weight») y z) 65536 ≡ nearest (mix a b y z) (divisor x)
+  cell y z =
+      ap (λ (m : ℤ). nearest m 65536) (mix-times (scale x) a b y z)
+      ∙ ap (nearest (pos (scale x) *ℤ mix a b y z)) (sym (scale-divides x))
+      ∙ nearest-times (scale x) (mix a b y z) (divisor x) (scale-some x) (divisor-some x)
+
+  position-cell : (y z : ℤ) → nearest (mix (p .«first_weight») (p .«second_weight») y z) 131072 ≡ nearest (mix a b y z) (2 * divisor x)
+  position-cell y z =
+      ap (λ (m : ℤ). nearest m 131072) (mix-times (scale x) a b y z)
+      ∙ ap (nearest (pos (scale x) *ℤ mix a b y z)) {x = 131072} {y = scale x * (2 * divisor x)} (omega (arith, scale-divides x))
+      ∙ nearest-times (scale x) (mix a b y z) (2 * divisor x) (scale-some x) (omega (arith, divisor-some x))
+
+  pub cells-are : axisCells k p ≡ cells k (track n x)
   unfolding backTick
-  cells-are w =
-      (λ i. nearest (position-is p k some w i) 512 ∷ nearest (velocity i) 256 ∷ nearest (acceleration i) 256 ∷ [])
-      ∙ sym (λ i. nearest (mix b (ahead i .position) (behind i .position)) 512
-      ∷ nearest (mix b (ahead i .velocity) (behind i .velocity)) 256
-      ∷ nearest (mix b (ahead i .acceleration) (behind i .acceleration)) 256
+  cells-are =
+      (λ i. nearest (position-is p k some i) 131072 ∷ nearest (velocity i) 65536 ∷ nearest (acceleration i) 65536 ∷ [])
+      ∙ (λ i. position-cell (plannedPosition p k) (backPosition p k) i
+      ∷ cell (plannedAt p k) (velocityBack p k) i
+      ∷ cell (plannedAt p (suc k) -ℤ plannedAt p k) (velocityBack p (suc k) -ℤ velocityBack p k) i
+      ∷ [])
+      ∙ sym (λ i. nearest (mix a b (ahead i .position) (behind i .position)) (2 * divisor x)
+      ∷ nearest (mix a b (ahead i .velocity) (behind i .velocity)) (divisor x)
+      ∷ nearest (mix a b (ahead i .acceleration) (behind i .acceleration)) (divisor x)
       ∷ [])
     where
-      b : ℕ
-      b = secondWeight x
+      A : ℕ
+      A = p .«first_weight»
+
+      B : ℕ
+      B = p .«second_weight»
 
       ahead : tickAt (track n x) k ≡ planTick p k
       ahead = tick-is x n k ready last
@@ -173,11 +202,11 @@ module _ (x : Axis) (n k : ℕ) (ready : Ready x n) (last : k ≤ n) where
       behind : tickBack (track n x) k h ≡ backTick p k
       behind = back-is
 
-      velocity : blendedVelocity p k ≡ mix b (plannedAt p k) (velocityBack p k)
+      velocity : blendedVelocity p k ≡ mix A B (plannedAt p k) (velocityBack p k)
       velocity = sym (velocity-is p k)
 
       acceleration : blendedVelocity p (suc k) -ℤ blendedVelocity p k
-          ≡ mix b (plannedAt p (suc k) -ℤ plannedAt p k) (velocityBack p (suc k) -ℤ velocityBack p k)
+          ≡ mix A B (plannedAt p (suc k) -ℤ plannedAt p k) (velocityBack p (suc k) -ℤ velocityBack p k)
       acceleration =
           ap₂ _-ℤ_ (sym (velocity-is p (suc k))) velocity
-          ∙ sym (mix-change b (plannedAt p (suc k)) (plannedAt p k) (velocityBack p (suc k)) (velocityBack p k))
+          ∙ sym (mix-change A B (plannedAt p (suc k)) (plannedAt p k) (velocityBack p (suc k)) (velocityBack p k))

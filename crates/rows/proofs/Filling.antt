@@ -12,7 +12,7 @@ use Rattle.rows.specs.declared.AxisPlan.{AxisPlan}
 use Rattle.rows.specs.declared.Plan.{Plan}
 use Rattle.rows.specs.declared.Track.{Track}
 use Rattle.rows.specs.declared.SetPlans.{SetPlans}
-use Rattle.rows.specs.Plans.{unsetPlan, plansOf, AllRanged}
+use Rattle.rows.specs.Plans.{unsetPlan, plansOf, arrivalOf, PlanRanges, Each}
 use Rattle.rows.specs.Tracks.{trackAt, cellsOf, axisCells}
 use Rattle.rows.specs.Table.{planRow, rowsOver}
 use Rattle.rows.specs.Steps.{SetPlansIs}
@@ -30,20 +30,22 @@ pub record Front (plan : Plan) (r : SetPlans) (t₀ : List ℤ) : Type 0 where
   pub long : length (frontPlans r) ≡ r .count
   pub few : r .count ≤ 6
   pub here : r .count ≤ length (r .axes)
-  pub ranged : AllRanged (frontPlans r)
+  pub ranged : Each PlanRanges (frontPlans r)
+  pub arrive : Each (λ p. plan .arrival ≤ arrivalOf p) (frontPlans r)
   pub fits : 3 * length (frontPlans r) * suc (plan .arrival) ≤ length t₀
 
 module _ {plan : Plan} {r : SetPlans} {t₀ : List ℤ} where
-  pub front : SetPlansIs (plansOf plan) r → AllRanged (plansOf plan) → cellsNeeded (length (plansOf plan)) (plan .arrival) ≤ length t₀
-      → Front plan r t₀
-  front s a f =
+  pub front : SetPlansIs (plansOf plan) r → Each PlanRanges (plansOf plan) → Each (λ p. plan .arrival ≤ arrivalOf p) (plansOf plan)
+      → cellsNeeded (length (plansOf plan)) (plan .arrival) ≤ length t₀ → Front plan r t₀
+  front s a b f =
       let long : length (frontPlans r) ≡ r .count = ap length (s .axes) ∙ sym (s .count) in
       record {
         plans = s .axes;
         long = long;
         few = s .few;
         here = omega (arith, length-take (r .count) (r .axes));
-        ranged = subst AllRanged (sym (s .axes)) a;
+        ranged = subst (Each PlanRanges) (sym (s .axes)) a;
+        arrive = subst (Each (λ p. plan .arrival ≤ arrivalOf p)) (sym (s .axes)) b;
         fits = subst (λ (l : List AxisPlan). 3 * length l * suc (plan .arrival) ≤ length t₀) (sym (s .axes)) f;
       }
 

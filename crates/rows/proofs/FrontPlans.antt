@@ -9,7 +9,7 @@ use lib.Dec.{eqb}
 use lib.ListN.{length, getD, set, take, drop}
 use lib.Seq.{take-set-le, take-suc-set, drop-cons, drop-length, length-take-le, getD-take}
 use Rattle.rows.specs.declared.AxisPlan.{AxisPlan}
-use Rattle.rows.specs.Plans.{unsetPlan, setPlans, PlanRanges, AllRanged}
+use Rattle.rows.specs.Plans.{unsetPlan, setPlans, Each}
 
 -- one more plan is looked at: it is kept where its bit is set, and else written over by the next
 pub set-next : (ps axes : List AxisPlan) (m i count : ℕ) → i < length ps → count < length axes
@@ -38,15 +38,15 @@ set-next ps axes m i count h l =
 pub set-all : (ps kept : List AxisPlan) (m i : ℕ) → i ≡ length ps → kept ++ setPlans m (drop i ps) ≡ kept
 set-all ps kept m i e = ap (λ (r : List AxisPlan). kept ++ setPlans m r) (ap (λ (n : ℕ). drop n ps) e ∙ drop-length ps) ∙ append-nil kept
 
--- ---- the ranges of one of them
+-- ---- what holds of each of them holds of one
 
-pub ranged-at : (ps : List AxisPlan) (i : ℕ) → AllRanged ps → i < length ps → PlanRanges (getD ps i unsetPlan)
-ranged-at [] i r h = absurd (omega arith)
-ranged-at (p ∷ ps) zero r h = r .0
-ranged-at (p ∷ ps) (suc i) r h = ranged-at ps i (r .1) (omega arith)
+each-at : (Q : AxisPlan → Type 0) (ps : List AxisPlan) (i : ℕ) → Each Q ps → i < length ps → Q (getD ps i unsetPlan)
+each-at Q [] i r h = absurd (omega arith)
+each-at Q (p ∷ ps) zero r h = r .0
+each-at Q (p ∷ ps) (suc i) r h = each-at Q ps i (r .1) (omega arith)
 
-pub ranged-of : (axes : List AxisPlan) (count i : ℕ) → AllRanged (take count axes) → count ≤ length axes → i < count
-    → PlanRanges (getD axes i unsetPlan)
-ranged-of axes count i r h l =
+pub each-of : (Q : AxisPlan → Type 0) (axes : List AxisPlan) (count i : ℕ) → Each Q (take count axes) → count ≤ length axes → i < count
+    → Q (getD axes i unsetPlan)
+each-of Q axes count i r h l =
     let long = length-take-le count axes h in
-    subst PlanRanges (getD-take count axes i unsetPlan l) (ranged-at (take count axes) i r (omega arith))
+    subst Q (getD-take count axes i unsetPlan l) (each-at Q (take count axes) i r (omega arith))

@@ -10,13 +10,12 @@ use Rattle.model.specs.Rows.{track, concat, tabulate, row, table}
 use Rattle.model.specs.Job.{JobAxis, setAxes, axesOf, typedJob}
 use Rattle.model.specs.Refusals.{lastTick}
 use Rattle.model.specs.Outcome.{cellsNeeded, tableOver}
-use Rattle.motion.proofs.ReadyAxis.{ready-ranges}
-use Rattle.rows.specs.Plans.{planFor, plansOf, AllRanged}
+use Rattle.rows.specs.Plans.{planFor, plansOf, arrivalOf, PlanRanges, Each}
 use Rattle.rows.specs.declared.AxisPlan.{AxisPlan}
 use Rattle.rows.specs.declared.Plan.{Plan}
 use Rattle.rows.specs.Table.{planRow, planTable, rowsOver}
 use Rattle.rows.proofs.BlendedTicks.{cells-are}
-use Rattle.rows.proofs.ReadyAxes.{AllReady, all-ranged, plansFor, plans-are}
+use Rattle.rows.proofs.ReadyAxes.{AllReady, all-ranged, all-arrive, plansFor, plans-are}
 
 tabulate-same : (f g : ℕ → List ℤ) (k n : ℕ) → ((j : ℕ) → j < k + n → f j ≡ g j) → tabulate f k n ≡ tabulate g k n
 tabulate-same f g k zero h = refl
@@ -26,8 +25,7 @@ tabulate-same f g k (suc n) h =
 row-is : (n k : ℕ) (xs : List JobAxis) → AllReady n xs → k ≤ n → planRow (plansFor n xs) k ≡ row (map (track n) (map (λ (x : JobAxis). x .axis) xs)) k
 row-is n k [] r h = refl
 row-is n k (x ∷ xs) r h =
-    let b = ready-ranges (r .0) .«second_weight» in
-    ap₂ _++_ (cells-are (x .axis) n k (r .0) h (omega arith)) (row-is n k xs (r .1) h)
+    ap₂ _++_ (cells-are (x .axis) n k (r .0) h) (row-is n k xs (r .1) h)
 
 module _ (m n : ℕ) (xs : List Axis) (ready : AllReady n (setAxes 0 m xs)) where
   table-is : planTable (planFor m xs n) ≡ table (axesOf (typedJob m n xs)) n
@@ -47,10 +45,15 @@ module _ (m n : ℕ) (xs : List Axis) (ready : AllReady n (setAxes 0 m xs)) wher
 -- ---- the same of a plan that is the job's
 
 module _ (m n : ℕ) (xs : List Axis) (ready : AllReady n (setAxes 0 m xs)) (plan : Plan) (same : plan ≡ planFor m xs n) where
-  pub plan-ranged : AllRanged (plansOf plan)
+  pub plan-ranged : Each PlanRanges (plansOf plan)
   plan-ranged =
-      subst (λ (p : Plan). AllRanged (plansOf p)) (sym same)
-      (subst AllRanged (sym (plans-are n 0 m xs)) (all-ranged n (setAxes 0 m xs) ready))
+      subst (λ (p : Plan). Each PlanRanges (plansOf p)) (sym same)
+      (subst (Each PlanRanges) (sym (plans-are n 0 m xs)) (all-ranged n (setAxes 0 m xs) ready))
+
+  pub plans-arrive : Each (λ p. plan .arrival ≤ arrivalOf p) (plansOf plan)
+  plans-arrive =
+      subst (λ (p : Plan). Each (λ q. p .arrival ≤ arrivalOf q) (plansOf p)) (sym same)
+      (subst (Each (λ q. n ≤ arrivalOf q)) (sym (plans-are n 0 m xs)) (all-arrive n (setAxes 0 m xs) ready))
 
   pub plan-arrives : n ≤ lastTick → plan .arrival ≤ lastTick
   plan-arrives h = subst (λ (p : Plan). p .arrival ≤ lastTick) (sym same) h

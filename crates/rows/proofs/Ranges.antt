@@ -1,84 +1,98 @@
 -- The ranges of the planned velocities and of the blend at every tick, from those of the plan.
-use mathlib.Core.Path.{_≡_, ap, _∙_}
-use Rattle.whole.proofs.Laws.{natAbs-+}
+use mathlib.Core.Path.{_≡_, ap, sym, subst, _∙_}
+use Rattle.whole.proofs.Laws.{natAbs-+, natAbs-*}
 use Rattle.whole.specs.Ranges.{Within, Is}
 use Rattle.whole.proofs.Tests.{by-bool}
-use Rattle.whole.proofs.Bounds.{mul-holds, neg-holds}
+use Rattle.whole.proofs.Bounds.{neg-holds}
 use Prim.Native.Nat.{ℕ, zero, suc, _+_, _-_, _*_, _^_, _≤_}
 use native.Mathlib.Omega.{arith}
-use native.Mathlib.Nat.{mul-le-mul}
-use lib.Dec.{ltb, ltb→lt}
+use native.Mathlib.Nat.{mul-le-mul, mul-le-mul-right, le-trans}
+use lib.Dec.{ltb}
 use lib.IntN.{ℤ, pos, negℤ, natAbs, _+ℤ_, _*ℤ_}
 use Rattle.rows.specs.declared.AxisPlan.{AxisPlan}
 use Rattle.rows.specs.declared.Track.{Track}
-use Rattle.rows.specs.Plans.{PlanRanges}
+use Rattle.rows.specs.Plans.{arrivalOf, weightOf, PlanRanges}
 use Rattle.rows.specs.Tracks.{mix, plannedAt, velocityBack, blendedVelocity, blendedPosition, trackAt}
+use Rattle.rows.proofs.Velocities.{planned-start}
+
+-- the size of a number times a weight
+weighed : (w : ℕ) (v : ℤ) → natAbs (pos w *ℤ v) ≡ w * natAbs v
+weighed w v = natAbs-* (pos w) v
+
+-- a weight of at most w
+part : (a w c : ℕ) (v : ℤ) → a ≤ w → w * natAbs v ≤ c → natAbs (pos a *ℤ v) ≤ c
+part a w c v h l = subst (λ (n : ℕ). n ≤ c) (sym (weighed a v)) (le-trans (mul-le-mul-right (natAbs v) h) l)
 
 module _ (p : AxisPlan) (s : PlanRanges p) where
-  start-in : natAbs (p .regions .start) ≤ 2 ^ 37
-  start-in = s .regions .start .within
+  -- ---- the planned velocities, weighed
 
-  planned-by : (k : ℕ) → k ≤ 4097 → natAbs (plannedAt p k) ≤ 2 ^ 38
-  unfolding plannedAt
-  planned-by k h =
-      by-bool (λ (v : ℤ). natAbs v ≤ 2 ^ 38) (ltb k (p .regions .ticks)) _ _
-      (λ t. omega (arith, s .velocities k (ltb→lt k (p .regions .ticks) t) .within))
-      (λ t.
-      omega (
-        arith,
-        natAbs-+ (p .regions .end) (pos (k - p .regions .ticks) *ℤ p .acceleration),
-        s .regions .end .within,
-        mul-holds (pos (k - p .regions .ticks)) (p .acceleration) 4097 (2 ^ 24) (omega arith) (s .acceleration .within),
-      ))
+  planned-weighed : (k : ℕ) → k ≤ suc (arrivalOf p) → weightOf p * natAbs (plannedAt p k) ≤ 2 ^ 45
+  planned-weighed k h = subst (λ (n : ℕ). n ≤ 2 ^ 45) (weighed (weightOf p) (plannedAt p k)) (s .velocities k h .within)
 
-  pub planned-within : (k : ℕ) → k ≤ 4097 → Within (2 ^ 38) (plannedAt p k)
-  planned-within k h = record { within = planned-by k h }
+  start-weighed : weightOf p * natAbs (p .regions .start) ≤ 2 ^ 45
+  start-weighed =
+      subst (λ (v : ℤ). weightOf p * natAbs v ≤ 2 ^ 45) (sym (planned-start p (s .some))) (planned-weighed 0 (omega arith))
 
-  pub back-within : (k : ℕ) → k ≤ 4097 → Within (2 ^ 38) (velocityBack p k)
+  back-weighed : (k : ℕ) → k ≤ suc (arrivalOf p) → weightOf p * natAbs (velocityBack p k) ≤ 2 ^ 45
   unfolding velocityBack
-  back-within k h =
-      record {
-        within =
-            by-bool (λ (v : ℤ). natAbs v ≤ 2 ^ 38) (ltb k (p .«half_period»)) _ _
-            (λ t. omega (arith, start-in))
-            (λ t. planned-within (k - p .«half_period») (omega arith) .within);
-      }
+  back-weighed k h =
+      by-bool (λ (v : ℤ). weightOf p * natAbs v ≤ 2 ^ 45) (ltb k (p .«half_period»)) _ _
+      (λ t. start-weighed)
+      (λ t. planned-weighed (k - p .«half_period») (omega arith))
 
-  velocity-by : (k : ℕ) → k ≤ 4097 → natAbs (blendedVelocity p k) ≤ 2 ^ 47
+  -- and as they are, and so the origin
+  unweighed : (v : ℤ) → weightOf p * natAbs v ≤ 2 ^ 45 → natAbs v ≤ 2 ^ 38
+  unweighed v h = omega (arith, h, mul-le-mul-right (natAbs v) (s .weighs))
+
+  pub origin-within : Within (2 ^ 52) (p .origin)
+  origin-within =
+      let o : weightOf p * natAbs (p .origin) ≤ 2 ^ 60 = subst (λ (n : ℕ). n ≤ 2 ^ 60) (weighed (weightOf p) (p .origin)) (s .origin .within) in
+      record { within = omega (arith, o, mul-le-mul-right (natAbs (p .origin)) (s .weighs)) }
+
+  pub planned-within : (k : ℕ) → k ≤ suc (arrivalOf p) → Within (2 ^ 38) (plannedAt p k)
+  planned-within k h = record { within = unweighed (plannedAt p k) (planned-weighed k h) }
+
+  pub back-within : (k : ℕ) → k ≤ suc (arrivalOf p) → Within (2 ^ 38) (velocityBack p k)
+  back-within k h = record { within = unweighed (velocityBack p k) (back-weighed k h) }
+
+  -- ---- the blend
+
+  velocity-by : (k : ℕ) → k ≤ suc (arrivalOf p) → natAbs (blendedVelocity p k) ≤ 2 ^ 46
   unfolding blendedVelocity
   velocity-by k h =
       omega (
         arith,
-        natAbs-+ (pos (256 - p .«second_weight») *ℤ plannedAt p k) (pos (p .«second_weight») *ℤ velocityBack p k),
-        mul-holds (pos (256 - p .«second_weight»)) (plannedAt p k) 256 (2 ^ 38) (omega arith) (planned-within k h .within),
-        mul-holds (pos (p .«second_weight»)) (velocityBack p k) 128 (2 ^ 38) (s .«second_weight») (back-within k h .within),
+        natAbs-+ (pos (p .«first_weight») *ℤ plannedAt p k) (pos (p .«second_weight») *ℤ velocityBack p k),
+        part (p .«first_weight») (weightOf p) (2 ^ 45) (plannedAt p k) (omega arith) (planned-weighed k h),
+        part (p .«second_weight») (weightOf p) (2 ^ 45) (velocityBack p k) (omega arith) (back-weighed k h),
       )
 
-  pub velocity-within : (k : ℕ) → k ≤ 4097 → Within (2 ^ 47) (blendedVelocity p k)
+  pub velocity-within : (k : ℕ) → k ≤ suc (arrivalOf p) → Within (2 ^ 46) (blendedVelocity p k)
   velocity-within k h = record { within = velocity-by k h }
 
-  -- Bh
-  pub shift-small : p .«second_weight» * p .«half_period» ≤ 128 * 256
-  shift-small = mul-le-mul (s .«second_weight») (s .«half_period»)
+  -- the second weight times h
+  pub shift-small : p .«second_weight» * p .«half_period» ≤ 2 ^ 16 * 256
+  shift-small = let b : p .«second_weight» ≤ 2 ^ 16 = omega (arith, s .light) in mul-le-mul b (s .«half_period»)
 
-  -- 2Bhv₀
+  -- times 2v₀
   abbrev way : ℤ
   way = pos 2 *ℤ (pos (p .«second_weight» * p .«half_period») *ℤ p .regions .start)
 
-  way-by : natAbs way ≤ 2 ^ 53
+  way-by : natAbs way ≤ 2 ^ 54
   way-by =
-      mul-holds (pos 2) (pos (p .«second_weight» * p .«half_period») *ℤ p .regions .start) 2 (128 * 256 * 2 ^ 37) (omega arith)
-      (mul-holds (pos (p .«second_weight» * p .«half_period»)) (p .regions .start) (128 * 256) (2 ^ 37) shift-small start-in)
+      let b : p .«second_weight» ≤ weightOf p = omega arith in
+      subst (λ (n : ℕ). n ≤ 2 ^ 54) (sym size)
+      (omega (arith, mul-le-mul (s .«half_period») (le-trans (mul-le-mul-right (natAbs (p .regions .start)) b) start-weighed)))
+    where
+      size : natAbs way ≡ 2 * (p .«second_weight» * p .«half_period» * natAbs (p .regions .start))
+      size =
+          natAbs-* (pos 2) (pos (p .«second_weight» * p .«half_period») *ℤ p .regions .start)
+          ∙ ap (λ (n : ℕ). 2 * n) (weighed (p .«second_weight» * p .«half_period») (p .regions .start))
 
-  position-by : (k : ℕ) → k ≤ 4097 → natAbs (blendedPosition p k) ≤ 2 ^ 59 + k * 2 ^ 48
+  position-by : (k : ℕ) → k ≤ suc (arrivalOf p) → natAbs (blendedPosition p k) ≤ 2 ^ 60 + 2 ^ 54 + k * 2 ^ 47
   unfolding blendedPosition
   position-by zero h =
-      omega (
-        arith,
-        natAbs-+ (pos 256 *ℤ p .origin) (negℤ way),
-        mul-holds (pos 256) (p .origin) 256 (2 ^ 50) (omega arith) (s .origin .within),
-        neg-holds way (2 ^ 53) way-by,
-      )
+      omega (arith, natAbs-+ (pos (weightOf p) *ℤ p .origin) (negℤ way), s .origin .within, neg-holds way (2 ^ 54) way-by)
   position-by (suc k) h =
       omega (
         arith,
@@ -89,24 +103,25 @@ module _ (p : AxisPlan) (s : PlanRanges p) where
         velocity-by (suc k) h,
       )
 
-  pub position-within : (k : ℕ) → k ≤ 4097 → Within (2 ^ 61) (blendedPosition p k)
-  position-within k h = record { within = omega (arith, position-by k h) }
+  pub position-within : (k : ℕ) → k ≤ suc (arrivalOf p) → Within (2 ^ 61) (blendedPosition p k)
+  position-within k h = record { within = omega (arith, position-by k h, s .last) }
 
   -- ---- of numbers that are known to be these
 
-  pub planned-is : (k : ℕ) (v : ℤ) → k ≤ 4097 → v ≡ plannedAt p k → Is (2 ^ 38) v (plannedAt p k)
+  pub planned-is : (k : ℕ) (v : ℤ) → k ≤ suc (arrivalOf p) → v ≡ plannedAt p k → Is (2 ^ 38) v (plannedAt p k)
   planned-is k v h e = record { is = e; within = planned-within k h .within }
 
-  pub behind-is : (k : ℕ) (v : ℤ) → k ≤ 4097 → v ≡ velocityBack p k → Is (2 ^ 38) v (velocityBack p k)
+  pub behind-is : (k : ℕ) (v : ℤ) → k ≤ suc (arrivalOf p) → v ≡ velocityBack p k → Is (2 ^ 38) v (velocityBack p k)
   behind-is k v h e = record { is = e; within = back-within k h .within }
 
-  pub position-is : (k : ℕ) (t : Track) → k ≤ 4097 → t ≡ trackAt p k → Is (2 ^ 61) (t .position) (blendedPosition p k)
+  pub position-is : (k : ℕ) (t : Track) → k ≤ suc (arrivalOf p) → t ≡ trackAt p k → Is (2 ^ 61) (t .position) (blendedPosition p k)
   position-is k t h e = record { is = ap (λ (u : Track). u .position) e; within = position-within k h .within }
 
-  pub velocity-is : (k : ℕ) (t : Track) → k ≤ 4097 → t ≡ trackAt p k → Is (2 ^ 47) (t .velocity) (blendedVelocity p k)
+  pub velocity-is : (k : ℕ) (t : Track) → k ≤ suc (arrivalOf p) → t ≡ trackAt p k → Is (2 ^ 46) (t .velocity) (blendedVelocity p k)
   velocity-is k t h e = record { is = ap (λ (u : Track). u .velocity) e; within = velocity-within k h .within }
 
-  pub blend-is : (k : ℕ) (v a b : ℤ) → k ≤ 4097 → v ≡ mix (p .«second_weight») a b → a ≡ plannedAt p k → b ≡ velocityBack p k
-      → Is (2 ^ 47) v (blendedVelocity p k)
+  pub blend-is : (k : ℕ) (v a b : ℤ) → k ≤ suc (arrivalOf p) → v ≡ mix (p .«first_weight») (p .«second_weight») a b → a ≡ plannedAt p k
+      → b ≡ velocityBack p k → Is (2 ^ 46) v (blendedVelocity p k)
   unfolding blendedVelocity
-  blend-is k v a b h e f g = record { is = e ∙ (λ i. mix (p .«second_weight») (f i) (g i)); within = velocity-within k h .within }
+  blend-is k v a b h e f g =
+      record { is = e ∙ (λ i. mix (p .«first_weight») (p .«second_weight») (f i) (g i)); within = velocity-within k h .within }

@@ -2,61 +2,118 @@
 use mathlib.Core.Path.{_≡_, refl, sym, ap, ap₂, subst, _∙_}
 use mathlib.Core.Bool.{Bool, true, false}
 use mathlib.Core.List.{List, [], _∷_, _++_, map, append-assoc, append-nil}
-use Prim.Native.Nat.{ℕ, suc, _+_, _/_, _%_, _^_, _<_, _≤_}
+use Prim.Native.Nat.{ℕ, suc, _+_, _-_, _*_, _/_, _%_, _^_, _<_, _≤_}
 use native.Mathlib.Numerals.{add-one}
 use lib.ListN.{length, getD, set, take, drop}
 use lib.Seq.{take-suc-set, take-length, drop-cons, drop-length}
 use native.Mathlib.Omega.{arith}
 use lib.Dec.{T, eqb}
-use lib.IntN.{ℤ}
+use lib.IntN.{ℤ, pos, natAbs, _+ℤ_, _*ℤ_}
+use native.Mathlib.Decide.{decLt}
+use native.Mathlib.Nat.{mul-le-mul-left, mul-le-mul-right}
+use Rattle.whole.proofs.Laws.{natAbs-+}
+use Rattle.whole.proofs.Ring.{pol, same}
 use Rattle.model.specs.declared.Axis.{Axis}
-use Rattle.model.specs.Quantities.{halfPeriod, secondWeight}
+use Rattle.model.specs.Quantities.{halfPeriod, secondWeight, finer, speedSteps}
 use Rattle.model.specs.Leg.{Leg, feasible, required}
-use Rattle.model.specs.Motion.{startPosition, landingAcceleration, leg, displacement, requiredSum, reachable}
+use Rattle.model.specs.Motion.{startPosition, landingVelocity, landingAcceleration, arrivalVelocity, leg, displacement, requiredSum, reachable}
 use Rattle.model.specs.Job.{JobAxis, setAxes, unsetAxis}
 use Rattle.model.specs.Outcome.{allReach}
 use Rattle.model.specs.Refusals.{lastTick, AllPassed, Ready}
 use Rattle.profile.specs.declared.Profile.{Profile}
 use Rattle.profile.specs.declared.Regions.{Regions}
 use Rattle.profile.specs.Profiles.{legOf}
-use Rattle.profile.specs.Regions.{chosenRegions}
+use Rattle.profile.specs.Regions.{chosenRegions, velocityIn}
 use Rattle.profile.proofs.ChosenRegions.{chosen-within, chosen-ranged}
 use Rattle.motion.specs.Motions.{profileFor}
+use Rattle.model.proofs.Grid.{finer-range}
+use Rattle.model.proofs.CellLimits.{between}
 use Rattle.model.proofs.ReadyAxis.{some-acceleration, speed-range, moves}
-use Rattle.motion.proofs.ReadyAxis.{ready-after, ready-feasible, ready-ranges}
-use Rattle.motion.proofs.ReadyAxis.{start-position-within, landing-acceleration-within, profile-ranged}
+use Rattle.motion.proofs.ReadyAxis.{ready-after, ready-landed, ready-arrived, ready-feasible, ready-ranges}
+use Rattle.motion.proofs.ReadyAxis.{start-position-size, landing-acceleration-size, profile-ranged}
 use Rattle.rows.specs.declared.AxisPlan.{AxisPlan}
-use Rattle.rows.specs.Plans.{planOf, unsetPlan, planAt, axisPlans, setPlans, PlanRanges, AllRanged}
+use Rattle.rows.specs.Plans.{scale, planOf, unsetPlan, planAt, axisPlans, setPlans, arrivalOf, PlanRanges, Each}
+use Rattle.rows.specs.Tracks.{plannedAt}
+use Rattle.rows.proofs.Scale.{scale-some, scale-small, weight-is, weighed-within}
+use Rattle.rows.proofs.Velocities.{planned-before, planned-after}
 
-pub plan-ranges : {x : Axis} {n : ℕ} → Ready x n → PlanRanges (planOf n x)
-plan-ranges {x} {n} r =
-    record {
-      origin = record { within = omega (arith, start-position-within r .within) };
-      regions = chosen-ranged g d some steep slow can (profile-ranged r .ticks) (profile-ranged r .«acceleration_limit»);
-      some = some;
-      velocities = λ k h. record { within = omega (arith, chosen-within g d some steep slow can k h, slow) };
-      acceleration = landing-acceleration-within r;
-      «half_period» = ready-ranges r .«half_period»;
-      «second_weight» = ready-ranges r .«second_weight»;
-    }
-  where
-    g : Leg
-    g = leg x n
+module _ {x : Axis} {n : ℕ} (r : Ready x n) where
+  abbrev p : AxisPlan
+  p = planOf n x
 
-    d : ℤ
-    d = displacement x n
+  abbrev g : Leg
+  g = leg x n
 
-    some : 0 < g .ticks
-    some = let after = ready-after r in omega arith
+  abbrev d : ℤ
+  d = displacement x n
 
-    steep : 0 < g .accelerationLimit
-    steep = some-acceleration x n r
+  some : 0 < g .ticks
+  some = let after = ready-after r in omega arith
 
-    slow : g .speedLimit ≤ 2 ^ 37
-    slow = speed-range x n r
+  steep : 0 < g .accelerationLimit
+  steep = some-acceleration x n r
 
-    can : T (feasible g d)
-    can = moves x n r
+  slow : g .speedLimit ≤ 2 ^ 37
+  slow = speed-range x n r
+
+  can : T (feasible g d)
+  can = moves x n r
+
+  -- ---- the planned velocities, up to one tick after the arrival
+
+  -- L and M together, in fine steps
+  abbrev most : ℕ
+  most = 2 ^ 28 + 2 ^ 24
+
+  speed-most : speedSteps x ≤ finer x * 2 ^ 28
+  speed-most = mul-le-mul-left (finer x) (omega (arith, ready-ranges r .«speed_limit»))
+
+  within-speed : (v : ℤ) → natAbs v ≤ speedSteps x → natAbs v ≤ finer x * most
+  within-speed v h = omega (arith, h, speed-most)
+
+  -- one tick after the arrival
+  after-most : natAbs (landingVelocity x n +ℤ pos (halfPeriod x + 1) *ℤ landingAcceleration x n) ≤ finer x * most
+  after-most =
+      subst (λ (v : ℤ). natAbs v ≤ finer x * most) (sym (one-more (landingVelocity x n) (pos (halfPeriod x)) (landingAcceleration x n)))
+      (omega (arith, natAbs-+ (arrivalVelocity x n) (landingAcceleration x n), ready-arrived r, speed-most, landing-acceleration-size r))
+    where
+      one-more : (v h a : ℤ) → v +ℤ (h +ℤ pos 1) *ℤ a ≡ (v +ℤ h *ℤ a) +ℤ a
+      one-more v h a = same (v ∷ h ∷ a ∷ []) (search pol depth 20 fits 9000) tt
+
+  velocity-most : (k : ℕ) → k ≤ suc (arrivalOf p) → natAbs (plannedAt p k) ≤ finer x * most
+  velocity-most k h = go (decLt k (g .ticks))
+    where
+      go : Dec (k < g .ticks) → natAbs (plannedAt p k) ≤ finer x * most
+      go (Dec.yes l) =
+          subst (λ (v : ℤ). natAbs v ≤ finer x * most) (planned-before p k l)
+          (within-speed (velocityIn (p .regions) k) (chosen-within g d some steep slow can k l))
+      go (Dec.no l) =
+          subst (λ (v : ℤ). natAbs v ≤ finer x * most) (planned-after p k (omega arith))
+          (between (landingVelocity x n) (landingAcceleration x n) (k - g .ticks) (halfPeriod x + 1) (finer x * most) (omega arith)
+          (within-speed (landingVelocity x n) (ready-landed r)) after-most)
+
+  -- ---- the ranges
+
+  light-weight : secondWeight x ≤ 256
+  light-weight = omega (arith, ready-ranges r .«second_weight»)
+
+  pub plan-ranges : PlanRanges p
+  plan-ranges =
+      let after = ready-after r in
+      record {
+        light = omega (arith, weight-is x n light-weight, scale-small x);
+        weighs = omega (arith, weight-is x n light-weight, scale-some x);
+        origin = record { within = weighed-within x n (2 ^ 44) (startPosition x) light-weight (start-position-size r) };
+        regions = chosen-ranged g d some steep slow can (profile-ranged r .ticks) (profile-ranged r .«acceleration_limit»);
+        some = some;
+        velocities = λ k h. record { within = omega (arith, weighed-within x n most (plannedAt p k) light-weight (velocity-most k h)) };
+        acceleration = record { within = omega (arith, landing-acceleration-size r, mul-le-mul-right (2 ^ 24) (finer-range x .1)) };
+        «half_period» = ready-ranges r .«half_period»;
+        last = omega (arith, r .tick);
+      }
+
+  pub plan-arrives : n ≤ arrivalOf p
+  plan-arrives = omega arith
 
 -- ---- the plan of one axis, from its parts
 
@@ -64,13 +121,14 @@ module _ (x : Axis) (n : ℕ) (f : Profile) (d : ℤ) (same : f ≡ profileFor x
   pub plan-feasible : Ready x n → feasible (legOf f) d ≡ true
   plan-feasible r = ap₂ (λ (g : Profile) (e : ℤ). feasible (legOf g) e) same way ∙ ready-feasible r
 
-  -- a plan with the half period of the axis
-  abbrev planWith : ℤ → Regions → ℤ → ℕ → AxisPlan
-  planWith o c a b = record { origin = o; regions = c; acceleration = a; «half_period» = halfPeriod x; «second_weight» = b }
+  -- a plan with the blend of the axis: its second weight b, and both weights scaled by k
+  abbrev planWith : ℤ → Regions → ℤ → ℕ → ℕ → AxisPlan
+  planWith o c a b k =
+      record { origin = o; regions = c; acceleration = a; «half_period» = halfPeriod x; «first_weight» = k * (256 - b); «second_weight» = k * b }
 
-  pub plan-is : (o : ℤ) (c : Regions) (a : ℤ) (b : ℕ) → o ≡ startPosition x → c ≡ chosenRegions (legOf f) (required (legOf f) d)
-      → a ≡ landingAcceleration x n → b ≡ secondWeight x → planWith o c a b ≡ planOf n x
-  plan-is o c a b p q s t = λ i. planWith (p i) (velocities i) (s i) (t i)
+  pub plan-is : (o : ℤ) (c : Regions) (a : ℤ) (b k : ℕ) → o ≡ startPosition x → c ≡ chosenRegions (legOf f) (required (legOf f) d)
+      → a ≡ landingAcceleration x n → b ≡ secondWeight x → k ≡ scale x → planWith o c a b k ≡ planOf n x
+  plan-is o c a b k p q s u t = λ i. planWith (p i) (velocities i) (s i) (u i) (t i)
     where
       velocities : c ≡ chosenRegions (leg x n) (requiredSum x n)
       velocities = q ∙ ap₂ (λ (g : Profile) (e : ℤ). chosenRegions (legOf g) (required (legOf g) e)) same way
@@ -139,9 +197,13 @@ plans-all n i m rest axes plans e f h =
 abbrev pub plansFor : ℕ → List JobAxis → List AxisPlan
 plansFor n xs = map (λ (x : JobAxis). planOf n (x .axis)) xs
 
-pub all-ranged : (n : ℕ) (xs : List JobAxis) → AllReady n xs → AllRanged (plansFor n xs)
+pub all-ranged : (n : ℕ) (xs : List JobAxis) → AllReady n xs → Each PlanRanges (plansFor n xs)
 all-ranged n [] r = tt
 all-ranged n (x ∷ xs) r = (plan-ranges (r .0), all-ranged n xs (r .1))
+
+pub all-arrive : (n : ℕ) (xs : List JobAxis) → AllReady n xs → Each (λ p. n ≤ arrivalOf p) (plansFor n xs)
+all-arrive n [] r = tt
+all-arrive n (x ∷ xs) r = (plan-arrives (r .0), all-arrive n xs (r .1))
 
 -- ---- the plans that a mask names are those of the axes that it names
 

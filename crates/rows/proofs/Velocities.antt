@@ -11,6 +11,7 @@ use Rattle.profile.specs.Regions.{velocityIn}
 use Rattle.profile.proofs.ChosenRegions.{in-first}
 use Rattle.rows.specs.declared.AxisPlan.{AxisPlan}
 use Rattle.rows.specs.declared.Track.{Track}
+use Rattle.rows.specs.Plans.{weightOf}
 use Rattle.rows.specs.Tracks.{plannedAt, velocityBack, mix, blendedVelocity, blendedPosition, trackAt}
 use Rattle.rows.proofs.Blend.{mix-same}
 
@@ -68,22 +69,22 @@ module _ (p : AxisPlan) (k : ℕ) where
 
 -- ---- at tick 0
 
-velocity-0 : (p : AxisPlan) → 0 < p .regions .ticks → p .«second_weight» ≤ 256 → pos 256 *ℤ p .regions .start ≡ blendedVelocity p 0
+velocity-0 : (p : AxisPlan) → 0 < p .regions .ticks → pos (weightOf p) *ℤ p .regions .start ≡ blendedVelocity p 0
 unfolding blendedVelocity
-velocity-0 p some h =
-    sym (mix-same (p .«second_weight») (p .regions .start) h)
-    ∙ (λ i. mix (p .«second_weight») (planned-start p some i) (back-early p 0 some (omega arith) i))
+velocity-0 p some =
+    sym (mix-same (p .«first_weight») (p .«second_weight») (p .regions .start))
+    ∙ (λ i. mix (p .«first_weight») (p .«second_weight») (planned-start p some i) (back-early p 0 some (omega arith) i))
 
 pub track-0 : (p : AxisPlan) (q v : ℤ)
-    → q ≡ pos 256 *ℤ p .origin -ℤ pos 2 *ℤ (pos (p .«second_weight» * p .«half_period») *ℤ p .regions .start)
-    → v ≡ pos 256 *ℤ p .regions .start → 0 < p .regions .ticks → p .«second_weight» ≤ 256
+    → q ≡ pos (weightOf p) *ℤ p .origin -ℤ pos 2 *ℤ (pos (p .«second_weight» * p .«half_period») *ℤ p .regions .start)
+    → v ≡ pos (weightOf p) *ℤ p .regions .start → 0 < p .regions .ticks
     → _≡_ {A = Track} (record { position = q; velocity = v }) (trackAt p 0)
 unfolding blendedPosition
-track-0 p q v e f some h = λ i. record { position = e i; velocity = (f ∙ velocity-0 p some h) i }
+track-0 p q v e f some = λ i. record { position = e i; velocity = (f ∙ velocity-0 p some) i }
 
 -- ---- one tick on
 
-pub velocity-is : (p : AxisPlan) (k : ℕ) → mix (p .«second_weight») (plannedAt p k) (velocityBack p k) ≡ blendedVelocity p k
+pub velocity-is : (p : AxisPlan) (k : ℕ) → mix (p .«first_weight») (p .«second_weight») (plannedAt p k) (velocityBack p k) ≡ blendedVelocity p k
 unfolding blendedVelocity
 velocity-is p k = refl
 

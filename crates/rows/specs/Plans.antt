@@ -1,17 +1,23 @@
 -- The plan of an axis for an arrival, and the plan of a job with the ranges in which the code does not overflow (paper 01, "Planned motion",
 -- and "It plans 1 to 6 axes").
-use Prim.Native.Nat.{ℕ, _/_, _%_, _^_, _≤_, _<_}
+use Prim.Native.Nat.{ℕ, suc, _+_, _-_, _*_, _/_, _%_, _^_, _≤_, _<_}
 use Rattle.whole.specs.Ranges.{Within}
 use mathlib.Core.Bool.{true, false}
 use mathlib.Core.List.{List, [], _∷_}
 use lib.Dec.{eqb}
-use lib.IntN.{pos}
+use lib.IntN.{pos, _*ℤ_}
 use Rattle.model.specs.declared.Axis.{Axis}
-use Rattle.model.specs.Quantities.{halfPeriod, secondWeight}
+use Rattle.model.specs.Quantities.{halfPeriod, secondWeight, finer}
 use Rattle.model.specs.Motion.{leg, startPosition, landingAcceleration, requiredSum}
-use Rattle.profile.specs.Regions.{chosenRegions, velocityIn, RegionsRanged}
+use Rattle.model.specs.Refusals.{lastTick}
+use Rattle.profile.specs.Regions.{chosenRegions, RegionsRanged}
 use Rattle.rows.specs.declared.AxisPlan.{AxisPlan}
 use Rattle.rows.specs.declared.Plan.{Plan}
+use Rattle.rows.specs.Tracks.{plannedAt}
+
+-- steps of 1/65,536 unit in a grid step
+abbrev pub scale : Axis → ℕ
+scale x = 256 / finer x
 
 -- the plan of axis x for arrival n
 abbrev pub planOf : ℕ → Axis → AxisPlan
@@ -21,7 +27,8 @@ planOf n x =
       regions = chosenRegions (leg x n) (requiredSum x n);
       acceleration = landingAcceleration x n;
       «half_period» = halfPeriod x;
-      «second_weight» = secondWeight x;
+      «first_weight» = scale x * (256 - secondWeight x);
+      «second_weight» = scale x * secondWeight x;
     }
 
 -- what stands where the mask names no axis
@@ -33,6 +40,7 @@ unsetPlan =
           record { start = pos 0; rise = 0; up = pos 0; cruise = pos 0; raised = 0; end = pos 0; fall = 0; down = pos 0; ticks = 0 };
       acceleration = pos 0;
       «half_period» = 0;
+      «first_weight» = 0;
       «second_weight» = 0;
     }
 
@@ -60,15 +68,27 @@ plansOf plan = setPlans (plan .mask) (plan .axes)
 
 -- ---- ranges: those of an axis that passed the refusals of one axis and reaches the arrival, and wider
 
+-- N = T + h
+abbrev pub arrivalOf : AxisPlan → ℕ
+arrivalOf p = p .regions .ticks + p .«half_period»
+
+-- the two weights together
+abbrev pub weightOf : AxisPlan → ℕ
+weightOf p = p .«first_weight» + p .«second_weight»
+
+-- positions and velocities are small as the blend weighs them, whatever the grid is
 pub record PlanRanges (p : AxisPlan) : Type 0 where
-  pub origin : Within (2 ^ 50) (p .origin)
+  pub light : weightOf p ≤ 2 ^ 16
+  pub weighs : 256 ≤ weightOf p
+  pub origin : Within (2 ^ 60) (pos (weightOf p) *ℤ p .origin)
   pub regions : RegionsRanged (p .regions)
   pub some : 0 < p .regions .ticks
-  pub velocities : (k : ℕ) → k < p .regions .ticks → Within (2 ^ 37) (velocityIn (p .regions) k)
-  pub acceleration : Within (2 ^ 24) (p .acceleration)
+  pub velocities : (k : ℕ) → k ≤ suc (arrivalOf p) → Within (2 ^ 45) (pos (weightOf p) *ℤ plannedAt p k)
+  pub acceleration : Within (2 ^ 32) (p .acceleration)
   pub «half_period» : p .«half_period» ≤ 256
-  pub «second_weight» : p .«second_weight» ≤ 128
+  pub last : arrivalOf p ≤ lastTick
 
-abbrev pub AllRanged : List AxisPlan → Type 0
-AllRanged [] = Unit
-AllRanged (p ∷ ps) = PlanRanges p × AllRanged ps
+-- what holds of every plan of a list
+abbrev pub Each : (AxisPlan → Type 0) → List AxisPlan → Type 0
+Each Q [] = Unit
+Each Q (p ∷ ps) = Q p × Each Q ps

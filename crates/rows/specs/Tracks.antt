@@ -1,6 +1,6 @@
 -- One axis tick by tick, over its plan: the planned velocities, their blend, and the cells of a row (paper 01, rules 1, 2, 3 and 5, and "Blend
 -- and rows").
-use Prim.Native.Nat.{ℕ, zero, suc, _-_, _*_}
+use Prim.Native.Nat.{ℕ, zero, suc, _+_, _-_, _*_}
 use mathlib.Core.Bool.{true, false}
 use mathlib.Core.List.{List, [], _∷_}
 use lib.Dec.{ltb}
@@ -24,18 +24,18 @@ plannedAt p k =
 unfoldable pub velocityBack : AxisPlan → ℕ → ℤ
 velocityBack p k = elim (ltb k (p .«half_period»)) [ true ↦ p .regions .start | false ↦ plannedAt p (k - p .«half_period») ]
 
--- ---- the blend, times 256
+-- ---- the blend, by the weights of the plan
 
--- A × now + B × before, where A = 256 − B
-abbrev pub mix : ℕ → ℤ → ℤ → ℤ
-mix b x y = pos (256 - b) *ℤ x +ℤ pos b *ℤ y
+abbrev pub mix : ℕ → ℕ → ℤ → ℤ → ℤ
+mix a b x y = pos a *ℤ x +ℤ pos b *ℤ y
 
 unfoldable pub blendedVelocity : AxisPlan → ℕ → ℤ
-blendedVelocity p k = mix (p .«second_weight») (plannedAt p k) (velocityBack p k)
+blendedVelocity p k = mix (p .«first_weight») (p .«second_weight») (plannedAt p k) (velocityBack p k)
 
--- at tick 0 the planned position, less B times the way 2hv₀ of the half period before it; each tick goes on by the velocities at its two ends
+-- at tick 0 the planned position, less the second weight times the way 2hv₀ of the half period before it; each tick goes on by the velocities at its
+-- two ends
 unfoldable pub blendedPosition : AxisPlan → ℕ → ℤ
-blendedPosition p zero = pos 256 *ℤ p .origin -ℤ pos 2 *ℤ (pos (p .«second_weight» * p .«half_period») *ℤ p .regions .start)
+blendedPosition p zero = pos (p .«first_weight» + p .«second_weight») *ℤ p .origin -ℤ pos 2 *ℤ (pos (p .«second_weight» * p .«half_period») *ℤ p .regions .start)
 blendedPosition p (suc k) = blendedPosition p k +ℤ blendedVelocity p k +ℤ blendedVelocity p (suc k)
 
 abbrev pub trackAt : AxisPlan → ℕ → Track
@@ -44,7 +44,7 @@ trackAt p k = record { position = blendedPosition p k; velocity = blendedVelocit
 -- ---- the cells of a row: from the tracks at its tick and one tick on
 
 abbrev pub cellsOf : Track → Track → List ℤ
-cellsOf t u = nearest (t .position) 512 ∷ nearest (t .velocity) 256 ∷ nearest (u .velocity -ℤ t .velocity) 256 ∷ []
+cellsOf t u = nearest (t .position) 131072 ∷ nearest (t .velocity) 65536 ∷ nearest (u .velocity -ℤ t .velocity) 65536 ∷ []
 
 abbrev pub axisCells : ℕ → AxisPlan → List ℤ
 axisCells k p = cellsOf (trackAt p k) (trackAt p (suc k))

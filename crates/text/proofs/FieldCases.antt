@@ -4,6 +4,7 @@ use mathlib.Core.List.{flatten}
 use lib.IntN.{pos}
 use lib.ListN.{replicate}
 use Rattle.whole.specs.Lists.{upTo}
+use Rattle.model.specs.Quantities.{finer}
 use Rattle.model.specs.Leg.{cruise}
 use Rattle.model.specs.Outcome.{words, call}
 use Rattle.model.specs.Cases.{wordsC, one, restTo}
@@ -11,9 +12,9 @@ use Rattle.text.specs.Printed.{ascii, decimal, signed, labelled, cellTex
 
 pub printed-C : printed (call (words wordsC) (replicate 8192 (pos 0)))
     ≡ ascii "arrival 4\n0 0 0 86\n1 43 86 -1\n2 129 85 0\n3 214 85 -85\n4 256 0 0\n"
-unfolding cruise flatten upTo decimal signed labelled cellText rowLine arrivalLine printed
+unfolding cruise finer flatten upTo decimal signed labelled cellText rowLine arrivalLine printed
 printed-C = refl
 
 pub printed-E : printed (call (one 3 (restTo 4)) (replicate 8192 (pos 0))) ≡ ascii "refused 8 place 0 axes 1 arrival 0\n"
-unfolding cruise decimal labelled refusalLine printed
+unfolding cruise finer decimal labelled refusalLine printed
 printed-E = refl

@@ -1,8 +1,9 @@
 -- The small tours, by computation.
 use mathlib.Core.Path.{refl}
+use Rattle.model.specs.Quantities.{finer}
 use Rattle.model.specs.Outcome.{answerOf}
 use Rattle.tour.specs.Cases.{Small}
 
 pub small : Small
-unfolding answerOf
+unfolding answerOf finer
 small = refl

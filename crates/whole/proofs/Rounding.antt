@@ -1,14 +1,14 @@
 -- Division rounded down, to the nearest and, as the machine divides, toward zero. Theorems that hold whichever way a half is
 -- rounded take no more of `nearest` than `nearest-half`: it is off by a half at most.
-use mathlib.Core.Path.{_≡_, refl, sym, ap, _∙_}
+use mathlib.Core.Path.{_≡_, refl, sym, ap, ap₂, _∙_}
 use mathlib.Core.Logic.{⊎-elim, _↔_}
 use Prim.Native.Nat.{ℕ, zero, suc, _+_, _*_, _/_, _%_, _<_, _≤_}
 use native.Mathlib.Omega.{arith}
-use native.Mathlib.Nat.{div-add-mod, mod-lt, div-eq-of-lt, div-eq-of-lt-le}
+use native.Mathlib.Nat.{div-add-mod, mod-lt, div-eq-of-lt, div-eq-of-lt-le, mul-div-mul-left, mul-le-mul}
 use lib.IntN.{ℤ, pos, negsuc, negℤ, natAbs, _+ℤ_, _-ℤ_, _*ℤ_, negℤ-negℤ}
 use lib.Signed.{_≤ℤ_, _<ℤ_, ≤ℤ-refl, shrZ, quotZ}
 use Rattle.whole.specs.Integers.{nearest, nearestSize}
-use Rattle.whole.proofs.Differences.{whole, all₁, all₂, all₃, all₄}
+use Rattle.whole.proofs.Differences.{whole, all₁, all₂, all₄}
 use Rattle.whole.proofs.Laws.{*ℤ-mono, ≤ℤ-total, ≤ℤ-antisym, next-≤ℤ, natAbs-*, natAbs-iff}
 
 not-negative : (m : ℕ) → pos 0 ≤ℤ pos m
@@ -80,6 +80,15 @@ size-half a d h =
     (omega (arith, div-add-mod (2 * a + d) (2 * d)))
     (omega (arith, div-add-mod (2 * a + d) (2 * d), mod-lt (2 * a + d) (double-some d h)))
 
+size-times : (c a d : ℕ) → 0 < c → nearestSize (c * a) (c * d) ≡ nearestSize a d
+size-times c a d h = ap₂ _/_ (above c a d) (below c d) ∙ mul-div-mul-left (2 * a + d) (2 * d) h
+  where
+    above : (c a d : ℕ) → 2 * (c * a) + c * d ≡ c * (2 * a + d)
+    above c a d = omega arith
+
+    below : (c d : ℕ) → 2 * (c * d) ≡ c * (2 * d)
+    below c d = omega arith
+
 pub nearest-half : (x : ℤ) (d : ℕ) → 0 < d → WithinHalf x d (nearest x d)
 nearest-half (pos a) d h = size-half a d h
 nearest-half (negsuc a) d h = half-neg d (pos (suc a)) (pos (nearestSize (suc a) d)) (size-half (suc a) d h)
@@ -89,6 +98,12 @@ pub nearest-neg : (x : ℤ) (d : ℕ) → 0 < d → nearest (negℤ x) d ≡ neg
 nearest-neg (pos zero) d h = let z : nearestSize 0 d ≡ 0 = div-eq-of-lt (omega arith) in ap (λ (n : ℕ). pos n) z ∙ sym (ap (λ (n : ℕ). negℤ (pos n)) z)
 nearest-neg (pos (suc a)) d h = refl
 nearest-neg (negsuc a) d h = sym (negℤ-negℤ (pos (nearestSize (suc a) d)))
+
+-- both numbers times c
+pub nearest-times : (c : ℕ) (x : ℤ) (d : ℕ) → 0 < c → 0 < d → nearest (pos c *ℤ x) (c * d) ≡ nearest x d
+nearest-times c (pos a) d h k = ap pos (size-times c a d h)
+nearest-times c (negsuc a) d h k =
+    nearest-neg (pos (c * suc a)) (c * d) (mul-le-mul h k) ∙ ap (λ (n : ℕ). negℤ (pos n)) (size-times c (suc a) d h)
 
 -- a whole number is its own nearest
 half-whole : {z : ℤ} {d : ℕ} {r : ℤ} → 0 < d → WithinHalf (pos d *ℤ z) d r → r ≡ z

@@ -5,7 +5,7 @@
 use outside::jobs::{self, Reach};
 use outside::library;
 use outside::random::Random;
-use outside::reference::{Axis, Exact, Job, Planned};
+use outside::reference::{Axis, Job, Planned};
 use outside::swing;
 
 /// The cells of one axis of a table, a row each.
@@ -64,20 +64,19 @@ fn sway_is_cancelled(random: &mut Random, axis: &Axis, arrival: usize, rows: &[[
 /// The cells are those of the exact blend, and of the negated blend negated.
 fn cells_are_rounded_alike(planned: &Planned, axis: &Axis, rows: &[[i64; 3]]) {
     for (k, row) in rows.iter().enumerate() {
-        let Exact { position, velocity, acceleration } = planned.exact(axis, k as i64);
-        let negated = Exact { position: -position, velocity: -velocity, acceleration: -acceleration };
+        let negated = planned.exact(axis, k as i64).negated();
         assert_eq!(negated.cells().map(|cell| -cell), *row, "{axis:?} row {k}");
     }
 }
 
-/// Tries `count` jobs of a reach; answers how many axes were landed, and how many swing lists that are not zero were
-/// tried on undamped and on damped axes.
-fn run(seed: u64, reach: Reach, count: usize, lists: usize) -> [usize; 3] {
+/// Tries `count` jobs; answers how many axes were landed, how many swing lists that are not zero were tried on undamped
+/// and on damped axes, and how many of the latter's targets accelerate.
+fn run(seed: u64, draw: fn(&mut Random) -> Job, count: usize, lists: usize) -> [usize; 4] {
     let mut random = Random::new(seed);
     let mut table = vec![0; 3 * 6 * 4_097];
-    let mut tried = [0; 3];
+    let mut tried = [0; 4];
     for _ in 0..count {
-        let job: Job = jobs::job(&mut random, reach);
+        let job = draw(&mut random);
         if job.searches_past(100) {
             continue;
         }
@@ -100,28 +99,35 @@ fn run(seed: u64, reach: Reach, count: usize, lists: usize) -> [usize; 3] {
             tried[0] += 1;
             if axis.half_period > 0 {
                 let kind = if axis.weight() == 128 { 1 } else { 2 };
+                tried[3] += usize::from(kind == 2 && axis.target.acceleration() != 0);
                 tried[kind] += sway_is_cancelled(&mut random, axis, arrival, &rows, lists);
             }
         }
     }
-    eprintln!("{reach:?}: axes, undamped and damped lists {tried:?}");
+    eprintln!("axes, undamped and damped lists, damped axes after accelerating targets {tried:?}");
     tried
 }
 
 #[test]
 fn near_jobs_meet_demand_3() {
-    let tried = run(11, Reach::Near, 10_000, 3);
-    assert!(tried.iter().all(|&n| n > 1_000), "{tried:?}");
+    let tried = run(11, |random| jobs::job(random, Reach::Near), 10_000, 3);
+    assert!(tried[..3].iter().all(|&n| n > 1_000) && tried[3] > 50, "{tried:?}");
 }
 
 #[test]
 fn quick_jobs_meet_demand_3() {
-    let tried = run(12, Reach::Quick, 5_000, 3);
-    assert!(tried.iter().all(|&n| n > 500), "{tried:?}");
+    let tried = run(12, |random| jobs::job(random, Reach::Quick), 5_000, 3);
+    assert!(tried[..3].iter().all(|&n| n > 500) && tried[3] > 30, "{tried:?}");
 }
 
 #[test]
 fn asked_jobs_meet_demand_3() {
-    let tried = run(13, Reach::Asked, 1_000, 2);
+    let tried = run(13, |random| jobs::job(random, Reach::Asked), 1_000, 2);
     assert!(tried[0] > 200 && tried[1] > 100 && tried[2] > 10, "{tried:?}");
+}
+
+#[test]
+fn chasing_jobs_meet_demand_3() {
+    let tried = run(14, jobs::chasing_job, 600, 2);
+    assert!(tried[3] > 50, "{tried:?}");
 }

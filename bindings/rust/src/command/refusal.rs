@@ -67,9 +67,6 @@ fn cause(sheet: &Sheet, refusal: &Refusal) -> String {
         Refusal::Damping { .. } => format!("the damping of {title} as measured is outside its range"),
         Refusal::Blend { .. } => format!("the half period or weight of {title} is outside its range"),
         Refusal::StartOrTarget { .. } => format!("start or target of {title} is outside its range"),
-        Refusal::AcceleratingTarget { .. } => {
-            format!("the target of {title} accelerates while the swing of its pole shrinks")
-        }
         Refusal::Windows { .. } => "the windows cannot be used as they stand".into(),
         Refusal::NotReachable { axes } if axes.is_empty() => {
             let asked = sheet.job.arrival.number();
@@ -105,9 +102,6 @@ fn remedy(sheet: &Sheet, refusal: &Refusal) -> String {
         Refusal::Limits { .. } => "enter what the motor allows, within the range".into(),
         Refusal::Damping { .. } | Refusal::Blend { .. } => "tap again and enter what the pole does".into(),
         Refusal::StartOrTarget { .. } => "enter where the axis is and goes, within what its limits allow".into(),
-        Refusal::AcceleratingTarget { .. } => {
-            "enter target acceleration 0, or weight 128 where the swing does not shrink".into()
-        }
         Refusal::Windows { .. } => {
             format!(
                 "enter 1 to {MOST_WINDOWS} windows in the order of their ticks, and a dwell from 0 to {LONGEST_DWELL}"
@@ -267,7 +261,6 @@ fn concerns(refusal: &Refusal) -> &'static [WordKind] {
     use WordKind::*;
     match refusal {
         Refusal::NotReachable { .. } => &[SpeedLimit, AccelerationLimit],
-        Refusal::AcceleratingTarget { .. } => &[HalfPeriod, SecondWeight, TargetAcceleration],
         Refusal::NoCommonArrival { .. } => &[SpeedLimit, AccelerationLimit, StartPosition, TargetPosition],
         _ => &[],
     }

@@ -54,9 +54,7 @@ impl SheetLine {
         match refusal {
             Refusal::Damping { .. } | Refusal::Blend { .. } => SheetLine::TapThePole,
             Refusal::Mask | Refusal::Limits { .. } => SheetLine::EnterLimits,
-            Refusal::StartOrTarget { .. } | Refusal::AcceleratingTarget { .. } | Refusal::NoCommonArrival { .. } => {
-                SheetLine::EnterStartAndTarget
-            }
+            Refusal::StartOrTarget { .. } | Refusal::NoCommonArrival { .. } => SheetLine::EnterStartAndTarget,
             Refusal::AskedArrival
             | Refusal::Windows { .. }
             | Refusal::NotReachable { .. }

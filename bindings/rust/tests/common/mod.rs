@@ -71,7 +71,7 @@ impl Random {
         let second_weight = if self.once_in(2) { 128 } else { self.between(1, 128) };
         let half_period = if self.once_in(4) { 0 } else { self.small(60) };
         let start = RestPoint { position: self.between(-3000, 3000), velocity: self.velocity(speed_limit) };
-        let accelerates = self.once_in(3) && (half_period == 0 || second_weight == 128);
+        let accelerates = self.once_in(3);
         let state = State {
             position: self.between(-3000, 3000),
             velocity: self.velocity(speed_limit),

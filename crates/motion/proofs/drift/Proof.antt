@@ -1,34 +1,19 @@
-use Prim.Native.Nat.{_^_}
-use mathlib.Core.Path.{refl, sym, ap, subst}
-use native.Mathlib.Omega.{arith}
-use Rattle.whole.specs.Ranges.{Within}
-use Rattle.whole.proofs.Bounds.{sfits, computed, is-of, then-is}
-use Rattle.model.specs.declared.Target.{Target}
-use Rattle.motion.specs.Motions.{speedOf, drift}
+use Rattle.whole.proofs.Bounds.{sfits, exact, is-of}
 use borrow.Author.Needs.{needs}
 use Rattle.motion.proofs.drift.Statement.{statement}
 use Rattle.motion.proofs.drift.Tie as tie
 
-enum-told : tie.Need-enum-told
-enum-told c = search needs
+grid-steps-requires : tie.Need-grid-steps-requires
+grid-steps-requires c κs = search needs
 
-enum-known-target : tie.Need-enum-known-target
-enum-known-target c = search needs
+drift-of-requires : tie.Need-drift-of-requires
+drift-of-requires c κs = c .before .pre
 
 mul-result : tie.Need-mul-result
-mul-result c =
-    let g = c .before .before .target .given in
-    let w = subst (λ (t : Target). Within (2 ^ 20) (speedOf t)) (g .1) (c .before .before .before .before .pre) in
-    sfits (search computed depth 9) tt
+mul-result c = sfits (search exact depth 20) tt
 
 returns : tie.Need-returns
-returns c = then-is (record { is = refl; within = omega arith }) (sym (ap drift (c .enum-told .given .1)))
-
-returns-2 : tie.Need-returns-2
-returns-2 c =
-    let g = c .before .before .target .given in
-    let w = subst (λ (t : Target). Within (2 ^ 20) (speedOf t)) (g .1) (c .before .before .before .before .pre) in
-    then-is (is-of (search computed depth 9) tt) (sym (ap drift (g .1)))
+returns c = is-of (search exact depth 30) tt
 
 pub drift-spec : {M : Type 1} → statement M
-drift-spec = tie.close (tie.spec enum-told enum-known-target mul-result returns returns-2)
+drift-spec = tie.close (tie.spec grid-steps-requires drift-of-requires mul-result returns)

@@ -124,9 +124,9 @@ returns-2 c =
     let way = far ∙ ap (λ (z : ℤ). z -ℤ startPosition x) (l .ensures .position .is) in
     let sum : toZ w64 (ofZ w64 (d .required .result)) ≡ requiredSum x n =
     exactly (search computed depth 9) tt ∙ (λ i. required (legOf (f .ensures .is i)) (way i)) in
-    let change : toZ w64 (ofZ w64 (c .before .drift .result)) ≡ drift (x .target) = exactly (search computed depth 9) tt in
+    let change : toZ w64 (ofZ w64 (c .before .drift .result)) ≡ drift x = exactly (search computed depth 9) tt in
     next-arrival x (a .pre .0) (a .pre .1 .0) (a .args .n) (a .args .last) n (c .next-feasible .result) (b .before .first-after .ensures) (b .if1 .left)
-    (subst (λ (p : Profile). Next (betweenAt (legOf p) (requiredSum x n) (drift (x .target))) (p .ticks) (a .args .last - halfPeriod x)
+    (subst (λ (p : Profile). Next (betweenAt (legOf p) (requiredSum x n) (drift x)) (p .ticks) (a .args .last - halfPeriod x)
     (c .next-feasible .result))
     (f .ensures .is)
     (subst (λ (t : ℕ → Bool). Next t (f .result .ticks) (a .args .last - halfPeriod x) (c .next-feasible .result))

@@ -12,6 +12,9 @@ velocity-at-requires c κs = search needs
 shift-requires : tie.Need-shift-requires
 shift-requires c κs = search needs
 
+grid-steps-requires : tie.Need-grid-steps-requires
+grid-steps-requires c κs = search needs
+
 mul-result : tie.Need-mul-result
 mul-result c = sfits (search computed depth 20 fits 9000) tt
 
@@ -24,6 +27,9 @@ mul-result-3 c = sfits (search computed depth 20 fits 9000) tt
 add-result : tie.Need-add-result
 add-result c = sfits (search computed depth 20 fits 9000) tt
 
+mul-result-4 : tie.Need-mul-result-4
+mul-result-4 c = sfits (search computed depth 20 fits 9000) tt
+
 returns : tie.Need-returns
 returns c = is-of (search computed depth 30 fits 9000) tt
 
@@ -34,8 +40,10 @@ planned-position-spec =
     twice-position-at-requires
     velocity-at-requires
     shift-requires
+    grid-steps-requires
     mul-result
     mul-result-2
     mul-result-3
     add-result
+    mul-result-4
     returns)

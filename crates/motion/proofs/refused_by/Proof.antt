@@ -19,9 +19,6 @@ blend-refused-requires c κs = search needs
 values-refused-requires : tie.Need-values-refused-requires
 values-refused-requires c κs = search needs
 
-acceleration-refused-requires : tie.Need-acceleration-refused-requires
-acceleration-refused-requires c κs = search needs
-
 returns : tie.Need-returns
 returns c = c .limits-refused .ensures ∙ sym (ap (λ (k : ℕ). refusalTest k (c .before .before .args .x)) (c .before .match .keys1))
 
@@ -35,13 +32,9 @@ returns-4 : tie.Need-returns-4
 returns-4 c = c .values-refused .ensures ∙ sym (ap (λ (k : ℕ). refusalTest k (c .before .before .args .x)) (c .before .match .keys4))
 
 returns-5 : tie.Need-returns-5
-returns-5 c = c .acceleration-refused .ensures ∙ sym (ap (λ (k : ℕ). refusalTest k (c .before .before .args .x)) (c .before .match .keys5))
-
-returns-6 : tie.Need-returns-6
-returns-6 c =
+returns-5 c =
     let r = c .match .rest in
-    absent-passes axisRefusals (c .before .args .number) (c .before .args .x)
-    (r .0 .0 .0 .0 .1, (r .0 .0 .0 .1, (r .0 .0 .1, (r .0 .1, (r .1, tt)))))
+    absent-passes axisRefusals (c .before .args .number) (c .before .args .x) (r .0 .0 .0 .1, (r .0 .0 .1, (r .0 .1, (r .1, tt))))
 
 pub refused-by-spec : {M : Type 1} → statement M
 refused-by-spec =
@@ -51,10 +44,8 @@ refused-by-spec =
     damping-refused-requires
     blend-refused-requires
     values-refused-requires
-    acceleration-refused-requires
     returns
     returns-2
     returns-3
     returns-4
-    returns-5
-    returns-6)
+    returns-5)

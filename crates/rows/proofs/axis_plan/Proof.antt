@@ -1,4 +1,4 @@
-use Prim.Native.Nat.{_<_}
+use Prim.Native.Nat.{ℕ, _-_, _<_, _≤_}
 use mathlib.Core.Path.{_≡_, sym, ap, subst, _∙_}
 use Rattle.whole.proofs.Bounds.{exact, exactly, within}
 use borrow.Author.Needs.{needs}
@@ -6,10 +6,13 @@ use lib.IntN.{ℤ, _-ℤ_}
 use mir.Syntax.{w64}
 use mir.Val.{toZ, ofZ}
 use Rattle.model.specs.Motion.{startPosition, displacement}
+use native.Mathlib.Omega.{arith}
+use native.Mathlib.Nat.{mul-le-mul}
 use Rattle.model.proofs.ReadyAxis.{some-acceleration}
 use Rattle.profile.specs.declared.Profile.{Profile}
 use Rattle.motion.specs.Motions.{profileFor}
-use Rattle.motion.proofs.ReadyAxis.{ready-after, ready-landed}
+use Rattle.motion.proofs.ReadyAxis.{ready-after, ready-landed, ready-ranges}
+use Rattle.rows.proofs.Scale.{scale-small}
 use Rattle.rows.proofs.ReadyAxes.{plan-feasible, plan-is}
 use Rattle.rows.proofs.axis_plan.Statement.{statement}
 use Rattle.rows.proofs.axis_plan.Tie as tie
@@ -59,14 +62,42 @@ start-position-requires c κs = search needs
 second-weight-requires : tie.Need-second-weight-requires
 second-weight-requires c κs = search needs
 
+weight-scale-requires : tie.Need-weight-scale-requires
+weight-scale-requires c κs = search needs
+
+-- the second weight, and the scale of both
+light : (c : tie.After-second-weight) → c .second-weight .result ≤ 128
+light c =
+    let ready = c .before .before .before .before .before .before .before .pre in
+    subst (λ (b : ℕ). b ≤ 128) (sym (c .second-weight .ensures)) (ready-ranges ready .«second_weight»)
+
+small : (c : tie.After-weight-scale) → c .weight-scale .result ≤ 256
+small c =
+    let x = c .before .before .before .before .before .before .before .before .args .x in
+    subst (λ (s : ℕ). s ≤ 256) (sym (c .weight-scale .ensures)) (scale-small x)
+
+sub-t11 : tie.Need-sub-t11
+sub-t11 c = omega (arith, light (c .before))
+
+mul-t12 : tie.Need-mul-t12
+mul-t12 c =
+    let l : 256 - c .before .second-weight .result ≤ 256 = omega arith in
+    omega (arith, mul-le-mul (small c) l)
+
+mul-t13 : tie.Need-mul-t13
+mul-t13 c =
+    let l = light (c .before) in
+    omega (arith, l, mul-le-mul (small c) l)
+
 returns : tie.Need-returns
 returns c =
-    let d = c .before .before .before .before in
+    let d = c .before .before .before .before .before in
     let a = d .before .before .before in
     let l = d .before .before .landing-at .ensures in
     let f = d .before .profile-of in
-    plan-is (a .args .x) (a .args .n) (f .result) _ (f .ensures .is) (way d) _ _ _ _
-    (exactly (search exact depth 9) tt) (c .before .before .before .chosen .ensures) (exactly (search exact depth 9) tt) (c .second-weight .ensures)
+    plan-is (a .args .x) (a .args .n) (f .result) _ (f .ensures .is) (way d) _ _ _ _ _
+    (exactly (search exact depth 9) tt) (c .before .before .before .before .chosen .ensures) (exactly (search exact depth 9) tt)
+    (c .before .second-weight .ensures) (c .weight-scale .ensures)
 
 pub axis-plan-spec : {M : Type 1} → statement M
 axis-plan-spec =
@@ -78,4 +109,8 @@ axis-plan-spec =
     chosen-requires
     start-position-requires
     second-weight-requires
+    weight-scale-requires
+    sub-t11
+    mul-t12
+    mul-t13
     returns)

@@ -2,7 +2,7 @@ use mathlib.Core.Path.{_∙_}
 use borrow.Author.Needs.{needs}
 use Rattle.model.specs.Job.{setAxes}
 use Rattle.rows.proofs.ReadyAxes.{AllReady, all-ready}
-use Rattle.rows.proofs.JobTable.{plan-ranged, plan-arrives, plan-fits, plan-rows}
+use Rattle.rows.proofs.JobTable.{plan-ranged, plans-arrive, plan-arrives, plan-fits, plan-rows}
 use Rattle.rows.proofs.fill_table.Statement.{statement}
 use Rattle.rows.proofs.fill_table.Tie as tie
 
@@ -19,8 +19,11 @@ fill-requires c κs =
     let p = c .before .plan-for in (
       plan-ranged (a .args .mask) (a .args .n) (a .args .axes) (ready a) (p .result) (p .ensures),
       (
-        plan-arrives (a .args .mask) (a .args .n) (a .args .axes) (ready a) (p .result) (p .ensures) (a .pre .1 .0),
-        plan-fits (a .args .mask) (a .args .n) (a .args .axes) (ready a) (p .result) (p .ensures) (a .args .table .now) (a .pre .1 .1 .1),
+        plans-arrive (a .args .mask) (a .args .n) (a .args .axes) (ready a) (p .result) (p .ensures),
+        (
+          plan-arrives (a .args .mask) (a .args .n) (a .args .axes) (ready a) (p .result) (p .ensures) (a .pre .1 .0),
+          plan-fits (a .args .mask) (a .args .n) (a .args .axes) (ready a) (p .result) (p .ensures) (a .args .table .now) (a .pre .1 .1 .1),
+        ),
       ),
     )
 

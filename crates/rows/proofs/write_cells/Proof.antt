@@ -17,8 +17,8 @@ use Rattle.rows.proofs.write_cells.Tie as tie
 sub-acceleration : tie.Need-sub-acceleration
 sub-acceleration c = sfits (search exact depth 20) tt
 
-nearest-512-requires : tie.Need-nearest-512-requires
-nearest-512-requires c κs = within (search exact depth 20) tt
+nearest-131072-requires : tie.Need-nearest-131072-requires
+nearest-131072-requires c κs = within (search exact depth 20) tt
 
 mul-table : tie.Need-mul-table
 mul-table c = search needs
@@ -26,8 +26,8 @@ mul-table c = search needs
 slice-set-from-table : tie.Need-slice-set-from-table
 slice-set-from-table c = search needs
 
-nearest-256-requires : tie.Need-nearest-256-requires
-nearest-256-requires c κs = within (search exact depth 20) tt
+nearest-65536-requires : tie.Need-nearest-65536-requires
+nearest-65536-requires c κs = within (search exact depth 20) tt
 
 add-table : tie.Need-add-table
 add-table c = search needs
@@ -38,8 +38,8 @@ mul-table-2 c = search needs
 slice-set-from-table-2 : tie.Need-slice-set-from-table-2
 slice-set-from-table-2 c = simp length-set (omega arith)
 
-nearest-256-requires-2 : tie.Need-nearest-256-requires-2
-nearest-256-requires-2 c κs = within (search exact depth 20) tt
+nearest-65536-requires-2 : tie.Need-nearest-65536-requires-2
+nearest-65536-requires-2 c κs = within (search exact depth 20) tt
 
 add-t11 : tie.Need-add-t11
 add-t11 c = search needs
@@ -58,19 +58,19 @@ returns c =
     let a = c .before .before .before .before .before .before .before in
     let t = a .args .t in
     let u = a .args .u in
-    let p = c .before .before .nearest-512 in
-    let v = c .before .nearest-256 in
-    let w = c .nearest-2562 in
+    let p = c .before .before .nearest-131072 in
+    let v = c .before .nearest-65536 in
+    let w = c .nearest-655362 in
     let position : toZ w64 (ofZ w64 (t .position)) ≡ t .position = exactly (search exact depth 20) tt in
     let velocity : toZ w64 (ofZ w64 (t .velocity)) ≡ t .velocity = exactly (search exact depth 20) tt in
     let difference : ℤ = toZ w64 (ofZ w64 (u .velocity)) -ℤ toZ w64 (ofZ w64 (t .velocity)) in
     let acceleration : toZ w64 (ofZ w64 difference) ≡ u .velocity -ℤ t .velocity = exactly (search exact depth 20) tt in
-    let first : toZ w64 (ofZ w64 (p .result)) ≡ nearest (t .position) 512 =
-    back-id (record { sfits = p .ok }) ∙ p .ensures ∙ ap (λ (z : ℤ). nearest z 512) position in
-    let second : toZ w64 (ofZ w64 (v .result)) ≡ nearest (t .velocity) 256 =
-    back-id (record { sfits = v .ok }) ∙ v .ensures ∙ ap (λ (z : ℤ). nearest z 256) velocity in
-    let third : toZ w64 (ofZ w64 (w .result)) ≡ nearest (u .velocity -ℤ t .velocity) 256 =
-    back-id (record { sfits = w .ok }) ∙ w .ensures ∙ ap (λ (z : ℤ). nearest z 256) acceleration in
+    let first : toZ w64 (ofZ w64 (p .result)) ≡ nearest (t .position) 131072 =
+    back-id (record { sfits = p .ok }) ∙ p .ensures ∙ ap (λ (z : ℤ). nearest z 131072) position in
+    let second : toZ w64 (ofZ w64 (v .result)) ≡ nearest (t .velocity) 65536 =
+    back-id (record { sfits = v .ok }) ∙ v .ensures ∙ ap (λ (z : ℤ). nearest z 65536) velocity in
+    let third : toZ w64 (ofZ w64 (w .result)) ≡ nearest (u .velocity -ℤ t .velocity) 65536 =
+    back-id (record { sfits = w .ok }) ∙ w .ensures ∙ ap (λ (z : ℤ). nearest z 65536) acceleration in
     sym (over-three (a .args .table .now) (a .args .at) _ _ _ (omega arith))
     ∙ (λ i. over (a .args .table .now) (a .args .at) (first i ∷ second i ∷ third i ∷ []))
 
@@ -79,14 +79,14 @@ write-cells-spec =
     tie.close
     (tie.spec
     sub-acceleration
-    nearest-512-requires
+    nearest-131072-requires
     mul-table
     slice-set-from-table
-    nearest-256-requires
+    nearest-65536-requires
     add-table
     mul-table-2
     slice-set-from-table-2
-    nearest-256-requires-2
+    nearest-65536-requires-2
     add-t11
     mul-t9
     slice-set-from-table-3

@@ -3,7 +3,7 @@
 use super::dampings::damping;
 use super::{Reach, POSITION_GREATEST, POSITION_LEAST};
 use crate::random::Random;
-use crate::reference::{Axis, Damping, Job, Target, LATEST, UNSET};
+use crate::reference::{Axis, Job, Target, LATEST, UNSET};
 
 /// A number whose count of bits is random, at most `greatest`, at least 1.
 fn some_size(random: &mut Random, greatest: i64) -> i64 {
@@ -19,11 +19,10 @@ fn half_period(random: &mut Random, most: i64) -> i64 {
     }
 }
 
-/// An axis that passes refusals 4, 12 and 5 to 7, and that may well arrive after about `ticks` ticks.
+/// An axis that passes the checks of its values and that may well arrive after about `ticks` ticks.
 fn fitting_axis(random: &mut Random, speed: i64, acceleration: i64, ticks: i64) -> Axis {
     let h = half_period(random, 256.min(ticks));
     let damping = damping(random);
-    let b = damping.weight();
     let start = random.between(-1000, 1000);
     let start_velocity = if random.once_in(2) { 0 } else { random.between(-speed, speed) };
     let velocity = if random.once_in(2) { 0 } else { random.between(-speed, speed) };
@@ -35,7 +34,7 @@ fn fitting_axis(random: &mut Random, speed: i64, acceleration: i64, ticks: i64) 
     let position = (start + distance).clamp(POSITION_LEAST, POSITION_GREATEST);
     let target = if random.once_in(3) {
         // A moving target: where it meets the head about `ticks`, reckoned back to its own tick.
-        let a = if random.once_in(2) || (h != 0 && b != 128) {
+        let a = if random.once_in(2) {
             0
         } else {
             let most = (speed / ticks.max(1)).clamp(1, acceleration);
@@ -83,7 +82,7 @@ fn axis(random: &mut Random, reach: Reach, ticks: i64) -> Axis {
     }
 }
 
-/// A job that passes refusals 1 to 7.
+/// A job that passes every check of its values.
 pub fn job(random: &mut Random, reach: Reach) -> Job {
     let mask = match random.below(4) {
         0 => random.between(1, 63) as u32,
@@ -161,9 +160,40 @@ fn fleeing_axis(random: &mut Random, tick: i64) -> Axis {
         speed_limit: random.between(10, 1_000) as u32,
         acceleration_limit: random.between(9, 50) as u32,
         half_period: random.pick(&[0, 1, 40]),
-        damping: Damping::Weight(128),
+        damping: damping(random),
         target,
     }
+}
+
+/// An axis on a pole of any blend, after a target whose acceleration is as large as the speed limit lets it be.
+fn chasing_axis(random: &mut Random, asked: i64) -> Axis {
+    let (h, behind) = (random.between(1, 256), random.between(-20, 20));
+    let speed = if random.once_in(2) { 1 << 20 } else { some_size(random, 1 << 20) };
+    let most = (speed / (h + behind.abs() + 1)).clamp(1, 1 << 16);
+    let acceleration = random.between(-most, most);
+    let target = Target::Moving { position: random.between(-99, 99), velocity: 0, acceleration, tick: asked + behind };
+    Axis {
+        start_position: random.between(-99, 99),
+        start_velocity: 0,
+        speed_limit: speed as u32,
+        acceleration_limit: random.between(most, 1 << 16) as u32,
+        half_period: h as u32,
+        damping: damping(random),
+        target,
+    }
+}
+
+/// A job with an asked arrival after accelerating targets.
+pub fn chasing_job(random: &mut Random) -> Job {
+    let mask = if random.once_in(4) { random.between(1, 63) as u32 } else { 1 << random.below(6) };
+    let asked = random.between(257, 900);
+    let mut axes = [UNSET; 6];
+    for (i, slot) in axes.iter_mut().enumerate() {
+        if mask >> i & 1 == 1 {
+            *slot = chasing_axis(random, asked);
+        }
+    }
+    Job { mask, asked: asked as u32, axes, windows: None }
 }
 
 /// A job whose search is long: it ends late, or nowhere.

@@ -55,7 +55,7 @@ mod tests {
     use super::*;
     use crate::plain::{job, one, to, PLAIN};
     use crate::random::Random;
-    use crate::reference::{Axis, Target};
+    use crate::reference::Axis;
 
     fn single(x: f32) -> Single {
         Single(x.to_bits())
@@ -177,11 +177,6 @@ mod tests {
         assert_eq!(refused(job(&[with(ratio(0.0)), Axis { speed_limit: 0, ..PLAIN }])), (4, 1, 0, 0));
         assert_eq!(refused(crate::plain::asked(one(with(ratio(0.0))), 4_097)), (3, 1, 0, 0));
         assert_eq!(refused(job(&[late, with(ratio(0.5))])), (5, 0, 0, 0));
-        // 7 looks at the weight that the ratio gives.
-        let target = Target::Moving { position: 0, velocity: 0, acceleration: 1, tick: 4 };
-        let swaying = |x| one(Axis { half_period: 1, damping: ratio(x), target, ..PLAIN });
-        assert_eq!(refused(swaying(0.999)), (7, 0, 0, 0));
-        assert_eq!(refused(swaying(1.0)).0, 0);
     }
 
     #[test]

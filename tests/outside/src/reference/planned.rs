@@ -4,22 +4,40 @@
 use super::Axis;
 use crate::leg::{Chosen, Leg};
 
-/// The planned motion of one axis to one arrival, rules 1 to 3: positions in half fine steps, the rest in fine steps.
+/// The planned motion of one axis to one arrival, rules 1 to 3: positions in half steps of its grid, the rest in steps.
 pub struct Planned {
     first_position: i64,
     last_position: i64,
     change_after: i64,
+    /// The steps of a unit.
+    grid: i64,
     leg: Leg,
     chosen: Option<Chosen>,
 }
 
-/// A weighted sum of the planned motion at two ticks, A times the one and B times the other:
-/// 512 times a position and 256 times a velocity and an acceleration in fine steps.
+/// A blend before it is divided: A times the planned motion at one tick and B times that at another.
 #[derive(Clone, Copy, Debug, PartialEq, Eq)]
 pub struct Exact {
+    /// A fine step of velocity or acceleration is this much; one of position is twice as much.
+    pub fine: i64,
     pub position: i64,
     pub velocity: i64,
     pub acceleration: i64,
+}
+
+/// The planned target's position gains this, in half steps of its grid (request 2.6): 0 on fine steps.
+fn gain(axis: &Axis) -> i64 {
+    let (h, b) = (i64::from(axis.half_period), axis.weight());
+    2 * b * h * h * (b - 128) * axis.target.acceleration()
+}
+
+/// An axis after an accelerating target on a damped pole is planned on a grid of 1/65,536 unit, any other on fine steps.
+fn grid(axis: &Axis) -> i64 {
+    if axis.target.acceleration() != 0 && axis.half_period != 0 && axis.weight() != 128 {
+        65_536
+    } else {
+        256
+    }
 }
 
 impl Planned {
@@ -32,23 +50,26 @@ impl Planned {
         let ticks = arrival - h;
         let a = axis.target.acceleration();
         let (twice_target, target_velocity) = axis.target.at(ticks, arrival);
-        let first_position = 512 * axis.start_position + 2 * b * h * axis.start_velocity;
-        let first = 256 * axis.start_velocity;
-        let last_position = 256 * twice_target + 2 * b * h * target_velocity;
-        let last = 256 * target_velocity + b * h * a;
-        let limit = 256 * i64::from(axis.speed_limit);
-        if (last + 256 * a * h).abs() > limit {
+        // Rules 2 and 3 in fine steps of 1/256 unit, each of which is this many steps of the grid.
+        let grid = grid(axis);
+        let scale = grid / 256;
+        let first_position = scale * (512 * axis.start_position + 2 * b * h * axis.start_velocity);
+        let first = grid * axis.start_velocity;
+        let last_position = scale * (256 * twice_target + 2 * b * h * target_velocity) + gain(axis);
+        let last = scale * (256 * target_velocity + b * h * a);
+        let limit = grid * i64::from(axis.speed_limit);
+        if (last + grid * a * h).abs() > limit {
             return None;
         }
         // A tick adds its velocity and the next one's to the position: the ends once, those between twice.
         let twice_sum = last_position - first_position - first - last;
-        assert!(twice_sum % 2 == 0, "half a fine step is left over: {axis:?} at {arrival}");
-        let slope = 256 * i64::from(axis.acceleration_limit);
+        assert!(twice_sum % 2 == 0, "half a step is left over: {axis:?} at {arrival}");
+        let slope = grid * i64::from(axis.acceleration_limit);
         let leg = Leg { limit, slope, first, last, ticks, sum: twice_sum / 2 };
         if !leg.has_list() {
             return None;
         }
-        Some(Planned { first_position, last_position, change_after: 256 * a, leg, chosen: None })
+        Some(Planned { first_position, last_position, change_after: grid * a, grid, leg, chosen: None })
     }
 
     /// The motion with its velocity list chosen (rule 5).
@@ -89,11 +110,12 @@ impl Planned {
         }
     }
 
-    /// The blend of `axis` at a tick, before it is divided by 256.
+    /// The blend of `axis` at a tick.
     pub fn exact(&self, axis: &Axis, tick: i64) -> Exact {
         let (h, b) = (i64::from(axis.half_period), axis.weight());
         let blend = |early: i64, late: i64| (256 - b) * early + b * late;
         Exact {
+            fine: self.grid,
             position: blend(self.position(tick), self.position(tick - h)),
             velocity: blend(self.velocity(tick), self.velocity(tick - h)),
             acceleration: blend(self.acceleration(tick), self.acceleration(tick - h)),
@@ -107,17 +129,25 @@ fn nearest(x: i64, by: i64) -> i64 {
 }
 
 impl Exact {
+    /// The negated motion's blend.
+    pub fn negated(&self) -> Exact {
+        let Exact { fine, position, velocity, acceleration } = *self;
+        Exact { fine, position: -position, velocity: -velocity, acceleration: -acceleration }
+    }
+
     /// The three cells of a row.
     pub fn cells(&self) -> [i64; 3] {
-        [nearest(self.position, 512), nearest(self.velocity, 256), nearest(self.acceleration, 256)]
+        let Exact { fine, position, velocity, acceleration } = *self;
+        [nearest(position, 2 * fine), nearest(velocity, fine), nearest(acceleration, fine)]
     }
 }
 
 #[cfg(test)]
 mod tests {
     use super::*;
-    use crate::plain::{asked, one, to};
+    use crate::plain::{asked, one, to, PLAIN};
     use crate::random::Random;
+    use crate::reference::{Damping, Target};
 
     #[test]
     fn halves_go_away_from_zero() {
@@ -130,10 +160,61 @@ mod tests {
         let mut random = Random::new(44);
         for _ in 0..10_000 {
             let mut some = || random.between(-1 << 20, 1 << 20) * 64;
-            let there = Exact { position: some(), velocity: some(), acceleration: some() };
-            let back =
-                Exact { position: -there.position, velocity: -there.velocity, acceleration: -there.acceleration };
-            assert_eq!(there.cells().map(|cell| -cell), back.cells());
+            let there = Exact { fine: 256, position: some(), velocity: some(), acceleration: some() };
+            assert_eq!(there.cells().map(|cell| -cell), there.negated().cells());
+        }
+    }
+
+    fn damped(speed: u32, acceleration: u32, weight: u32, target: Target) -> Axis {
+        Axis {
+            speed_limit: speed,
+            acceleration_limit: acceleration,
+            half_period: 2,
+            damping: Damping::Weight(weight),
+            target,
+            ..PLAIN
+        }
+    }
+
+    fn moving(position: i64, velocity: i64, acceleration: i64, tick: i64) -> Target {
+        Target::Moving { position, velocity, acceleration, tick }
+    }
+
+    #[test]
+    fn accelerating_targets_on_damped_poles() {
+        let mut table = [0; 63];
+        // Cruise and remainder are on the finer grid too: on 1/256 this is 1409.
+        asked(one(damped(100, 10, 64, moving(3, 1, 2, 0))), 6).plan(&mut table);
+        assert_eq!(table[2], 1408);
+        let answer = asked(one(damped(10, 1, 100, moving(0, 0, 1, 20))), 20).plan(&mut table);
+        assert_eq!(answer.number, 0);
+        assert_eq!(table[..9], [0, 0, 11, 5, 11, 0, 16, 11, 7]);
+        assert_eq!(table[54..], [148, -183, 127, 28, -56, 56, 0, 0, 256]);
+        // The speed at T and N is that of the planned velocity.
+        let axis = damped(12, 10, 64, moving(3, 1, 2, 0));
+        let reached: Vec<i64> = (1..=4_096).filter(|&n| Planned::reaching(&axis, n).is_some()).collect();
+        assert_eq!(reached, [4, 5]);
+    }
+
+    /// Landing is exact before rounding, for large blends and accelerations too.
+    #[test]
+    fn the_gain_lands_on_the_target() {
+        let mut random = Random::new(45);
+        let mut landed = 0;
+        while landed < 300 {
+            let a = random.between(-65_536, 65_536);
+            let axis = Axis {
+                half_period: random.between(1, 256) as u32,
+                damping: Damping::Weight(random.between(1, 128) as u32),
+                ..damped(1 << 20, 65_536, 1, moving(random.between(-99, 99), 0, a, random.between(200, 900)))
+            };
+            let arrival = random.between(300, 900);
+            let Some(planned) = Planned::reaching(&axis, arrival) else { continue };
+            let (twice_position, velocity) = axis.target.at(arrival, arrival);
+            let last = planned.with_list().exact(&axis, arrival);
+            let want = [256 * last.fine * twice_position, 256 * last.fine * velocity, 256 * last.fine * a];
+            assert_eq!([last.position, last.velocity, last.acceleration], want, "{axis:?}");
+            landed += 1;
         }
     }
 

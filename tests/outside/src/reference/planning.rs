@@ -4,7 +4,7 @@ use super::job::refusal;
 use super::{Answer, Axis, Job, Planned, Target, LATEST};
 
 /// The numbers that look at one axis, in checking order.
-const OF_AN_AXIS: [u32; 5] = [4, 12, 5, 6, 7];
+const OF_AN_AXIS: [u32; 4] = [4, 12, 5, 6];
 
 /// Whether an axis is refused by one of them.
 fn breaks(number: u32, axis: &Axis) -> bool {
@@ -28,7 +28,6 @@ fn breaks(number: u32, axis: &Axis) -> bool {
                 || position_bad(axis.start_position)
                 || position_bad(axis.target.position())
         }
-        7 => axis.target.acceleration() != 0 && h != 0 && axis.weight() != 128,
         _ => unreachable!(),
     }
 }

@@ -129,10 +129,7 @@ mod tests {
         // Before 8 also for an asked arrival, after 3 and after the numbers of an axis.
         assert_eq!(outcome(asked(one(to(4)), 3), 0, &[]), (13, 0, 0, 0));
         assert_eq!(outcome(asked(one(to(4)), 4_097), 0, &[]), (3, 1, 0, 0));
-        let target = crate::reference::Target::Moving { position: 0, velocity: 0, acceleration: 1, tick: 0 };
-        let damping = crate::reference::Damping::Weight(127);
-        let damped = Axis { half_period: 1, damping, target, ..to(4) };
-        assert_eq!(outcome(one(damped), 0, &[]), (7, 0, 0, 0));
+        assert_eq!(outcome(one(Axis { start_velocity: 11, ..to(4) }), 0, &[]), (6, 0, 0, 0));
         assert_eq!(outcome(Job { mask: 64, ..one(to(4)) }, 0, &[]), (1, 0, 0, 0));
     }
 
