@@ -20,8 +20,8 @@
  * it at the same time, each with a table of its own.
  *
  * Stack and time. A call for a table takes up to 12,000 bytes of stack, its job among them, and a tour up to 20,000. The longest
- * search, over six axes to refusal 9, takes 50 microseconds of a 2.5 GHz core, 0.2 s where targets accelerate, and a tour has one
- * search a leg; with an arrival asked for the longest call takes 2 ms.
+ * search, over six axes to refusal 9, takes 50 microseconds of a 2.5 GHz core, 1 ms where targets accelerate, and a tour has one
+ * search a leg; with an arrival asked for the longest call takes 0.2 ms.
  */
 #ifndef POLGAMIR_H
 #define POLGAMIR_H

@@ -1,5 +1,5 @@
 //! Nanoseconds for a plan, for the search for its arrival and for a row and axis, of the static library and of plain Rust
-//! with the same loops, in one run; beside the search also the one by ticks, in plain Rust.
+//! with the same formulas, in one run; beside them also the engine by ticks, in plain Rust.
 //!
 //!     cargo run --release --offline
 //!
@@ -14,7 +14,7 @@ use std::hint::black_box;
 
 use outside::library::{self, CJob};
 use outside::reference::{Answer, Axis, Damping, Job, Stop, Target, Tour, UNSET};
-use plain::Search;
+use plain::Engine;
 
 /// An axis from rest to rest.
 fn axis(speed_limit: u32, acceleration_limit: u32, half_period: u32, second_weight: u32, position: i64) -> Axis {
@@ -73,7 +73,7 @@ fn rounds<const N: usize>(calls: [(&Job, usize); N]) -> Vec<Round<N>> {
             let laid_out = CJob::of(job, 0);
             let proved = || library::plan_c_job(laid_out, black_box(&mut *lent)).arrival;
             let proved = batch(counts[i], proved);
-            let plain = || plain::plan(job, Search::Running, black_box(&mut *lent)).arrival;
+            let plain = || plain::plan(job, Engine::Areas, black_box(&mut *lent)).arrival;
             (proved, batch(counts[i], plain))
         })
     };
@@ -100,7 +100,7 @@ fn once(job: &Job, lent: &mut [i64]) -> f64 {
     let took = now() - start;
     let written = lent.to_vec();
     lent.fill(0);
-    let plain = plain::plan(job, Search::Running, lent);
+    let plain = plain::plan(job, Engine::Areas, lent);
     assert_eq!(plain, answer);
     let cells = if answer.number == 0 { cells_of(job, answer.arrival) } else { 0 };
     assert!(lent[..cells] == written[..cells], "the two sides write different cells");
@@ -119,29 +119,35 @@ fn cells_of(job: &Job, arrival: u32) -> usize {
     3 * job.count() * (arrival as usize + 1)
 }
 
+/// The time of one plain call with the engine by ticks, which must give this answer.
+fn by_ticks(job: &Job, lent: &mut [i64], answer: Answer) -> f64 {
+    let start = now();
+    let given = plain::plan(job, Engine::Ticks, lent);
+    let took = now() - start;
+    assert_eq!(given, answer);
+    took
+}
+
 /// Prints the line of a whole call, and answers its arrival.
 fn whole(name: &str, job: &Job) -> u32 {
     let mut table = vec![0; 3 * 6 * 4_097];
     let answer = library::plan_typed(job, &mut table);
     let [(proved, plain)] = time([(job, table.len())]);
-    let what =
-        if answer.number == 0 { format!("{} rows", answer.arrival + 1) } else { format!("refused {}", answer.number) };
-    println!("| {name} | {what} | {proved:.0} | {plain:.0} | {:.2} |", proved / plain);
+    let took = by_ticks(job, &mut table, answer);
+    let rows = answer.arrival + 1;
+    println!("| {name} | {rows} rows | {proved:.0} | {plain:.0} | {:.2} | {took:.0} |", proved / plain);
     answer.arrival
 }
 
 /// Prints what the search for the least arrival takes: the job with one cell too few, which stops before it chooses
-/// velocities; a job that is refused by 9 is a search and nothing else. The search by ticks is timed once.
+/// velocities; a job that is refused by 9 is a search and nothing else.
 fn search(name: &str, job: &Job) {
     let mut table = vec![0; 3 * 6 * 4_097];
     let answer = library::plan_typed(&Job { asked: 0, ..*job }, &mut table);
     let cells = if answer.number == 0 { cells_of(job, answer.arrival) - 1 } else { 0 };
     let [(proved, plain)] = time([(job, cells)]);
-    let start = now();
-    let by_ticks = plain::plan(job, Search::Ticks, &mut table[..cells]);
-    let took = now() - start;
-    let stopped = |answer: Answer| if answer.number == 0 { Answer { number: 10, mask: 0, ..answer } } else { answer };
-    assert_eq!(by_ticks, stopped(answer));
+    let stopped = if answer.number == 0 { Answer { number: 10, mask: 0, ..answer } } else { answer };
+    let took = by_ticks(job, &mut table[..cells], stopped);
     let what = if answer.number == 0 { format!("arrival {}", answer.arrival) } else { "refused 9".to_string() };
     println!("| {name} | {what} | {proved:.0} | {plain:.0} | {:.2} | {took:.0} |", proved / plain);
 }
@@ -159,37 +165,6 @@ fn by_row(name: &str, job: &Job, arrival: u32) {
     println!("| {name} | {} rows | {proved:.1} | {plain:.1} | {:.2} |", arrival + 1, proved / plain);
 }
 
-/// Axis i with a speed limit, on its way to rest, slowly.
-fn to_rest(speed: u32, i: u32) -> Axis {
-    axis(speed, 1, 30 * i, 128, 70 * (i64::from(i) + 1))
-}
-
-/// An axis on the finer grid, slowly on its way to tick 1,999, by when its target has turned back.
-fn to_follow(speed: u32, _: u32) -> Axis {
-    let target = Target::Moving { position: 70, velocity: -1, acceleration: 1, tick: 1_998 };
-    Axis { target, ..axis(speed, 1, 1, 100, 0) }
-}
-
-/// Prints what a row and axis takes without the search for the cruise. A speed limit of 1 and one of 1,048,576 give the
-/// same rows here; the search takes 10 sums for the one and 30 for the other, 18 and 38 on the finer grid, and 1 for the
-/// remainder. Their difference is the time of 20 sums an axis, and those of the first, 11 or 19, are taken off.
-fn rows_alone(name: &str, axes: u32, arrival: u32, sums: f64, way: fn(u32, u32) -> Axis) {
-    let slow = |speed: u32| {
-        let mut job = Job { mask: (1 << axes) - 1, asked: arrival, axes: [UNSET; 6], windows: None };
-        for i in 0..axes {
-            job.axes[i as usize] = way(speed, i);
-        }
-        job
-    };
-    let cells = cells_of(&slow(1), arrival);
-    let count = (cells / 3) as f64;
-    let rounds = rounds([(&slow(1), cells), (&slow(1 << 20), cells), (&slow(1), cells - 1)]);
-    let alone = |[least, most, refused]: [f64; 3]| (least - refused - sums / 20.0 * (most - least)) / count;
-    let proved = alone(fastest(rounds.iter().map(|round| round.map(|times| times.0))));
-    let plain = alone(fastest(rounds.iter().map(|round| round.map(|times| times.1))));
-    println!("| {name} | {} rows | {proved:.1} | {plain:.1} | {:.2} |", arrival + 1, proved / plain);
-}
-
 /// A tour of 64 stops of six axes. The legs take about 60 ticks each.
 fn many_stops() -> (Tour, Vec<Stop>) {
     let axes = six().map(|axis| Axis { speed_limit: 1_000, acceleration_limit: 20, half_period: 12, ..axis });
@@ -203,7 +178,7 @@ fn plain_tour(tour: &Tour, stops: &[Stop]) -> u32 {
     let mut from = [0; 6];
     let mut tick = 0;
     for stop in stops {
-        tick += plain::plan(&tour.leg(&from, &stop.positions), Search::Running, &mut []).arrival + stop.dwell;
+        tick += plain::plan(&tour.leg(&from, &stop.positions), Engine::Areas, &mut []).arrival + stop.dwell;
         from = stop.positions;
     }
     tick
@@ -253,36 +228,25 @@ fn main() {
 
     // The first second or two of a process run slower here, and are not counted.
     time([(&short, 60), (&long, 6_000)]);
-    println!("| least arrival, whole call | outcome | library, ns | plain Rust, ns | ratio |");
+    println!("| a job, whole call | outcome | library, ns | plain Rust, ns | ratio | by ticks, ns |");
+    println!("|---|---|---|---|---|---|");
+    let short_arrival = whole("one axis, short, least arrival", &short);
+    let long_arrival = whole("one axis, long, least arrival", &long);
+    let wide_arrival = whole("six axes, least arrival", &wide);
+    whole("one axis, short, asked arrival", &Job { asked: short_arrival, ..short });
+    whole("one axis, long, asked arrival", &Job { asked: long_arrival, ..long });
+    whole("six axes, asked arrival", &Job { asked: wide_arrival, ..wide });
+    whole("one axis, long, finer grid, asked arrival", &Job { asked: long_arrival, ..finer });
+    println!();
+    println!("| a tour | outcome | library, ns | plain Rust, ns | ratio |");
     println!("|---|---|---|---|---|");
-    let short_arrival = whole("one axis, short", &short);
-    let long_arrival = whole("one axis, long", &long);
-    let wide_arrival = whole("six axes", &wide);
-    whole("out of reach", &never);
+    tour("64 stops, six axes");
     println!();
     search_table(&short, &long, &wide, &never);
-    println!("| asked arrival, whole call | outcome | library, ns | plain Rust, ns | ratio |");
-    println!("|---|---|---|---|---|");
-    whole("one axis, short", &Job { asked: short_arrival, ..short });
-    whole("one axis, long", &Job { asked: long_arrival, ..long });
-    whole("six axes", &Job { asked: wide_arrival, ..wide });
-    whole("one axis, finer grid", &Job { asked: long_arrival, ..finer });
-    println!();
     println!("| velocities and rows, by row and axis | outcome | library, ns | plain Rust, ns | ratio |");
     println!("|---|---|---|---|---|");
     by_row("one axis, short", &short, short_arrival);
     by_row("one axis, long", &long, long_arrival);
     by_row("six axes", &wide, wide_arrival);
     by_row("one axis, finer grid", &finer, long_arrival);
-    println!();
-    println!("| rows alone, by row and axis | outcome | library, ns | plain Rust, ns | ratio |");
-    println!("|---|---|---|---|---|");
-    rows_alone("one axis", 1, 1_999, 11.0, to_rest);
-    rows_alone("one axis", 1, 4_096, 11.0, to_rest);
-    rows_alone("six axes", 6, 4_096, 11.0, to_rest);
-    rows_alone("one axis, finer grid", 1, 1_999, 19.0, to_follow);
-    println!();
-    println!("| a tour | outcome | library, ns | plain Rust, ns | ratio |");
-    println!("|---|---|---|---|---|");
-    tour("64 stops, six axes");
 }

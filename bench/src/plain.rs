@@ -1,8 +1,8 @@
-//! The planner in plain Rust, with the library's loops and none of its proofs: reach of an asked arrival by the
-//! envelopes' sums tick by tick, the least common arrival by axes that lead on from candidate to candidate, with sums
-//! that are carried from one to the next, cruise by halving steps over sums tick by tick, rows by stepping a blended
-//! track an axis, each planned velocity by its region. Beside it the search by ticks, which tries every candidate with
-//! sums of its own.
+//! The planner in plain Rust, with the library's formulas and loops and none of its proofs: reach of an arrival from the
+//! areas under the envelopes, the least common arrival by axes that lead on from candidate to candidate, with sums that
+//! are carried from one to the next, cruise by halving steps over areas, rows by stepping a blended track an axis, each
+//! planned velocity by its region. Beside it the engine by ticks: every candidate is tried, and every sum is taken tick
+//! by tick.
 
 use std::ops::RangeInclusive;
 
@@ -58,6 +58,15 @@ fn weight_of(axis: &Axis) -> u32 {
         Damping::Weight(weight) => weight,
         _ => unreachable!("the timed jobs have a weight given"),
     }
+}
+
+/// How a sum of velocities is taken, and how the least common arrival is searched for.
+#[derive(Clone, Copy)]
+pub enum Engine {
+    /// As the library does: from areas, and from one candidate to the next by a step.
+    Areas,
+    /// Tick by tick, and candidate after candidate.
+    Ticks,
 }
 
 /// The velocities at a cruise: up to tick `rise` they change by `up` a tick; from `fall` ticks before the end on they are
@@ -119,23 +128,26 @@ impl Leg {
         lower.max(upper.min(cruise))
     }
 
-    fn sum_at(&self, cruise: i64) -> i64 {
-        (1..self.ticks).map(|k| self.velocity(cruise, k)).sum()
+    fn sum_by(&self, engine: Engine, cruise: i64) -> i64 {
+        match engine {
+            Engine::Areas => self.area_at(cruise),
+            Engine::Ticks => (1..self.ticks).map(|k| self.velocity(cruise, k)).sum(),
+        }
     }
 
-    fn has_list(&self) -> bool {
+    fn has_list(&self, engine: Engine) -> bool {
         self.first.abs() <= self.limit
             && self.last.abs() <= self.limit
             && (self.last - self.first).abs() <= self.slope * self.ticks
-            && self.sum_at(-self.limit) <= self.sum
-            && self.sum <= self.sum_at(self.limit)
+            && self.sum_by(engine, -self.limit) <= self.sum
+            && self.sum <= self.sum_by(engine, self.limit)
     }
 
-    fn cruise(&self) -> i64 {
+    fn cruise(&self, engine: Engine) -> i64 {
         let mut cruise = -self.limit;
         for bit in (0..39).rev() {
             let higher = cruise + (1 << bit);
-            if higher <= self.limit && self.sum_at(higher) <= self.sum {
+            if higher <= self.limit && self.sum_by(engine, higher) <= self.sum {
                 cruise = higher;
             }
         }
@@ -199,18 +211,18 @@ impl Leg {
     }
 }
 
-fn reaches(axis: &Axis, arrival: u32) -> bool {
+fn reaches(engine: Engine, axis: &Axis, arrival: u32) -> bool {
     if arrival <= axis.half_period {
         return false;
     }
     let Ends { change_after, leg, .. } = ends(axis, arrival);
-    (leg.last + change_after * i64::from(axis.half_period)).abs() <= leg.limit && leg.has_list()
+    (leg.last + change_after * i64::from(axis.half_period)).abs() <= leg.limit && leg.has_list(engine)
 }
 
 /// The least arrival from n to the last that the axis reaches, or one past the last.
 fn next_reached(axis: &Axis, n: u32, last: u32) -> u32 {
     if axis.target.acceleration() != 0 {
-        return (n..=last).find(|&k| reaches(axis, k)).unwrap_or(last + 1);
+        return (n..=last).find(|&k| reaches(Engine::Areas, axis, k)).unwrap_or(last + 1);
     }
     let first = n.max(axis.half_period + 1);
     if first > last {
@@ -252,7 +264,7 @@ fn least_arrival(job: &Job) -> Option<u32> {
 /// The same by ticks: every candidate is tried, with sums of its own.
 fn least_by_ticks(job: &Job) -> Option<u32> {
     let fits = |n: u32| job.windows.as_ref().map_or(true, |windows| windows.fit(i64::from(n)));
-    (1..=LATEST).find(|&n| fits(n) && job.set().all(|(_, axis)| reaches(axis, n)))
+    (1..=LATEST).find(|&n| fits(n) && job.set().all(|(_, axis)| reaches(Engine::Ticks, axis, n)))
 }
 
 /// An axis on its way through the rows: its planned velocities in three regions, and its track.
@@ -286,10 +298,10 @@ fn nearest(x: i64, by: i64) -> i64 {
 }
 
 impl Track {
-    fn new(axis: &Axis, arrival: u32) -> Track {
+    fn new(engine: Engine, axis: &Axis, arrival: u32) -> Track {
         let Ends { first_position, change_after, finer, leg } = ends(axis, arrival);
-        let cruise = leg.cruise();
-        let raised = leg.sum - leg.sum_at(cruise);
+        let cruise = leg.cruise(engine);
+        let raised = leg.sum - leg.sum_by(engine, cruise);
         let half_period = i64::from(axis.half_period);
         let scale = 256 / finer;
         let second_weight = scale * i64::from(weight_of(axis));
@@ -356,7 +368,7 @@ fn refusal(number: u32, mask: u32, arrival: u32) -> Answer {
     Answer { number, place: 0, mask, arrival }
 }
 
-/// Refusals 3 to 6 are tested as the library tests them, and 13 where windows are brought; the jobs that are timed pass.
+/// Refusals 3 to 6 and 12 are tested as the library tests them, and 13 where windows are brought; the jobs that are timed pass.
 fn passes(job: &Job) -> bool {
     job.asked <= LATEST
         && job
@@ -368,20 +380,11 @@ fn passes(job: &Job) -> bool {
         && job.windows.as_ref().map_or(true, |windows| windows.refused().is_none())
 }
 
-/// How the least common arrival is searched for.
-#[derive(Clone, Copy)]
-pub enum Search {
-    /// As the library does.
-    Running,
-    /// Candidate after candidate, each with sums of its own.
-    Ticks,
-}
-
-/// The arrival of a job that passes the refusals before 8, or the refusal 8 or 9. No job with windows asks for an arrival.
-fn arrival(job: &Job, search: Search) -> Result<u32, Answer> {
-    let least = |job: &Job| match search {
-        Search::Running => least_arrival(job),
-        Search::Ticks => least_by_ticks(job),
+/// The arrival of a job that no earlier refusal comes to, or the refusal 8 or 9. No job with windows asks for an arrival.
+fn arrival(job: &Job, engine: Engine) -> Result<u32, Answer> {
+    let least = |job: &Job| match engine {
+        Engine::Areas => least_arrival(job),
+        Engine::Ticks => least_by_ticks(job),
     };
     let failing =
         |fails: &dyn Fn(&Axis) -> bool| -> u32 { job.set().filter(|(_, axis)| fails(axis)).map(|(i, _)| 1 << i).sum() };
@@ -389,16 +392,16 @@ fn arrival(job: &Job, search: Search) -> Result<u32, Answer> {
         let alone = |axis: &Axis| least(&Job { mask: 1, asked: 0, axes: [*axis; 6], windows: None });
         return least(job).ok_or_else(|| refusal(9, failing(&|axis| alone(axis).is_none()), 0));
     }
-    if job.set().all(|(_, axis)| reaches(axis, job.asked)) {
+    if job.set().all(|(_, axis)| reaches(engine, axis, job.asked)) {
         return Ok(job.asked);
     }
-    Err(refusal(8, failing(&|axis| !reaches(axis, job.asked)), 0))
+    Err(refusal(8, failing(&|axis| !reaches(engine, axis, job.asked)), 0))
 }
 
-/// Plans a job that passes the refusals before 8.
-pub fn plan(job: &Job, search: Search, table: &mut [i64]) -> Answer {
+/// Plans a job that no refusal before 8 comes to.
+pub fn plan(job: &Job, engine: Engine, table: &mut [i64]) -> Answer {
     assert!(passes(job));
-    let arrival = match arrival(job, search) {
+    let arrival = match arrival(job, engine) {
         Ok(arrival) => arrival,
         Err(refused) => return refused,
     };
@@ -406,7 +409,7 @@ pub fn plan(job: &Job, search: Search, table: &mut [i64]) -> Answer {
     if table.len() < width * (arrival as usize + 1) {
         return refusal(10, 0, arrival);
     }
-    let mut tracks: Vec<Track> = job.set().map(|(_, axis)| Track::new(axis, arrival)).collect();
+    let mut tracks: Vec<Track> = job.set().map(|(_, axis)| Track::new(engine, axis, arrival)).collect();
     for (tick, row) in table.chunks_exact_mut(width).take(arrival as usize + 1).enumerate() {
         for (track, cells) in tracks.iter_mut().zip(row.chunks_exact_mut(3)) {
             cells.copy_from_slice(&track.row(tick as i64));

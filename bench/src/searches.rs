@@ -31,7 +31,7 @@ pub fn in_turns() -> Job {
 }
 
 /// Some axes whose targets accelerate, far ahead and at a speed that the axes can reach: the ends can be joined at every
-/// candidate, and both envelopes are summed for each.
+/// candidate, and the area under the upper envelope at least is asked for each.
 pub fn accelerating(axes: u32) -> Job {
     let target = Target::Moving { position: 130_000_000, velocity: 0, acceleration: 1, tick: 0 };
     let axis = Axis { speed_limit: 5_000, acceleration_limit: 2, damping: Damping::Weight(128), target, ..UNSET };

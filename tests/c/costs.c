@@ -21,8 +21,8 @@
 #define TOUR_STACK 20000
 
 /* Seconds of processor time, some times what the header says of a 2.5 GHz core: room for a slower or a busy machine, not for another order. */
-#define LONGEST_SEARCH 1.0
-#define LONGEST_ASKED 0.01
+#define LONGEST_SEARCH 0.01
+#define LONGEST_ASKED 0.002
 
 static unsigned char stack[65536] __attribute__((aligned(16)));
 static int64_t table[POLGAMIR_MOST_CELLS];

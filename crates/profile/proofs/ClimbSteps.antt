@@ -5,10 +5,10 @@ use mathlib.Core.Bool.{Bool, true, false, _&&_}
 use native.Mathlib.Omega.{arith}
 use native.Mathlib.Nat.{two-pow-succ, one-le-pow}
 use lib.IntN.{ℤ, pos, negℤ, _+ℤ_}
-use lib.Signed.{leZ, _≤ℤ_}
+use lib.Signed.{leZ, leZ-yes, _≤ℤ_}
 use Rattle.whole.proofs.Differences.{all₁, whole}
 use Rattle.whole.specs.Ranges.{Within}
-use Rattle.whole.proofs.Tests.{and-no, and-yes}
+use Rattle.whole.proofs.Tests.{and-no, and-yes, by-bool, left}
 use Rattle.model.specs.Leg.{Leg, fitsAt, climb, climbSteps, cruise}
 use Rattle.profile.specs.Profiles.{climbStep}
 
@@ -100,3 +100,12 @@ module _ (g : Leg) (s c : ℤ) (step : ℕ) where
 -- a step that keeps to the speed limit
 pub step-within : (step l : ℕ) (c : ℤ) → Within (2 ^ 37) c → l ≤ 2 ^ 37 → (c +ℤ pos step) ≤ℤ pos l → Within (2 ^ 37) (c +ℤ pos step)
 step-within step l = all₁ _ (λ a b. simp whole (omega arith))
+
+pub step-inside : (step l : ℕ) (c : ℤ) → Within l c → (c +ℤ pos step) ≤ℤ pos l → Within l (c +ℤ pos step)
+step-inside step l = all₁ _ (λ a b. simp whole (omega arith))
+
+-- no step leads past it
+pub climb-inside : (g : Leg) (s c : ℤ) (step : ℕ) → Within (g .speedLimit) c → Within (g .speedLimit) (climbStep g s c step)
+climb-inside g s c step w =
+    by-bool (Within (g .speedLimit)) (leZ (c +ℤ pos step) (pos (g .speedLimit)) && fitsAt g s (c +ℤ pos step)) _ _
+    (λ t. step-inside step (g .speedLimit) c w (leZ-yes (left (leZ (c +ℤ pos step) (pos (g .speedLimit))) _ t))) (λ t. w)

@@ -38,7 +38,7 @@ endsAllowed g =
     leb (natAbs (g .start)) (g .speedLimit)
     && (leb (natAbs (g .end)) (g .speedLimit) && leb (natAbs (g .end -ℤ g .start)) (g .accelerationLimit * g .ticks))
 
--- a profile whose ends can be joined, in the ranges in which its areas do not overflow
+-- a profile whose ends can be joined, in the ranges in which neither engine overflows
 pub record Joinable (p : Profile) : Type 0 where
   pub ranged : Ranged p
   pub acceleration : 0 < p .«acceleration_limit»

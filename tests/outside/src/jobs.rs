@@ -3,6 +3,7 @@
 mod damaged;
 mod dampings;
 mod drawn;
+mod edge;
 mod spelled;
 mod tours;
 mod windows;
@@ -10,6 +11,7 @@ mod windows;
 pub use damaged::{damaged_job, with_signed, with_unsigned, SIGNED_ENDS, SINGLE_ENDS, UNSIGNED_ENDS};
 pub use dampings::ratio_ends;
 pub use drawn::{chasing_job, job, late_job};
+pub use edge::edge_job;
 pub use spelled::{damaged_words, stray_words, word, words, CASE_C};
 pub use tours::{damaged_tour, tour};
 pub use windows::{badly_windowed, late_windowed, windowed};

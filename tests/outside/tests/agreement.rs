@@ -164,6 +164,29 @@ fn chasing_jobs_agree() {
     assert!(comparison.seen[0] > 500 && comparison.seen[8] > 100, "{:?}", comparison.seen);
 }
 
+/// Axes that just make their arrival or just miss it, in every case of ramps and flat parts.
+#[test]
+fn edge_jobs_agree() {
+    let mut comparison = Comparison::new(9, 100);
+    for n in 0..8_000 {
+        let asked = jobs::edge_job(&mut comparison.random);
+        // The arrival before is mostly out of reach, and the least one may be as well.
+        let job = match n % 4 {
+            0 => Job { asked: (asked.asked - 1).max(1), ..asked },
+            1 => Job { asked: 0, ..asked },
+            _ => asked,
+        };
+        let cells = 3 * job.count() * 601;
+        if n % 8 < 4 {
+            comparison.typed(&job, cells);
+        } else {
+            comparison.words(&jobs::words(&job), cells);
+        }
+    }
+    comparison.report("edge", 6_500);
+    assert!(comparison.seen[0] > 2_500 && comparison.seen[8] > 2_000, "{:?}", comparison.seen);
+}
+
 /// Searches that end late, or nowhere, for all axes and for each of them.
 #[test]
 fn late_jobs_agree() {

@@ -9,20 +9,20 @@ use Rattle.whole.proofs.Bounds.{within, exactly, exact, computed, then-is}
 use Rattle.whole.proofs.Laws.{natAbs-negpos}
 use Rattle.model.specs.Leg.{cruise}
 use Rattle.profile.specs.Profiles.{legOf, climbStep}
-use Rattle.profile.proofs.ClimbSteps.{Climbing, climb-start, climb-next, climb-end}
+use Rattle.profile.proofs.ClimbSteps.{Climbing, climb-start, climb-next, climb-end, climb-inside}
 use Rattle.profile.proofs.climb.Statement.{statement}
 use Rattle.profile.proofs.climb.Tie as tie
 
 abbrev Inv-loop : tie.InvT-loop
-Inv-loop p sum c₀ step₀ c step =
+Inv-loop engine p sum c₀ step₀ c step =
     record {
       short : step ≤ 2 ^ 38;
-      small : Within (2 ^ 37) (toZ w64 c);
+      small : Within (p .«speed_limit») (toZ w64 c);
       climbing : Climbing (legOf p) (toZ w64 sum) step (toZ w64 c);
     }
 
 abbrev μ-loop : tie.MeasureT-loop
-μ-loop p sum c₀ step₀ c step = step
+μ-loop engine p sum c₀ step₀ c step = step
 
 negative-requires : tie.Need-negative-requires Inv-loop μ-loop
 negative-requires c κs = omega arith
@@ -35,7 +35,7 @@ loop-holds c =
     let first : toZ w64 (ofZ w64 (c .negative .result)) ≡ negℤ (pos (a .p .«speed_limit»)) = exactly (search computed depth 9) tt in
     record {
       short = omega arith;
-      small = subst (Within (2 ^ 37)) (sym first) (record { within = omega (arith, natAbs-negpos (a .p .«speed_limit»)) });
+      small = subst (Within (a .p .«speed_limit»)) (sym first) (record { within = omega (arith, natAbs-negpos (a .p .«speed_limit»)) });
       climbing = subst (Climbing g s (2 ^ 38)) (sym first) (climb-start g s);
     }
 
@@ -57,7 +57,7 @@ loop-again c =
     let next : toZ w64 (ofZ w64 (c .climb-step .result)) ≡ climbStep g s (toZ w64 (l .c)) (l .step) = exactly (search computed depth 9) tt in
     record {
       short = omega arith;
-      small = within (search computed depth 9) tt;
+      small = subst (Within (a .p .«speed_limit»)) (sym next) (climb-inside g s (toZ w64 (l .c)) (l .step) (l .inv .small));
       climbing = subst (Climbing g s (l .step / 2)) (sym next) (climb-next g s (omega arith) (l .inv .climbing));
     }
 
@@ -66,7 +66,7 @@ returns c =
     let a = c .before .before .before .args in
     let l = c .before .loop in
     let s : toZ w64 (ofZ w64 (a .sum)) ≡ a .sum = exactly (search exact depth 9) tt in
-    then-is (record { is = refl; within = l .inv .small .within })
+    then-is (record { is = refl; within = omega (arith, l .inv .small .within, c .before .before .before .pre .0 .ranged .«speed_limit») })
     (climb-end (legOf (a .p)) (toZ w64 (ofZ w64 (a .sum))) (omega arith) (l .inv .climbing) ∙ (λ i. cruise (legOf (a .p)) (s i)))
 
 pub climb-spec : {M : Type 1} → statement M

@@ -7,19 +7,23 @@ use lib.Signed.{leZ}
 use mir.Syntax.{w64}
 use mir.Val.{toZ, ofZ}
 use Rattle.whole.specs.Ranges.{Within}
-use Rattle.whole.proofs.Bounds.{sfits, within, exactly, le-taken, computed, is-of, then-is, le-is}
+use Rattle.whole.proofs.Bounds.{sfits, exactly, le-taken, computed, is-of, then-is, le-is}
 use Rattle.model.specs.Leg.{fitsAt}
 use Rattle.profile.specs.Profiles.{legOf}
-use Rattle.profile.proofs.ClimbSteps.{step-up, step-unfit, step-fast, step-within}
+use Rattle.profile.proofs.ClimbSteps.{step-up, step-unfit, step-fast, step-inside}
 use borrow.Author.Needs.{needs}
 use Rattle.profile.proofs.climb_step.Statement.{statement}
 use Rattle.profile.proofs.climb_step.Tie as tie
+
+-- the cruise so far keeps to the speed limit
+slow-enough : (a : tie.Start) → Within (2 ^ 37) (a .args .c)
+slow-enough a = record { within = omega (arith, a .pre .1 .1 .0 .within, a .pre .0 .ranged .«speed_limit») }
 
 signed-requires : tie.Need-signed-requires
 signed-requires c κs = search needs
 
 add-next : tie.Need-add-next
-add-next c = sfits (search computed depth 20) tt
+add-next c = let w = slow-enough (c .before) in sfits (search computed depth 20) tt
 
 signed-requires-2 : tie.Need-signed-requires-2
 signed-requires-2 c κs = search needs
@@ -30,29 +34,29 @@ next a = a .args .c +ℤ pos (a .args .step)
 
 next-is : (c : tie.After-signed)
     → toZ w64 (ofZ w64 (toZ w64 (ofZ w64 (c .before .args .c)) +ℤ toZ w64 (ofZ w64 (c .signed .result)))) ≡ next (c .before)
-next-is c = exactly (search computed depth 20) tt
+next-is c = let w = slow-enough (c .before) in exactly (search computed depth 20) tt
 
 -- it keeps to the speed limit
-small : (c : tie.Then1) → Within (2 ^ 37) (next (c .before .before .before))
+small : (c : tie.Then1) → Within (c .before .before .before .args .p .«speed_limit») (next (c .before .before .before))
 small c =
     let a = c .before .before .before in
-    step-within (a .args .step) (a .args .p .«speed_limit») (a .args .c) (a .pre .1 .1 .0) (a .pre .0 .«speed_limit»)
-    (le-taken (c .if1 .taken) (search computed depth 20) tt)
+    let w = slow-enough a in
+    step-inside (a .args .step) (a .args .p .«speed_limit») (a .args .c) (a .pre .1 .1 .0) (le-taken (c .if1 .taken) (search computed depth 20) tt)
 
-sum-at-requires : tie.Need-sum-at-requires
-sum-at-requires c κs =
-    let near : Within (2 ^ 46) (next (c .before .before .before)) = record { within = omega (arith, small c) } in
-    (c .before .before .before .pre .0, subst (Within (2 ^ 46)) (sym (next-is (c .before .before))) near)
+sum-by-requires : tie.Need-sum-by-requires
+sum-by-requires c κs =
+    let a = c .before .before .before in
+    (a .pre .0, subst (Within (a .args .p .«speed_limit»)) (sym (next-is (c .before .before))) (small c))
 
 -- the two tests
 slow : (c : tie.Then1) → leZ (next (c .before .before .before)) (pos (c .before .before .before .args .p .«speed_limit»)) ≡ true
-slow c = sym (le-is (search computed depth 20) tt) ∙ c .if1 .taken
+slow c = let w = slow-enough (c .before .before .before) in sym (le-is (search computed depth 20) tt) ∙ c .if1 .taken
 
-abbrev start : tie.After-sum-at → tie.Start
+abbrev start : tie.After-sum-by → tie.Start
 start c = c .before .before .before .before
 
-fits : (c : tie.After-sum-at)
-    → leZ (toZ w64 (ofZ w64 (c .sum-at .result))) (toZ w64 (ofZ w64 (start c .args .sum)))
+fits : (c : tie.After-sum-by)
+    → leZ (toZ w64 (ofZ w64 (c .sum-by .result))) (toZ w64 (ofZ w64 (start c .args .sum)))
     ≡ fitsAt (legOf (start c .args .p)) (start c .args .sum) (next (start c))
 fits c =
     let a = start c .args in
@@ -62,19 +66,22 @@ returns : tie.Need-returns
 returns c =
     let b = c .before in
     let a = start b .args in
-    then-is (record { is = next-is (b .before .before .before); within = small (b .before) .within })
+    then-is
+    (record { is = next-is (b .before .before .before); within = omega (arith, small (b .before) .within, start b .pre .0 .ranged .«speed_limit») })
     (step-up (legOf (a .p)) (a .sum) (a .c) (a .step) (slow (b .before)) (sym (fits b) ∙ c .if2 .taken))
 
 returns-2 : tie.Need-returns-2
 returns-2 c =
     let b = c .before in
     let a = start b .args in
+    let w = slow-enough (start b) in
     then-is (is-of (search computed depth 9) tt)
     (step-unfit (legOf (a .p)) (a .sum) (a .c) (a .step) (slow (b .before)) (sym (fits b) ∙ c .if2 .left))
 
 returns-3 : tie.Need-returns-3
 returns-3 c =
     let a = c .before .before .before .args in
+    let w = slow-enough (c .before .before .before) in
     then-is (is-of (search computed depth 9) tt)
     (step-fast (legOf (a .p)) (a .sum) (a .c) (a .step) (sym (le-is (search computed depth 20) tt) ∙ c .if1 .left))
 
@@ -85,7 +92,7 @@ climb-step-spec =
     signed-requires
     add-next
     signed-requires-2
-    sum-at-requires
+    sum-by-requires
     returns
     returns-2
     returns-3)

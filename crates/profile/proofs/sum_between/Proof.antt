@@ -1,10 +1,13 @@
-use Prim.Native.Nat.{_-_}
-use mathlib.Core.Path.{_≡_, sym, ap, _∙_}
+use Prim.Native.Nat.{ℕ, _-_}
+use mathlib.Core.Path.{_≡_, sym, ap, subst, _∙_}
+use native.Mathlib.Omega.{arith}
+use Rattle.whole.specs.Ranges.{Within}
+use Rattle.whole.proofs.Laws.{natAbs-negpos}
 use lib.IntN.{pos, negℤ}
 use lib.Signed.{leZ}
 use mir.Syntax.{w64}
 use mir.Val.{toZ, ofZ}
-use Rattle.whole.proofs.Bounds.{within, exactly, computed, le-is}
+use Rattle.whole.proofs.Bounds.{exactly, computed, le-is}
 use Rattle.whole.proofs.Tests.{and-no, and-yes}
 use Rattle.whole.specs.Integers.{sumTo}
 use Rattle.model.specs.Leg.{sumAt, lower}
@@ -18,32 +21,42 @@ use Rattle.profile.proofs.sum_between.Tie as tie
 negative-requires : tie.Need-negative-requires
 negative-requires c κs = search needs
 
-sum-at-requires : tie.Need-sum-at-requires
-sum-at-requires c κs = (c .before .pre .0, within (search computed depth 9) tt)
+-- the two cruises
+lowest-is : (c : tie.After-negative) → toZ w64 (ofZ w64 (c .negative .result)) ≡ negℤ (pos (c .before .args .p .«speed_limit»))
+lowest-is c = exactly (search computed depth 9) tt
+
+lowest-within : (l : ℕ) → Within l (negℤ (pos l))
+lowest-within l = record { within = omega (arith, natAbs-negpos l) }
+
+highest-is : (c : tie.After-signed) → toZ w64 (ofZ w64 (c .signed .result)) ≡ pos (c .before .before .before .before .args .p .«speed_limit»)
+highest-is c = exactly (search computed depth 9) tt
+
+sum-by-requires : tie.Need-sum-by-requires
+sum-by-requires c κs = (c .before .pre .0, subst (Within (c .before .args .p .«speed_limit»)) (sym (lowest-is c)) (lowest-within _))
 
 signed-requires : tie.Need-signed-requires
 signed-requires c κs = search needs
 
-sum-at-requires-2 : tie.Need-sum-at-requires-2
-sum-at-requires-2 c κs = (c .before .before .before .before .pre .0, within (search computed depth 9) tt)
+sum-by-requires-2 : tie.Need-sum-by-requires-2
+sum-by-requires-2 c κs =
+    let a = c .before .before .before .before in
+    (a .pre .0, subst (Within (a .args .p .«speed_limit»)) (sym (highest-is c)) (record { within = omega arith }))
 
 -- the first test
-low : (c : tie.After-sum-at)
-    → leZ (toZ w64 (ofZ w64 (c .sum-at .result))) (toZ w64 (ofZ w64 (c .before .before .args .sum)))
+low : (c : tie.After-sum-by)
+    → leZ (toZ w64 (ofZ w64 (c .sum-by .result))) (toZ w64 (ofZ w64 (c .before .before .args .sum)))
     ≡ leZ (sumTo (lower (legOf (c .before .before .args .p))) (c .before .before .args .p .ticks - 1)) (c .before .before .args .sum)
 low c =
     let a = c .before .before in
     let g = legOf (a .args .p) in
-    let x : toZ w64 (ofZ w64 (c .before .negative .result)) ≡ negℤ (pos (a .args .p .«speed_limit»)) = exactly (search computed depth 9) tt in
-    le-is (search computed depth 9) tt ∙ (λ i. leZ ((ap (sumAt g) x ∙ lowest-sum g) i) (a .args .sum))
+    le-is (search computed depth 9) tt ∙ (λ i. leZ ((ap (sumAt g) (lowest-is (c .before)) ∙ lowest-sum g) i) (a .args .sum))
 
 returns : tie.Need-returns
 returns c =
     let a = c .before .before .before .before .before in
     let g = legOf (a .args .p) in
-    let x : toZ w64 (ofZ w64 (c .before .signed .result)) ≡ pos (a .args .p .«speed_limit») = exactly (search computed depth 9) tt in
     and-yes _ _ (sym (low (c .before .before .before)) ∙ c .before .before .if1 .taken)
-    (le-is (search computed depth 9) tt ∙ (λ i. leZ (a .args .sum) ((ap (sumAt g) x ∙ highest-sum g (ends-joined g (a .pre .1 .1))) i)))
+    (le-is (search computed depth 9) tt ∙ (λ i. leZ (a .args .sum) ((ap (sumAt g) (highest-is (c .before)) ∙ highest-sum g (ends-joined g (a .pre .0 .ends))) i)))
 
 returns-2 : tie.Need-returns-2
 returns-2 c = and-no _ _ (sym (low (c .before)) ∙ c .if1 .left)
@@ -53,8 +66,8 @@ sum-between-spec =
     tie.close
     (tie.spec
     negative-requires
-    sum-at-requires
+    sum-by-requires
     signed-requires
-    sum-at-requires-2
+    sum-by-requires-2
     returns
     returns-2)

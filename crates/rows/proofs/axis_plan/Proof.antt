@@ -1,4 +1,4 @@
-use Prim.Native.Nat.{ℕ, _-_, _<_, _≤_}
+use Prim.Native.Nat.{ℕ, _-_, _≤_}
 use mathlib.Core.Path.{_≡_, sym, ap, subst, _∙_}
 use Rattle.whole.proofs.Bounds.{exact, exactly, within}
 use borrow.Author.Needs.{needs}
@@ -8,9 +8,6 @@ use mir.Val.{toZ, ofZ}
 use Rattle.model.specs.Motion.{startPosition, displacement}
 use native.Mathlib.Omega.{arith}
 use native.Mathlib.Nat.{mul-le-mul}
-use Rattle.model.proofs.ReadyAxis.{some-acceleration}
-use Rattle.profile.specs.declared.Profile.{Profile}
-use Rattle.motion.specs.Motions.{profileFor}
 use Rattle.motion.proofs.ReadyAxis.{ready-after, ready-landed, ready-ranges}
 use Rattle.rows.proofs.Scale.{scale-small}
 use Rattle.rows.proofs.ReadyAxes.{plan-feasible, plan-is}
@@ -41,18 +38,17 @@ way d =
     let e : toZ w64 (ofZ w64 (d .displacement .result)) ≡ l .result .position -ℤ startPosition x = exactly (search exact depth 9) tt in
     e ∙ ap (λ (z : ℤ). z -ℤ startPosition x) (l .ensures .position .is)
 
--- the profile has some acceleration
-steep : (a : tie.Start) (f : Profile) → f ≡ profileFor (a .args .x) (a .args .n) → 0 < f .«acceleration_limit»
-steep a f e = subst (λ (p : Profile). 0 < p .«acceleration_limit») (sym e) (some-acceleration (a .args .x) (a .args .n) (a .pre))
-
 chosen-requires : tie.Need-chosen-requires
 chosen-requires c κs =
     let a = c .before .before .before in
     let f = c .before .profile-of in (
       f .ensures .ranged,
       (
-        steep a (f .result) (f .ensures .is),
-        (within (search exact depth 9) tt, plan-feasible (a .args .x) (a .args .n) (f .result) _ (f .ensures .is) (way c) (a .pre)),
+        f .ensures .acceleration,
+        (
+          f .ensures .some,
+          (within (search exact depth 9) tt, plan-feasible (a .args .x) (a .args .n) (f .result) _ (f .ensures .is) (way c) (a .pre)),
+        ),
       ),
     )
 

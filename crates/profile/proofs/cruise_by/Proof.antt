@@ -4,21 +4,34 @@ use lib.IntN.{ℤ, natAbs, _-ℤ_}
 use lib.Signed.{_≤ℤ_}
 use mir.Syntax.{w64}
 use mir.Val.{toZ, ofZ}
-use Rattle.whole.specs.Ranges.{Is}
+use Rattle.whole.specs.Ranges.{Within, Is}
 use Rattle.whole.proofs.Bounds.{within, exactly, exact, computed, is-of, then-is}
-use Rattle.whole.proofs.Tests.{true-T}
+use Rattle.whole.proofs.Tests.{T-true, left, true-T}
+use Rattle.whole.proofs.Laws.{natAbs-iff}
+use Rattle.profile.proofs.FeasibleParts.{feasible-parts}
 use Rattle.model.specs.Leg.{sumAt, required, cruise}
 use Rattle.model.proofs.FeasibleTests.{feasible-cruise}
-use Rattle.profile.specs.Profiles.{legOf}
+use Rattle.profile.specs.Profiles.{legOf, Joinable, endsAllowed}
 use borrow.Author.Needs.{needs}
-use Rattle.profile.proofs.cruise.Statement.{statement}
-use Rattle.profile.proofs.cruise.Tie as tie
+use Rattle.profile.proofs.cruise_by.Statement.{statement}
+use Rattle.profile.proofs.cruise_by.Tie as tie
+
+-- what a displacement that can be made gives: the ends can be joined, and its cruise keeps to the speed limit
+joinable : (a : tie.Start) → Joinable (a .args .p)
+joinable a =
+    let g = legOf (a .args .p) in
+    record {
+      ranged = a .pre .0;
+      acceleration = a .pre .1 .0;
+      some = a .pre .1 .1 .0;
+      ends = T-true (endsAllowed g) (left (endsAllowed g) _ (true-T (sym (feasible-parts g (a .args .displacement)) ∙ a .pre .1 .1 .1 .1)));
+    }
 
 required-requires : tie.Need-required-requires
 required-requires c κs = search needs
 
 climb-requires : tie.Need-climb-requires
-climb-requires c κs = (c .before .pre .0, within (search computed depth 9) tt)
+climb-requires c κs = (joinable (c .before), within (search computed depth 9) tt)
 
 -- the required sum, and its cruise
 abbrev sum : tie.Start → ℤ
@@ -44,10 +57,16 @@ fits c =
     let g = legOf (a .args .p) in
     subst (λ (z : ℤ). sumAt g z ≤ℤ toZ w64 (ofZ w64 (c .before .required .result))) (sym (cruise-is c .is))
     (subst (λ (z : ℤ). sumAt g (best a) ≤ℤ z) (sym (sum-is (c .before)))
-    (feasible-cruise g (a .args .displacement) (true-T (a .pre .1 .1)) (a .pre .0 .«speed_limit») .fits))
+    (feasible-cruise g (a .args .displacement) (true-T (a .pre .1 .1 .1 .1)) (a .pre .0 .«speed_limit») .fits))
+
+inside : (c : tie.After-climb) → Within (c .before .before .args .p .«speed_limit») (toZ w64 (ofZ w64 (c .climb .result)))
+inside c =
+    let a = c .before .before in
+    let C = feasible-cruise (legOf (a .args .p)) (a .args .displacement) (true-T (a .pre .1 .1 .1 .1)) (a .pre .0 .«speed_limit») in
+    subst (Within (a .args .p .«speed_limit»)) (sym (cruise-is c .is)) (record { within = natAbs-iff _ _ .1 (C .above, C .below) })
 
 remainder-requires : tie.Need-remainder-requires
-remainder-requires c κs = (c .before .before .pre .0, (within (search computed depth 9) tt, (within (search computed depth 9) tt, fits c)))
+remainder-requires c κs = (joinable (c .before .before), (within (search computed depth 9) tt, (inside c, fits c)))
 
 returns : tie.Need-returns
 returns c =
@@ -58,5 +77,5 @@ returns c =
       raised = c .remainder .ensures ∙ (λ i. natAbs (sum-is (c .before .before) i -ℤ sumAt g (v .is i)));
     }
 
-pub cruise-spec : {M : Type 1} → statement M
-cruise-spec = tie.close (tie.spec required-requires climb-requires remainder-requires returns)
+pub cruise-by-spec : {M : Type 1} → statement M
+cruise-by-spec = tie.close (tie.spec required-requires climb-requires remainder-requires returns)

@@ -5,11 +5,11 @@ use mir.Val.{toZ, ofZ}
 use Rattle.whole.proofs.Bounds.{within, exactly, exact, computed}
 use Rattle.whole.proofs.Tests.{and-no, and-yes}
 use Rattle.model.specs.Leg.{required, sumIsWhole}
-use Rattle.profile.specs.Profiles.{legOf, endsAllowed, sumBetween}
+use Rattle.profile.specs.Profiles.{legOf, Joinable, endsAllowed, sumBetween}
 use Rattle.profile.proofs.FeasibleParts.{feasible-parts}
 use borrow.Author.Needs.{needs}
-use Rattle.profile.proofs.feasible.Statement.{statement}
-use Rattle.profile.proofs.feasible.Tie as tie
+use Rattle.profile.proofs.feasible_by.Statement.{statement}
+use Rattle.profile.proofs.feasible_by.Tie as tie
 
 ends-allowed-requires : tie.Need-ends-allowed-requires
 ends-allowed-requires c κs = search needs
@@ -31,7 +31,8 @@ sum-between-requires : tie.Need-sum-between-requires
 sum-between-requires c κs =
     let t = c .before .before .before in
     let a = start (t .before) in
-    (a .pre .0, (within (search computed depth 9) tt, allowed t))
+    let joinable : Joinable (a .args .p) = record { ranged = a .pre .0; acceleration = a .pre .1 .0; some = a .pre .1 .1 .0; ends = allowed t } in
+    (joinable, within (search computed depth 9) tt)
 
 -- the second test
 abbrev start₂ : tie.After-sum-is-whole → tie.Start
@@ -77,8 +78,8 @@ returns-3 c =
     (sym (c .before .ends-allowed .ensures) ∙ c .if1 .left)
     ∙ sym (feasible-parts g (a .displacement))
 
-pub feasible-spec : {M : Type 1} → statement M
-feasible-spec =
+pub feasible-by-spec : {M : Type 1} → statement M
+feasible-by-spec =
     tie.close
     (tie.spec
     ends-allowed-requires

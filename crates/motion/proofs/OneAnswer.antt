@@ -1,0 +1,44 @@
+-- The engine by ticks and the engine by areas give one answer for every axis that passed the refusals of one axis and every arrival, on the axis's own grid.
+use Prim.Native.Nat.{ℕ}
+use mathlib.Core.Path.{_≡_, ap, sym, _∙_}
+use mathlib.Core.Bool.{Bool, true, _&&_}
+use lib.Dec.{leb, ltb}
+use lib.IntN.{natAbs}
+use Rattle.whole.proofs.Tests.{left, T-true, true-T}
+use Rattle.model.specs.declared.Axis.{Axis}
+use Rattle.model.specs.Quantities.{halfPeriod, speedSteps}
+use Rattle.model.specs.Leg.{required, sumIsWhole}
+use Rattle.model.specs.Motion.{leg, displacement, landingVelocity, arrivalVelocity, reachable, requiredSum}
+use Rattle.model.specs.Refusals.{Passed}
+use Rattle.model.proofs.Grid.{acceleration-some}
+use Rattle.model.proofs.PassedAxis.{some-acceleration}
+use Rattle.model.proofs.Reaches.{reach-feasible}
+use Rattle.profile.specs.Profiles.{endsAllowed, sumBetween}
+use Rattle.profile.specs.Areas.{EnginesAgree}
+use Rattle.profile.proofs.FeasibleParts.{feasible-parts}
+use Rattle.profile.proofs.Engines.{engines-agree}
+use Rattle.motion.specs.Engines.{OneAnswer}
+
+module _ (x : Axis) (p : Passed x) (n : ℕ) where
+  agree : EnginesAgree (leg x n)
+  agree = engines-agree (leg x n) (acceleration-some x (some-acceleration x p))
+
+  -- an arrival that is reached has ends that can be joined
+  ends : reachable x n ≡ true → endsAllowed (leg x n) ≡ true
+  ends e =
+      let g = leg x n in
+      let d = displacement x n in
+      let f = true-T (sym (feasible-parts g d) ∙ T-true _ (reach-feasible x n (true-T e))) in
+      T-true (endsAllowed g) (left (endsAllowed g) (sumIsWhole g d && sumBetween g (required g d)) f)
+
+  pub one-answer : OneAnswer x n
+  one-answer =
+      record {
+        reach =
+            ap
+            (λ (b : Bool). ltb (halfPeriod x) n
+            && (leb (natAbs (landingVelocity x n)) (speedSteps x) && (leb (natAbs (arrivalVelocity x n)) (speedSteps x) && b)))
+            (agree .reach (displacement x n));
+        cruises = λ e. agree .cruises (ends e) (requiredSum x n);
+        remainders = λ e. agree .remainders (ends e) (requiredSum x n);
+      }

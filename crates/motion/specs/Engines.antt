@@ -1,0 +1,25 @@
+-- Both engines for an axis and its arrival (paper 02, request 2.7): reach, cruise and remainder by areas are those of the definitions. That they are is the
+-- theorem `one-answer`.
+use Prim.Native.Nat.{ℕ}
+use mathlib.Core.Path.{_≡_}
+use mathlib.Core.Bool.{Bool, true, _&&_}
+use lib.Dec.{leb, ltb}
+use lib.IntN.{natAbs}
+use Rattle.model.specs.declared.Axis.{Axis}
+use Rattle.model.specs.Quantities.{halfPeriod, speedSteps}
+use Rattle.model.specs.Leg.{cruise, remainder}
+use Rattle.model.specs.Motion.{leg, displacement, landingVelocity, arrivalVelocity, reachable, requiredSum}
+use Rattle.profile.specs.Areas.{feasibleByAreas, cruiseByAreas, remainderByAreas}
+
+-- `reachable`, with the areas under the envelopes in place of their sums
+abbrev pub reachableByAreas : Axis → ℕ → Bool
+reachableByAreas x n =
+    ltb (halfPeriod x) n
+    && (leb (natAbs (landingVelocity x n)) (speedSteps x)
+    && (leb (natAbs (arrivalVelocity x n)) (speedSteps x) && feasibleByAreas (leg x n) (displacement x n)))
+
+-- one answer for an axis and an arrival: reach; and, where it is reached, the cruise and the remainder of the required sum
+pub record OneAnswer (x : Axis) (n : ℕ) : Type 0 where
+  pub reach : reachableByAreas x n ≡ reachable x n
+  pub cruises : reachable x n ≡ true → cruiseByAreas (leg x n) (requiredSum x n) ≡ cruise (leg x n) (requiredSum x n)
+  pub remainders : reachable x n ≡ true → remainderByAreas (leg x n) (requiredSum x n) ≡ remainder (leg x n) (requiredSum x n)
