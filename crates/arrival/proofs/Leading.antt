@@ -12,7 +12,7 @@ use Rattle.whole.proofs.Tests.{lt-or-le}
 use Rattle.model.specs.declared.Axis.{Axis}
 use Rattle.model.specs.Motion.{reachable}
 use Rattle.model.specs.Outcome.{allReach}
-use Rattle.profile.specs.Running.{Next}
+use Rattle.running.specs.Running.{Next}
 use Rattle.arrival.specs.Arrivals.{missedBy, reachedBy}
 use Rattle.arrival.proofs.SetAxes.{from, axisAt}
 use Rattle.arrival.proofs.Reaching.{missed, not-missed, later-missed}

@@ -26,7 +26,7 @@ use Rattle.model.specs.Motion.{shift, startPosition, startVelocity, landingVelo
 use Rattle.model.specs.Refusals.{positionAllowed, velocityAllowed, restAllowed, motionAllowed, targetAllowed, Passed}
 use Rattle.model.proofs.WholeSum.{sum-is-whole}
 use Rattle.profile.specs.Profiles.{endsAllowed, sumBetween}
-use Rattle.profile.specs.Running.{withTicks, betweenAt, Next}
+use Rattle.running.specs.Running.{withTicks, betweenAt, Next}
 use Rattle.profile.proofs.FeasibleParts.{feasible-parts}
 use Rattle.motion.specs.Motions.{speedOf, driftOf, drift}
 

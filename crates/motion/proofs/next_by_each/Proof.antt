@@ -3,7 +3,7 @@ use mathlib.Core.Path.{_≡_, sym, _∙_}
 use mathlib.Core.Bool.{false}
 use native.Mathlib.Omega.{arith}
 use Rattle.model.specs.Motion.{reachable}
-use Rattle.profile.proofs.NextTicks.{missed-next}
+use Rattle.running.proofs.NextTicks.{missed-next}
 use Rattle.motion.proofs.next_by_each.Statement.{statement}
 use Rattle.motion.proofs.next_by_each.Tie as tie
 

@@ -11,7 +11,7 @@ use Rattle.model.specs.Motion.{startPosition, displacement, requiredSum}
 use Rattle.model.specs.Quantities.{halfPeriod}
 use Rattle.profile.specs.declared.Profile.{Profile}
 use Rattle.profile.specs.Profiles.{legOf}
-use Rattle.profile.specs.Running.{Next, betweenAt}
+use Rattle.running.specs.Running.{Next, betweenAt}
 use Rattle.motion.specs.Motions.{drift}
 use Rattle.motion.proofs.PassedRanges.{ranges-of}
 use Rattle.motion.proofs.Steady.{start-slow, landing-slow, speed-slow, none-after, next-arrival}

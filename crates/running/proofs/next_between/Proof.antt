@@ -10,13 +10,13 @@ use Rattle.whole.specs.Ranges.{Within}
 use Rattle.whole.proofs.Bounds.{sfits, within, exactly, exact, computed, back-id}
 use Rattle.whole.proofs.Laws.{natAbs-+}
 use Rattle.model.proofs.Envelopes.{Joined}
 use Rattle.profile.specs.Profiles.{legOf}
-use Rattle.profile.specs.Running.{runningAt, stepped, RunningRanged, withTicks, Next, betweenAt}
+use Rattle.running.specs.Running.{runningAt, stepped, RunningRanged, withTicks, Next, betweenAt}
 use Rattle.profile.proofs.FeasibleParts.{ends-joined}
-use Rattle.profile.proofs.RunningSums.{more-ticks, step-is, running-ranged}
-use Rattle.profile.proofs.NextTicks.{between-is, wanted-first, wanted-next, missed-next}
-use Rattle.profile.proofs.next_between.Statement.{statement}
-use Rattle.profile.proofs.next_between.Tie as tie
+use Rattle.running.proofs.RunningSums.{more-ticks, step-is, running-ranged}
+use Rattle.running.proofs.NextTicks.{between-is, wanted-first, wanted-next, missed-next}
+use Rattle.running.proofs.next_between.Statement.{statement}
+use Rattle.running.proofs.next_between.Tie as tie
 
 abbrev Inv-loop : tie.InvT-loop
 Inv-loop p sum change last sums₀ wanted₀ t₀ sums wanted t =

@@ -10,12 +10,12 @@ use Rattle.whole.specs.Integers.{least}
 use Rattle.whole.proofs.Bounds.{sfits, exactly, computed, back-id, cast-up, is-of, then-is}
 use Rattle.model.specs.Leg.{Leg}
 use Rattle.model.proofs.Envelopes.{Joined}
-use Rattle.profile.specs.Running.{crossing, peakOf}
+use Rattle.running.specs.Running.{crossing, peakOf}
 use Rattle.profile.proofs.ThreeRegions.{up-some}
-use Rattle.profile.proofs.RunningSums.{m-late}
+use Rattle.running.proofs.RunningSums.{m-late}
 use borrow.Author.Needs.{needs}
-use Rattle.profile.proofs.peak_of.Statement.{statement}
-use Rattle.profile.proofs.peak_of.Tie as tie
+use Rattle.running.proofs.peak_of.Statement.{statement}
+use Rattle.running.proofs.peak_of.Tie as tie
 
 -- a leg of these ramps, with a speed limit that they keep
 abbrev leg : tie.Start → Leg

@@ -16,10 +16,10 @@ use Rattle.whole.proofs.Sums.{sum-same}
 use Rattle.whole.proofs.Tests.{lt-or-le}
 use Rattle.model.specs.Leg.{Leg, upper, lower}
 use Rattle.model.proofs.Envelopes.{Joined, since, until, highest, lowest, clamped-within, clamped-lowest, clamped-highest}
-use Rattle.profile.specs.declared.Running.{Running}
-use Rattle.profile.specs.Running.{crossing, peakOf, troughOf, runningAt, stepped, RunningRanged, withTicks}
+use Rattle.running.specs.declared.Running.{Running}
+use Rattle.running.specs.Running.{crossing, peakOf, troughOf, runningAt, stepped, RunningRanged, withTicks}
 use Rattle.profile.proofs.ThreeRegions.{before, after, up-is, up-late, before-half, after-half}
 use Rattle.profile.proofs.AreaIsSum.{parts}
 
 -- ---- a sum with one entry more
 

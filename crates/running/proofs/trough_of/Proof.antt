@@ -5,10 +5,10 @@ use mir.Syntax.{w64}
 use mir.Val.{toZ, ofZ}
 use Rattle.whole.specs.Ranges.{Within}
 use Rattle.whole.proofs.Bounds.{sfits, within, exactly, computed, is-of, then-is}
-use Rattle.profile.specs.Running.{peakOf}
-use Rattle.profile.proofs.RunningSums.{turned}
-use Rattle.profile.proofs.trough_of.Statement.{statement}
-use Rattle.profile.proofs.trough_of.Tie as tie
+use Rattle.running.specs.Running.{peakOf}
+use Rattle.running.proofs.RunningSums.{turned}
+use Rattle.running.proofs.trough_of.Statement.{statement}
+use Rattle.running.proofs.trough_of.Tie as tie
 
 sub-peak-of : tie.Need-sub-peak-of
 sub-peak-of c = sfits (search computed depth 9) tt

@@ -1,8 +1,8 @@
 use mathlib.Core.Path.{sym, _∙_}
 use Rattle.whole.proofs.Bounds.{loose, le-is}
 use Rattle.whole.proofs.Tests.{and-no, and-yes}
-use Rattle.profile.proofs.within_sums.Statement.{statement}
-use Rattle.profile.proofs.within_sums.Tie as tie
+use Rattle.running.proofs.within_sums.Statement.{statement}
+use Rattle.running.proofs.within_sums.Tie as tie
 
 returns : tie.Need-returns
 returns c = and-yes _ _ (sym (le-is (search loose depth 9) tt) ∙ c .if1 .taken) (le-is (search loose depth 9) tt)

@@ -12,10 +12,10 @@ use Rattle.whole.proofs.Ring.{pol, same}
 use Rattle.whole.proofs.Tests.{and-yes, and-no, leb-no, lt-or-le}
 use Rattle.model.specs.Leg.{Leg}
 use Rattle.model.proofs.Envelopes.{Joined}
 use Rattle.profile.specs.Profiles.{endsAllowed, sumBetween}
-use Rattle.profile.specs.declared.Running.{Running}
-use Rattle.profile.specs.Running.{runningAt, withinSums, withTicks, betweenAt, Next, NearFrom}
+use Rattle.running.specs.declared.Running.{Running}
+use Rattle.running.specs.Running.{runningAt, withinSums, withTicks, betweenAt, Next, NearFrom}
 use Rattle.profile.proofs.FeasibleParts.{joined-ends}
 
 -- the test at t ticks, by the running sums there
 pub between-is : (g : Leg) (s c : ℤ) (t : ℕ) → Joined (withTicks g t) → (r : Running) → r ≡ runningAt (withTicks g t)

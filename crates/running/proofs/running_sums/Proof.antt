@@ -10,13 +10,13 @@ use Rattle.whole.proofs.Bounds.{within, exactly, computed}
 use Rattle.whole.proofs.Laws.{natAbs-negpos}
 use Rattle.model.specs.Leg.{sumAt}
 use Rattle.model.proofs.Envelopes.{Joined, lowest-sum, highest-sum}
 use Rattle.profile.specs.Profiles.{legOf}
-use Rattle.profile.specs.Running.{peakOf, troughOf}
+use Rattle.running.specs.Running.{peakOf, troughOf}
 use Rattle.profile.proofs.FeasibleParts.{ends-joined}
-use Rattle.profile.proofs.RunningSums.{more-ticks, running-same}
+use Rattle.running.proofs.RunningSums.{more-ticks, running-same}
 use borrow.Author.Needs.{needs}
-use Rattle.profile.proofs.running_sums.Statement.{statement}
-use Rattle.profile.proofs.running_sums.Tie as tie
+use Rattle.running.proofs.running_sums.Statement.{statement}
+use Rattle.running.proofs.running_sums.Tie as tie
 
 joined : (a : tie.Start) → Joined (legOf (a .args .p))
 joined a = ends-joined (legOf (a .args .p)) (a .pre .ends)

@@ -2,10 +2,10 @@ use mathlib.Core.Path.{ap, _∙_}
 use lib.IntN.{ℤ, negℤ, _+ℤ_, +ℤ-idl}
 use Rattle.whole.specs.Integers.{greatest}
 use Rattle.whole.proofs.Bounds.{sfits, exactly, computed}
-use Rattle.profile.proofs.RunningSums.{running-same}
+use Rattle.running.proofs.RunningSums.{running-same}
 use borrow.Author.Needs.{needs}
-use Rattle.profile.proofs.step.Statement.{statement}
-use Rattle.profile.proofs.step.Tie as tie
+use Rattle.running.proofs.step.Statement.{statement}
+use Rattle.running.proofs.step.Tie as tie
 
 sub-greatest : tie.Need-sub-greatest
 sub-greatest c = sfits (search computed depth 9) tt

@@ -7,14 +7,14 @@ use mir.Syntax.{w64}
 use mir.Val.{toZ, ofZ}
 use Rattle.whole.specs.Ranges.{Is}
 use Rattle.whole.proofs.Bounds.{sfits, within, exactly, exact, cast-small}
 use Rattle.profile.specs.declared.Profile.{Profile}
 use Rattle.profile.specs.Profiles.{legOf, Joinable}
-use Rattle.profile.specs.Running.{Next, betweenAt}
+use Rattle.running.specs.Running.{Next, betweenAt}
 use Rattle.profile.proofs.FeasibleParts.{joined-ends}
-use Rattle.profile.proofs.NextTicks.{next-later, next-none}
+use Rattle.running.proofs.NextTicks.{next-later, next-none}
 use borrow.Author.Needs.{needs}
-use Rattle.profile.proofs.next_feasible.Statement.{statement}
-use Rattle.profile.proofs.next_feasible.Tie as tie
+use Rattle.running.proofs.next_feasible.Statement.{statement}
+use Rattle.running.proofs.next_feasible.Tie as tie
 
 near-tick-requires : tie.Need-near-tick-requires
 near-tick-requires c κs = search needs

@@ -1,7 +1,7 @@
 -- Running sums (paper 02, request 2.2): the sums of both envelopes of a leg, carried to the leg that has one tick more. With a tick more the upper
 -- envelope has one velocity more, where its two ramps cross; the others stay, so that the sum grows by it. That `stepped` gives the next leg's sums is
 -- the theorem `step-is`.
-use Prim.Native.Nat.{ℕ, suc, _+_, _-_, _*_, _/_, _^_, _≤_, _<_}
+use Prim.Native.Nat.{ℕ, suc, _-_, _*_, _/_, _^_, _≤_, _<_}
 use mathlib.Core.Path.{_≡_}
 use mathlib.Core.Bool.{Bool, true, false, _&&_}
 use lib.IntN.{ℤ, pos, negℤ, natAbs, _+ℤ_, _-ℤ_, _*ℤ_}
@@ -9,9 +9,8 @@ use lib.Signed.{leZ}
 use Rattle.whole.specs.Integers.{least, greatest, sumTo}
 use Rattle.whole.specs.Ranges.{Within}
 use Rattle.model.specs.Leg.{Leg, upper, lower}
-use Rattle.profile.specs.declared.Profile.{Profile}
-use Rattle.profile.specs.declared.Running.{Running}
-use Rattle.profile.specs.Profiles.{legOf, endsAllowed, sumBetween}
+use Rattle.running.specs.declared.Running.{Running}
+use Rattle.profile.specs.Profiles.{endsAllowed, sumBetween}
 
 -- the last tick at which the ramp up from s is not above the ramp down to e, of t ticks, at limit a a tick
 unfoldable pub crossing : ℕ → ℤ → ℤ → ℕ → ℕ

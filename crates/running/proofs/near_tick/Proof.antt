@@ -8,8 +8,8 @@ use mir.Val.{toZ, ofZ}
 use Rattle.whole.specs.Ranges.{Within}
 use Rattle.whole.proofs.Bounds.{sfits, within, exactly, computed}
 use borrow.Author.Needs.{needs}
-use Rattle.profile.proofs.near_tick.Statement.{statement}
-use Rattle.profile.proofs.near_tick.Tie as tie
+use Rattle.running.proofs.near_tick.Statement.{statement}
+use Rattle.running.proofs.near_tick.Tie as tie
 
 sub-size : tie.Need-sub-size
 sub-size c = sfits (search computed depth 9) tt

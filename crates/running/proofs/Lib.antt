@@ -1,0 +1,2 @@
+pub mod RunningSums
+pub mod NextTicks
