@@ -76,13 +76,14 @@ uint32_t polgamir_version(void);
  *  1  The mask word is absent, not of kind 1, or its payload is 0 or above 63.
  *  2  A word is not of a kind allowed next, the end payload is not 0, or words are lacking or left over; the place is the first
  *     such word's index, or the word count where words are lacking.
+ * 14  A kind 14 payload is outside -64 to 63, or its position fits a single word; the place is the first such word's index.
  *  3  The asked arrival is above 4,096; the place is 1.
  *  4  L or M is outside its range; the place is the axis.
  * 12  Of damping as measured, also when h is 0: the first peak is not above zero, or the ratio is not a number above 0 and at most
  *     1; the place is the axis.
  *  5  h or B is outside its range, B also when h is 0; the place is the axis.
  *  6  Start or target velocity exceeds L in size, target acceleration exceeds M in size, target tick exceeds 4,096 in size, or a
- *     typed position is outside -134,217,728 to 134,217,727; the place is the axis.
+ *     typed position is outside -17,179,869,184 to 17,179,869,183; the place is the axis.
  * 13  The window list is empty (place 0); there are more than 32 windows, or then the dwell is above 4,096 (place 32); then a
  *     window's closing is not above its opening, or it opens before the previous one closes (the place is the first such window).
  *  8  The asked arrival is not reachable for every axis, or fits no window; the mask names the axes for which it is not reachable,
@@ -100,6 +101,7 @@ enum polgamir_number {
     POLGAMIR_REFUSED_STOPS = 11,
     POLGAMIR_REFUSED_MASK = 1,
     POLGAMIR_REFUSED_WORDS = 2,
+    POLGAMIR_REFUSED_LONG_POSITION = 14,
     POLGAMIR_REFUSED_ASKED_ARRIVAL = 3,
     POLGAMIR_REFUSED_LIMITS = 4,
     POLGAMIR_REFUSED_DAMPING = 12,
@@ -119,13 +121,14 @@ static inline const char *polgamir_refusal_text(uint32_t number)
     case POLGAMIR_REFUSED_STOPS: return "a tour has more than 64 stops, or a dwell above 4096";
     case POLGAMIR_REFUSED_MASK: return "the mask names no axis, or one above 5";
     case POLGAMIR_REFUSED_WORDS: return "a word is of a wrong kind, lacking or left over";
+    case POLGAMIR_REFUSED_LONG_POSITION: return "a kind 14 payload is not -64 to 63, or its position fits a single word";
     case POLGAMIR_REFUSED_ASKED_ARRIVAL: return "the asked arrival is above 4096";
     case POLGAMIR_REFUSED_LIMITS: return "the speed limit is not 1 to 1048576, or the acceleration limit is not 1 to 65536";
     case POLGAMIR_REFUSED_DAMPING: return "the first peak is not above zero, or the swing ratio is not a number above 0 and at most 1";
     case POLGAMIR_REFUSED_BLEND: return "the half period is not 0 to 256, or the second weight is not 1 to 128";
     case POLGAMIR_REFUSED_START_OR_TARGET:
         return "a velocity is above the speed limit, the target acceleration is above the acceleration limit, the target tick is "
-               "more than 4096 ticks from tick 0, or a position is not -134217728 to 134217727";
+               "more than 4096 ticks from tick 0, or a position is not -17179869184 to 17179869183";
     case POLGAMIR_REFUSED_WINDOWS: return "windows are lacking, more than 32, out of order or closed at once, or the dwell is above 4096";
     case POLGAMIR_REFUSED_NOT_REACHABLE: return "not every axis can arrive at the asked tick, or it fits no window";
     case POLGAMIR_REFUSED_NO_COMMON_ARRIVAL: return "no tick from 1 to 4096 suits every axis and fits a window where some are given";
@@ -163,10 +166,14 @@ typedef struct polgamir_answer {
 /*
  * Plans the job that `word_count` words hold, and writes its table to the `table_cells` cells at `table`.
  *
- * The top four bits of a word are its kind, the low 28 its payload. Kinds 3, 4, 9, 10, 11, 12 carry two's complement payloads,
+ * The top four bits of a word are its kind, the low 28 its payload. Kinds 3, 4, 9, 10, 11, 12, 14 carry two's complement payloads,
  * the others unsigned. In order: kind 1, axis mask; kind 2, 0 for the least arrival or 1 to 4,096 for an asked one; then for each
  * set mask bit, lowest first, kinds 3 start position, 4 start velocity, 5 L, 6 M, 7 h, 8 B, 9 target position, 10 target velocity,
  * and for a moving target also 11 acceleration and 12 tick; last kind 15 with payload 0.
+ *
+ * A position that 28 bits do not hold has a word of kind 14 just before its word of kind 3 or 9: the payload of kind 14, -64 to 63,
+ * times 2^28 plus the following payload read as unsigned is the position. A position that fits a single word has no word of kind 14.
+ * The longest job has 75 words. Refusals, in checking order: 1, 2, 14, 3, 4, 5, 6, 8, 9 and 10.
  */
 polgamir_answer polgamir_plan_words(const uint32_t *words, size_t word_count, int64_t *table, size_t table_cells);
 

@@ -182,10 +182,10 @@ static void reads_the_limits(unsigned axis)
     WITH(half_period, 257, 5);
     WITH(second_weight, 0, 5);
     WITH(second_weight, 129, 5);
-    WITH(start_position, 134217728, 6);
+    WITH(start_position, 17179869184, 6);
     WITH(start_velocity, 5004, 6);
     WITH(start_velocity, -5004, 6);
-    WITH(target_position, -134217729, 6);
+    WITH(target_position, -17179869185, 6);
     WITH(target_velocity, 5004, 6);
     WITH(target_acceleration, 208, 6);
     WITH(target_tick, 4097, 6);
@@ -264,17 +264,46 @@ static void takes_null(void)
     expect(is(polgamir_plan_job(empty, NULL, 0), 1, 0, 0), "a job with no axis", 0);
 }
 
+/* The payload of kind 14 and the low one of a position, the position in units where they spell one, and else 14 at word 2. */
+static void reads_long_positions(void)
+{
+    static const struct {
+        uint32_t high, low;
+        int64_t position;
+        bool spelled;
+    } cases[] = {
+        {0, 0x08000000, 134217728, true},        {0, 0x07FFFFFF, 0, false},  {0x0FFFFFFF, 0x07FFFFFF, -134217729, true},
+        {0x0FFFFFFF, 0x08000000, 0, false},      {64, 0, 0, false},          {0x0FFFFFFF - 64, 0, 0, false},
+        {63, 0x0FFFFFFF, 17179869183, true},     {0x0FFFFFFF - 63, 0, -17179869184, true},
+    };
+    for (unsigned i = 0; i < sizeof cases / sizeof cases[0]; i++) {
+        uint32_t high = 0xE0000000 | cases[i].high;
+        const uint32_t words[] = {
+            0x10000001, 0x20000000, high, 0x30000000 | cases[i].low, 0x40000000, 0x5000000A, 0x60000001,
+            0x70000000, 0x80000080, high, 0x90000000 | cases[i].low, 0xA0000000, 0xF0000000,
+        };
+        polgamir_answer answer = polgamir_plan_words(words, sizeof words / sizeof words[0], table, CELLS);
+        if (cases[i].spelled) {
+            expect(is(answer, 0, 0, 1) && answer.arrival == 1, "a long position", i);
+            expect(table[0] == 256 * cases[i].position && table[3] == table[0], "a long position's cells", i);
+        } else {
+            expect(is(answer, 14, 2, 0) && answer.arrival == 0, "a position that is wrongly spelled", i);
+        }
+    }
+}
+
 /* Every number has a text of its own; 7 is not used, and has that of a number above the last. */
 static void has_texts(void)
 {
-    for (uint32_t number = 0; number <= POLGAMIR_REFUSED_WINDOWS + 1; number++) {
+    const uint32_t above = POLGAMIR_REFUSED_LONG_POSITION + 1;
+    for (uint32_t number = 0; number <= above; number++) {
         for (uint32_t other = 0; other < number; other++) {
-            bool unused = other == 7 && number == POLGAMIR_REFUSED_WINDOWS + 1;
+            bool unused = other == 7 && number == above;
             bool same = strcmp(polgamir_refusal_text(number), polgamir_refusal_text(other)) == 0;
             expect(same == unused, "two numbers with one text", other);
         }
     }
-    expect(polgamir_refusal_text(POLGAMIR_REFUSED_WINDOWS + 1) == polgamir_refusal_text(UINT32_MAX), "a number above the last", 0);
+    expect(polgamir_refusal_text(above) == polgamir_refusal_text(UINT32_MAX), "a number above the last", 0);
 }
 
 /* A tour of one axis, whose legs and refusals are worked out by hand: from 0, with L = 10, M = 1 and no blend, 4 units take 4 ticks. */
@@ -343,6 +372,7 @@ int main(void)
         reads_the_damping(axis);
     }
     takes_null();
+    reads_long_positions();
     has_texts();
     return failures == 0 ? 0 : 1;
 }

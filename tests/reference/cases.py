@@ -10,6 +10,7 @@ from typing import List
 from builders import (HIGHEST, LOWEST, MOST, Case, Group, axis, by_values, by_words, job, mask_of, placed,
                       random_axis, to, typed, words_of)
 from dampingcases import damping, drawn_damping, drawn_weights, weights
+from railcases import HIGH, LOW, drawn_rails, rails
 from reference import Axis, RestPoint, State
 from tourcases import drawn_tours, tours
 from windowcases import drawn_windows, windows
@@ -317,12 +318,12 @@ def refused_values() -> Group:
         typed('target tick 4096', [axis(target=(0, 0, 0, 4096))]),
         typed('target tick 4097', [axis(target=(0, 0, 0, 4097))]),
         typed('target tick -4097', {5: axis(target=(0, 0, 0, -4097))}),
-        typed('start position 134217727', [axis(start=(134217727, 0), target=(134217727, 0))]),
         typed('start position 134217728', [axis(start=(134217728, 0))]),
-        typed('start position -134217729', {1: axis(start=(-134217729, 0))}),
+        typed('start position past the upper end', [axis(start=(HIGH + 1, 0))]),
+        typed('start position past the lower end', {1: axis(start=(LOW - 1, 0))}),
         typed('target position 134217728', [to(134217728)]),
-        typed('target position -134217728', [axis(start=(-134217728, 0), target=(-134217728, 0))]),
-        typed('moving target position -134217729', {3: axis(target=(-134217729, 0, 0, 0))}),
+        typed('target position past the upper end', [to(HIGH + 1)]),
+        typed('moving target position past the lower end', {3: axis(target=(LOW - 1, 0, 0, 0))}),
         typed('6 beside an accelerating target, damped',
               [axis(half_period=1, second_weight=1, target=(0, 0, 1, 0)), axis(start=(0, 11))]),
         typed('an accelerating target, no half period',
@@ -434,4 +435,4 @@ def mirrors() -> Group:
 
 def groups() -> List[Group]:
     return [field(), readings(), accepted(), corrected(), refused_words(), refused_values(), hostile(),
-            damping(), mirrors(), drawn(), drawn_damping(count=10)]
+            damping(), mirrors(), rails(), drawn(), drawn_damping(count=10), drawn_rails()]

@@ -236,6 +236,7 @@ def tour_groups() -> List[cases.Group]:
 
 def drawn_groups(seed: int, count: int) -> List[cases.Group]:
     return [cases.drawn(seed, count), cases.drawn_damping(seed, count // 3), drawn_windows(seed, count // 3),
+            cases.drawn_rails(seed, count // 3),
             cases.Group('drawn tours', 'Random tours.', drawn_tours(seed, count))]
 
 

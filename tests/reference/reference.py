@@ -23,7 +23,8 @@ LAST_TICK = 4096                # the latest arrival
 AXES = 6                        # bits 0 to 5 of the mask
 MOST_WINDOWS = 32
 MOST_DWELL = 4096
-PROGRAM_BYTES = 256             # what the table program reads
+LEAST_HIGH, MOST_HIGH = -64, 63  # the payloads of kind 14 (request 2.8)
+PROGRAM_BYTES = 512             # what the table program reads (request 2.8)
 PROGRAM_CELLS = 8192            # what the table program lends
 
 
@@ -288,7 +289,8 @@ def table_cells(job: Job, arrival: int) -> List[int]:
 
 # --- Job words -------------------------------------------------------------
 
-SIGNED_KINDS = (3, 4, 9, 10, 11, 12)
+SIGNED_KINDS = (3, 4, 9, 10, 11, 12, 14)
+PAYLOADS = 1 << 28
 
 
 def kind_of(word: int) -> int:
@@ -296,10 +298,19 @@ def kind_of(word: int) -> int:
 
 
 def payload_of(word: int) -> int:
-    payload = word & 0x0FFFFFFF
-    if kind_of(word) in SIGNED_KINDS and payload >= 1 << 27:
-        return payload - (1 << 28)
+    payload = word % PAYLOADS
+    if kind_of(word) in SIGNED_KINDS and payload >= PAYLOADS // 2:
+        return payload - PAYLOADS
     return payload
+
+
+def fits_one_word(position: int) -> bool:
+    return -PAYLOADS // 2 <= position < PAYLOADS // 2
+
+
+def breaks_14(high: int, position: int) -> bool:
+    """A kind 14 payload outside its range, or a position that needs none."""
+    return not LEAST_HIGH <= high <= MOST_HIGH or fits_one_word(position)
 
 
 def mask_is_good(mask: int) -> bool:
@@ -318,6 +329,7 @@ class Reader:
     def __init__(self, words: List[int]):
         self.words = words
         self.index = 1          # the mask word is read already
+        self.breaking_14 = []   # the indices of kind 14 words to be refused
 
     def refuse(self) -> None:
         raise Refused(Answer(2, place=self.index))
@@ -331,15 +343,24 @@ class Reader:
         self.index += 1
         return payload_of(self.words[self.index - 1])
 
+    def position(self, kind: int) -> int:
+        """A position word, with a word of kind 14 just before it or without
+        (request 2.8). After kind 14 its payload is read as unsigned."""
+        if not self.next_is(14):
+            return self.take(kind)
+        place, high = self.index, self.take(14)
+        position = high * PAYLOADS + self.take(kind) % PAYLOADS
+        if breaks_14(high, position):
+            self.breaking_14.append(place)
+        return position
+
     def axis(self) -> Axis:
-        position, velocity, speed, acceleration, half, weight, p, v = (
-            self.take(kind) for kind in range(3, 11))
-        target = RestPoint(p, v)
+        start = RestPoint(self.position(3), self.take(4))
+        speed, acceleration, half, weight = (self.take(kind) for kind in range(5, 9))
+        target = RestPoint(self.position(9), self.take(10))
         if self.next_is(11):
-            a = self.take(11)
-            target = State(p, v, a, self.take(12))
-        return Axis(RestPoint(position, velocity), speed, acceleration, half, weight,
-                    target)
+            target = State(*target, self.take(11), self.take(12))
+        return Axis(start, speed, acceleration, half, weight, target)
 
     def end(self) -> None:
         if self.next_is(15) and payload_of(self.words[self.index]) != 0:
@@ -350,7 +371,7 @@ class Reader:
 
 
 def decode(words: List[int]) -> Job:
-    """The job of the words; refusals 1 and 2."""
+    """The job of the words; refusals 1, 2 and 14."""
     if not words or kind_of(words[0]) != 1 or not mask_is_good(payload_of(words[0])):
         raise Refused(Answer(1))
     mask = payload_of(words[0])
@@ -361,19 +382,34 @@ def decode(words: List[int]) -> Job:
         if mask >> bit & 1:
             axes[bit] = reader.axis()
     reader.end()
+    if reader.breaking_14:
+        raise Refused(Answer(14, place=reader.breaking_14[0]))
     return Job(mask, asked, axes)
+
+
+def word(kind: int, value: int) -> int:
+    return kind * PAYLOADS + value % PAYLOADS
+
+
+def position_words(kind: int, position: int) -> List[int]:
+    """The one spelling of a position."""
+    long = [] if fits_one_word(position) else [word(14, position // PAYLOADS)]
+    return long + [word(kind, position)]
+
+
+def axis_words(axis: Axis) -> List[int]:
+    pole = [axis.speed_limit, axis.acceleration_limit, axis.half_period, axis.second_weight]
+    return (position_words(3, axis.start.position) + [word(4, axis.start.velocity)]
+            + [word(kind, value) for kind, value in enumerate(pole, 5)]
+            + position_words(9, axis.target.position)
+            + [word(kind, value) for kind, value in enumerate(axis.target[1:], 10)])
 
 
 def encode(job: Job) -> List[int]:
     """The words of a job whose values fit their payloads."""
-    def word(kind: int, value: int) -> int:
-        return kind << 28 | value & 0x0FFFFFFF
-
     words = [word(1, job.mask), word(2, job.asked)]
     for _, axis in sorted(job.axes.items()):
-        values = [*axis.start, axis.speed_limit, axis.acceleration_limit,
-                  axis.half_period, axis.second_weight, *axis.target]
-        words += [word(kind, value) for kind, value in enumerate(values, 3)]
+        words += axis_words(axis)
     return words + [word(15, 0)]
 
 
@@ -395,6 +431,11 @@ def breaks_5(axis: Axis) -> bool:
     return not (0 <= axis.half_period <= 256 and 1 <= axis.second_weight <= 128)
 
 
+def is_on_the_rail(position: int) -> bool:
+    """What words can say, with kind 14 or without (request 2.8)."""
+    return LEAST_HIGH * PAYLOADS <= position < (MOST_HIGH + 1) * PAYLOADS
+
+
 def breaks_6(axis: Axis) -> bool:
     target = axis.target
     tick = target.tick if isinstance(target, State) else 0
@@ -402,8 +443,8 @@ def breaks_6(axis: Axis) -> bool:
             or abs(target.velocity) > axis.speed_limit
             or abs(acceleration_of(target)) > axis.acceleration_limit
             or abs(tick) > LAST_TICK
-            or not -134217728 <= axis.start.position <= 134217727
-            or not -134217728 <= target.position <= 134217727)
+            or not is_on_the_rail(axis.start.position)
+            or not is_on_the_rail(target.position))
 
 
 def breaks_12(axis: Axis) -> bool:

@@ -13,6 +13,7 @@ from fractions import Fraction
 
 import damping
 import dampingcases
+import railcases
 import reference as ref
 import tourcases
 from builders import DEFAULT, UNSET, axis, mask_of, placed, random_axis, to
@@ -149,7 +150,7 @@ def settled_readings():
 
 def ranges():
     """The last value of each range passes its check, and the next is refused."""
-    low, high = -134217728, 134217727
+    low, high = -17179869184, 17179869183
     for number, inside, outside in (
             (4, axis(speed_limit=1), axis(speed_limit=0)),
             (4, axis(speed_limit=1048576), axis(speed_limit=1048577)),
@@ -486,6 +487,64 @@ def corrected_axes(rng, count=60):
             mirrored(one, answer.arrival, rows)
 
 
+# --- Positions past 28 bits (request 2.8) ----------------------------------
+
+def rail_readings():
+    """The words of the default axis with a start and a target as high and low payload."""
+    def read(start, target=(1, 0), asked=0):
+        return ref.plan_words(railcases.spelled(start, target, asked), [7] * 24)
+
+    past = 2 ** 27
+    for pair in (0, past), (-1, past - 1), (63, 2 * past - 1), (-64, 0), (1, 0):
+        arrives('kind 14 of %d, %d' % pair, read(pair, pair), 1)
+        same('its cells', read(pair, pair)[1][:3], [256 * (2 * past * pair[0] + pair[1]), 0, 0])
+    for pair in (0, past - 1), (-1, past), (64, 0), (-65, 0), (0, 0), (-1, 2 * past - 1):
+        refuses('kind 14 of %d, %d' % pair, read(pair, pair), 14, place=2)
+        refuses('at the target, %d, %d' % pair, read((1, 0), pair), 14, place=9)
+        refuses('14 before 3', read(pair, pair, asked=4097), 14, place=2)
+    words = railcases.spelled((64, 0), (64, 0))
+    refuses('2 before 14', ref.plan_words(words + [0], [7]), 2, place=13)
+    refuses('a wrong word after kind 14', ref.plan_words(words[:3] + words[4:], [7]), 2, place=3)
+    refuses('kind 14 at the last', ref.plan_words(words[:3], [7]), 2, place=3)
+    same('the longest job', len(railcases.longest()[0].words), 75)
+    text = ref.table_program(bytes_of(railcases.longest()[0].words))
+    assert text.startswith('arrival '), 'the table program reads 300 bytes'
+    same('512 bytes are read', ref.table_program(bytes_of(C_WORDS) + bytes(600)), 'refused 2 place 11 axes 0 arrival 0\n')
+
+
+def one_spelling(rng, count=3000):
+    """Every position of the rail has one spelling, and every accepted spelling
+    is that one."""
+    for _ in range(count):
+        high = rng.choice([-66, -65, -64, -2, -1, 0, 1, 63, 64])
+        low = rng.choice([0, 1, 2 ** 27 - 1, 2 ** 27, 2 ** 28 - 1, rng.randrange(2 ** 28)])
+        words = railcases.spelled((high, low), (high, low))
+        position = high * 2 ** 28 + low
+        own = ref.encode(ref.Job(1, 0, {0: to(position, start=(position, 0))}))
+        accepted = ref.plan_words(words, [7] * 6)[0].number == 0
+        same('one spelling', accepted, words == own and -2 ** 34 <= position < 2 ** 34)
+        if -2 ** 34 <= position < 2 ** 34:
+            same('read back', ref.decode(own).axes[0].start.position, position)
+
+
+def along_the_rail(rng, count=40):
+    """Moving start and target along the rail moves every exact position as far,
+    and nothing else."""
+    for _ in range(count):
+        one, offset = random_axis(rng), railcases.random_offset(rng)
+        moved = railcases.along(one, offset)
+        answer, cells = plan([moved])
+        same('the same answer', answer, plan([one])[0])
+        if answer.number == 0:
+            n, far = answer.arrival, 2 * 256 * 256 * ref.finer(one) * offset
+            here, there = ref.plan_axis(one, n), ref.plan_axis(moved, n)
+            for k in range(n + 1):
+                p, v, a = ref.blended(one, here, k)
+                same('moved', ref.blended(moved, there, k), (p + far, v, a))
+            demand_3(rng, moved, n, [cells[3 * k:3 * k + 3] for k in range(n + 1)])
+            on_the_target(moved, n)
+
+
 def main():
     rng = random.Random(1)
     field_cases()
@@ -504,8 +563,11 @@ def main():
     windows_by_trial(rng)
     corrected_readings()
     corrected_axes(rng)
+    rail_readings()
+    one_spelling(rng)
+    along_the_rail(rng)
     print('reference: field cases, traps, settled readings, ranges, definitions, rounding, demand 3,',
-          'tours, damping, windows, accelerating targets on damped poles: ok')
+          'tours, damping, windows, accelerating targets on damped poles, positions past 28 bits: ok')
     return 0
 
 

@@ -5,6 +5,7 @@ from typing import List, NamedTuple
 
 from builders import HIGHEST, LOWEST, MOST
 from dampingcases import peaks, random_damping, ratio
+from railcases import HIGH, LOW
 from tour import Stop, Tour, TourAnswer, TourAxis, plan_tour
 
 BASE = TourAxis(0, 10, 1, 0, 128)           # the field cases' axis, from 0
@@ -70,8 +71,11 @@ def accepted() -> List[TourCase]:
         single('the dwell at its end', [stop(4, 4096), stop(0, 4096)]),
         single('64 stops', zigzag, lent=64),
         single('64 stops, a list of 65', zigzag, lent=65, half_period=2, second_weight=90),
-        single('from end to end', [stop(134217727), stop(-134217728)], start=-134217728,
+        single('from end to end of a word', [stop(134217727), stop(-134217728)], start=-134217728,
                speed_limit=1048576, acceleration_limit=65536),
+        single('at the ends of the rail', [stop(HIGH - 4000000000, 4), stop(HIGH)], start=HIGH,
+               speed_limit=1048576, acceleration_limit=65536),
+        single('at the lower end of the rail', [stop(LOW + 4), stop(LOW)], start=LOW),
         single('a leg as long as can be', [stop(4095, 1), stop(0)], speed_limit=1),
         several('six axes', SIX, plot),
         single('a ratio of 0.5', [stop(9, 1), stop(0)], half_period=3, second_weight=ratio(0.5)),
@@ -118,8 +122,9 @@ def refused_legs() -> List[TourCase]:
                 [stop(4)]),
         single('acceleration limit 65,537', [stop(4)], acceleration_limit=65537),
         single('half period 256', [stop(4)], half_period=256),
-        single('6 at the start', [stop(4)], start=134217728),
-        single('6 at the first stop', [stop(-134217729), stop(4)]),
+        single('6 at the start', [stop(4)], start=HIGH + 1),
+        single('6 at the first stop', [stop(LOW - 1), stop(4)]),
+        single('9 from one end of the rail to the other', [stop(LOW)], start=HIGH, speed_limit=1048576, acceleration_limit=65536),
         single('6 at the second stop', [stop(4), stop(2 ** 40)]),
         single('9 at the first of two bad stops', [stop(FAR), stop(2 ** 40)], speed_limit=1),
         single('6 before 9 at one stop', [stop(2 ** 40)], speed_limit=1),
@@ -141,17 +146,18 @@ def tours() -> List[TourCase]:
 
 # --- Random tours ----------------------------------------------------------
 
-def random_tour_axis(rng: random.Random) -> TourAxis:
-    return TourAxis(rng.randint(-90, 90), rng.randint(1, 60), rng.randint(1, 9),
+def random_tour_axis(rng: random.Random, offset: int) -> TourAxis:
+    return TourAxis(offset + rng.randint(-90, 90), rng.randint(1, 60), rng.randint(1, 9),
                     rng.choice([0, 0, 1, 2, rng.randint(0, 40)]), rng.choice([128, rng.randint(1, 128), ratio(rng.uniform(0.01, 1))]))
 
 
 def random_tour(rng: random.Random) -> Tour:
     mask = rng.choice([1, 1, 2, 5, 63, rng.randint(1, 63)])
     spread = rng.choice([20, 200])
-    stops = [Stop([rng.randint(-spread, spread) for _ in range(6)], rng.choice([0, 1, rng.randint(0, 90)]))
+    offset = rng.choice([0, 0, HIGH - 300, LOW + 300])
+    stops = [Stop([offset + rng.randint(-spread, spread) for _ in range(6)], rng.choice([0, 1, rng.randint(0, 90)]))
              for _ in range(rng.choice([1, 2, 3, rng.randint(0, 9)]))]
-    return Tour(mask, [random_tour_axis(rng) for _ in range(6)], stops)
+    return Tour(mask, [random_tour_axis(rng, offset) for _ in range(6)], stops)
 
 
 def damaged(rng: random.Random, tour: Tour) -> Tour:
@@ -159,14 +165,14 @@ def damaged(rng: random.Random, tour: Tour) -> Tour:
     axes, stops = list(tour.axes), list(tour.stops)
     bit = rng.randrange(6)
     field, value = rng.choice([
-        ('start', 134217727 + rng.randint(0, 1)), ('speed_limit', rng.choice([0, 1])),
+        ('start', HIGH + rng.randint(0, 1)), ('speed_limit', rng.choice([0, 1])),
         ('acceleration_limit', 65536 + rng.randint(0, 1)), ('half_period', 256 + rng.randint(0, 1)),
         ('second_weight', rng.choice([0, 1, 128, 129, random_damping(rng)]))])
     axes[bit] = axes[bit]._replace(**{field: value})
     if stops and rng.randrange(2):
         k = rng.randrange(len(stops))
         positions = list(stops[k].positions)
-        positions[bit] = rng.choice([134217728, -134217729, 134217727, 50000])
+        positions[bit] = rng.choice([HIGH + 1, LOW - 1, HIGH, 50000])
         stops[k] = Stop(positions, rng.choice([stops[k].dwell, 4096, 4097]))
         axes = list(tour.axes)
     return Tour(rng.choice([tour.mask, tour.mask, tour.mask, rng.randint(0, 70)]), axes, stops)

@@ -155,11 +155,11 @@ fn no_words(sheet: &Sheet, error: &NoWords) -> String {
         }
         other => return other.to_string(),
     };
-    let (least, greatest) = error.kind.payload_range();
+    let (least, greatest) = error.kind.range();
     let line = sheet.line_of(error.axis, error.kind).unwrap_or(0);
     let name = error.kind.name();
     format!(
-        "line {line}: expected a number from {least} to {greatest} after `{name}`, for its job word, found `{}`",
+        "line {line}: expected a number from {least} to {greatest} after `{name}`, for its job words, found `{}`",
         error.value
     )
 }

@@ -23,7 +23,7 @@ pub const MOST_CELLS: usize = cells_needed(AXES as u32, LATEST_ARRIVAL);
 ///
 /// # Errors
 ///
-/// The first refusal in checking order, of those in [`Refusal`] except 2, which only words can get.
+/// The first refusal in checking order, of those in [`Refusal`] except 2 and 14, which only words can get.
 pub fn plan<'t>(job: &Job, table: &'t mut [i64]) -> Result<Accepted<'t>, Refusal> {
     let answer = library::plan_job(job, table);
     Accepted::from_answer(answer, table)

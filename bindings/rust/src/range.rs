@@ -30,7 +30,7 @@ impl Axis {
             WordKind::TargetAcceleration => in_size(self.acceleration_limit),
             WordKind::TargetTick => in_size(LATEST_ARRIVAL),
             _ => {
-                let (least, greatest) = entry.payload_range();
+                let (least, greatest) = entry.range();
                 least..=greatest
             }
         }

@@ -72,6 +72,11 @@ pub enum Refusal {
         /// The first such word's index from 0, or the word count where words are lacking.
         index: usize,
     },
+    /// 14: a kind 14 payload is outside −64 to 63, or its position fits a single word.
+    LongPosition {
+        /// The first such word's index from 0.
+        index: usize,
+    },
     /// 3: the asked arrival is above 4,096.
     AskedArrival,
     /// 4: the speed limit or the acceleration limit is outside its range.
@@ -91,7 +96,7 @@ pub enum Refusal {
         axis: usize,
     },
     /// 6: start or target velocity exceeds the speed limit in size, target acceleration exceeds the acceleration limit in size,
-    /// target tick exceeds 4,096 in size, or a position is outside −134,217,728 to 134,217,727.
+    /// target tick exceeds 4,096 in size, or a position is outside −17,179,869,184 to 17,179,869,183.
     StartOrTarget {
         /// The first such axis.
         axis: usize,
@@ -149,6 +154,7 @@ impl Refusal {
             10 => Refusal::TableTooShort { arrival },
             12 => Refusal::Damping { axis: index },
             13 => Refusal::Windows { place: index },
+            14 => Refusal::LongPosition { index },
             _ => Refusal::Other { number, place, axes, arrival },
         }
     }
@@ -167,14 +173,15 @@ impl Refusal {
             Refusal::TableTooShort { .. } => 10,
             Refusal::Damping { .. } => 12,
             Refusal::Windows { .. } => 13,
+            Refusal::LongPosition { .. } => 14,
             Refusal::Other { number, .. } => number,
         }
     }
 
-    /// The place: a word's index for 2, 1 for 3, the axis for 4 to 6 and 12, the window or 32 for 13, and 0 where no place is named.
+    /// The place: a word's index for 2 and 14, 1 for 3, the axis for 4 to 6 and 12, the window or 32 for 13, and 0 where no place is named.
     pub const fn place(&self) -> u64 {
         match *self {
-            Refusal::Words { index } => index as u64,
+            Refusal::Words { index } | Refusal::LongPosition { index } => index as u64,
             Refusal::Windows { place } => place as u64,
             Refusal::AskedArrival => 1,
             Refusal::Other { place, .. } => place,
@@ -227,6 +234,10 @@ impl Refusal {
                 "word {index} is of a kind not allowed there, lacking or left over, or it ends the job with a payload \
                  other than 0"
             ),
+            Refusal::LongPosition { index } => write!(
+                f,
+                "the payload of word {index}, of kind 14, is outside -64 to 63, or its position fits a single word"
+            ),
             Refusal::AskedArrival => write!(f, "`arrival` asks for a tick above {LATEST_ARRIVAL}"),
             Refusal::Limits { axis } => write!(
                 f,
@@ -243,7 +254,7 @@ impl Refusal {
                 f,
                 "on axis {axis} a `velocity` of `start` or `target` exceeds `speed_limit` in size, the target's \
                  `acceleration` exceeds `acceleration_limit`, its `tick` exceeds 4096, or a `position` is outside \
-                 -134217728 to 134217727"
+                 -17179869184 to 17179869183"
             ),
             Refusal::Windows { place: MOST_WINDOWS } => write!(
                 f,

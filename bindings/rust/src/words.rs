@@ -10,7 +10,8 @@ use crate::AXES;
 /// What a word of a job holds.
 ///
 /// In order: the mask, the arrival, then for each axis of the mask, lowest first, the eight words from `StartPosition` to
-/// `TargetVelocity`, and for a moving target also `TargetAcceleration` and `TargetTick`; last `End`.
+/// `TargetVelocity`, and for a moving target also `TargetAcceleration` and `TargetTick`; last `End`. A position that its own word
+/// cannot hold has a word `HighPosition` just before it.
 #[derive(Debug, Clone, Copy, PartialEq, Eq, Hash)]
 pub enum WordKind {
     /// Kind 1: which axes take part, bit 0 for axis 0 up to bit 5.
@@ -37,6 +38,8 @@ pub enum WordKind {
     TargetAcceleration = 11,
     /// Kind 12: the tick at which a moving target's position and velocity hold.
     TargetTick = 12,
+    /// Kind 14, just before kind 3 or 9: times 2²⁸, and with the following payload read as unsigned, it is the position.
+    HighPosition = 14,
     /// Kind 15: the end of the job, with payload 0.
     End = 15,
 }
@@ -49,7 +52,7 @@ impl WordKind {
 
     /// Whether the payload is a two's complement number.
     pub const fn is_signed(self) -> bool {
-        matches!(self.number(), 3 | 4 | 9..=12)
+        matches!(self.number(), 3 | 4 | 9..=12 | 14)
     }
 
     /// The least and the greatest number that a payload of this kind can hold.
@@ -57,6 +60,15 @@ impl WordKind {
         match self.is_signed() {
             true => (-(1 << 27), (1 << 27) - 1),
             false => (0, (1 << 28) - 1),
+        }
+    }
+
+    /// The least and the greatest number that words can say: of a position in two words, else in one.
+    pub const fn range(self) -> (i64, i64) {
+        match self {
+            WordKind::StartPosition | WordKind::TargetPosition => (HIGH_LEAST << 28, ((HIGH_GREATEST + 1) << 28) - 1),
+            WordKind::HighPosition => (HIGH_LEAST, HIGH_GREATEST),
+            _ => self.payload_range(),
         }
     }
 
@@ -75,6 +87,7 @@ impl WordKind {
             WordKind::TargetVelocity => "target velocity",
             WordKind::TargetAcceleration => "target acceleration",
             WordKind::TargetTick => "target tick",
+            WordKind::HighPosition => "high part of a position",
             WordKind::End => "end of the job",
         }
     }
@@ -106,8 +119,8 @@ pub enum WordFault {
         found: u32,
         /// The kind that is due.
         due: WordKind,
-        /// Another kind that would do as well.
-        or: Option<WordKind>,
+        /// Other kinds that would do as well.
+        or: &'static [WordKind],
     },
     /// The words end where one is due.
     Lacking {
@@ -118,14 +131,20 @@ pub enum WordFault {
     EndPayload(u32),
     /// The word comes after the end of the job.
     LeftOver(u32),
+    /// The payload of a word of kind 14 is outside −64 to 63.
+    HighPayload(i64),
+    /// A word of kind 14 stands before a position that fits a single word.
+    FitsOneWord(i64),
 }
 
 impl WordError {
-    /// The refusal that a call for a table gives to these words: 1 where the mask word is at fault, else 2.
+    /// The refusal that a call for a table gives to these words: 1 where the mask word is at fault, 14 where a word of kind 14 has a
+    /// wrong payload, else 2.
     pub fn refusal(&self) -> Refusal {
-        match self.index {
-            0 => Refusal::Mask,
-            index => Refusal::Words { index },
+        match (self.index, self.fault) {
+            (0, _) => Refusal::Mask,
+            (index, WordFault::HighPayload(_) | WordFault::FitsOneWord(_)) => Refusal::LongPosition { index },
+            (index, _) => Refusal::Words { index },
         }
     }
 }
@@ -135,22 +154,30 @@ impl fmt::Display for WordError {
         write!(f, "word {}: ", self.index)?;
         match self.fault {
             WordFault::Mask(mask) => write!(f, "expected an axis mask from 1 to 63, found {mask}"),
-            WordFault::Kind { found, due, or: None } => {
-                write!(f, "expected {due}, found kind {} ({found:08X})", kind_of(found))
-            }
-            WordFault::Kind { found, due, or: Some(or) } => {
-                write!(f, "expected {due} or {or}, found kind {} ({found:08X})", kind_of(found))
+            WordFault::Kind { found, due, or } => {
+                write!(f, "expected {due}")?;
+                for (index, other) in or.iter().enumerate() {
+                    let separator = if index + 1 == or.len() { " or" } else { "," };
+                    write!(f, "{separator} {other}")?;
+                }
+                write!(f, ", found kind {} ({found:08X})", kind_of(found))
             }
             WordFault::Lacking { due } => write!(f, "expected {due}, found no more words"),
             WordFault::EndPayload(payload) => write!(f, "expected payload 0 in the last word, found {payload}"),
             WordFault::LeftOver(found) => write!(f, "expected nothing after the end of the job, found {found:08X}"),
+            WordFault::HighPayload(high) => {
+                write!(f, "expected {HIGH_LEAST} to {HIGH_GREATEST} in a word of kind 14, found {high}")
+            }
+            WordFault::FitsOneWord(position) => {
+                write!(f, "expected no word of kind 14 before position {position}, which fits a single word")
+            }
         }
     }
 }
 
 impl std::error::Error for WordError {}
 
-/// Why a job has no words: a number that its word cannot hold.
+/// Why a job has no words: a number that they cannot hold.
 #[derive(Debug, Clone, Copy, PartialEq, Eq, Hash)]
 pub struct PayloadError {
     /// The index that the word would have, from 0.
@@ -165,12 +192,18 @@ pub struct PayloadError {
 
 impl fmt::Display for PayloadError {
     fn fmt(&self, f: &mut fmt::Formatter<'_>) -> fmt::Result {
-        let (least, greatest) = self.kind.payload_range();
+        let (least, greatest) = self.kind.range();
         write!(f, "word {}: ", self.index)?;
         if let Some(axis) = self.axis {
             write!(f, "axis {axis}: ")?;
         }
-        write!(f, "{} {} does not fit a job word, which holds {least} to {greatest}", self.kind.name(), self.value)
+        let (name, value) = (self.kind.name(), self.value);
+        match self.kind {
+            WordKind::StartPosition | WordKind::TargetPosition => {
+                write!(f, "{name} {value} does not fit its job words, which hold {least} to {greatest}")
+            }
+            _ => write!(f, "{name} {value} does not fit a job word, which holds {least} to {greatest}"),
+        }
     }
 }
 
@@ -180,7 +213,7 @@ impl std::error::Error for PayloadError {}
 #[derive(Debug, Clone, Copy, PartialEq, Eq, Hash)]
 #[non_exhaustive]
 pub enum NoWords {
-    /// A number does not fit its word.
+    /// A number does not fit its word, or a position its two.
     Number(PayloadError),
     /// The damping as measured has no weight; the planner refuses it with 12.
     Damping {
@@ -214,11 +247,12 @@ impl Job {
     ///
     /// Words hold the damping as a weight: where it was measured they have the weight that the planner works out from it
     /// ([`Damping::weight`]), and the table is the same. Values that a word can hold but that the planner refuses, as a weight of
-    /// 129, are written as they stand.
+    /// 129, are written as they stand. A position has one spelling: one word where it fits, else two.
     ///
     /// # Errors
     ///
-    /// Windows, which words do not have; else the first axis whose damping as measured has no weight; else the first number that does not fit the 28 bits of its word.
+    /// Windows, which words do not have; else the first axis whose damping as measured has no weight; else the first number that does
+    /// not fit the 28 bits of its word, or as a position its two words.
     pub fn to_words(&self) -> Result<Vec<u32>, NoWords> {
         if self.windows.is_some() {
             return Err(NoWords::Windows);
@@ -231,7 +265,7 @@ impl Job {
         push(&mut words, WordKind::Arrival, None, self.arrival.number().into())?;
         for (number, axis) in self.entered() {
             for (kind, value) in axis.entries() {
-                push(&mut words, kind, Some(number), value)?;
+                push_entry(&mut words, kind, number, value)?;
             }
         }
         push(&mut words, WordKind::End, None, 0)?;
@@ -240,13 +274,14 @@ impl Job {
 
     /// The job that words hold.
     ///
-    /// Only what refusals 1 and 2 speak of is looked at; whether the numbers can be planned is the planner's to say.
+    /// Only what refusals 1, 2 and 14 speak of is looked at; whether the numbers can be planned is the planner's to say.
     ///
     /// # Errors
     ///
-    /// The first word that is not of a kind allowed there, that is lacking or left over, or whose mask or end payload is wrong.
+    /// The first word that is not of a kind allowed there, that is lacking or left over, or whose mask or end payload is wrong; else
+    /// the first word of kind 14 whose payload is wrong or whose position fits a single word.
     pub fn from_words(words: &[u32]) -> Result<Job, WordError> {
-        let mut reader = Reader { words, index: 0 };
+        let mut reader = Reader { words, index: 0, misspelled: None };
         let mask = reader.mask()?;
         let arrival = Arrival::from(reader.unsigned(WordKind::Arrival)?);
         let mut job = Job { arrival, ..Job::earliest() };
@@ -257,7 +292,10 @@ impl Job {
             job.axes[number] = Some(axis);
         }
         reader.end(previous_is_fixed)?;
-        Ok(job)
+        match reader.misspelled {
+            Some(error) => Err(error),
+            None => Ok(job),
+        }
     }
 }
 
@@ -284,6 +322,18 @@ impl Axis {
     }
 }
 
+/// Appends the words of a number of an axis: two for a position that does not fit one.
+fn push_entry(words: &mut Vec<u32>, kind: WordKind, axis: usize, value: i64) -> Result<(), PayloadError> {
+    let (least, greatest) = kind.range();
+    let is_position = matches!(kind, WordKind::StartPosition | WordKind::TargetPosition);
+    if is_position && !fits_one_word(value) && (least..=greatest).contains(&value) {
+        push(words, WordKind::HighPosition, Some(axis), value >> 28)?;
+        words.push(kind.number() << 28 | (value as u32 & PAYLOAD));
+        return Ok(());
+    }
+    push(words, kind, Some(axis), value)
+}
+
 /// Appends the word of a kind with a payload, where the payload fits.
 fn push(words: &mut Vec<u32>, kind: WordKind, axis: Option<usize>, value: i64) -> Result<(), PayloadError> {
     let (least, greatest) = kind.payload_range();
@@ -295,6 +345,15 @@ fn push(words: &mut Vec<u32>, kind: WordKind, axis: Option<usize>, value: i64) -
     Ok(())
 }
 
+/// The least and the greatest payload of a word of kind 14.
+const HIGH_LEAST: i64 = -64;
+const HIGH_GREATEST: i64 = 63;
+
+/// Whether a position fits a single word.
+const fn fits_one_word(position: i64) -> bool {
+    -(1 << 27) <= position && position < 1 << 27
+}
+
 /// The bits of a word's payload.
 const PAYLOAD: u32 = (1 << 28) - 1;
 
@@ -303,10 +362,11 @@ const fn kind_of(word: u32) -> u32 {
     word >> 28
 }
 
-/// The words of a job with the index of the one to read next.
+/// The words of a job with the index of the one to read next, and the first word of kind 14 that is wrong.
 struct Reader<'w> {
     words: &'w [u32],
     index: usize,
+    misspelled: Option<WordError>,
 }
 
 impl Reader<'_> {
@@ -320,8 +380,8 @@ impl Reader<'_> {
         self.words.get(self.index).is_some_and(|&word| kind_of(word) == kind.number())
     }
 
-    /// The payload of the next word, which is to be of a kind; `or` is a kind that could have stood there too.
-    fn payload(&mut self, due: WordKind, or: Option<WordKind>) -> Result<u32, WordError> {
+    /// The payload of the next word, which is to be of a kind; `or` are kinds that could have stood there too.
+    fn payload(&mut self, due: WordKind, or: &'static [WordKind]) -> Result<u32, WordError> {
         match self.words.get(self.index) {
             None => self.fault(WordFault::Lacking { due }),
             Some(&found) if kind_of(found) != due.number() => self.fault(WordFault::Kind { found, due, or }),
@@ -334,12 +394,29 @@ impl Reader<'_> {
 
     /// The next word's payload as a number from 0 up.
     fn unsigned(&mut self, due: WordKind) -> Result<u32, WordError> {
-        self.payload(due, None)
+        self.payload(due, &[])
     }
 
     /// The next word's payload as a two's complement number.
     fn signed(&mut self, due: WordKind) -> Result<i64, WordError> {
-        self.payload(due, None).map(sign_extended)
+        self.payload(due, &[]).map(sign_extended)
+    }
+
+    /// A position: its word, or one of kind 14 and then its word; `or` are kinds that could have stood there too.
+    fn position(&mut self, due: WordKind, or: &'static [WordKind]) -> Result<i64, WordError> {
+        if !self.next_is(WordKind::HighPosition) {
+            return self.payload(due, or).map(sign_extended);
+        }
+        let index = self.index;
+        let high = self.signed(WordKind::HighPosition)?;
+        let position = (high << 28) + i64::from(self.unsigned(due)?);
+        let fault = match (HIGH_LEAST..=HIGH_GREATEST).contains(&high) {
+            false => Some(WordFault::HighPayload(high)),
+            true if fits_one_word(position) => Some(WordFault::FitsOneWord(position)),
+            true => None,
+        };
+        self.misspelled = self.misspelled.or(fault.map(|fault| WordError { index, fault }));
+        Ok(position)
     }
 
     /// The axis mask, 1 to 63.
@@ -351,16 +428,15 @@ impl Reader<'_> {
         Ok(mask)
     }
 
-    /// The kind that could go on an axis whose target is so far a fixed one.
-    fn continuation(previous_is_fixed: bool) -> Option<WordKind> {
-        previous_is_fixed.then_some(WordKind::TargetAcceleration)
-    }
-
-    /// The words of one axis.
+    /// The words of one axis. After one whose target is so far a fixed one, a word of kind 11 could stand too.
     fn axis(&mut self, previous_is_fixed: bool) -> Result<Axis, WordError> {
-        let first = self.payload(WordKind::StartPosition, Self::continuation(previous_is_fixed))?;
+        let or: &[WordKind] = match previous_is_fixed {
+            true => &[WordKind::TargetAcceleration, WordKind::HighPosition],
+            false => &[WordKind::HighPosition],
+        };
+        let position = self.position(WordKind::StartPosition, or)?;
         Ok(Axis {
-            start: RestPoint { position: sign_extended(first), velocity: self.signed(WordKind::StartVelocity)? },
+            start: RestPoint { position, velocity: self.signed(WordKind::StartVelocity)? },
             speed_limit: self.unsigned(WordKind::SpeedLimit)?,
             acceleration_limit: self.unsigned(WordKind::AccelerationLimit)?,
             half_period: self.unsigned(WordKind::HalfPeriod)?,
@@ -371,7 +447,7 @@ impl Reader<'_> {
 
     /// The words of a target; it moves where a word of kind 11 follows its velocity.
     fn target(&mut self) -> Result<Target, WordError> {
-        let position = self.signed(WordKind::TargetPosition)?;
+        let position = self.position(WordKind::TargetPosition, &[WordKind::HighPosition])?;
         let velocity = self.signed(WordKind::TargetVelocity)?;
         if !self.next_is(WordKind::TargetAcceleration) {
             return Ok(Target::Fixed(RestPoint { position, velocity }));
@@ -383,7 +459,8 @@ impl Reader<'_> {
 
     /// The end word, with payload 0 and nothing after it.
     fn end(&mut self, previous_is_fixed: bool) -> Result<(), WordError> {
-        let payload = self.payload(WordKind::End, Self::continuation(previous_is_fixed))?;
+        let or: &[WordKind] = if previous_is_fixed { &[WordKind::TargetAcceleration] } else { &[] };
+        let payload = self.payload(WordKind::End, or)?;
         if payload != 0 {
             self.index -= 1;
             return self.fault(WordFault::EndPayload(payload));

@@ -127,12 +127,33 @@ fn show_reads_words_back() {
     assert_eq!(printed(&run_with(&["plan", "--plain", "-"], shown.as_bytes())).0, CASE_C_TABLE);
 }
 
+/// Positions of two words stand on their axis's line, and are read back.
+#[test]
+fn long_positions_have_two_words() {
+    let text = run(&["words", &sheet("long-rail")]).stdout;
+    let expected = "10000003 20000000\n\
+        E0000012 3A05F200 40000000 50000FA0 6000003C 70000012 80000074 E0000012 9A0C0C80 A0000000\n\
+        EFFFFFFE 3E1E5D00 40000000 50000384 60000014 70000018 80000079 EFFFFFFE 9E1F2050 A0000096 B0000000 C000003C\n\
+        F0000000\n";
+    assert_eq!(String::from_utf8_lossy(&text), expected);
+    let (shown, status) = printed(&run_with(&["show", "-"], &text));
+    assert_eq!(status, Some(0));
+    assert!(shown.contains("start position      5000000000 "), "{shown}");
+    assert_eq!(run_with(&["words", "-"], shown.as_bytes()).stdout, text);
+    let short = expected.replace("EFFFFFFE 3", "E0000000 3").replace("3E1E5D00", "30000005");
+    assert_eq!(
+        told(&run_with(&["plan", "-"], short.as_bytes())),
+        "polgamir: standard input: word 12: expected no word of kind 14 before position 5, which fits a single word\n"
+    );
+}
+
 #[test]
 fn show_tells_the_word_at_fault() {
     let told_of = |input: &[u8]| told(&run_with(&["show", "-"], input));
     assert_eq!(
         told_of(b"10000001 20000004 40000000"),
-        "polgamir: standard input: word 2: expected kind 3 (start position), found kind 4 (40000000)\n"
+        "polgamir: standard input: word 2: expected kind 3 (start position) or kind 14 (high part of a position), found kind 4 \
+         (40000000)\n"
     );
     assert_eq!(
         told_of(b"10000001\n2000000G"),

@@ -65,8 +65,8 @@ fn refusal_6_names_the_guilty_line() {
         (still, &moving.replace("tick 0", "tick 4097"), "line 15: axis 0: target tick 4097, expected -4096 to 4096"),
         (
             "start position       0",
-            "start position 134217728",
-            "line 10: axis 0: start position 134217728, expected -134217728 to 134217727",
+            "start position 17179869184",
+            "line 10: axis 0: start position 17179869184, expected -17179869184 to 17179869183",
         ),
     ] {
         let text = refused(&changed_case_c(from, to));

@@ -52,11 +52,11 @@ fn wrong_sheets_end_with_2() {
              `speed limit`, found `ten`\n"
         );
     }
-    let far = changed_case_c("target position      1", "target position      134217728");
+    let far = changed_case_c("target position      1", "target position      17179869184");
     assert_eq!(
         told(&run_with(&["words", "-"], far.as_bytes())),
-        "polgamir: standard input: line 13: expected a number from -134217728 to 134217727 after `target position`, for \
-         its job word, found `134217728`\n"
+        "polgamir: standard input: line 13: expected a number from -17179869184 to 17179869183 after `target position`, \
+         for its job words, found `17179869184`\n"
     );
     assert!(told(&run(&["plan", &scratch("no-such.sheet")])).contains("no-such.sheet: "));
     assert!(told(&run_with(&["plan", "-"], &[0xB7])).contains("utf-8"));

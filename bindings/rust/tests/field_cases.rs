@@ -176,7 +176,7 @@ fn the_other_refusals_name_their_places() {
 #[test]
 fn extreme_numbers_are_refused() {
     let axis = field_axis(Target::still(1));
-    for position in [i64::MIN, -134_217_729, 134_217_728, i64::MAX] {
+    for position in [i64::MIN, -17_179_869_185, 17_179_869_184, i64::MAX] {
         let job = Job::earliest().with_axis(0, Axis { target: Target::still(position), ..axis });
         assert_eq!(refusal(&job), Refusal::StartOrTarget { axis: 0 });
     }

@@ -4,7 +4,7 @@ mod common;
 
 use common::{field_axis, Random};
 use polgamir::sheet::SheetLine;
-use polgamir::{Arrival, Axis, AxisMask, Job, Refusal, Target};
+use polgamir::{Arrival, Axis, AxisMask, Job, Refusal, Target, WordKind};
 
 /// Every refusal in checking order, with its printed line, its sheet line and its sentence.
 fn all() -> Vec<(Refusal, &'static str, SheetLine, &'static str)> {
@@ -22,6 +22,12 @@ fn all() -> Vec<(Refusal, &'static str, SheetLine, &'static str)> {
             ReadTheRefusal,
             "refused with 2: word 7 is of a kind not allowed there, lacking or left over, or it ends the job with a \
              payload other than 0",
+        ),
+        (
+            Refusal::LongPosition { index: 9 },
+            "refused 14 place 9 axes 0 arrival 0",
+            ReadTheRefusal,
+            "refused with 14: the payload of word 9, of kind 14, is outside -64 to 63, or its position fits a single word",
         ),
         (
             Refusal::AskedArrival,
@@ -54,7 +60,7 @@ fn all() -> Vec<(Refusal, &'static str, SheetLine, &'static str)> {
             EnterStartAndTarget,
             "refused with 6: on axis 5 a `velocity` of `start` or `target` exceeds `speed_limit` in size, the target's \
              `acceleration` exceeds `acceleration_limit`, its `tick` exceeds 4096, or a `position` is outside \
-             -134217728 to 134217727",
+             -17179869184 to 17179869183",
         ),
         (
             Refusal::Windows { place: 0 },
@@ -120,7 +126,7 @@ fn sentences_speak_of_fields() {
 fn every_number_of_a_job_has_its_case() {
     let mut numbers: Vec<u32> = all().iter().map(|(refusal, ..)| refusal.number()).collect();
     numbers.dedup();
-    assert_eq!(numbers, [1, 2, 3, 4, 12, 5, 6, 13, 8, 9, 10]);
+    assert_eq!(numbers, [1, 2, 14, 3, 4, 12, 5, 6, 13, 8, 9, 10]);
 }
 
 #[test]
@@ -184,6 +190,16 @@ fn put_at_an_end(axis: &mut Axis, random: &mut Random) {
     let (least, greatest) = axis.range_of(entry).into_inner();
     let past = random.between(0, 1);
     let value = if random.once_in(2) { greatest + past } else { least - past };
+    match (entry, &mut axis.target) {
+        (WordKind::StartPosition, _) => axis.start.position = value,
+        (WordKind::TargetPosition, Target::Fixed(point)) => point.position = value,
+        (WordKind::TargetPosition, Target::Moving(state)) => state.position = value,
+        _ => put_by_words(axis, &entries, entry, value),
+    }
+}
+
+/// Sets a number of an axis whose numbers have one word each, where the number fits its word.
+fn put_by_words(axis: &mut Axis, entries: &[WordKind], entry: WordKind, value: i64) {
     let job = Job::earliest().with_axis(0, *axis);
     let mut words = job.to_words().expect("numbers that fit");
     let index = 2 + entries.iter().position(|&other| other == entry).expect("an entry of the axis");
@@ -200,5 +216,5 @@ fn positions_past_the_range_are_at_fault() {
     let faults: Vec<_> = axis.out_of_range().collect();
     assert_eq!(faults.len(), 1);
     assert_eq!((faults[0].value, faults[0].refusal_number()), (i64::MIN, 6));
-    assert_eq!(faults[0].range, -134_217_728..=134_217_727);
+    assert_eq!(faults[0].range, -17_179_869_184..=17_179_869_183);
 }

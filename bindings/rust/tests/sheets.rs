@@ -156,7 +156,7 @@ fn wrong_entries_are_told_with_their_line() {
         "line 1: expected `earliest` or a tick from 1 to 4096 after `arrival`, found the end of the line",
         "line 2: expected an axis number from 0 to 5 after `axis`, found `6`",
         "line 2: expected an axis number from 0 to 5 after `axis`, found the end of the line",
-        "line 10: expected a whole number of units from -134217728 to 134217727 after `target position`, \
+        "line 10: expected a whole number of units from -17179869184 to 17179869183 after `target position`, \
          found `9223372036854775808`",
     ];
     assert_eq!(told, expected);

@@ -3,7 +3,9 @@
 mod common;
 
 use common::{case_c, field_axis, Random, CASE_C_WORDS};
-use polgamir::{plan_words, Axis, Job, NoWords, PayloadError, Refusal, Target, WordError, WordFault, WordKind};
+use polgamir::{
+    plan_words, Axis, Job, NoWords, PayloadError, Refusal, RestPoint, Target, WordError, WordFault, WordKind,
+};
 
 #[test]
 fn case_c_has_the_printed_words() {
@@ -37,7 +39,12 @@ fn damaged_words_are_told_as_the_planner_tells_them() {
                 assert_eq!(planned, Err(error.refusal()), "{words:08X?}");
                 faults += 1;
             }
-            Ok(_) => assert!(!matches!(planned, Err(Refusal::Mask | Refusal::Words { .. })), "{words:08X?}"),
+            Ok(job) => {
+                let refused =
+                    matches!(planned, Err(Refusal::Mask | Refusal::Words { .. } | Refusal::LongPosition { .. }));
+                assert!(!refused, "{words:08X?}");
+                assert_eq!(job.to_words().as_ref(), Ok(&words), "a job has one spelling");
+            }
         }
     }
     assert!(faults > 5000, "{faults}");
@@ -83,15 +90,89 @@ fn each_fault_has_its_index_and_its_sentence() {
     assert_eq!(error_after(|words| words.push(7)).fault, WordFault::LeftOver(7));
 }
 
+/// Refusal 14 comes after all of 2, and names the first word of kind 14 that is wrong.
+#[test]
+fn long_positions_have_their_faults() {
+    let told = |change: fn(&mut Vec<u32>)| {
+        let error = error_after(change);
+        (error.refusal(), error.to_string())
+    };
+    assert_eq!(
+        told(|words| words.insert(8, 0xE000_0000)),
+        (
+            Refusal::LongPosition { index: 8 },
+            "word 8: expected no word of kind 14 before position 1, which fits a single word".into()
+        )
+    );
+    assert_eq!(
+        told(|words| {
+            words.insert(8, 0xE000_0000);
+            words.insert(2, 0xEFFF_FFBF);
+        }),
+        (Refusal::LongPosition { index: 2 }, "word 2: expected -64 to 63 in a word of kind 14, found -65".into())
+    );
+    assert_eq!(
+        told(|words| {
+            words.insert(8, 0xE000_0040);
+            words[10] = 0xB000_0000;
+        }),
+        (Refusal::Words { index: 10 }, "word 10: expected kind 10 (target velocity), found kind 11 (B0000000)".into())
+    );
+    assert_eq!(
+        told(|words| words[8] = 0xA000_0000).1,
+        "word 8: expected kind 9 (target position) or kind 14 (high part of a position), found kind 10 (A0000000)"
+    );
+    assert_eq!(
+        told(|words| {
+            words[0] = 0x1000_0003;
+            words[10] = 0xC000_0000;
+        })
+        .1,
+        "word 10: expected kind 3 (start position), kind 11 (target acceleration) or kind 14 (high part of a position), \
+         found kind 12 (C0000000)"
+    );
+}
+
+/// The words of a position at rest, and the position of the words: one word where it fits, else two, of which the second is unsigned.
+#[test]
+fn a_position_has_one_spelling() {
+    for (position, high, low) in [
+        (-134_217_728, None, 0x0800_0000),
+        (134_217_727, None, 0x07FF_FFFF),
+        (134_217_728, Some(0x0000_0000), 0x0800_0000),
+        (-134_217_729, Some(0x0FFF_FFFF), 0x07FF_FFFF),
+        (268_435_456, Some(0x0000_0001), 0),
+        (17_179_869_183, Some(0x0000_003F), 0x0FFF_FFFF),
+        (-17_179_869_184, Some(0x0FFF_FFC0), 0),
+    ] {
+        let axis = Axis { start: RestPoint { position, velocity: 0 }, ..field_axis(Target::still(position)) };
+        let spelled = |kind: u32| high.map(|high| 0xE000_0000 | high).into_iter().chain([kind << 28 | low]);
+        let between = CASE_C_WORDS[3..8].iter().copied();
+        let words: Vec<u32> = [0x1000_0001, 0x2000_0000]
+            .into_iter()
+            .chain(spelled(3))
+            .chain(between)
+            .chain(spelled(9))
+            .chain([0xA000_0000, 0xF000_0000])
+            .collect();
+        let job = Job::earliest().with_axis(0, axis);
+        assert_eq!(job.to_words().as_ref(), Ok(&words));
+        assert_eq!(Job::from_words(&words), Ok(job));
+        let mut table = [0; 6];
+        let landed = plan_words(&words, &mut table).map(|plan| plan.row(1).and_then(|row| row.axis(0)));
+        assert_eq!(landed.map(|motion| motion.map(|motion| motion.position)), Ok(Some(256 * position)));
+    }
+}
+
 #[test]
 fn numbers_that_do_not_fit_have_no_words() {
-    let axis = field_axis(Target::still(1 << 27));
-    let error = Job::earliest().with_axis(2, axis).to_words().expect_err("a position past 28 bits");
+    let axis = field_axis(Target::still(1 << 34));
+    let error = Job::earliest().with_axis(2, axis).to_words().expect_err("a position past 35 bits");
     let kind = WordKind::TargetPosition;
-    assert_eq!(error, NoWords::Number(PayloadError { index: 8, kind, axis: Some(2), value: 1 << 27 }));
+    assert_eq!(error, NoWords::Number(PayloadError { index: 8, kind, axis: Some(2), value: 1 << 34 }));
     assert_eq!(
         error.to_string(),
-        "word 8: axis 2: target position 134217728 does not fit a job word, which holds -134217728 to 134217727"
+        "word 8: axis 2: target position 17179869184 does not fit its job words, which hold -17179869184 to 17179869183"
     );
 
     let axis = Axis { speed_limit: 1 << 28, ..field_axis(Target::still(-(1 << 27))) };

@@ -274,9 +274,9 @@ fn read_words(text: &[u8], from: usize, words: &mut [u32]) -> usize
 
 // Calling the planner.
 
-// A call from words. The longest job has 63; one more may be left over.
+// A call from words. The longest job has 75; more may be left over.
 fn plan_words(text: &[u8], from: usize, table: &mut [i64]) -> Answer {
-    let mut words = [0u32; 64];
+    let mut words = [0u32; 128];
     let count = read_words(text, from, &mut words);
     planner::plan_words(&words[..count], table)
 }

@@ -2,6 +2,7 @@
 use Prim.Native.Nat.{ℕ, zero, suc, _/_, _%_, _≤_, _<_}
 use mathlib.Core.Path.{_≡_, refl, subst}
 use mathlib.Core.Bool.{Bool, true, false, not, _&&_}
+use mathlib.Core.Option.{Option, none, some}
 use mathlib.Core.List.{List, [], _∷_}
 use mathlib.Core.Logic.{_⊎_, inl, inr}
 use native.Mathlib.Omega.{arith}
@@ -12,11 +13,12 @@ use Rattle.model.specs.declared.Axis.{Axis}
 use Rattle.model.specs.declared.Job as Typed
 use Rattle.model.specs.Job.{Job, JobAxis, setFrom, setAxes, jobOf, setBits}
 use Rattle.model.specs.Words.{Reading, Reader, got, wrong, _>>=_, field, axis, axes, ending}
-use Rattle.model.specs.Words.{readJob, afterMask, kind, payload, goodMask, Decoded, noMask, badWord, job, decode}
+use Rattle.model.specs.Words.{readJob, afterMask, kind, payload, goodMask, firstBadLong, Decoded, noMask, badWord, badLong, job, spelled, decided, decode}
 use Rattle.model.specs.Outcome.{Outcome, Input, words, typed, call, refuse, jobOutcome}
-use Rattle.model.specs.Verdict.{MaskOutside, MaskWordWrong, CallVerdict, words1, words2, wordsJob, typed1, typedJobs}
+use Rattle.model.specs.Verdict.{MaskOutside, MaskWordWrong, CallVerdict, words1, words2, words14, wordsJob, typed1, typedJobs}
 use Rattle.model.proofs.Masks.{Ascends, ascends-from}
 use Rattle.model.proofs.Verdict.{verdict, is-refusal}
+use Rattle.model.proofs.LongWrong.{first-long-wrong}
 
 -- ---- the numbers of the axes ascend
 
@@ -58,7 +60,7 @@ pub record Before {A B : Type 0} (m : Reader A) (f : A → Reader B) (i : ℕ) (
   pub first : m i ws ≡ got value index rest
   pub then : f value index rest ≡ r
 
-before : {A B : Type 0} (m : Reader A) (f : A → Reader B) (i : ℕ) (ws : List ℕ) (b : B) (k : ℕ) (vs : List ℕ)
+pub before : {A B : Type 0} (m : Reader A) (f : A → Reader B) (i : ℕ) (ws : List ℕ) (b : B) (k : ℕ) (vs : List ℕ)
     → _>>=_ m f i ws ≡ got b k vs → Before m f i ws (got b k vs)
 before {A} {B} m f i ws b k vs = go (m i ws) refl
   where
@@ -79,7 +81,7 @@ axes-ascend (n ∷ ns) l i ws xs k vs r e =
     list-of : {ys zs : List JobAxis} {p q : ℕ} {us ts : List ℕ} → got ys p us ≡ got zs q ts → ys ≡ zs
     list-of e = cc
 
-ending-gives : (j : Job) (i : ℕ) (ws : List ℕ) (o : Job) (k : ℕ) (vs : List ℕ) → ending j i ws ≡ got o k vs → j ≡ o
+pub ending-gives : (j : Job) (i : ℕ) (ws : List ℕ) (o : Job) (k : ℕ) (vs : List ℕ) → ending j i ws ≡ got o k vs → j ≡ o
 ending-gives j i [] o k vs e = absurd (let z : _≡_ {A = ℕ} 0 1 = cc in omega arith)
 ending-gives j i (w ∷ []) o k vs e = go (eqb (kind w) 15 && eqb (payload w) 0) e
   where
@@ -131,24 +133,29 @@ word-wrong w ws t = go (eqb (kind w) 1) (goodMask (payload w)) (not-kind (kind w
 
 -- ---- the calls
 
+abbrev outcomeBy : List ℤ → Decoded → Outcome
+outcomeBy lent d = elim d as (λ z. Outcome) [
+  | noMask ↦ refuse 1 0 0 0 lent
+  | badWord p ↦ refuse 2 p 0 0 lent
+  | badLong p ↦ refuse 14 p 0 0 lent
+  | job j ↦ jobOutcome j lent
+]
+
 -- by what the words are read as
+by-long : (lent : List ℤ) (ws : List ℕ) (j : Job) (o : Option ℕ) → Ascends 0 (j .axes) → firstBadLong 0 ws ≡ o → decode ws ≡ spelled o j
+    → CallVerdict lent (outcomeBy lent (spelled o j)) (words ws)
+by-long lent ws j (some p) a f d = words14 ws p d (first-long-wrong p ws f) is-refusal
+by-long lent ws j none a f d = wordsJob ws j d (verdict j lent a)
+
 by-reading : (lent : List ℤ) (w : ℕ) (ws : List ℕ) (r : Reading Job) → afterMask (payload w) 1 ws ≡ r
-    → decode (w ∷ ws) ≡ (elim r as (λ z. Decoded) [ got j i rest ↦ job j | wrong p ↦ badWord p ])
-    → CallVerdict lent (elim (elim r as (λ z. Decoded) [ got j i rest ↦ job j | wrong p ↦ badWord p ]) as (λ z. Outcome) [
-      | noMask ↦ refuse 1 0 0 0 lent
-      | badWord p ↦ refuse 2 p 0 0 lent
-      | job j ↦ jobOutcome j lent
-    ]) (words (w ∷ ws))
-by-reading lent w ws (got j i rest) e d = wordsJob (w ∷ ws) j d (verdict j lent (job-ascends (payload w) 1 ws j i rest e))
+    → decode (w ∷ ws) ≡ decided (w ∷ ws) r → CallVerdict lent (outcomeBy lent (decided (w ∷ ws) r)) (words (w ∷ ws))
+by-reading lent w ws (got j i rest) e d = by-long lent (w ∷ ws) j (firstBadLong 0 (w ∷ ws)) (job-ascends (payload w) 1 ws j i rest e) refl d
 by-reading lent w ws (wrong p) e d = words2 (w ∷ ws) p d is-refusal
 
 by-mask : (lent : List ℤ) (w : ℕ) (ws : List ℕ) (b : Bool) → (T (not b) → MaskWordWrong (w ∷ ws))
-    → decode (w ∷ ws)
-    ≡ (elim b as (λ z. Decoded) [ true ↦ elim (afterMask (payload w) 1 ws) [ got j i rest ↦ job j | wrong p ↦ badWord p ] | false ↦ noMask ])
-    → CallVerdict lent (elim (elim b as (λ z. Decoded) [
-      | true ↦ elim (afterMask (payload w) 1 ws) [ got j i rest ↦ job j | wrong p ↦ badWord p ]
-      | false ↦ noMask
-    ]) as (λ z. Outcome) [ noMask ↦ refuse 1 0 0 0 lent | badWord p ↦ refuse 2 p 0 0 lent | job j ↦ jobOutcome j lent ]) (words (w ∷ ws))
+    → decode (w ∷ ws) ≡ (elim b as (λ z. Decoded) [ true ↦ decided (w ∷ ws) (afterMask (payload w) 1 ws) | false ↦ noMask ])
+    → CallVerdict lent (outcomeBy lent (elim b as (λ z. Decoded) [ true ↦ decided (w ∷ ws) (afterMask (payload w) 1 ws) | false ↦ noMask ]))
+    (words (w ∷ ws))
 by-mask lent w ws true f d = by-reading lent w ws (afterMask (payload w) 1 ws) refl d
 by-mask lent w ws false f d = words1 (w ∷ ws) (f tt) is-refusal
 

@@ -12,7 +12,7 @@ use Rattle.model.specs.declared.Axis.{Axis}
 use Rattle.whole.specs.Integers.{nearest}
 use Rattle.model.specs.Rows.{track, blend, divisor, cells, table}
 use Rattle.model.specs.Job.{Job, JobAxis, axesOf, jobOf}
-use Rattle.model.specs.Words.{Decoded, noMask, badWord, job}
+use Rattle.model.specs.Words.{Decoded, noMask, badWord, badLong, job}
 use Rattle.model.specs.Motion.{reachable}
 use Rattle.model.specs.Demand.{tableIn, cellAt, positionCell, velocityCell, accelerationCell, Lands, Carries, SwayCancelled}
 use Rattle.model.specs.Demand.{sway, Demand3, Demand3Holds, CellLimits, CellLimitsHold, ExactStart, ExactStartHolds}
@@ -21,7 +21,7 @@ use Rattle.whole.proofs.Tests.{T-true}
 use Rattle.whole.proofs.Elements.{at-below, element}
 use Rattle.model.proofs.CellPlaces.{table-length, table-at}
 use Rattle.model.specs.Refusals.{Ready, AllPassed}
-use Rattle.model.specs.Verdict.{Among, IsArrival, Verdict, CallVerdict, words1, words2, wordsJob, typed1, typedJobs}
+use Rattle.model.specs.Verdict.{Among, IsArrival, Verdict, CallVerdict, words1, words2, words14, wordsJob, typed1, typedJobs}
 use Rattle.model.specs.Verdict.{accepted, refused3, refused4, refused12, refused13, refused5, refused6, refused8, refused9, refused10}
 use Rattle.model.specs.Quantities.{speedLimit, accelerationLimit}
 use Rattle.model.proofs.CellLimits as L
@@ -145,7 +145,7 @@ module _ (xs : List Axis) (n : ℕ) (lent rest : List ℤ) (is : lent ≡ table 
 
 -- the axes of what the words are read as
 abbrev axesRead : Decoded → List Axis
-axesRead d = elim d [ noMask ↦ [] | badWord p ↦ [] | job j ↦ axesOf j ]
+axesRead d = elim d [ noMask ↦ [] | badWord p ↦ [] | badLong p ↦ [] | job j ↦ axesOf j ]
 
 -- an axis of a job without its number
 unnumbered : (l : List JobAxis) (i : ℕ) (x : Axis) → getElem? (map (λ y. y .axis) l) i ≡ some x → (y : JobAxis) × (Among l y × (y .axis ≡ x))
@@ -187,6 +187,7 @@ module _ (Claim : List Axis → ℕ → List ℤ → Type 0)
   by-call : (q : Input) (lent : List ℤ) (o : Outcome) → CallVerdict lent o q → o .number ≡ 0 → Claim (inputAxes q) (o .arrival) (o .cells)
   by-call q lent o (words1 ws a e) z = absurd (let n = e .number in omega arith)
   by-call q lent o (words2 ws p a e) z = absurd (let n = e .number in omega arith)
+  by-call q lent o (words14 ws p a b e) z = absurd (let n = e .number in omega arith)
   by-call q lent o (wordsJob ws j d v) z =
       subst (λ (xs : List Axis). Claim xs (o .arrival) (o .cells)) (sym (ap axesRead d)) (by-verdict j lent o v z)
   by-call q lent o (typed1 t a e) z = absurd (let n = e .number in omega arith)

@@ -41,10 +41,10 @@ abbrev pub blendRefused : Axis → Bool
 blendRefused x = not (within 0 256 (halfPeriod x) && within 1 128 (secondWeight x))
 
 -- ---- 6: start or target velocity exceeds L in size, target acceleration exceeds M in size, target tick exceeds 4,096 in size, or a
--- position is outside −134,217,728 to 134,217,727, which 28 bits hold
+-- position is outside −17,179,869,184 to 17,179,869,183, which two words hold (paper 02, 2.8)
 
 abbrev pub positionAllowed : ℤ → Bool
-positionAllowed p = leZ (negsuc 134217727) p && leZ p (pos 134217727)
+positionAllowed p = leZ (negsuc 17179869183) p && leZ p (pos 17179869183)
 
 abbrev pub velocityAllowed : Axis → ℤ → Bool
 velocityAllowed x v = leb (natAbs v) (speedLimit x)

@@ -1,12 +1,12 @@
 -- What each answer says, in the words of paper 01 ("Refusal list, in checking order"): the named case of every number, the first in checking
 -- order, by the existence of a list (rule 4) and not by the decision. The theorem `verdict` says that every call's outcome is one of these.
-use Prim.Native.Nat.{ℕ, _≤_, _<_}
+use Prim.Native.Nat.{ℕ, suc, _≤_, _<_}
 use mathlib.Core.Path.{_≡_}
 use mathlib.Core.Bool.{Bool, true, false}
 use mathlib.Core.Option.{some}
 use mathlib.Core.List.{List, [], _∷_, _++_}
 use mathlib.Core.Logic.{_↔_, _⊎_}
-use lib.IntN.{ℤ}
+use lib.IntN.{ℤ, pos, negsuc}
 use lib.ListN.{length, drop, getElem?}
 use Rattle.model.specs.declared.Axis.{Axis}
 use Rattle.model.specs.declared.Job as Typed
@@ -14,7 +14,7 @@ use Rattle.model.specs.Motion.{Reachable}
 use Rattle.model.specs.Windows.{brought, FitsOne, WindowsWrong, WindowsRight}
 use Rattle.model.specs.Rows.{table}
 use Rattle.model.specs.Job.{Job, JobAxis, axesOf, jobOf, bit}
-use Rattle.model.specs.Words.{kind, payload, decode, badWord, job}
+use Rattle.model.specs.Words.{kind, payload, twos, longPosition, between, fitsWord, decode, badWord, badLong, job}
 use Rattle.model.specs.Refusals.{limitsRefused, dampingRefused, blendRefused, valuesRefused, AllPassed}
 use Rattle.model.specs.Outcome.{Outcome, Input, words, typed, cellsNeeded, jobOutcome}
 
@@ -146,9 +146,24 @@ abbrev pub MaskWordWrong : List ℕ → Type 0
 MaskWordWrong [] = Unit
 MaskWordWrong (w ∷ ws) = (kind w ≡ 1 → ⊥) ⊎ MaskOutside (payload w)
 
+-- a word of kind 14, before the word u, whose payload is outside −64 to 63 or whose position fits a single word
+pub record LongWrong (w u : ℕ) : Type 0 where
+  pub long : kind w ≡ 14
+  pub wrong : (between (negsuc 63) (pos 63) (twos (payload w)) ≡ false) ⊎ (fitsWord (longPosition (payload w) (payload u)) ≡ true)
+
+-- the word of index p is the first such
+pub record FirstLongWrong (ws : List ℕ) (p : ℕ) : Type 0 where
+  pub high : ℕ
+  pub low : ℕ
+  pub here : getElem? ws p ≡ some high
+  pub next : getElem? ws (suc p) ≡ some low
+  pub wrong : LongWrong high low
+  pub before : (k w u : ℕ) → k < p → getElem? ws k ≡ some w → getElem? ws (suc k) ≡ some u → LongWrong w u → ⊥
+
 pub data CallVerdict (lent : List ℤ) (o : Outcome) : Input → Type 0 where
   words1 : (ws : List ℕ) → MaskWordWrong ws → Refuses o 1 0 0 0 lent → CallVerdict lent o (words ws)
   words2 : (ws : List ℕ) (p : ℕ) → decode ws ≡ badWord p → Refuses o 2 p 0 0 lent → CallVerdict lent o (words ws)
+  words14 : (ws : List ℕ) (p : ℕ) → decode ws ≡ badLong p → FirstLongWrong ws p → Refuses o 14 p 0 0 lent → CallVerdict lent o (words ws)
   wordsJob : (ws : List ℕ) (j : Job) → decode ws ≡ job j → Verdict j lent o → CallVerdict lent o (words ws)
   typed1 : (t : Typed.Job) → MaskOutside (t .mask) → Refuses o 1 0 0 0 lent → CallVerdict lent o (typed t)
   typedJobs : (t : Typed.Job) → 1 ≤ t .mask → t .mask ≤ 63 → Verdict (jobOf t) lent o → CallVerdict lent o (typed t)

@@ -20,9 +20,9 @@ use Rattle.motion.specs.Motions.{StateRanges, Ranges}
 
 position-within : (p : ℤ) → T (positionAllowed p) → Within (2 ^ 34) p
 position-within p t =
-    go p (leZ-yes (left (leZ (negsuc 134217727) p) (leZ p (pos 134217727)) t)) (leZ-yes (right (leZ (negsuc 134217727) p) (leZ p (pos 134217727)) t))
+    go p (leZ-yes (left (leZ (negsuc 17179869183) p) (leZ p (pos 17179869183)) t)) (leZ-yes (right (leZ (negsuc 17179869183) p) (leZ p (pos 17179869183)) t))
   where
-    go : (p : ℤ) → negsuc 134217727 ≤ℤ p → p ≤ℤ pos 134217727 → Within (2 ^ 34) p
+    go : (p : ℤ) → negsuc 17179869183 ≤ℤ p → p ≤ℤ pos 17179869183 → Within (2 ^ 34) p
     go = all₁ _ (λ a b. simp whole (omega arith))
 
 size-within : (l m : ℕ) (v : ℤ) → l ≤ m → T (leb (natAbs v) l) → Within m v

@@ -11,7 +11,7 @@ use borrow.Author.Tests.{leb-true}
 use Rattle.model.specs.declared.Job as Typed
 use Rattle.model.specs.declared.Answer.{Answer}
 use Rattle.model.specs.Job.{jobOf}
-use Rattle.model.specs.Words.{goodMask, Decoded, noMask, badWord, job, decode}
+use Rattle.model.specs.Words.{goodMask, Decoded, noMask, badWord, badLong, job, decode}
 use Rattle.model.specs.Outcome.{Outcome, Input, refuse, jobOutcome, outcomeOfJob, outcomeOfWords, call, inputAxes}
 use Rattle.model.specs.Demand.{Demand3}
 use Rattle.words.specs.declared.DecodedJob.{DecodedJob}
@@ -54,7 +54,12 @@ six-bits-mask m e = let h = leb-true m 63 (second (ltb 0 m) (leb m 63) e) in ome
 
 module _ (ws : List ℕ) (lent : List ℤ) (d : DecodedJob) (is : Decodes ws d) where
   by-words : Decoded → Outcome
-  by-words w = elim w [ noMask ↦ refuse 1 0 0 0 lent | badWord p ↦ refuse 2 p 0 0 lent | job j ↦ jobOutcome j lent ]
+  by-words w = elim w [
+    | noMask ↦ refuse 1 0 0 0 lent
+    | badWord p ↦ refuse 2 p 0 0 lent
+    | badLong p ↦ refuse 14 p 0 0 lent
+    | job j ↦ jobOutcome j lent
+  ]
 
   pub words-refused : (d .number ≡ 0 → ⊥) → refuse (d .number) (d .place) 0 0 lent ≡ outcomeOfWords ws lent
   unfolding by-words
@@ -65,6 +70,7 @@ module _ (ws : List ℕ) (lent : List ℤ) (d : DecodedJob) (is : Decodes ws d) 
       go : (w : Decoded) → (decodedJob w .number ≡ 0 → ⊥) → refuse (decodedJob w .number) (decodedJob w .place) 0 0 lent ≡ by-words w
       go noMask h = refl
       go (badWord p) h = refl
+      go (badLong p) h = refl
       go (job j) h = absurd (h refl)
 
   -- the outcome of the words is that of the job that they hold

@@ -7,9 +7,9 @@ use Rattle.model.specs.Bytes.{wordsOf}
 use Rattle.model.specs.Outcome.{Input, words, call}
 use Rattle.text.specs.Printed.{printed}
 
--- at most 256 bytes are read
+-- at most 512 bytes are read
 abbrev pub jobOf : List ℕ → Input
-jobOf bytes = words (wordsOf (take 256 bytes))
+jobOf bytes = words (wordsOf (take 512 bytes))
 
 -- the program's table has 8,192 cells, all 0
 abbrev pub lentTable : List ℤ

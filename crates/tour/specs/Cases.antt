@@ -36,8 +36,8 @@ cases =
     }
     -- a list that is too short, after the legs; a refused leg comes before it; 11 before both
     ∷ record { mask = 1; stops = stop 4 2 ∷ stop 5 3 ∷ []; lent = 7 ∷ []; says = refuseTour 10 2 0 0 (7 ∷ []) }
-    ∷ record { mask = 1; stops = stop 4 2 ∷ stop 134217728 3 ∷ []; lent = 7 ∷ []; says = refuseTour 6 1 0 0 (7 ∷ []) }
-    ∷ record { mask = 1; stops = stop 134217728 2 ∷ stop 5 4097 ∷ []; lent = 7 ∷ []; says = refuseTour 11 1 0 0 (7 ∷ []) }
+    ∷ record { mask = 1; stops = stop 4 2 ∷ stop 17179869184 3 ∷ []; lent = 7 ∷ []; says = refuseTour 6 1 0 0 (7 ∷ []) }
+    ∷ record { mask = 1; stops = stop 17179869184 2 ∷ stop 5 4097 ∷ []; lent = 7 ∷ []; says = refuseTour 11 1 0 0 (7 ∷ []) }
     -- no stops: nothing else is read
     ∷ record { mask = 64; stops = []; lent = 7 ∷ []; says = record { number = 0; place = 0; mask = 0; arrival = 0; total = 0; arrivals = 7 ∷ [] } }
     ∷ record { mask = 64; stops = stop 4 2 ∷ []; lent = 7 ∷ []; says = refuseTour 1 0 0 0 (7 ∷ []) }

@@ -6,19 +6,21 @@ use native.Mathlib.Omega.{arith}
 use mathlib.Core.Path.{_≡_, refl, sym, ap, subst, _∙_}
 use mathlib.Core.Bool.{Bool, true, false, cond, _&&_, and-false, true≢false}
 use mathlib.Core.Logic.{⊎-elim}
+use mathlib.Core.Option.{Option, none, some}
 use mathlib.Core.List.{List, [], _∷_}
 use lib.ListN.{getD, length, drop, drop-of-length-le}
 use lib.Seq.{drop-cons}
 use lib.Dec.{eqb, ltb}
 use borrow.Author.Tests.{ltb-true, ltb-false, lt-ltb, le-ltb}
 use Rattle.model.specs.declared.Axis.{Axis}
-use Rattle.model.specs.Job.{Job, JobAxis, setBits}
-use Rattle.model.specs.Words.{kind, payload, Reading, got, wrong, axes, ending, readJob, afterMask, goodMask, noMask, badWord, job, decode}
+use Rattle.model.specs.Job.{JobAxis, setBits}
+use Rattle.model.specs.Words.{kind, payload, firstBadLong, Reading, got, wrong, axes, ending, readJob, afterMask, goodMask, noMask, spelled, decided, decode}
 use Rattle.words.specs.declared.AxesReading.{AxesReading}
 use Rattle.words.specs.declared.DecodedJob.{DecodedJob}
 use Rattle.words.specs.Decoding.{unsetAxes, placed, wordJob, refusedJob, decodedJob, decidedJob}
-use Rattle.words.specs.ByIndex.{isKind, isEnd, payloadAt, readAll, begun}
+use Rattle.words.specs.ByIndex.{isKind, isEnd, payloadAt, badLongIn, readAll, begun}
 use Rattle.words.proofs.Reader.{on, field-yes, field-no, inside, outside, there}
+use Rattle.words.proofs.LongWords.{long-found, no-long}
 use Rattle.words.proofs.AxesWords.{Matches, reads}
 
 -- ---- the end word
@@ -34,6 +36,13 @@ end-inside ws i h =
     both : (b d : Bool) → cond b d false ≡ b && d
     both true d = refl
     both false d = refl
+
+pub end-there : (ws : List ℕ) (i : ℕ) → isEnd ws i ≡ true → i < length ws
+end-there ws i e = there ws i 15 (first (isKind ws i 15) (eqb (payloadAt ws i) 0) e)
+  where
+    first : (b d : Bool) → cond b d false ≡ true → b ≡ true
+    first true d e = refl
+    first false d e = e
 
 -- what `ending` reads at index i, by its tests: an end word, and a word after it
 abbrev ends : {A : Type 0} → A → ℕ → Bool → Bool → Reading A
@@ -81,40 +90,51 @@ module _ {A : Type 0} (a : A) (ws : List ℕ) (i : ℕ) where
 abbrev accepted : ℕ → ℕ → List Axis → DecodedJob
 accepted m asked six = record { number = 0; place = 0; job = wordJob m asked six }
 
+-- once the structure is right, by what refusal 14 names
+abbrev unless : Option ℕ → ℕ → ℕ → List Axis → DecodedJob
+unless o m asked six = elim o [ some p ↦ refusedJob 14 p | none ↦ accepted m asked six ]
+
 -- once the axes are read, by the tests of the end word
-abbrev closed : ℕ → ℕ → ℕ → List Axis → Bool → Bool → DecodedJob
-closed m asked i six b l = cond b (cond l (refusedJob 2 (i + 1)) (accepted m asked six)) (refusedJob 2 i)
+abbrev closed : Option ℕ → ℕ → ℕ → ℕ → List Axis → Bool → Bool → DecodedJob
+closed o m asked i six b l = cond b (cond l (refusedJob 2 (i + 1)) (unless o m asked six)) (refusedJob 2 i)
 
 -- a reading of axes that the code's reading s matches
 module _ (ws : List ℕ) (m asked : ℕ) (s : AxesReading) where
   abbrev read : Reading (List JobAxis) → DecodedJob
-  read r = decidedJob (on (λ xs. ending (readJob m asked xs)) r)
+  read r = decidedJob ws (on (λ xs. ending (readJob m asked xs)) r)
+
+  abbrev long : Option ℕ
+  long = firstBadLong 0 ws
 
   stopped-is : (r : Reading (List JobAxis)) → Matches ws unsetAxes s r → s .got ≡ false → read r ≡ refusedJob 2 (s .at)
   stopped-is (got xs j vs) (a, b, c, d) e = absurd (true≢false (sym a ∙ e))
   stopped-is (wrong p) (a, b) e = ap (refusedJob 2) (sym b)
 
   closed-is : (r : Reading (List JobAxis)) → Matches ws unsetAxes s r → s .got ≡ true
-      → read r ≡ closed m asked (s .at) (s .axes) (isEnd ws (s .at)) (ltb (s .at + 1) (length ws))
+      → read r ≡ closed long m asked (s .at) (s .axes) (isEnd ws (s .at)) (ltb (s .at + 1) (length ws))
   closed-is (got xs j vs) (a, b, c, d) e =
-      ap (λ (us : List ℕ). decidedJob (ending (readJob m asked xs) j us)) c
-      ∙ ap (λ (k : ℕ). decidedJob (ending (readJob m asked xs) k (drop k ws))) (sym b)
-      ∙ ap decidedJob (ending-is (readJob m asked xs) ws (s .at))
-      ∙ decided (isEnd ws (s .at)) (ltb (s .at + 1) (length ws))
-      ∙ ap (λ (six : List Axis). closed m asked (s .at) six (isEnd ws (s .at)) (ltb (s .at + 1) (length ws))) (sym d)
+      ap (λ (us : List ℕ). decidedJob ws (ending (readJob m asked xs) j us)) c
+      ∙ ap (λ (k : ℕ). decidedJob ws (ending (readJob m asked xs) k (drop k ws))) (sym b)
+      ∙ ap (decidedJob ws) (ending-is (readJob m asked xs) ws (s .at))
+      ∙ by-ends (isEnd ws (s .at)) (ltb (s .at + 1) (length ws))
+      ∙ ap (λ (six : List Axis). closed long m asked (s .at) six (isEnd ws (s .at)) (ltb (s .at + 1) (length ws))) (sym d)
     where
-      decided : (b l : Bool) → decidedJob (ends (readJob m asked xs) (s .at) b l) ≡ closed m asked (s .at) (placed xs unsetAxes) b l
-      decided true true = refl
-      decided true false = refl
-      decided false l = refl
+      by-long : (o : Option ℕ) → decodedJob (spelled o (readJob m asked xs)) ≡ unless o m asked (placed xs unsetAxes)
+      by-long (some p) = refl
+      by-long none = refl
+
+      by-ends : (b l : Bool) → decidedJob ws (ends (readJob m asked xs) (s .at) b l) ≡ closed long m asked (s .at) (placed xs unsetAxes) b l
+      by-ends true true = refl
+      by-ends true false = by-long long
+      by-ends false l = refl
   closed-is (wrong p) (a, b) e = absurd (true≢false (sym e ∙ a))
 
 module _ (ws : List ℕ) (m : ℕ) where
   abbrev after : DecodedJob
-  after = decidedJob (afterMask m 1 (drop 1 ws))
+  after = decidedJob ws (afterMask m 1 (drop 1 ws))
 
   abbrev by-asked : Reading ℕ → DecodedJob
-  by-asked r = decidedJob (on (λ a i vs. on (λ xs. ending (readJob m a xs)) (axes (setBits m) i vs)) r)
+  by-asked r = decidedJob ws (on (λ a i vs. on (λ xs. ending (readJob m a xs)) (axes (setBits m) i vs)) r)
 
   pub no-asked : isKind ws 1 2 ≡ false → refusedJob 2 1 ≡ after
   no-asked e = sym (ap by-asked (field-no ws 2 1 e))
@@ -131,17 +151,18 @@ module _ (ws : List ℕ) (m : ℕ) where
     unfolding axes-read
     after-is =
         ap by-asked (field-yes ws 2 1 e)
-        ∙ ap (λ (k : ℕ). decidedJob (on (λ xs. ending (readJob m k xs)) (axes (setBits m) 2 (drop 2 ws)))) (sym a)
+        ∙ ap (λ (k : ℕ). decidedJob ws (on (λ xs. ending (readJob m k xs)) (axes (setBits m) 2 (drop 2 ws)))) (sym a)
 
     pub wrong-axis : s .got ≡ false → refusedJob 2 (s .at) ≡ after
     wrong-axis h = sym (after-is ∙ stopped-is ws m asked s axes-read matches h)
 
-    by-end : (b l : Bool) → s .got ≡ true → isEnd ws (s .at) ≡ b → ltb (s .at + 1) (length ws) ≡ l → closed m asked (s .at) (s .axes) b l ≡ after
+    by-end : (b l : Bool) → s .got ≡ true → isEnd ws (s .at) ≡ b → ltb (s .at + 1) (length ws) ≡ l
+        → closed (firstBadLong 0 ws) m asked (s .at) (s .axes) b l ≡ after
     by-end b l h p q =
         sym
         (after-is
         ∙ closed-is ws m asked s axes-read matches h
-        ∙ (λ i. closed m asked (s .at) (s .axes) (p i) (q i)))
+        ∙ (λ i. closed (firstBadLong 0 ws) m asked (s .at) (s .axes) (p i) (q i)))
 
     pub no-end : s .got ≡ true → isEnd ws (s .at) ≡ false → refusedJob 2 (s .at) ≡ after
     no-end h p = by-end false (ltb (s .at + 1) (length ws)) h p refl
@@ -149,26 +170,30 @@ module _ (ws : List ℕ) (m : ℕ) where
     pub left-over : s .got ≡ true → isEnd ws (s .at) ≡ true → s .at + 1 < length ws → refusedJob 2 (s .at + 1) ≡ after
     left-over h p k = by-end true true h p (lt-ltb _ _ k)
 
-    pub whole-job : s .got ≡ true → isEnd ws (s .at) ≡ true → length ws ≤ s .at + 1 → accepted m asked (s .axes) ≡ after
-    whole-job h p k = by-end true false h p (le-ltb _ _ k)
+    module _ (h : s .got ≡ true) (p : isEnd ws (s .at) ≡ true) (k : length ws ≤ s .at + 1) (f : ℕ) (is-f : f ≡ badLongIn ws (s .at) 0) where
+      count : length ws ≡ suc (s .at)
+      count = omega (arith, end-there ws (s .at) p)
+
+      by-long : (o : Option ℕ) → firstBadLong 0 ws ≡ o → unless o m asked (s .axes) ≡ after
+      by-long o e = ap (λ (q : Option ℕ). unless q m asked (s .axes)) (sym e) ∙ by-end true false h p (le-ltb _ _ k)
+
+      pub bad-long : f < s .at → refusedJob 14 f ≡ after
+      bad-long l = by-long (some f) (long-found ws (s .at) f count is-f l)
+
+      pub whole-job : s .at ≤ f → accepted m asked (s .axes) ≡ after
+      whole-job l = by-long none (no-long ws (s .at) f count is-f l)
 
 -- ---- the mask
 
 -- `decode` of a word and those after it, by the test of its mask
 abbrev by-mask : ℕ → List ℕ → Bool → DecodedJob
-by-mask w ws b = elim b [ true ↦ decidedJob (afterMask (payload w) 1 ws) | false ↦ refusedJob 1 0 ]
+by-mask w ws b = elim b [ true ↦ decidedJob (w ∷ ws) (afterMask (payload w) 1 ws) | false ↦ refusedJob 1 0 ]
 
 decode-is : (w : ℕ) (ws : List ℕ) → decodedJob (decode (w ∷ ws)) ≡ by-mask w ws (eqb (kind w) 1 && goodMask (payload w))
 decode-is w ws = go (eqb (kind w) 1 && goodMask (payload w))
   where
-    reading : (r : Reading Job) → decodedJob (elim r [ got j i vs ↦ job j | wrong p ↦ badWord p ]) ≡ decidedJob r
-    reading (got j i vs) = refl
-    reading (wrong p) = refl
-
-    go : (b : Bool)
-        → decodedJob (elim b [ true ↦ elim (afterMask (payload w) 1 ws) [ got j i vs ↦ job j | wrong p ↦ badWord p ] | false ↦ noMask ])
-        ≡ by-mask w ws b
-    go true = reading (afterMask (payload w) 1 ws)
+    go : (b : Bool) → decodedJob (elim b [ true ↦ decided (w ∷ ws) (afterMask (payload w) 1 ws) | false ↦ noMask ]) ≡ by-mask w ws b
+    go true = refl
     go false = refl
 
 pub no-mask-word : (ws : List ℕ) → isKind ws 0 1 ≡ false → refusedJob 1 0 ≡ decodedJob (decode ws)
@@ -185,7 +210,7 @@ bad-mask (w ∷ ws) e =
     ∙ ap (by-mask w ws) (and-false (eqb (kind w) 1)))
 
 pub good-mask : (ws : List ℕ) → isKind ws 0 1 ≡ true → goodMask (payloadAt ws 0) ≡ true
-    → decidedJob (afterMask (payloadAt ws 0) 1 (drop 1 ws)) ≡ decodedJob (decode ws)
+    → decidedJob ws (afterMask (payloadAt ws 0) 1 (drop 1 ws)) ≡ decodedJob (decode ws)
 good-mask [] e f = absurd (let z = there [] 0 1 e in omega arith)
 good-mask (w ∷ ws) e f =
     let k : eqb (kind w) 1 ≡ true = sym (inside (w ∷ ws) 0 1 (omega arith)) ∙ e in

@@ -3,6 +3,7 @@ use Prim.Native.Nat.{ℕ, zero, suc, _+_, _/_, _%_, _<_, _≤_}
 use native.Mathlib.Omega.{arith}
 use mathlib.Core.Path.{_≡_, refl, sym, ap, ap₂, _∙_}
 use mathlib.Core.Bool.{Bool, true, false, _&&_}
+use mathlib.Core.Option.{Option, none, some}
 use mathlib.Core.List.{List, [], _∷_, map}
 use lib.ListN.{getD, length, drop, set, length-set, drop-of-length-le}
 use lib.Seq.{drop-cons, getD-set-same, getD-set-other}
@@ -12,7 +13,7 @@ use Rattle.model.specs.declared.Windows.{Windows}
 use Rattle.model.specs.Windows.{noWindows}
 use Rattle.model.specs.Job.{Job, JobAxis, setFrom, setBits, setAxes, jobOf, unsetAxis}
 use Rattle.model.specs.Words.{Reading, got, wrong, _>>=_, give, kind, payload, field, axis, axes, ending}
-use Rattle.model.specs.Words.{readJob, afterMask, goodMask, Decoded, noMask, badWord, job, decode}
+use Rattle.model.specs.Words.{firstBadLong, readJob, afterMask, goodMask, Decoded, noMask, badWord, badLong, job, spelled, decided, decode}
 use Rattle.words.specs.declared.DecodedJob.{DecodedJob}
 use Rattle.words.specs.Decoding.{unsetAxes, placed, decodedJob, Decodes}
 use Rattle.words.proofs.Reader.{on}
@@ -150,18 +151,24 @@ after-mask-job m i ws = asked (field 2 i ws)
 abbrev Sound : Decoded → Type 0
 Sound noMask = Unit
 Sound (badWord p) = Unit
+Sound (badLong p) = Unit
 Sound (job j) = (goodMask (j .mask) ≡ true) × (numbers (j .axes) ≡ setBits (j .mask)) × (j .windows ≡ noWindows)
 
 sound : (ws : List ℕ) → Sound (decode ws)
 sound [] = tt
 sound (w ∷ ws) = go (eqb (kind w) 1) (goodMask (payload w)) refl
   where
-    by-reading : goodMask (payload w) ≡ true → (r : Reading Job) → JobOf (payload w) r → Sound (elim r [ got j i rest ↦ job j | wrong p ↦ badWord p ])
-    by-reading e (got j i rest) (p, q, r) = (ap (λ (m : ℕ). goodMask m) p ∙ e, q ∙ ap (λ (m : ℕ). setBits m) (sym p), r)
+    by-long : (o : Option ℕ) (j : Job) → Sound (job j) → Sound (spelled o j)
+    by-long (some p) j h = tt
+    by-long none j h = h
+
+    by-reading : goodMask (payload w) ≡ true → (r : Reading Job) → JobOf (payload w) r → Sound (decided (w ∷ ws) r)
+    by-reading e (got j i rest) (p, q, r) =
+        by-long (firstBadLong 0 (w ∷ ws)) j (ap (λ (m : ℕ). goodMask m) p ∙ e, q ∙ ap (λ (m : ℕ). setBits m) (sym p), r)
     by-reading e (wrong p) h = tt
 
     go : (a b : Bool) → goodMask (payload w) ≡ b
-        → Sound (elim (a && b) [ true ↦ elim (afterMask (payload w) 1 ws) [ got j i rest ↦ job j | wrong p ↦ badWord p ] | false ↦ noMask ])
+        → Sound (elim (a && b) [ true ↦ decided (w ∷ ws) (afterMask (payload w) 1 ws) | false ↦ noMask ])
     go true true e = by-reading e (afterMask (payload w) 1 ws) (after-mask-job (payload w) 1 ws)
     go true false e = tt
     go false b e = tt
@@ -180,6 +187,7 @@ decodes ws r e =
     typed-of : (d : Decoded) → Sound d → decodedJob d .number ≡ 0 → d ≡ job (jobOf (decodedJob d .job))
     typed-of noMask h z = absurd (omega arith)
     typed-of (badWord p) h z = absurd (omega arith)
+    typed-of (badLong p) h z = absurd (omega arith)
     typed-of (job j) (g, ns, w) z =
         ap₂ (λ (xs : List JobAxis) (v : Windows). job (record { mask = j .mask; asked = j .asked; axes = xs; windows = v }))
         (sym (axes-again 6 0 (j .mask) (j .axes) unsetAxes refl ns)) w
@@ -187,4 +195,5 @@ decodes ws r e =
     allowed-of : (d : Decoded) → Sound d → decodedJob d .number ≡ 0 → goodMask (decodedJob d .job .mask) ≡ true
     allowed-of noMask h z = absurd (omega arith)
     allowed-of (badWord p) h z = absurd (omega arith)
+    allowed-of (badLong p) h z = absurd (omega arith)
     allowed-of (job j) h z = h .0

@@ -1,6 +1,6 @@
 -- How the code reads words: by index into the whole list, where the definitions of `Words` take one word after another.
 use Prim.Native.Nat.{ℕ, zero, suc, _+_, _/_, _%_}
-use mathlib.Core.Bool.{Bool, true, false, cond}
+use mathlib.Core.Bool.{Bool, true, false, not, cond}
 use mathlib.Core.List.{List}
 use lib.IntN.{ℤ}
 use lib.ListN.{getD, length, drop, set}
@@ -10,7 +10,7 @@ use Rattle.model.specs.declared.Axis.{Axis}
 use Rattle.model.specs.declared.State.{State}
 use Rattle.model.specs.declared.Target.{Target}
 use Rattle.model.specs.declared.RestPoint.{RestPoint}
-use Rattle.model.specs.Words.{kind, payload, twos, Reading, got, wrong, axis}
+use Rattle.model.specs.Words.{kind, payload, twos, longPosition, longAllowed, Reading, got, wrong, axis}
 use Rattle.words.specs.declared.AxisReading.{AxisReading}
 use Rattle.words.specs.declared.AxisReading.the-variants.{Got, Wrong}
 use Rattle.words.specs.declared.AxesReading.{AxesReading}
@@ -37,28 +37,53 @@ unfoldable pub firstWrong : List ℕ → ℕ → ℕ → ℕ → ℕ
 firstWrong ws i k zero = i
 firstWrong ws i k (suc n) = cond (isKind ws i k) (firstWrong ws (suc i) (suc k) n) i
 
+-- the index after a word of kind k that may stand at i
+unfoldable pub passing : List ℕ → ℕ → ℕ → ℕ
+passing ws i k = cond (isKind ws i k) (suc i) i
+
+-- ---- positions
+
+-- the position of word i, of kind 14, and the one after it
+abbrev pub longAt : List ℕ → ℕ → ℤ
+longAt ws i = longPosition (payloadAt ws i) (payloadAt ws (suc i))
+
+-- the position whose words begin at i
+unfoldable pub positionAt : List ℕ → ℕ → ℤ
+positionAt ws i = cond (isKind ws i 14) (longAt ws i) (signedAt ws i)
+
+-- refusal 14 names word i
+unfoldable pub isBadLong : List ℕ → ℕ → Bool
+isBadLong ws i = cond (isKind ws i 14) (not (longAllowed (payloadAt ws i) (payloadAt ws (suc i)))) false
+
+-- of n words from i on, the index of the first that it names; i + n where it names none
+unfoldable pub badLongIn : List ℕ → ℕ → ℕ → ℕ
+badLongIn ws zero i = i
+badLongIn ws (suc n) i = cond (isBadLong ws i) i (badLongIn ws n (suc i))
+
 -- ---- one axis, whose words begin at i
 
 unfoldable pub restAt : List ℕ → ℕ → RestPoint
-restAt ws i = record { position = signedAt ws i; velocity = signedAt ws (i + 1) }
+restAt ws i = record { position = positionAt ws i; velocity = signedAt ws (passing ws i 14 + 1) }
 
 unfoldable pub stateAt : List ℕ → ℕ → State
 stateAt ws i =
+    let s : ℕ = passing ws i 14 in
     record {
-      position = signedAt ws i;
-      velocity = signedAt ws (i + 1);
-      acceleration = signedAt ws (i + 2);
-      tick = signedAt ws (i + 3);
+      position = positionAt ws i;
+      velocity = signedAt ws (s + 1);
+      acceleration = signedAt ws (s + 2);
+      tick = signedAt ws (s + 3);
     }
 
 unfoldable pub axisAt : List ℕ → ℕ → Target → Axis
 axisAt ws i g =
+    let s : ℕ = passing ws i 14 in
     record {
       start = restAt ws i;
-      «speed_limit» = payloadAt ws (i + 2);
-      «acceleration_limit» = payloadAt ws (i + 3);
-      «half_period» = payloadAt ws (i + 4);
-      «second_weight» = Given (payloadAt ws (i + 5));
+      «speed_limit» = payloadAt ws (s + 2);
+      «acceleration_limit» = payloadAt ws (s + 3);
+      «half_period» = payloadAt ws (s + 4);
+      «second_weight» = Given (payloadAt ws (s + 5));
       target = g;
     }
 

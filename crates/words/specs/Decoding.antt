@@ -8,7 +8,7 @@ use Rattle.model.specs.declared.Axis.{Axis}
 use Rattle.model.specs.declared.Job as Typed
 use Rattle.model.specs.Windows.{noWindows}
 use Rattle.model.specs.Job.{Job, JobAxis, jobOf, unsetAxis}
-use Rattle.model.specs.Words.{Reading, got, wrong, Decoded, noMask, badWord, job, decode, goodMask}
+use Rattle.model.specs.Words.{Reading, Decoded, noMask, badWord, badLong, job, decided, decode, goodMask}
 use Rattle.words.specs.declared.DecodedJob.{DecodedJob}
 
 -- six axes, none of them set
@@ -30,16 +30,16 @@ acceptedJob j = record { number = 0; place = 0; job = wordJob (j .mask) (j .aske
 abbrev pub refusedJob : ℕ → ℕ → DecodedJob
 refusedJob number place = record { number = number; place = place; job = wordJob 0 0 unsetAxes }
 
--- refusal 1, refusal 2 with its place, or the job
+-- refusal 1, refusal 2 or 14 with its place, or the job
 abbrev pub decodedJob : Decoded → DecodedJob
 decodedJob noMask = refusedJob 1 0
 decodedJob (badWord p) = refusedJob 2 p
+decodedJob (badLong p) = refusedJob 14 p
 decodedJob (job j) = acceptedJob j
 
--- the same after an allowed mask
-abbrev pub decidedJob : Reading Job → DecodedJob
-decidedJob (got j i ws) = acceptedJob j
-decidedJob (wrong p) = refusedJob 2 p
+-- the same of the words ws, read after an allowed mask
+abbrev pub decidedJob : List ℕ → Reading Job → DecodedJob
+decidedJob ws r = decodedJob (decided ws r)
 
 -- what `decode` gives back for the words ws
 pub record Decodes (ws : List ℕ) (r : DecodedJob) : Type 0 where

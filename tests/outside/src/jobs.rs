@@ -4,9 +4,12 @@ mod damaged;
 mod dampings;
 mod drawn;
 mod edge;
+mod rail;
 mod spelled;
 mod tours;
 mod windows;
+
+use crate::reference::RAIL;
 
 pub use damaged::{damaged_job, with_signed, with_unsigned, SIGNED_ENDS, SINGLE_ENDS, UNSIGNED_ENDS};
 pub use dampings::ratio_ends;
@@ -31,5 +34,7 @@ pub enum Reach {
     Anywhere,
 }
 
-const POSITION_LEAST: i64 = -134_217_728;
-const POSITION_GREATEST: i64 = 134_217_727;
+/// The nearest position on the rail.
+fn on_rail(position: i64) -> i64 {
+    position.clamp(*RAIL.start(), *RAIL.end())
+}

@@ -12,10 +12,10 @@ mod windows;
 mod words;
 
 pub use damping::Damping;
-pub use job::{Answer, Axis, Job, Target, LATEST, UNSET};
+pub use job::{Answer, Axis, Job, Target, LATEST, RAIL, UNSET};
 pub use planned::{Exact, Planned};
 pub use program::{printed, words_of};
 pub use single::Single;
 pub use tour::{Stop, Tour, Toured, MOST_STOPS};
 pub use windows::{Window, Windows, MOST_WINDOWS};
-pub use words::{decode, plan_words};
+pub use words::{decode, fits_a_word, plan_words};

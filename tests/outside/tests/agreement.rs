@@ -13,21 +13,21 @@ struct Comparison {
     got: Vec<i64>,
     want: Vec<i64>,
     /// How many calls gave each number.
-    seen: [usize; 14],
+    seen: [usize; 19],
     /// How many jobs that search past tick `LONG` are still tried; the others are left out, since such a search takes
     /// milliseconds.
     long_searches: usize,
 }
 
 /// The numbers that planning can give.
-const NUMBERS: [usize; 12] = [0, 1, 2, 3, 4, 5, 6, 8, 9, 10, 12, 13];
+const NUMBERS: [usize; 13] = [0, 1, 2, 14, 3, 4, 12, 5, 6, 13, 8, 9, 10];
 
 /// A search that ends later than this, or nowhere, is a long one.
 const LONG: i64 = 200;
 
 impl Comparison {
     fn new(seed: u64, long_searches: usize) -> Comparison {
-        Comparison { random: Random::new(seed), got: Vec::new(), want: Vec::new(), seen: [0; 14], long_searches }
+        Comparison { random: Random::new(seed), got: Vec::new(), want: Vec::new(), seen: [0; 19], long_searches }
     }
 
     /// Lends both sides the same cells.
@@ -215,7 +215,7 @@ fn stray_words_agree() {
         comparison.words(&words, 2_000);
     }
     comparison.report("stray", 19_900);
-    assert!(comparison.seen[2] > 1_000);
+    assert!(comparison.seen[2] > 1_000 && comparison.seen[14] > 1_000, "{:?}", comparison.seen);
 }
 
 #[test]

@@ -138,3 +138,71 @@ fn easily_misread() {
     assert_eq!(library::plan_words(&words, &mut []), wanted);
     assert_eq!(reference::plan_words(&words, &mut []), wanted);
 }
+
+/// Request 2.8.
+#[test]
+fn positions_past_28_bits() {
+    let (least, greatest) = (-(1 << 34), (1 << 34) - 1);
+    for start in [least, -(1 << 27) - 2, -(1 << 27), (1 << 27) - 4, (1 << 27) - 2, 1 << 27, greatest - 4] {
+        let b = one(Axis { start_position: start, ..to(start + 4) });
+        assert_eq!(positions(b), [0, 128, 512, 896, 1024].map(|step| 256 * start + step));
+    }
+    // The longest way: L ticks fewer by L / M than there are.
+    let fast = |start_position: i64, position: i64| {
+        one(Axis { start_position, speed_limit: 1 << 20, acceleration_limit: 1 << 16, ..to(position) })
+    };
+    let way = (4_096 - 16) << 20;
+    for (start, side) in [(least, 1), (greatest, -1)] {
+        let table = &mut vec![0; 3 * 4_097];
+        let answer = library::plan_typed(&fast(start, start + side * way), table);
+        assert_eq!(answer, Answer { number: 0, place: 0, mask: 1, arrival: 4_096 });
+        assert_eq!((table[0], table[3 * 4_096]), (256 * start, 256 * (start + side * way)));
+        assert_eq!(refused(fast(start, start + side * (way + 1))), (9, 0, 1, 0));
+    }
+    for position in [least - 1, greatest + 1] {
+        for axis in [to(position), Axis { start_position: position, ..PLAIN }] {
+            let answer = library::plan_typed(&one(axis), &mut [0; 300]);
+            assert_eq!((answer.number, answer.place), (6, 0));
+        }
+    }
+}
+
+/// Case C's words, asked for tick 1, with other words for the start and the target position.
+fn spelled(start: &[u32], target: &[u32]) -> Vec<u32> {
+    let c = jobs::CASE_C;
+    [&c[..1], &[jobs::word(2, 1)], start, &c[3..8], target, &c[9..]].concat()
+}
+
+/// A position has one spelling only.
+#[test]
+fn spellings_of_a_position() {
+    let half = 1 << 27;
+    let long = |kind, high, low| [jobs::word(14, high), jobs::word(kind, low)];
+    for (high, low, position) in [
+        (0, half, half),
+        (-1, half - 1, -half - 1),
+        (63, 2 * half - 1, (1 << 34) - 1),
+        (-64, 0, -(1 << 34)),
+        (1, 0, 2 * half),
+        (-2, 2 * half - 1, -2 * half - 1),
+    ] {
+        let mut table = [7; 6];
+        let answer = library::plan_words(&spelled(&long(3, high, low), &long(9, high, low)), &mut table);
+        assert_eq!(answer, Answer { number: 0, place: 0, mask: 1, arrival: 1 });
+        assert_eq!(table, [256 * position, 0, 0, 256 * position, 0, 0]);
+    }
+    let short = |kind| [jobs::word(kind, 0)];
+    for (high, low) in [(0, half - 1), (0, 0), (-1, half), (64, 0), (-65, 0), (-half, 0), (half - 1, 0)] {
+        let refused = |start: &[u32], target: &[u32]| {
+            let answer = library::plan_words(&spelled(start, target), &mut []);
+            assert_eq!((answer.mask, answer.arrival), (0, 0));
+            (answer.number, answer.place)
+        };
+        assert_eq!(refused(&long(3, high, low), &short(9)), (14, 2));
+        assert_eq!(refused(&short(3), &long(9, high, low)), (14, 8));
+        assert_eq!(refused(&long(3, 1, 0), &long(9, high, low)), (14, 9));
+        // A wrong word after it is refused by 2.
+        assert_eq!(refused(&short(3), &long(10, high, low)), (2, 9));
+        assert_eq!(refused(&long(14, high, low), &short(9)), (2, 3));
+    }
+}

@@ -5,7 +5,7 @@
 use outside::jobs::{self, Reach};
 use outside::library;
 use outside::random::Random;
-use outside::reference::{Axis, Job, Planned};
+use outside::reference::{fits_a_word, Axis, Job, Planned};
 use outside::swing;
 
 /// The cells of one axis of a table, a row each.
@@ -69,12 +69,40 @@ fn cells_are_rounded_alike(planned: &Planned, axis: &Axis, rows: &[[i64; 3]]) {
     }
 }
 
-/// Tries `count` jobs; answers how many axes were landed, how many swing lists that are not zero were tried on undamped
-/// and on damped axes, and how many of the latter's targets accelerate.
-fn run(seed: u64, draw: fn(&mut Random) -> Job, count: usize, lists: usize) -> [usize; 4] {
+/// What was tried: axes that landed, and of them those far out on the rail and those after accelerating targets on damped
+/// poles; and swing lists that are not zero, of undamped and of damped poles.
+#[derive(Debug, Default)]
+struct Tried {
+    axes: usize,
+    far_out: usize,
+    accelerating: usize,
+    undamped_lists: usize,
+    damped_lists: usize,
+}
+
+impl Tried {
+    fn axis(&mut self, random: &mut Random, axis: &Axis, arrival: usize, rows: &[[i64; 3]], lists: usize) {
+        landing_is_exact(axis, arrival as i64, rows[arrival]);
+        misses_are_small(rows);
+        cells_are_within_limits(axis, rows);
+        let planned = Planned::reaching(axis, arrival as i64).unwrap().with_list();
+        cells_are_rounded_alike(&planned, axis, rows);
+        self.axes += 1;
+        self.far_out += usize::from(!fits_a_word(axis.target.position()));
+        if axis.half_period > 0 {
+            let damped = axis.weight() != 128;
+            self.accelerating += usize::from(damped && axis.target.acceleration() != 0);
+            let kind = if damped { &mut self.damped_lists } else { &mut self.undamped_lists };
+            *kind += sway_is_cancelled(random, axis, arrival, rows, lists);
+        }
+    }
+}
+
+/// Tries `count` jobs.
+fn run(seed: u64, draw: fn(&mut Random) -> Job, count: usize, lists: usize) -> Tried {
     let mut random = Random::new(seed);
     let mut table = vec![0; 3 * 6 * 4_097];
-    let mut tried = [0; 4];
+    let mut tried = Tried::default();
     for _ in 0..count {
         let job = draw(&mut random);
         if job.searches_past(100) {
@@ -91,43 +119,36 @@ fn run(seed: u64, draw: fn(&mut Random) -> Job, count: usize, lists: usize) -> [
         let arrival = answer.arrival as usize;
         for (rank, (_, axis)) in job.by_hand().set().enumerate() {
             let rows = rows_of(&table, job.count(), rank, arrival);
-            landing_is_exact(axis, arrival as i64, rows[arrival]);
-            misses_are_small(&rows);
-            cells_are_within_limits(axis, &rows);
-            let planned = Planned::reaching(axis, arrival as i64).unwrap().with_list();
-            cells_are_rounded_alike(&planned, axis, &rows);
-            tried[0] += 1;
-            if axis.half_period > 0 {
-                let kind = if axis.weight() == 128 { 1 } else { 2 };
-                tried[3] += usize::from(kind == 2 && axis.target.acceleration() != 0);
-                tried[kind] += sway_is_cancelled(&mut random, axis, arrival, &rows, lists);
-            }
+            tried.axis(&mut random, axis, arrival, &rows, lists);
         }
     }
-    eprintln!("axes, undamped and damped lists, damped axes after accelerating targets {tried:?}");
+    eprintln!("{tried:?}");
     tried
 }
 
 #[test]
 fn near_jobs_meet_demand_3() {
     let tried = run(11, |random| jobs::job(random, Reach::Near), 10_000, 3);
-    assert!(tried[..3].iter().all(|&n| n > 1_000) && tried[3] > 50, "{tried:?}");
+    assert!(tried.axes > 1_000 && tried.far_out > 500 && tried.accelerating > 50, "{tried:?}");
+    assert!(tried.undamped_lists > 1_000 && tried.damped_lists > 1_000, "{tried:?}");
 }
 
 #[test]
 fn quick_jobs_meet_demand_3() {
     let tried = run(12, |random| jobs::job(random, Reach::Quick), 5_000, 3);
-    assert!(tried[..3].iter().all(|&n| n > 500) && tried[3] > 30, "{tried:?}");
+    assert!(tried.axes > 500 && tried.far_out > 100 && tried.accelerating > 30, "{tried:?}");
+    assert!(tried.undamped_lists > 500 && tried.damped_lists > 500, "{tried:?}");
 }
 
 #[test]
 fn asked_jobs_meet_demand_3() {
     let tried = run(13, |random| jobs::job(random, Reach::Asked), 1_000, 2);
-    assert!(tried[0] > 200 && tried[1] > 100 && tried[2] > 10, "{tried:?}");
+    assert!(tried.axes > 200 && tried.far_out > 20, "{tried:?}");
+    assert!(tried.undamped_lists > 100 && tried.damped_lists > 10, "{tried:?}");
 }
 
 #[test]
 fn chasing_jobs_meet_demand_3() {
     let tried = run(14, jobs::chasing_job, 600, 2);
-    assert!(tried[3] > 50, "{tried:?}");
+    assert!(tried.accelerating > 50 && tried.far_out > 20, "{tried:?}");
 }

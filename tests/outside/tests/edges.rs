@@ -1,9 +1,9 @@
 //! Values at the ends of their types and ranges, one field at a time and on every axis; every mask; tables of every
 //! length about the cells needed.
 
-use outside::jobs::{ratio_ends, with_signed, with_unsigned, SIGNED_ENDS, SINGLE_ENDS, UNSIGNED_ENDS};
+use outside::jobs::{ratio_ends, with_signed, with_unsigned, word, words, SIGNED_ENDS, SINGLE_ENDS, UNSIGNED_ENDS};
 use outside::library;
-use outside::reference::{Answer, Axis, Damping, Job, Single, Target, Window, Windows, UNSET};
+use outside::reference::{self, Answer, Axis, Damping, Job, Single, Target, Window, Windows, UNSET};
 
 const FIXED: Axis = Axis {
     start_position: 0,
@@ -56,6 +56,36 @@ fn every_unsigned_value_at_every_end() {
     at_every_end(4, &UNSIGNED_ENDS, with_unsigned, 300, 301);
 }
 
+/// The answers and the cells agree from words.
+fn words_agree(words: &[u32], cells: usize) -> Answer {
+    let mut got: Vec<i64> = (0..cells as i64).map(|i| !i).collect();
+    let mut want = got.clone();
+    let answer = library::plan_words(words, &mut got);
+    assert_eq!(answer, reference::plan_words(words, &mut want), "{words:08X?}");
+    assert!(got == want, "{words:08X?}");
+    answer
+}
+
+/// Positions of two words at the ends of either payload, on every axis, as start and as target and as both.
+#[test]
+fn long_positions_at_every_end() {
+    let job = Job { mask: 63, asked: 9, axes: [FIXED; 6], windows: None };
+    let long = |kind, high, low| [word(14, high), word(kind, low)];
+    for i in 0..6 {
+        let at = words(&Job { mask: (1 << i) - 1, ..job }).len() - 1;
+        for high in [-(1 << 27), -65, -64, -2, -1, 0, 1, 62, 63, 64, (1 << 27) - 1] {
+            for low in [0, 1, (1 << 27) - 1, 1 << 27, (1 << 28) - 1] {
+                let mut changed = words(&job);
+                changed.splice(at + 6..at + 7, long(9, high, low));
+                words_agree(&changed, 3 * 6 * 10);
+                changed.splice(at..at + 1, long(3, high, low));
+                let answer = words_agree(&changed, 3 * 6 * 10);
+                assert!(answer.number == 0 || (answer.number, answer.place) == (14, at as u64));
+            }
+        }
+    }
+}
+
 /// A job of six axes, one of which has the damping, and one of that axis alone.
 fn damped(i: usize, damping: Damping) -> [Job; 2] {
     let mut axes = [FIXED; 6];
@@ -95,7 +125,7 @@ fn two_values_at_ends_on_two_axes() {
     for (first, second) in [(0, 1), (2, 5), (4, 3)] {
         for j in 0..6 {
             for k in 0..4 {
-                for value in [i64::MIN, 134_217_728, i64::MAX] {
+                for value in [i64::MIN, 1 << 27, 1 << 34, i64::MAX] {
                     for limit in [0, 129, 257, u32::MAX] {
                         let mut job = Job { mask: 63, asked: 9, axes: [MOVING; 6], windows: None };
                         job.axes[first] = with_signed(MOVING, j, value);

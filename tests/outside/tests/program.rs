@@ -7,7 +7,7 @@ use std::process::{Command, Stdio};
 
 use outside::jobs::{self, Reach};
 use outside::random::Random;
-use outside::reference;
+use outside::reference::{self, Axis, Damping, Job, Target};
 
 fn program() -> PathBuf {
     match std::env::var_os("POLGAMIR_TABLE") {
@@ -23,7 +23,7 @@ fn printed(input: &[u8]) -> String {
         .spawn()
         .expect("the table program is there: run `rt check table` first");
     let mut stdin = child.stdin.take().unwrap();
-    // The program reads 256 bytes at most, so that the rest may find nobody.
+    // The program reads 512 bytes at most, so that the rest may find nobody.
     let _ = stdin.write_all(input);
     drop(stdin);
     let output = child.wait_with_output().unwrap();
@@ -57,7 +57,7 @@ fn prints_what_the_reference_prints() {
         match random.below(12) {
             0 => input.extend(vec![0xF0; random.below(3) + 1]),
             1 => drop(input.pop()),
-            2 => input.extend(vec![0; 300]),
+            2 => input.extend(vec![0; 600]),
             _ => (),
         }
         let want = reference::printed(&input);
@@ -74,6 +74,37 @@ fn a_table_that_just_fits_and_one_that_does_not() {
         let mut words = jobs::CASE_C;
         words[1] = 0x2000_0000 + asked;
         assert_eq!(printed(&bytes(&words)), reference::printed(&bytes(&words)));
+    }
+}
+
+/// The job of the most words: six axes after moving targets, with long positions.
+fn longest() -> Vec<u8> {
+    let axis = |i: i64| Axis {
+        start_position: (i - 3) << 32,
+        start_velocity: i,
+        speed_limit: 20,
+        acceleration_limit: 4,
+        half_period: i as u32,
+        damping: Damping::Weight(128 - i as u32),
+        target: Target::Moving { position: ((i - 3) << 32) - 9, velocity: -i, acceleration: 0, tick: 3 },
+    };
+    let mut job = Job { mask: 63, asked: 30, axes: [0, 1, 2, 3, 4, 5].map(axis), windows: None };
+    // Axis 3 would start about 0.
+    job.axes[3].start_position = 1 << 27;
+    job.axes[3].target = Target::Moving { position: (1 << 27) + 4, velocity: 0, acceleration: 0, tick: -3 };
+    bytes(&jobs::words(&job))
+}
+
+/// A long job is read whole, and left-over bytes are found past it, up to the 512th and beyond.
+#[test]
+fn input_of_many_bytes() {
+    let whole = longest();
+    assert_eq!(whole.len(), 4 * 75);
+    assert!(printed(&whole).starts_with("arrival 30\n"));
+    for count in (250..whole.len()).chain([509, 510, 511, 512, 513, 516, 600]) {
+        let mut input = whole.clone();
+        input.resize(count, 0xF0);
+        assert_eq!(printed(&input), reference::printed(&input), "{count}");
     }
 }
 

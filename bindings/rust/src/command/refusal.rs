@@ -62,6 +62,9 @@ fn cause(sheet: &Sheet, refusal: &Refusal) -> String {
     match refusal {
         Refusal::Mask => "the job has no axis".into(),
         Refusal::Words { index } => format!("word {index} of the job is of a wrong kind, lacking or left over"),
+        Refusal::LongPosition { index } => {
+            format!("the payload of word {index}, of kind 14, is outside -64 to 63, or its position fits a single word")
+        }
         Refusal::AskedArrival => format!("the asked arrival is above {LATEST_ARRIVAL}"),
         Refusal::Limits { .. } => format!("a limit of {title} is outside its range"),
         Refusal::Damping { .. } => format!("the damping of {title} as measured is outside its range"),
@@ -97,7 +100,7 @@ fn cause(sheet: &Sheet, refusal: &Refusal) -> String {
 fn remedy(sheet: &Sheet, refusal: &Refusal) -> String {
     match refusal {
         Refusal::Mask => format!("enter at least one of the axes 0 to {}", AXES - 1),
-        Refusal::Words { .. } => "write the words again from the sheet".into(),
+        Refusal::Words { .. } | Refusal::LongPosition { .. } => "write the words again from the sheet".into(),
         Refusal::AskedArrival => format!("ask for a tick from 1 to {LATEST_ARRIVAL}, or for the earliest"),
         Refusal::Limits { .. } => "enter what the motor allows, within the range".into(),
         Refusal::Damping { .. } | Refusal::Blend { .. } => "tap again and enter what the pole does".into(),

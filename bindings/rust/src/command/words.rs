@@ -10,12 +10,16 @@ pub fn bytes_of(words: &[u32]) -> Vec<u8> {
 /// Words as hexadecimal text: mask and arrival on the first line, then a line for each axis, last the end word.
 pub fn hexadecimal_of(words: &[u32]) -> String {
     const START_POSITION: u32 = 3;
+    const HIGH_POSITION: u32 = 14;
     const END: u32 = 15;
+    let kind_at = |index: usize| words.get(index).map(|word| word >> 28);
     let mut text = String::new();
     for (index, word) in words.iter().enumerate() {
         let separator = match word >> 28 {
             _ if index == 0 => "",
-            START_POSITION | END => "\n",
+            START_POSITION if kind_at(index - 1) != Some(HIGH_POSITION) => "\n",
+            HIGH_POSITION if kind_at(index + 1) == Some(START_POSITION) => "\n",
+            END => "\n",
             _ => " ",
         };
         let _ = write!(text, "{separator}{word:08X}");

@@ -14,7 +14,9 @@ fn expectation(entry: WordKind) -> &'static str {
         WordKind::HalfPeriod => "a whole number of ticks from 0 to 256",
         WordKind::SpeedLimit => "a whole number of units per tick from 1 to 1048576",
         WordKind::AccelerationLimit => "a whole number of units per tick² from 1 to 65536",
-        WordKind::StartPosition | WordKind::TargetPosition => "a whole number of units from -134217728 to 134217727",
+        WordKind::StartPosition | WordKind::TargetPosition => {
+            "a whole number of units from -17179869184 to 17179869183"
+        }
         WordKind::StartVelocity | WordKind::TargetVelocity => "a whole number of units per tick",
         WordKind::TargetAcceleration => "a whole number of units per tick²",
         _ => "a whole number of ticks from -4096 to 4096",

@@ -59,7 +59,7 @@ impl SheetLine {
             | Refusal::Windows { .. }
             | Refusal::NotReachable { .. }
             | Refusal::TableTooShort { .. } => SheetLine::ReadTheArrival,
-            Refusal::Words { .. } | Refusal::Other { .. } => SheetLine::ReadTheRefusal,
+            Refusal::Words { .. } | Refusal::LongPosition { .. } | Refusal::Other { .. } => SheetLine::ReadTheRefusal,
         }
     }
 }

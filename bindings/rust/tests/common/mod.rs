@@ -115,12 +115,23 @@ impl Random {
         job
     }
 
+    /// A position that job words can hold, in one word or in two, sometimes at an end of what each holds.
+    pub fn any_position(&mut self) -> i64 {
+        let end = if self.once_in(2) { 1 << 27 } else { 1 << 34 };
+        match self.between(1, 4) {
+            1 => end - 1 - i64::from(end == 1 << 27) * self.between(-1, 0),
+            2 => -end - i64::from(end == 1 << 27) * self.between(0, 1),
+            _ => self.between(-end, end - 1),
+        }
+    }
+
     /// An axis of any numbers that job words can hold.
     pub fn any_axis(&mut self) -> Axis {
         let signed = |random: &mut Random| random.between(-(1 << 27), (1 << 27) - 1);
         let unsigned = |random: &mut Random| random.between(0, (1 << 28) - 1) as u32;
-        let start = RestPoint { position: signed(self), velocity: signed(self) };
-        let (position, velocity, acceleration, tick) = (signed(self), signed(self), signed(self), signed(self));
+        let start = RestPoint { position: self.any_position(), velocity: signed(self) };
+        let position = self.any_position();
+        let (velocity, acceleration, tick) = (signed(self), signed(self), signed(self));
         let target = match self.once_in(2) {
             true => Target::Fixed(RestPoint { position, velocity }),
             false => Target::Moving(State { position, velocity, acceleration, tick }),

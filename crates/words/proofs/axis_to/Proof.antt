@@ -1,35 +1,41 @@
+use native.Mathlib.Omega.{arith}
+use Prim.Native.Nat.{ℕ, _+_}
+use mathlib.Core.Path.{ap, _∙_}
 use Rattle.model.specs.declared.Weight.the-variants.{Given}
-use Rattle.words.specs.ByIndex.{axisAt}
+use Rattle.words.specs.ByIndex.{payloadAt, axisAt}
 use borrow.Author.Needs.{needs}
 use Rattle.words.proofs.axis_to.Statement.{statement}
 use Rattle.words.proofs.axis_to.Tie as tie
 
 rest-point-requires : tie.Need-rest-point-requires
-rest-point-requires c κs = search needs
+rest-point-requires c κs = omega arith
+
+passing-requires : tie.Need-passing-requires
+passing-requires c κs = search needs
 
 add-payload : tie.Need-add-payload
-add-payload c = search needs
+add-payload c = let e = c .passing .ensures in search needs
 
 payload-requires : tie.Need-payload-requires
-payload-requires c κs = search needs
+payload-requires c κs = omega (arith, c .passing .ensures)
 
 add-payload-2 : tie.Need-add-payload-2
-add-payload-2 c = search needs
+add-payload-2 c = let e = c .before .passing .ensures in search needs
 
 payload-requires-2 : tie.Need-payload-requires-2
-payload-requires-2 c κs = search needs
+payload-requires-2 c κs = omega (arith, c .before .passing .ensures)
 
 add-payload-3 : tie.Need-add-payload-3
-add-payload-3 c = search needs
+add-payload-3 c = let e = c .before .before .passing .ensures in search needs
 
 payload-requires-3 : tie.Need-payload-requires-3
-payload-requires-3 c κs = search needs
+payload-requires-3 c κs = omega (arith, c .before .before .passing .ensures)
 
 add-payload-4 : tie.Need-add-payload-4
-add-payload-4 c = search needs
+add-payload-4 c = let e = c .before .before .before .passing .ensures in search needs
 
 payload-requires-4 : tie.Need-payload-requires-4
-payload-requires-4 c κs = search needs
+payload-requires-4 c κs = omega (arith, c .before .before .before .passing .ensures)
 
 returns : tie.Need-returns
 unfolding axisAt
@@ -38,15 +44,18 @@ returns c =
     let period = c .before .payload3 in
     let acceleration = c .before .before .payload2 in
     let speed = c .before .before .before .payload in
-    let start = c .before .before .before .before .rest-point in
+    let first = c .before .before .before .before .passing .ensures in
+    let start = c .before .before .before .before .before .rest-point in
+    let args = c .before .before .before .before .before .before .before .args in
+    let ws = args .words .now in
     λ i.
     record {
       start = start .ensures i;
-      «speed_limit» = speed .ensures i;
-      «acceleration_limit» = acceleration .ensures i;
-      «half_period» = period .ensures i;
-      «second_weight» = Given (weight .ensures i);
-      target = c .before .before .before .before .before .before .args .target;
+      «speed_limit» = (speed .ensures ∙ ap (λ (k : ℕ). payloadAt ws (k + 2)) first) i;
+      «acceleration_limit» = (acceleration .ensures ∙ ap (λ (k : ℕ). payloadAt ws (k + 3)) first) i;
+      «half_period» = (period .ensures ∙ ap (λ (k : ℕ). payloadAt ws (k + 4)) first) i;
+      «second_weight» = Given ((weight .ensures ∙ ap (λ (k : ℕ). payloadAt ws (k + 5)) first) i);
+      target = args .target;
     }
 
 pub axis-to-spec : {M : Type 1} → statement M
@@ -54,6 +63,7 @@ axis-to-spec =
     tie.close
     (tie.spec
     rest-point-requires
+    passing-requires
     add-payload
     payload-requires
     add-payload-2

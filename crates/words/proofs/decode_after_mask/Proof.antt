@@ -1,7 +1,7 @@
 use mathlib.Core.Path.{sym, ap, _∙_}
 use borrow.Author.Tests.{not-true, not-false}
 use Rattle.model.specs.declared.Job as Typed
-use Rattle.words.proofs.JobWords.{no-asked, wrong-axis, no-end, left-over, whole-job}
+use Rattle.words.proofs.JobWords.{no-asked, wrong-axis, no-end, left-over, bad-long, whole-job, end-there}
 use Rattle.words.proofs.Reader.{there}
 use borrow.Author.Needs.{needs}
 use Rattle.words.proofs.decode_after_mask.Statement.{statement}
@@ -79,21 +79,48 @@ returns-4 c =
     c .refused4 .ensures
     ∙ left-over (a .words .now) (a .mask) asked (k .result) (k .ensures) (s .result) (s .ensures .0) got end more
 
-job-of-requires : tie.Need-job-of-requires
-job-of-requires c κs = search needs
+first-bad-long-requires : tie.Need-first-bad-long-requires
+first-bad-long-requires c κs =
+    let a = c .before .before .before .before .before .before .before .before .before .before .args in
+    let s = c .before .before .before .before .before .read-axes in
+    let end = sym (c .before .before .is-end .ensures) ∙ not-false _ (c .before .if3 .left) in
+    end-there (a .words .now) (s .result .at) end
+
+refused-requires-5 : tie.Need-refused-requires-5
+refused-requires-5 c κs = search needs
 
 returns-5 : tie.Need-returns-5
 returns-5 c =
-    let a = c .before .before .before .before .before .before .before .before .before .before .before .before .args in
-    let k = c .before .before .before .before .before .before .before .before .payload in
-    let s = c .before .before .before .before .before .before .before .read-axes in
-    let kind = c .before .before .before .before .before .before .before .before .before .before .is-kind .ensures in
-    let asked = sym kind ∙ not-false _ (c .before .before .before .before .before .before .before .before .before .if1 .left) in
-    let got = not-false _ (c .before .before .before .before .before .if2 .left) in
-    let end = sym (c .before .before .before .before .is-end .ensures) ∙ not-false _ (c .before .before .before .if3 .left) in
-    let last = c .before .before .if4 .left in
+    let a = c .before .before .before .before .before .before .before .before .before .before .before .before .before .args in
+    let k = c .before .before .before .before .before .before .before .before .before .payload in
+    let s = c .before .before .before .before .before .before .before .before .read-axes in
+    let kind = c .before .before .before .before .before .before .before .before .before .before .before .is-kind .ensures in
+    let asked = sym kind ∙ not-false _ (c .before .before .before .before .before .before .before .before .before .before .if1 .left) in
+    let got = not-false _ (c .before .before .before .before .before .before .if2 .left) in
+    let end = sym (c .before .before .before .before .before .is-end .ensures) ∙ not-false _ (c .before .before .before .before .if3 .left) in
+    let last = c .before .before .before .if4 .left in
+    let f = c .before .before .first-bad-long in
+    c .refused5 .ensures
+    ∙ bad-long (a .words .now) (a .mask) asked (k .result) (k .ensures) (s .result) (s .ensures .0) got end last (f .result) (f .ensures)
+    (c .before .if5 .taken)
+
+job-of-requires : tie.Need-job-of-requires
+job-of-requires c κs = search needs
+
+returns-6 : tie.Need-returns-6
+returns-6 c =
+    let a = c .before .before .before .before .before .before .before .before .before .before .before .before .before .before .args in
+    let k = c .before .before .before .before .before .before .before .before .before .before .payload in
+    let s = c .before .before .before .before .before .before .before .before .before .read-axes in
+    let kind = c .before .before .before .before .before .before .before .before .before .before .before .before .is-kind .ensures in
+    let asked = sym kind ∙ not-false _ (c .before .before .before .before .before .before .before .before .before .before .before .if1 .left) in
+    let got = not-false _ (c .before .before .before .before .before .before .before .if2 .left) in
+    let end = sym (c .before .before .before .before .before .before .is-end .ensures) ∙ not-false _ (c .before .before .before .before .before .if3 .left) in
+    let last = c .before .before .before .before .if4 .left in
+    let f = c .before .before .before .first-bad-long in
     ap (λ (t : Typed.Job). record { number = 0; place = 0; job = t }) (c .job-of .ensures)
-    ∙ whole-job (a .words .now) (a .mask) asked (k .result) (k .ensures) (s .result) (s .ensures .0) got end last
+    ∙ whole-job (a .words .now) (a .mask) asked (k .result) (k .ensures) (s .result) (s .ensures .0) got end last (f .result) (f .ensures)
+    (c .before .before .if5 .left)
 
 pub decode-after-mask-spec : {M : Type 1} → statement M
 decode-after-mask-spec =
@@ -113,5 +140,8 @@ decode-after-mask-spec =
     add-refused
     refused-requires-4
     returns-4
+    first-bad-long-requires
+    refused-requires-5
+    returns-5
     job-of-requires
-    returns-5)
+    returns-6)

@@ -1,54 +1,63 @@
-use Rattle.words.specs.ByIndex.{stateAt}
+use native.Mathlib.Omega.{arith}
+use Prim.Native.Nat.{ℕ, _+_}
+use mathlib.Core.Path.{ap, _∙_}
+use Rattle.words.specs.ByIndex.{signedAt, stateAt}
 use Rattle.words.proofs.Twos.{back}
 use borrow.Author.Needs.{needs}
 use Rattle.words.proofs.state_at.Statement.{statement}
 use Rattle.words.proofs.state_at.Tie as tie
 
-signed-payload-requires : tie.Need-signed-payload-requires
-signed-payload-requires c κs = search needs
+passing-requires : tie.Need-passing-requires
+passing-requires c κs = search needs
+
+position-at-requires : tie.Need-position-at-requires
+position-at-requires c κs = omega arith
 
 add-signed-payload : tie.Need-add-signed-payload
-add-signed-payload c = search needs
+add-signed-payload c = let e = c .before .passing .ensures in search needs
 
-signed-payload-requires-2 : tie.Need-signed-payload-requires-2
-signed-payload-requires-2 c κs = search needs
+signed-payload-requires : tie.Need-signed-payload-requires
+signed-payload-requires c κs = omega (arith, c .before .passing .ensures)
 
 add-signed-payload-2 : tie.Need-add-signed-payload-2
-add-signed-payload-2 c = search needs
+add-signed-payload-2 c = let e = c .before .before .passing .ensures in search needs
 
-signed-payload-requires-3 : tie.Need-signed-payload-requires-3
-signed-payload-requires-3 c κs = search needs
+signed-payload-requires-2 : tie.Need-signed-payload-requires-2
+signed-payload-requires-2 c κs = omega (arith, c .before .before .passing .ensures)
 
 add-signed-payload-3 : tie.Need-add-signed-payload-3
-add-signed-payload-3 c = search needs
+add-signed-payload-3 c = let e = c .before .before .before .passing .ensures in search needs
 
-signed-payload-requires-4 : tie.Need-signed-payload-requires-4
-signed-payload-requires-4 c κs = search needs
+signed-payload-requires-3 : tie.Need-signed-payload-requires-3
+signed-payload-requires-3 c κs = omega (arith, c .before .before .before .passing .ensures)
 
 returns : tie.Need-returns
 unfolding stateAt
 returns c =
-    let p = c .before .before .before .signed-payload in
-    let v = c .before .before .signed-payload2 in
-    let a = c .before .signed-payload3 in
-    let t = c .signed-payload4 in
+    let s = c .before .before .before .before .passing in
+    let p = c .before .before .before .position-at in
+    let v = c .before .before .signed-payload in
+    let a = c .before .signed-payload2 in
+    let t = c .signed-payload3 in
+    let ws = c .before .before .before .before .before .before .args .words .now in
     λ i.
     record {
       position = back (p .result) (p .ok) (p .ensures) i;
-      velocity = back (v .result) (v .ok) (v .ensures) i;
-      acceleration = back (a .result) (a .ok) (a .ensures) i;
-      tick = back (t .result) (t .ok) (t .ensures) i;
+      velocity = back (v .result) (v .ok) (v .ensures .is ∙ ap (λ (k : ℕ). signedAt ws (k + 1)) (s .ensures)) i;
+      acceleration = back (a .result) (a .ok) (a .ensures .is ∙ ap (λ (k : ℕ). signedAt ws (k + 2)) (s .ensures)) i;
+      tick = back (t .result) (t .ok) (t .ensures .is ∙ ap (λ (k : ℕ). signedAt ws (k + 3)) (s .ensures)) i;
     }
 
 pub state-at-spec : {M : Type 1} → statement M
 state-at-spec =
     tie.close
     (tie.spec
-    signed-payload-requires
+    passing-requires
+    position-at-requires
     add-signed-payload
-    signed-payload-requires-2
+    signed-payload-requires
     add-signed-payload-2
-    signed-payload-requires-3
+    signed-payload-requires-2
     add-signed-payload-3
-    signed-payload-requires-4
+    signed-payload-requires-3
     returns)

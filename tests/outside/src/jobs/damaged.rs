@@ -1,19 +1,20 @@
 //! Jobs of typed values at the ends of their types and ranges.
 
-use super::{POSITION_GREATEST, POSITION_LEAST};
 use crate::random::Random;
-use crate::reference::{Axis, Damping, Job, Single, Target};
+use crate::reference::{Axis, Damping, Job, Single, Target, RAIL};
 
 /// Ends of types and of ranges, and their neighbours.
-pub const SIGNED_ENDS: [i64; 24] = [
+pub const SIGNED_ENDS: [i64; 28] = [
     i64::MIN,
     i64::MIN + 1,
     -(1 << 62),
     -(1 << 40),
+    *RAIL.start() - 1,
+    *RAIL.start(),
     i32::MIN as i64 - 1,
     i32::MIN as i64,
-    POSITION_LEAST - 1,
-    POSITION_LEAST,
+    -(1 << 27) - 1,
+    -(1 << 27),
     -1_048_577,
     -65_537,
     -4_097,
@@ -25,9 +26,11 @@ pub const SIGNED_ENDS: [i64; 24] = [
     4_097,
     65_537,
     1_048_577,
-    POSITION_GREATEST,
-    POSITION_GREATEST + 1,
+    (1 << 27) - 1,
+    1 << 27,
     i32::MAX as i64 + 1,
+    *RAIL.end(),
+    *RAIL.end() + 1,
     i64::MAX - 1,
     i64::MAX,
 ];

@@ -1,7 +1,8 @@
 //! Jobs that pass the checks of their values.
 
 use super::dampings::damping;
-use super::{Reach, POSITION_GREATEST, POSITION_LEAST};
+use super::rail::{anywhere, place};
+use super::{on_rail, Reach};
 use crate::random::Random;
 use crate::reference::{Axis, Job, Target, LATEST, UNSET};
 
@@ -23,7 +24,7 @@ fn half_period(random: &mut Random, most: i64) -> i64 {
 fn fitting_axis(random: &mut Random, speed: i64, acceleration: i64, ticks: i64) -> Axis {
     let h = half_period(random, 256.min(ticks));
     let damping = damping(random);
-    let start = random.between(-1000, 1000);
+    let start = place(random);
     let start_velocity = if random.once_in(2) { 0 } else { random.between(-speed, speed) };
     let velocity = if random.once_in(2) { 0 } else { random.between(-speed, speed) };
     // What a motion from rest to rest can cover in the ticks, and a little more.
@@ -31,7 +32,7 @@ fn fitting_axis(random: &mut Random, speed: i64, acceleration: i64, ticks: i64) 
     let most = (speed * moved).min(acceleration * (moved * moved / 4)).max(1);
     let drift = if random.once_in(2) { (start_velocity + velocity) * moved / 2 } else { 0 };
     let distance = random.between(-most - most / 16, most + most / 16) + drift;
-    let position = (start + distance).clamp(POSITION_LEAST, POSITION_GREATEST);
+    let position = on_rail(start + distance);
     let target = if random.once_in(3) {
         // A moving target: where it meets the head about `ticks`, reckoned back to its own tick.
         let a = if random.once_in(2) {
@@ -60,8 +61,7 @@ fn far_axis(random: &mut Random) -> Axis {
     let speed = some_size(random, 1 << 20);
     let acceleration = some_size(random, 1 << 16);
     let axis = fitting_axis(random, speed, acceleration, 100);
-    let position = random.between(POSITION_LEAST, POSITION_GREATEST);
-    let start_position = random.between(POSITION_LEAST, POSITION_GREATEST);
+    let (position, start_position) = (anywhere(random), anywhere(random));
     Axis { start_position, target: Target::Fixed { position, velocity: axis.target.velocity() }, ..axis }
 }
 
@@ -119,15 +119,11 @@ fn late_axis(random: &mut Random, tick: i64) -> Axis {
     let most = (speed * (moved - ramp)).min(acceleration * (moved * moved / 4));
     let distance = most + random.between(-2, 2) * speed.min(acceleration) / 2;
     let distance = if random.once_in(2) { distance } else { -distance };
-    let start_position = random.between(-1_000, 1_000);
+    let start_position = place(random);
+    let position = on_rail(start_position + distance);
     let target = match random.below(3) {
-        0 => Target::Moving {
-            position: start_position + distance,
-            velocity: 0,
-            acceleration: 0,
-            tick: random.between(-LATEST, LATEST),
-        },
-        _ => Target::Fixed { position: start_position + distance, velocity: 0 },
+        0 => Target::Moving { position, velocity: 0, acceleration: 0, tick: random.between(-LATEST, LATEST) },
+        _ => Target::Fixed { position, velocity: 0 },
     };
     Axis { start_position, start_velocity: 0, target, ..axis }
 }
@@ -139,23 +135,25 @@ fn gap_axis(random: &mut Random) -> Axis {
     let acceleration = random.between(1, 3);
     let h = random.pick(&[0, 0, 3, 100]);
     let tick = h + random.between(1, 5);
+    let start_position = place(random);
     Axis {
-        start_position: 0,
+        start_position,
         start_velocity: velocity,
         speed_limit: 2 * velocity.unsigned_abs() as u32,
         acceleration_limit: acceleration as u32,
         half_period: h as u32,
         damping: damping(random),
-        target: Target::Fixed { position: velocity * tick, velocity },
+        target: Target::Fixed { position: on_rail(start_position + velocity * tick), velocity },
     }
 }
 
 /// An axis after a target that accelerates away: within its speed limit only for some ticks about the target's own.
 fn fleeing_axis(random: &mut Random, tick: i64) -> Axis {
     let acceleration = random.between(1, 9) * if random.once_in(2) { 1 } else { -1 };
-    let target = Target::Moving { position: 0, velocity: 0, acceleration, tick: tick.min(LATEST) };
+    let position = place(random);
+    let target = Target::Moving { position, velocity: 0, acceleration, tick: tick.min(LATEST) };
     Axis {
-        start_position: random.between(-9, 9),
+        start_position: on_rail(position + random.between(-9, 9)),
         start_velocity: 0,
         speed_limit: random.between(10, 1_000) as u32,
         acceleration_limit: random.between(9, 50) as u32,
@@ -171,9 +169,10 @@ fn chasing_axis(random: &mut Random, asked: i64) -> Axis {
     let speed = if random.once_in(2) { 1 << 20 } else { some_size(random, 1 << 20) };
     let most = (speed / (h + behind.abs() + 1)).clamp(1, 1 << 16);
     let acceleration = random.between(-most, most);
-    let target = Target::Moving { position: random.between(-99, 99), velocity: 0, acceleration, tick: asked + behind };
+    let position = place(random);
+    let target = Target::Moving { position, velocity: 0, acceleration, tick: asked + behind };
     Axis {
-        start_position: random.between(-99, 99),
+        start_position: on_rail(position + random.between(-99, 99)),
         start_velocity: 0,
         speed_limit: speed as u32,
         acceleration_limit: random.between(most, 1 << 16) as u32,

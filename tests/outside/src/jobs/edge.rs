@@ -2,6 +2,8 @@
 //! the first ones out of it, where ramps meet the limit, where they meet each other first, and where a ramp is missing.
 
 use super::dampings::damping;
+use super::on_rail;
+use super::rail::place;
 use crate::random::Random;
 use crate::reference::{Axis, Job, Planned, Target, UNSET};
 
@@ -71,7 +73,7 @@ fn last_within_reach(axis: &Axis, asked: i64, from: i64, side: i64) -> i64 {
 fn edge_axis(random: &mut Random, asked: i64) -> Axis {
     let h = if random.once_in(2) { 0 } else { random.between(0, (asked - 1).min(256)) };
     let (speed, acceleration) = limits(random, asked - h);
-    let start_position = random.between(-99, 99);
+    let start_position = place(random);
     let velocities = (velocity(random, speed), velocity(random, speed));
     let target = Target::Moving { position: start_position, velocity: velocities.1, acceleration: 0, tick: asked };
     let axis = Axis {
@@ -87,7 +89,7 @@ fn edge_axis(random: &mut Random, asked: i64) -> Axis {
     let side = random.pick(&[-1, 1]);
     let last = last_within_reach(&axis.by_hand(), asked, from, side);
     let beyond = if random.once_in(3) { side } else { 0 };
-    at_position(&axis, (last + beyond).clamp(super::POSITION_LEAST, super::POSITION_GREATEST))
+    at_position(&axis, on_rail(last + beyond))
 }
 
 /// A job with an asked arrival at the edge of its axes' reach.

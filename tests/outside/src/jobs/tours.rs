@@ -2,6 +2,7 @@
 
 use super::damaged::{strange_damping, with_unsigned, SIGNED_ENDS, UNSIGNED_ENDS};
 use super::drawn::near_axis;
+use super::on_rail;
 use crate::random::Random;
 use crate::reference::{Axis, Stop, Tour, MOST_STOPS, UNSET};
 
@@ -38,7 +39,7 @@ pub fn tour(random: &mut Random) -> (Tour, Vec<Stop>) {
         let still = random.once_in(6);
         for (position, axis) in from.iter_mut().zip(&axes) {
             let most = i64::from(axis.speed_limit) * 9;
-            *position += if still { 0 } else { random.between(-most, most) };
+            *position = on_rail(*position + if still { 0 } else { random.between(-most, most) });
         }
         stops.push(Stop { positions: from, dwell: dwell(random) });
     }

@@ -1,5 +1,7 @@
 //! What a call takes and what it returns: answers, targets, axes and jobs.
 
+use std::ops::RangeInclusive;
+
 use super::{Damping, Windows};
 
 /// What a call returns.
@@ -53,6 +55,9 @@ pub struct Job {
 }
 
 pub const LATEST: i64 = 4096;
+
+/// The positions of a long rail: -64 to 63 times 2^28, and what 28 bits add to it (request 2.8).
+pub const RAIL: RangeInclusive<i64> = -64 << 28..=(63 << 28) + 0x0FFF_FFFF;
 
 impl Axis {
     /// The second weight B.

@@ -1,7 +1,7 @@
 //! The refusals from 3 on in checking order, the arrival, and the table of an accepted job.
 
 use super::job::refusal;
-use super::{Answer, Axis, Job, Planned, Target, LATEST};
+use super::{Answer, Axis, Job, Planned, Target, LATEST, RAIL};
 
 /// The numbers that look at one axis, in checking order.
 const OF_AN_AXIS: [u32; 4] = [4, 12, 5, 6];
@@ -9,7 +9,7 @@ const OF_AN_AXIS: [u32; 4] = [4, 12, 5, 6];
 /// Whether an axis is refused by one of them.
 fn breaks(number: u32, axis: &Axis) -> bool {
     let size = |x: i64| x.unsigned_abs();
-    let position_bad = |p: i64| !(-134_217_728..=134_217_727).contains(&p);
+    let position_bad = |p: i64| !RAIL.contains(&p);
     let (limit, h) = (u64::from(axis.speed_limit), axis.half_period);
     match number {
         4 => !(1..=1_048_576).contains(&axis.speed_limit) || !(1..=65_536).contains(&axis.acceleration_limit),
@@ -68,7 +68,7 @@ impl Job {
         !(1..=tick).any(|n| self.fits(n) && self.all_reach(n))
     }
 
-    /// The arrival, or the first of refusals 3, 4, 12, 5, 6, 7, 13, 8 and 9.
+    /// The arrival, or the first of refusals 3, 4, 12, 5, 6, 13, 8 and 9.
     fn arrival(&self) -> Result<i64, Answer> {
         if let Some(refused) = self.refused() {
             return Err(refused);

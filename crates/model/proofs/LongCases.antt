@@ -1,0 +1,9 @@
+-- Cases of positions past 28 bits, by computing the definitions.
+use mathlib.Core.Path.{refl}
+use Rattle.model.specs.Quantities.{finer}
+use Rattle.model.specs.Leg.{cruise}
+use Rattle.model.specs.LongCases.{LongCasesHold}
+
+pub long-cases : LongCasesHold
+unfolding cruise finer
+long-cases = refl

@@ -1,0 +1,103 @@
+-- The words of a job, for "a position has one spelling only" and "old jobs keep their meaning" (paper 02, 2.8).
+use Prim.Native.Nat.{ℕ, suc, _-_, _+_, _*_, _/_, _%_, _^_}
+use mathlib.Core.Path.{_≡_}
+use mathlib.Core.Bool.{true, false, _&&_}
+use mathlib.Core.Logic.{_⊎_}
+use mathlib.Core.Option.{none}
+use mathlib.Core.List.{List, [], _∷_, _++_}
+use lib.Dec.{eqb}
+use lib.IntN.{ℤ, pos, negsuc}
+use lib.ListN.{length}
+use Rattle.model.specs.declared.Axis.{Axis}
+use Rattle.model.specs.declared.Target.{Target}
+use Rattle.model.specs.declared.Target.the-variants.{Fixed, Moving}
+use Rattle.model.specs.Quantities.{speedLimit, accelerationLimit, halfPeriod, secondWeight}
+use Rattle.model.specs.Job.{Job, JobAxis}
+use Rattle.model.specs.Words.{kind, payload, fitsWord, firstBadLong, got, wrong, signed, position}
+use Rattle.model.specs.Words.{afterMaskBy, goodMask, Decoded, noMask, badWord, job, decode}
+use Rattle.model.specs.Refusals.{positionAllowed}
+
+abbrev pub word : ℕ → ℕ → ℕ
+word k n = k * 2 ^ 28 + n
+
+-- the 28 bits of a number, two's complement
+abbrev pub bits : ℤ → ℕ
+bits (pos n) = n
+bits (negsuc n) = 2 ^ 28 - suc n
+
+-- a number by 2²⁸: the quotient downward, and what is left, from 0 up
+abbrev pub high : ℤ → ℤ
+high (pos n) = pos (n / 2 ^ 28)
+high (negsuc n) = negsuc (n / 2 ^ 28)
+
+abbrev pub low : ℤ → ℕ
+low (pos n) = n % 2 ^ 28
+low (negsuc n) = 2 ^ 28 - suc (n % 2 ^ 28)
+
+-- the words of a position: one where it fits, else two
+abbrev pub positionWords : ℕ → ℤ → List ℕ
+positionWords k p =
+    elim (fitsWord p) [ true ↦ word k (bits p) ∷ [] | false ↦ word 14 (bits (high p)) ∷ word k (low p) ∷ [] ]
+
+-- ---- a position has one spelling only
+
+-- words that are read as a position of kind k, whole, and that refusal 14 lets pass
+pub record SpellsPosition (k : ℕ) (p : ℤ) (ws : List ℕ) : Type 0 where
+  pub read : position k 0 ws ≡ got p (length ws) []
+  pub allowed : firstBadLong 0 ws ≡ none
+
+-- each position of the range has a spelling, no other words spell it, and no position outside the range has one
+pub record OnePositionSpelling (k : ℕ) (p : ℤ) : Type 0 where
+  pub spelled : positionAllowed p ≡ true → SpellsPosition k p (positionWords k p)
+  pub only : (ws : List ℕ) → SpellsPosition k p ws → ws ≡ positionWords k p
+  pub inside : (ws : List ℕ) → SpellsPosition k p ws → positionAllowed p ≡ true
+
+abbrev pub PositionSpelling : Type 0
+PositionSpelling = (k : ℕ) → (k ≡ 3) ⊎ (k ≡ 9) → (p : ℤ) → OnePositionSpelling k p
+
+-- ---- so has a job: words that can be read are the words of what they are read as
+
+abbrev pub targetWords : Target → List ℕ
+targetWords (Fixed r) = positionWords 9 (r .position) ++ (word 10 (bits (r .velocity)) ∷ [])
+targetWords (Moving m) =
+    positionWords 9 (m .position)
+    ++ (word 10 (bits (m .velocity)) ∷ word 11 (bits (m .acceleration)) ∷ word 12 (bits (m .tick)) ∷ [])
+
+abbrev pub axisWords : Axis → List ℕ
+axisWords x =
+    positionWords 3 (x .start .position)
+    ++ (word 4 (bits (x .start .velocity))
+    ∷ word 5 (speedLimit x)
+    ∷ word 6 (accelerationLimit x)
+    ∷ word 7 (halfPeriod x)
+    ∷ word 8 (secondWeight x)
+    ∷ targetWords (x .target))
+
+abbrev pub axesWords : List JobAxis → List ℕ
+axesWords [] = []
+axesWords (x ∷ xs) = axisWords (x .axis) ++ axesWords xs
+
+abbrev pub jobWords : Job → List ℕ
+jobWords j = word 1 (j .mask) ∷ word 2 (j .asked) ∷ (axesWords (j .axes) ++ (word 15 0 ∷ []))
+
+abbrev pub OneSpelling : Type 0
+OneSpelling = (ws : List ℕ) (j : Job) → decode ws ≡ job j → ws ≡ jobWords j
+
+-- ---- old jobs keep their meaning
+
+-- the reading of paper 01: each position is one word, and 1 and 2 are the only refusals
+abbrev pub oldDecode : List ℕ → Decoded
+oldDecode [] = noMask
+oldDecode (w ∷ ws) =
+    elim (eqb (kind w) 1 && goodMask (payload w)) [
+      | true ↦ elim (afterMaskBy signed (payload w) 1 ws) [ got j i rest ↦ job j | wrong p ↦ badWord p ]
+      | false ↦ noMask
+    ]
+
+-- no word is of kind 14
+abbrev pub NoLong : List ℕ → Type 0
+NoLong [] = Unit
+NoLong (w ∷ ws) = (kind w ≡ 14 → ⊥) × NoLong ws
+
+abbrev pub OldJobsKept : Type 0
+OldJobsKept = (ws : List ℕ) → NoLong ws → decode ws ≡ oldDecode ws
