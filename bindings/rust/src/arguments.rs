@@ -6,23 +6,31 @@ use std::path::PathBuf;
 
 use polgamir::MOST_CELLS;
 
+use crate::command::export::{Export, Quantity};
+
 /// The help text of the whole command.
 pub const HELP: &str = "\
 Motion tables for a head on a swaying pole, planned by a proved library.
 
 Usage:
   polgamir plan  [--plain | --units] [--cells COUNT] [-o FILE] JOB
+  polgamir plan  --csv | --json | --c-array [--units] [--cells COUNT] [-o FILE] JOB
   polgamir words [--bytes] [-o FILE] JOB
   polgamir show  [--bytes | --hex] [-o FILE] WORDS
   polgamir tour  [--tables] [--plain | --units] [-o FILE] TOUR
   polgamir plot  -o FILE.svg JOB | TOUR
+  polgamir report -o FILE.html JOB
   polgamir --help | --version
 
 plan    Plans a job. Prints the arrival, then the table: for each tick and each axis the position, velocity and
         acceleration in fine steps of 1/256 unit. A job that cannot be planned prints its refusal and what to turn
         on the sheet.
-          --units        print units in place of fine steps; exact, with eight decimals
+          --units        print units in place of fine steps; exact, with eight decimals. Where the sheet says what a
+                         unit or a tick stands for, print that
           --plain        print as the table program does: the cells alone, or the refusal's line alone
+          --csv          write comma-separated values: a heading, then a line for each tick
+          --json         write a JSON object: the arrival, and each axis's numbers as lists
+          --c-array      write the source of a C array that lies in memory as the library writes its table
           --cells COUNT  lend a table of so many cells, up to 73746 (the table program has 8192); else it is
                          large enough
 words   Writes the job's words, in hexadecimal. They hold the weight of damping as measured; a job with windows has
@@ -38,6 +46,10 @@ tour    Plans a tour of stops. Prints the total and each stop's arrival, in tick
 plot    Draws the plan: position, velocity, acceleration with their limits and the target's, and the sway of the
         pole beside the sway that the same job would leave without the blend. Windows are shaded. Of a tour it draws
         the timeline.
+report  Writes one HTML page that opens in any browser, without a network: the sheet as entered, the answer, the
+        pictures, how much sway is left where half period or damping was measured wrongly, what the blend costs,
+        what sets the arrival and why it is not one tick earlier, how near each axis is to its limits, and the
+        worst carry miss.
 
 A JOB is a set-up sheet, which docs/SHEET.md describes, or a file of job words. A TOUR is a sheet with stops. `-` in
 place of a file to read is standard input. `-o FILE` writes to a file, `-o -` to standard output; a refusal is
@@ -64,7 +76,7 @@ pub enum Task {
     /// Print the version.
     Version,
     /// Plan a job and print its table.
-    Plan { job: PathBuf, form: TableForm, cells: Option<usize> },
+    Plan { job: PathBuf, form: PlanForm, cells: Option<usize> },
     /// Write the words of a job.
     Words { job: PathBuf, bytes: bool },
     /// Print the sheet of job words; `None` tells bytes from text by itself.
@@ -73,6 +85,8 @@ pub enum Task {
     Tour { sheet: PathBuf, form: TableForm, tables: bool },
     /// Draw the plan of a job or a tour.
     Plot { setup: PathBuf },
+    /// Write the report of a job.
+    Report { job: PathBuf },
 }
 
 /// How a table is printed.
@@ -84,6 +98,15 @@ pub enum TableForm {
     Units,
     /// The lines of the table program.
     Plain,
+}
+
+/// How a plan is printed.
+#[derive(Debug, Clone, Copy, PartialEq, Eq)]
+pub enum PlanForm {
+    /// For a reader.
+    Table(TableForm),
+    /// For another program.
+    Export(Export),
 }
 
 /// Why a command line cannot be followed.
@@ -102,7 +125,7 @@ impl Request {
     /// Reads a command line without the program's own name.
     pub fn read(arguments: &[OsString]) -> Result<Request, Usage> {
         let Some((first, rest)) = arguments.split_first() else {
-            return Err(Usage("expected plan, words, show, tour or plot".into()));
+            return Err(Usage("expected plan, words, show, tour, plot or report".into()));
         };
         let mut rest = Rest::sort(rest)?;
         let task = match first.to_str() {
@@ -114,9 +137,10 @@ impl Request {
             Some("show") => rest.show()?,
             Some("tour") => rest.tour()?,
             Some("plot") => rest.plot()?,
+            Some("report") => rest.report()?,
             _ => {
                 return Err(Usage(format!(
-                    "expected plan, words, show, tour or plot, found `{}`",
+                    "expected plan, words, show, tour, plot or report, found `{}`",
                     first.to_string_lossy()
                 )))
             }
@@ -212,8 +236,26 @@ impl Rest {
         })
     }
 
+    /// Takes how a plan is to be printed.
+    fn plan_form(&mut self) -> Result<PlanForm, Usage> {
+        let given: Vec<&str> = ["--csv", "--json", "--c-array"].into_iter().filter(|name| self.flag(name)).collect();
+        let export = match given.as_slice() {
+            [] => return self.form().map(PlanForm::Table),
+            [only] => *only,
+            [first, second, ..] => return Err(Usage(format!("expected only one of `{first}` and `{second}`"))),
+        };
+        let units = self.flag("--units");
+        let quantity = if units { Quantity::Units } else { Quantity::FineSteps };
+        match export {
+            "--csv" => Ok(PlanForm::Export(Export::Csv(quantity))),
+            "--json" => Ok(PlanForm::Export(Export::Json(quantity))),
+            _ if units => Err(Usage("expected no `--units` beside `--c-array`, which has the table's cells".into())),
+            _ => Ok(PlanForm::Export(Export::CArray)),
+        }
+    }
+
     fn plan(&mut self) -> Result<Task, Usage> {
-        let form = self.form()?;
+        let form = self.plan_form()?;
         let cells = self.cells()?;
         Ok(Task::Plan { job: self.file("sheet")?, form, cells })
     }
@@ -241,6 +283,13 @@ impl Rest {
         match self.output {
             Some(_) => Ok(Task::Plot { setup: self.file("sheet")? }),
             None => Err(Usage("expected `-o FILE.svg` for the picture, or `-o -` for standard output".into())),
+        }
+    }
+
+    fn report(&mut self) -> Result<Task, Usage> {
+        match self.output {
+            Some(_) => Ok(Task::Report { job: self.file("sheet")? }),
+            None => Err(Usage("expected `-o FILE.html` for the report, or `-o -` for standard output".into())),
         }
     }
 

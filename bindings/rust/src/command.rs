@@ -1,6 +1,7 @@
 //! The commands: what each reads, and what it gives.
 
 mod content;
+pub mod export;
 mod files;
 mod refusal;
 mod table;
@@ -13,8 +14,8 @@ use std::path::Path;
 use polgamir::sheet::{Setup, Sheet};
 use polgamir::{Job, NoWords};
 
-use crate::arguments::{Request, TableForm, Task, Usage, HELP};
-use crate::picture;
+use crate::arguments::{PlanForm, Request, TableForm, Task, Usage, HELP};
+use crate::{picture, report};
 use files::{about, FileError};
 
 /// What a command has to print, and its exit status: 0, or 1 for a refusal.
@@ -97,7 +98,7 @@ fn done(task: &Task) -> Result<Done, FileError> {
     match task {
         Task::Help => Ok(Done::well(HELP)),
         Task::Version => Ok(Done::well(concat!("polgamir ", env!("CARGO_PKG_VERSION"), "\n"))),
-        Task::Plan { job, form, cells } => Ok(plan(&read_job(job)?, *form, *cells)),
+        Task::Plan { job, form, cells } => Ok(plan(&title_of(job), &read_job(job)?, *form, *cells)),
         Task::Words { job, bytes } => words_of(job, *bytes),
         Task::Show { words, bytes } => show(words, *bytes),
         Task::Tour { sheet, form, tables } => {
@@ -105,6 +106,7 @@ fn done(task: &Task) -> Result<Done, FileError> {
             Ok(tour::planned(&sheet, *form, *tables))
         }
         Task::Plot { setup } => plot(setup),
+        Task::Report { job } => report(job),
     }
 }
 
@@ -114,12 +116,14 @@ fn read_job(file: &Path) -> Result<Sheet, FileError> {
 }
 
 /// Plans a job and prints its table or its refusal.
-fn plan(sheet: &Sheet, form: TableForm, cells: Option<usize>) -> Done {
+fn plan(title: &str, sheet: &Sheet, form: PlanForm, cells: Option<usize>) -> Done {
     let mut cells = vec![0; cells.unwrap_or(sheet.job.enough_cells())];
-    match polgamir::plan(&sheet.job, &mut cells) {
-        Ok(accepted) => Done::well(table::print(sheet, &accepted, form)),
-        Err(refusal) if form == TableForm::Plain => Done::refused(refusal.printed_line() + "\n"),
-        Err(refusal) => Done::refused(refusal::explained(sheet, &refusal)),
+    match (polgamir::plan(&sheet.job, &mut cells), form) {
+        (Ok(accepted), PlanForm::Table(form)) => Done::well(table::print(sheet, &accepted, form)),
+        (Ok(accepted), PlanForm::Export(export)) => Done::well(export::written(title, sheet, &accepted, export)),
+        (Err(refusal), PlanForm::Table(TableForm::Plain)) => Done::refused(refusal.printed_line() + "\n"),
+        (Err(refusal), PlanForm::Table(_)) => Done::refused(refusal::explained(sheet, &refusal)),
+        (Err(refusal), PlanForm::Export(export)) => Done::refused(export::refused(&refusal, export)),
     }
 }
 
@@ -171,13 +175,27 @@ fn show(file: &Path, bytes: Option<bool>) -> Result<Done, FileError> {
     Ok(Done::well(Sheet::from(job).to_string()))
 }
 
+/// Writes the report of a job.
+fn report(file: &Path) -> Result<Done, FileError> {
+    let content = files::read(file)?;
+    let sheet = content::job_of(&content).map_err(|cause| about(file, cause))?;
+    let entered = content::sheet_text(&content, &sheet);
+    let page = report::written(&title_of(file), &entered, &sheet);
+    Ok(page.map_err(|refusal| refusal::explained(&sheet, &refusal)).map_or_else(Done::refused, Done::well))
+}
+
+/// The title of what a file holds: its name without its ending.
+fn title_of(file: &Path) -> String {
+    match file.file_stem() {
+        Some(stem) if !files::is_standard(file) => stem.to_string_lossy().into_owned(),
+        _ => "plan".into(),
+    }
+}
+
 /// Draws the plan of a job, or the timeline of a tour.
 fn plot(file: &Path) -> Result<Done, FileError> {
     let setup = content::setup_of(&files::read(file)?).map_err(|cause| about(file, cause))?;
-    let title = match file.file_stem() {
-        Some(stem) if !files::is_standard(file) => stem.to_string_lossy().into_owned(),
-        _ => "plan".into(),
-    };
+    let title = title_of(file);
     let drawing = match &setup {
         Setup::Job(sheet) => picture::draw(&title, sheet).map_err(|refusal| refusal::explained(sheet, &refusal)),
         Setup::Tour(sheet) => {

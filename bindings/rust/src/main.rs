@@ -7,7 +7,9 @@
 
 mod arguments;
 mod command;
+mod measure;
 mod picture;
+mod report;
 mod standard_output;
 
 use std::process::ExitCode;

@@ -1,17 +1,19 @@
 //! The picture of a plan: for each axis position, velocity and acceleration with their limits, the target's beside them and how
 //! both go on after arrival, and the sway of the pole beside the sway that the same job would leave without the blend.
 
+pub mod chart;
 mod course;
 mod page;
 mod panel;
-mod scale;
-mod svg;
-mod sway;
+pub mod scale;
+pub mod svg;
+pub mod sway;
 mod tour;
 
 use polgamir::sheet::Sheet;
 use polgamir::{Arrival, Axis, Job, Refusal, Row};
 
+use crate::measure::{in_seconds, rounded, Measure};
 use course::{Course, Moment, Ticks};
 use page::{Page, Sample, Stack};
 use panel::{Mark, Panel, Span, Timeline};
@@ -21,8 +23,24 @@ use sway::{Point, Pole};
 
 pub use tour::draw_tour;
 
+/// The width of the plots of a picture with one axis that is a part of a page.
+const PART_WIDTH: f64 = 640.0;
+
 /// Draws the plan of a sheet.
 pub fn draw(title: &str, sheet: &Sheet) -> Result<String, Refusal> {
+    let page = page_of(title, sheet)?;
+    Ok(page.draw())
+}
+
+/// Draws the plan of a sheet axis by axis, each as a part of a page.
+pub fn draw_parts(title: &str, sheet: &Sheet) -> Result<Vec<String>, Refusal> {
+    let page = page_of(title, sheet)?;
+    let parts = page.of_each_axis((1, PART_WIDTH));
+    Ok(parts.iter().enumerate().map(|(index, part)| part.draw_part(&format!("plan{index}"))).collect())
+}
+
+/// The page of a sheet's plan.
+fn page_of(title: &str, sheet: &Sheet) -> Result<Page, Refusal> {
     let planned = Planned::of(&sheet.job)?;
     let sways = sheet.job.entered().any(|(_, axis)| axis.half_period > 0);
     let unblended = sways.then(|| Planned::of(&without_blend(&sheet.job)));
@@ -33,29 +51,37 @@ pub fn draw(title: &str, sheet: &Sheet) -> Result<String, Refusal> {
     let stacks = sheet.job.entered().map(|(number, axis)| Stack {
         title: sheet.axis_title(number),
         pole: pole_of(axis),
-        panels: panels_of(number, axis, &planned, compared, ticks),
+        panels: panels_of(number, axis, &Measure::of(sheet, number), &planned, compared, ticks),
     });
-    let page = Page {
+    Ok(Page {
         title: heading(title, sheet, planned.arrival),
         stacks: stacks.collect(),
         columns: page::columns_for(sheet.job.entered().count()),
         legend: legend(&sheet.job, compared.is_some()),
         caption: caption(unblended.as_ref()) + &windows_told(&sheet.job),
-        time: timeline(&sheet.job, ticks),
-    };
-    Ok(page.draw())
+        time: timeline(sheet, ticks),
+    })
 }
 
 /// The arrival, the time after it and the windows.
-fn timeline(job: &Job, ticks: Ticks) -> Timeline {
+fn timeline(sheet: &Sheet, ticks: Ticks) -> Timeline {
     let mut spans = vec![Span { from: ticks.arrival, to: ticks.last, colour: colour::AFTER }];
-    for window in job.windows.iter().flat_map(|windows| windows.list()) {
+    for window in sheet.job.windows.iter().flat_map(|windows| windows.list()) {
         spans.push(Span { from: window.opening, to: window.closing, colour: colour::WINDOW });
     }
     Timeline {
+        name: tick_name(sheet.tick_seconds()),
         last: ticks.last,
         spans,
         marks: vec![Mark { tick: ticks.arrival, label: format!("arrival {}", ticks.arrival) }],
+    }
+}
+
+/// What the numbers along the ticks are.
+fn tick_name(tick: Option<f64>) -> String {
+    match tick {
+        Some(seconds) => format!("tick of {} s", rounded(seconds)),
+        None => "tick".into(),
     }
 }
 
@@ -78,13 +104,12 @@ fn legend(job: &Job, compares: bool) -> Vec<(&'static str, Sample)> {
 
 /// The title of the picture.
 fn heading(title: &str, sheet: &Sheet, arrival: u32) -> String {
-    match sheet.job.arrival {
-        Arrival::Earliest if sheet.job.windows.is_some() => {
-            format!("{title}: arrival at tick {arrival}, the earliest that fits a window")
-        }
-        Arrival::Earliest => format!("{title}: arrival at tick {arrival}, the earliest"),
-        Arrival::At(_) => format!("{title}: arrival at tick {arrival}, as asked"),
-    }
+    let why = match sheet.job.arrival {
+        Arrival::Earliest if sheet.job.windows.is_some() => "the earliest that fits a window",
+        Arrival::Earliest => "the earliest",
+        Arrival::At(_) => "as asked",
+    };
+    format!("{title}: arrival at tick {arrival}{}, {why}", in_seconds(arrival, sheet.tick_seconds()))
 }
 
 /// What the sway of a picture is.
@@ -118,7 +143,7 @@ fn windows_told(job: &Job) -> String {
 }
 
 /// The job with half period 0 on every axis.
-fn without_blend(job: &Job) -> Job {
+pub fn without_blend(job: &Job) -> Job {
     let mut job = *job;
     for axis in job.axes.iter_mut().flatten() {
         axis.half_period = 0;
@@ -136,14 +161,14 @@ fn time_after(job: &Job, arrival: u32) -> u32 {
 }
 
 /// A planned job: its arrival and each axis's rows.
-struct Planned {
+pub struct Planned {
     arrival: u32,
     rows: [Vec<Moment>; polgamir::AXES],
 }
 
 impl Planned {
     /// Plans a job.
-    fn of(job: &Job) -> Result<Planned, Refusal> {
+    pub fn of(job: &Job) -> Result<Planned, Refusal> {
         let plan = job.plan()?;
         let of_axis = |axis: usize| move |row: Row| row.axis(axis).as_ref().map(Moment::of_row);
         let rows = std::array::from_fn(|axis| plan.rows().filter_map(of_axis(axis)).collect());
@@ -151,7 +176,7 @@ impl Planned {
     }
 
     /// The accelerations of an axis in units per tick².
-    fn accelerations(&self, number: usize) -> Vec<f64> {
+    pub fn accelerations(&self, number: usize) -> Vec<f64> {
         self.rows[number].iter().map(|row| row.acceleration).collect()
     }
 }
@@ -173,20 +198,36 @@ fn weight_of(axis: &Axis) -> String {
 }
 
 /// The panels of an axis; that of the sway only where the axis has a half period.
-fn panels_of(number: usize, axis: &Axis, planned: &Planned, unblended: Option<&Planned>, ticks: Ticks) -> Vec<Panel> {
-    let course = |quantity: fn(Moment) -> f64| Course::of(&planned.rows[number], &axis.target, ticks, quantity);
+fn panels_of(
+    number: usize,
+    axis: &Axis,
+    measure: &Measure,
+    planned: &Planned,
+    unblended: Option<&Planned>,
+    ticks: Ticks,
+) -> Vec<Panel> {
+    let course = |quantity: &dyn Fn(Moment) -> f64| Course::of(&planned.rows[number], &axis.target, ticks, quantity);
+    let [position, velocity, acceleration] = measure.names();
     let mut panels = vec![
-        position_panel(course(|moment| moment.position)),
-        limited_panel("velocity, units/tick", axis.speed_limit, course(|moment| moment.velocity)),
+        position_panel(format!("position, {position}"), course(&|moment| measure.position(moment.position))),
         limited_panel(
-            "acceleration, units/tick²",
-            axis.acceleration_limit,
-            stepped(course(|moment| moment.acceleration)),
+            format!("velocity, {velocity}"),
+            measure.velocity(axis.speed_limit.into()),
+            course(&|moment| measure.velocity(moment.velocity)),
+        ),
+        limited_panel(
+            format!("acceleration, {acceleration}"),
+            measure.acceleration(axis.acceleration_limit.into()),
+            stepped(course(&|moment| measure.acceleration(moment.acceleration))),
         ),
     ];
     if let Some(pole) = Pole::of(axis) {
-        let without = unblended.map(|unblended| unblended.accelerations(number));
-        panels.push(sway_panel(pole, &planned.accelerations(number), without.as_deref(), ticks));
+        // A pole's sway is in proportion to the accelerations, so that it is in the measure of these.
+        let scaled = |planned: &Planned| -> Vec<f64> {
+            planned.accelerations(number).into_iter().map(|units| measure.position(units)).collect()
+        };
+        let without = unblended.map(scaled);
+        panels.push(sway_panel(format!("sway, {position}"), pole, &scaled(planned), without.as_deref(), ticks));
     }
     panels
 }
@@ -197,9 +238,9 @@ fn curves_of(course: Course) -> Vec<(Vec<Point>, Stroke)> {
 }
 
 /// The panel of the position.
-fn position_panel(course: Course) -> Panel {
+fn position_panel(name: String, course: Course) -> Panel {
     let range = panel::range_of(course.shown());
-    Panel { name: "position, units", remark: String::new(), range, limits: Vec::new(), curves: curves_of(course) }
+    Panel { name, remark: String::new(), range, limits: Vec::new(), curves: curves_of(course) }
 }
 
 /// A course in steps: each row's acceleration holds until the next.
@@ -213,13 +254,13 @@ fn stepped(course: Course) -> Course {
 }
 
 /// A panel of a course with limits.
-fn limited_panel(name: &'static str, limit: u32, course: Course) -> Panel {
+fn limited_panel(name: String, limit: f64, course: Course) -> Panel {
     let (range, limits, remark) = panel::limited(course.shown(), limit);
     Panel { name, remark, range, limits, curves: curves_of(course) }
 }
 
 /// The panel of the sway, beside that without the blend, whose arrival is an upright line.
-fn sway_panel(pole: Pole, accelerations: &[f64], without_blend: Option<&[f64]>, ticks: Ticks) -> Panel {
+fn sway_panel(name: String, pole: Pole, accelerations: &[f64], without_blend: Option<&[f64]>, ticks: Ticks) -> Panel {
     let sway = pole.sway(accelerations, ticks.last);
     let mut remark = format!("left {}, exact plan 0", quantity(sway.remaining));
     let mut curves = vec![(sway.curve, stroke::PLAN)];
@@ -233,5 +274,5 @@ fn sway_panel(pole: Pole, accelerations: &[f64], without_blend: Option<&[f64]>, 
         let arrival = accelerations.len() as f64 - 1.0;
         curves.insert(0, (vec![(arrival, range.0), (arrival, range.1)], stroke::UNBLENDED_ARRIVAL));
     }
-    Panel { name: "sway, units", remark, range, limits: Vec::new(), curves }
+    Panel { name, remark, range, limits: Vec::new(), curves }
 }

@@ -24,6 +24,7 @@ mod draft;
 mod line;
 mod notes;
 mod reading;
+mod scales;
 mod text;
 mod tour;
 
@@ -36,6 +37,7 @@ use crate::words::WordKind;
 
 pub use line::SheetLine;
 use notes::Notes;
+pub use scales::Unit;
 pub use tour::TourSheet;
 
 /// What a text asks for: a job, or where it has `stop` lines a tour.
@@ -81,6 +83,16 @@ impl Sheet {
     /// What to call an axis: `axis 0`, or `axis 0 pan` where the sheet names it.
     pub fn axis_title(&self, number: usize) -> String {
         self.notes.axis_title(number)
+    }
+
+    /// The seconds of a tick, where the sheet says them: for what is shown, never for what is planned.
+    pub fn tick_seconds(&self) -> Option<f64> {
+        self.notes.scales.tick_seconds()
+    }
+
+    /// What a unit of an axis stands for, where the sheet says it: for what is shown, never for what is planned.
+    pub fn unit_of(&self, number: usize) -> Option<&Unit> {
+        self.notes.scales.unit_of(number)
     }
 }
 
@@ -187,6 +199,7 @@ impl fmt::Display for Sheet {
             Arrival::Earliest => writeln!(f, "arrival earliest")?,
             Arrival::At(tick) => writeln!(f, "arrival {tick}")?,
         }
+        self.notes.scales.write_whole(f)?;
         if let Some(windows) = &self.job.windows {
             writeln!(f, "dwell {}", windows.dwell())?;
             for Window { opening, closing } in windows.list() {
@@ -195,6 +208,7 @@ impl fmt::Display for Sheet {
         }
         for (number, axis) in self.job.entered() {
             writeln!(f, "\n{}", self.axis_title(number))?;
+            self.notes.scales.write_of_axis(f, number)?;
             write_axis(f, axis)?;
         }
         Ok(())

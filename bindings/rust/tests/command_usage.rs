@@ -80,6 +80,7 @@ fn wrong_usage_ends_with_2() {
         &["words", "--cells", "5", &case_c],
         &["show", "--plain", &case_c],
         &["plot", &case_c],
+        &["report", &case_c],
         &["tour"],
         &["tour", "--plain", "--units", &case_c],
         &["plan", "--tables", &case_c],
@@ -95,7 +96,7 @@ fn help_is_given() {
     for arguments in [&["--help"][..], &["help"], &["-h"], &["plan", "--help"]] {
         let (text, status) = printed(&run(arguments));
         assert_eq!(status, Some(0));
-        for command in ["plan", "words", "show", "tour", "plot", "Exit status"] {
+        for command in ["plan", "words", "show", "tour", "plot", "report", "Exit status"] {
             assert!(text.contains(command), "{command}");
         }
     }

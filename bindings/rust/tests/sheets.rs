@@ -166,13 +166,13 @@ fn wrong_entries_are_told_with_their_line() {
 fn unknown_and_misplaced_entries_are_told_with_their_line() {
     assert_eq!(
         told_with(3, "half perod 0"),
-        "line 3: expected `arrival`, `window`, `dwell`, `axis`, `stop`, `target` or one of: half period, `weight`, `shrinks` or `peaks`, speed limit, \
+        "line 3: expected `arrival`, `window`, `dwell`, `tick`, `unit`, `axis`, `stop`, `target` or one of: half period, `weight`, `shrinks` or `peaks`, speed limit, \
          acceleration limit, start position, start velocity, target position, target velocity, target acceleration, target tick, \
          found `half perod 0`"
     );
     assert_eq!(
         told_with(2, "weight 128"),
-        "line 2: expected `arrival`, `window`, `dwell`, `axis` or `stop`, found `weight 128`"
+        "line 2: expected `arrival`, `window`, `dwell`, `tick`, `unit`, `axis` or `stop`, found `weight 128`"
     );
     assert_eq!(
         told_with(10, "target position 1\ntarget velocity 2"),

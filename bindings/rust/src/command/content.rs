@@ -76,6 +76,14 @@ pub fn job_of(content: &[u8]) -> Result<Sheet, String> {
     }
 }
 
+/// The text of a content's sheet as it was entered, or the sheet that stands for job words.
+pub fn sheet_text(content: &[u8], sheet: &Sheet) -> String {
+    match (Form::of(content), text_of(content)) {
+        (Form::Text, Ok(text)) => text.into(),
+        _ => format!("# The sheet of job words.\n{sheet}"),
+    }
+}
+
 /// The tour of a content.
 pub fn tour_of(content: &[u8]) -> Result<TourSheet, String> {
     match setup_of(content)? {
@@ -103,7 +111,7 @@ fn other_text(text: &str) -> Option<&'static str> {
         "refused" => Some("a printed refusal"),
         "total" => Some("a printed tour"),
         "arrival" if first_words.next().is_some_and(is_below_a_printed_arrival) => Some("a printed table"),
-        "arrival" | "axis" | "stop" | "window" | "dwell" => Some(
+        "arrival" | "axis" | "stop" | "window" | "dwell" | "tick" | "unit" => Some(
             "a set-up sheet: `polgamir plan` plans a job, `polgamir tour` a tour, `polgamir words` writes job words",
         ),
         _ => None,

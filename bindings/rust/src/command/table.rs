@@ -3,23 +3,56 @@
 use std::fmt::Write;
 
 use polgamir::sheet::Sheet;
-use polgamir::{in_units, Accepted};
+use polgamir::{Accepted, Motion};
 
 use crate::arguments::TableForm;
+use crate::measure::{in_seconds, rounded, Measure};
 
 /// The columns of each axis.
-const COLUMNS: [&str; 3] = ["position", "velocity", "acceleration"];
+pub const COLUMNS: [&str; 3] = ["position", "velocity", "acceleration"];
 
 /// The arrival, then the table.
 pub fn print(sheet: &Sheet, accepted: &Accepted, form: TableForm) -> String {
-    let arrival = format!("arrival {}\n", accepted.arrival());
+    let tick = sheet.tick_seconds();
+    let seconds = in_seconds(accepted.arrival(), tick);
+    let arrival = format!("arrival {}{seconds}\n", accepted.arrival());
     match form {
-        TableForm::Plain => arrival + &plain_rows(accepted),
+        TableForm::Plain => format!("arrival {}\n", accepted.arrival()) + &plain_rows(accepted),
         TableForm::FineSteps => {
-            arrival + "in fine steps, 1/256 unit\n\n" + &aligned(sheet, accepted, |cell| cell.to_string())
+            arrival + "in fine steps, 1/256 unit\n\n" + &aligned(sheet, accepted, |_, motion| cells_of(motion))
         }
         TableForm::Units => {
-            arrival + "in units\n\n" + &aligned(sheet, accepted, |cell| format!("{:.8}", in_units(cell)))
+            let ticks = tick.map(|tick| format!(", a tick is {} s", rounded(tick))).unwrap_or_default();
+            let table = aligned(sheet, accepted, |axis, motion| in_measure(&Measure::of(sheet, axis), motion));
+            format!("{arrival}in {}{ticks}\n\n{table}", measures(sheet, accepted))
+        }
+    }
+}
+
+/// The cells of a motion as they stand in the table.
+fn cells_of(motion: Motion) -> [String; 3] {
+    [motion.position, motion.velocity, motion.acceleration].map(|cell| cell.to_string())
+}
+
+/// The cells of a motion in the measures of its axis.
+fn in_measure(measure: &Measure, motion: Motion) -> [String; 3] {
+    let (numbers, decimals) = (measure.shown(motion), measure.decimals());
+    std::array::from_fn(|column| format!("{:.*}", decimals[column], numbers[column]))
+}
+
+/// In what the positions are, velocities and accelerations by the tick or the second: of all axes, or of each.
+fn measures(sheet: &Sheet, accepted: &Accepted) -> String {
+    let names: Vec<(usize, [String; 3])> =
+        accepted.axes().axes().map(|axis| (axis, Measure::of(sheet, axis).names())).collect();
+    let in_words = |[position, velocity, acceleration]: &[String; 3]| match position.as_str() {
+        "units" if velocity == "units/tick" => String::from("units"),
+        _ => format!("{position}, {velocity}, {acceleration}"),
+    };
+    match names.iter().all(|(_, name)| *name == names[0].1) {
+        true => in_words(&names[0].1),
+        false => {
+            let each = names.iter().map(|(axis, name)| format!("{} ({})", in_words(name), sheet.axis_title(*axis)));
+            each.collect::<Vec<_>>().join("; ")
         }
     }
 }
@@ -35,12 +68,12 @@ fn plain_rows(accepted: &Accepted) -> String {
 }
 
 /// The rows in columns of even width, below the axes' titles and the columns' names.
-fn aligned(sheet: &Sheet, accepted: &Accepted, format: impl Fn(i64) -> String) -> String {
+fn aligned(sheet: &Sheet, accepted: &Accepted, format: impl Fn(usize, Motion) -> [String; 3]) -> String {
     let rows: Vec<Vec<String>> = accepted
         .rows()
         .map(|row| {
             let tick = row.tick().to_string();
-            std::iter::once(tick).chain(row.cells().iter().map(|&cell| format(cell))).collect()
+            std::iter::once(tick).chain(row.axes().flat_map(|(axis, motion)| format(axis, motion))).collect()
         })
         .collect();
     let names: Vec<&str> = std::iter::once("tick").chain(accepted.axes().axes().flat_map(|_| COLUMNS)).collect();

@@ -7,6 +7,7 @@ use polgamir::{Schedule, TourRefusal};
 
 use super::{refusal, table, Done};
 use crate::arguments::TableForm;
+use crate::measure::in_seconds;
 
 /// Plans a tour and prints its arrivals, and the tables of its legs where they are asked for, or its refusal.
 pub fn planned(sheet: &TourSheet, form: TableForm, tables: bool) -> Done {
@@ -53,7 +54,7 @@ fn aligned(sheet: &TourSheet, schedule: &Schedule) -> String {
     }
     let width = |column: usize| lines.iter().map(|line| line[column].chars().count()).max().unwrap_or(0);
     let widths: Vec<usize> = (0..lines[0].len()).map(width).collect();
-    let mut text = format!("total {}\n\n", schedule.total);
+    let mut text = format!("total {}{}\n\n", schedule.total, in_seconds(schedule.total, sheet.tick_seconds()));
     for line in &lines {
         table::push_line(&mut text, &widths, line.iter().map(String::as_str));
     }

@@ -76,28 +76,55 @@ impl Stack {
 }
 
 impl Page {
-    /// Draws the page.
+    /// The pages of the stacks one by one, with so many columns of a width.
+    pub fn of_each_axis(self, columns: (usize, f64)) -> Vec<Page> {
+        let Page { title, stacks, legend, caption, time, .. } = self;
+        let part = |stack: Stack| Page {
+            title: format!("{}, {title}", stack.title),
+            stacks: vec![stack],
+            columns,
+            legend: legend.clone(),
+            caption: caption.clone(),
+            time: time.clone(),
+        };
+        stacks.into_iter().map(part).collect()
+    }
+
+    /// Draws the page as a file of its own.
     pub fn draw(&self) -> String {
-        let (columns, plot_width) = self.columns;
-        let labels =
-            self.stacks.iter().flat_map(|stack| &stack.panels).map(Panel::label_width).fold(0.0, f64::max) + 8.0;
-        let pitch = labels + plot_width + BETWEEN;
-        let width = 2.0 * MARGIN + columns as f64 * pitch - BETWEEN;
-        let mut drawing = Drawing::new();
+        let mut drawing = Drawing::new("");
         drawing.text(MARGIN, MARGIN + 14.0, Anchor::Start, Type::TITLE, &self.title);
-        let mut top = draw_legend(&mut drawing, MARGIN + 30.0, width, &self.legend) + 14.0;
-        for row in self.stacks.chunks(columns) {
-            for (column, stack) in row.iter().enumerate() {
-                let left = MARGIN + labels + column as f64 * pitch;
-                stack.draw(&mut drawing, left, top, plot_width, &self.time);
-            }
-            top += row.iter().map(Stack::height).fold(0.0, f64::max) + 12.0;
-        }
+        let (width, mut top) = self.draw_stacks(&mut drawing, MARGIN + 30.0);
         for line in wrapped(&self.caption, width - 2.0 * MARGIN) {
             top += 16.0;
             drawing.text(MARGIN, top, Anchor::Start, Type::BODY, &line);
         }
         drawing.finish(width, top + MARGIN, &self.title, &self.caption)
+    }
+
+    /// Draws the page as a part of another, which has its title and its caption; names begin with a prefix.
+    pub fn draw_part(&self, prefix: &str) -> String {
+        let mut drawing = Drawing::new(prefix);
+        let (width, top) = self.draw_stacks(&mut drawing, 6.0);
+        drawing.finish(width, top, &self.title, &self.caption)
+    }
+
+    /// Draws the legend, from a height on, and the stacks; returns the width of the page and the height below them.
+    fn draw_stacks(&self, drawing: &mut Drawing, top: f64) -> (f64, f64) {
+        let (columns, plot_width) = self.columns;
+        let labels =
+            self.stacks.iter().flat_map(|stack| &stack.panels).map(Panel::label_width).fold(0.0, f64::max) + 8.0;
+        let pitch = labels + plot_width + BETWEEN;
+        let width = 2.0 * MARGIN + columns as f64 * pitch - BETWEEN;
+        let mut top = draw_legend(drawing, top, width, &self.legend) + 14.0;
+        for row in self.stacks.chunks(columns) {
+            for (column, stack) in row.iter().enumerate() {
+                let left = MARGIN + labels + column as f64 * pitch;
+                stack.draw(drawing, left, top, plot_width, &self.time);
+            }
+            top += row.iter().map(Stack::height).fold(0.0, f64::max) + 12.0;
+        }
+        (width, top)
     }
 }
 

@@ -1,6 +1,6 @@
 //! One panel: a quantity of one axis over the ticks.
 
-use super::scale::{label, Scale};
+use super::scale::{label, quantity, Scale};
 use super::svg::{stroke, Anchor, Drawing, Stroke, Type};
 use super::sway::Point;
 
@@ -15,8 +15,8 @@ pub const BELOW: f64 = 32.0;
 
 /// What a panel shows.
 pub struct Panel {
-    /// The quantity with its unit.
-    pub name: &'static str,
+    /// The quantity with its measure.
+    pub name: String,
     /// A remark, at the right of the name.
     pub remark: String,
     /// The least and the greatest value shown.
@@ -28,7 +28,10 @@ pub struct Panel {
 }
 
 /// The ticks that all panels of a picture share, and what stands out among them.
+#[derive(Clone)]
 pub struct Timeline {
+    /// What the numbers below are.
+    pub name: String,
     /// The last tick drawn.
     pub last: u32,
     /// Shaded spans, the first one at the bottom.
@@ -38,6 +41,7 @@ pub struct Timeline {
 }
 
 /// A shaded span of ticks.
+#[derive(Clone)]
 pub struct Span {
     /// Where it begins.
     pub from: u32,
@@ -48,6 +52,7 @@ pub struct Span {
 }
 
 /// An upright line at a tick.
+#[derive(Clone)]
 pub struct Mark {
     /// The tick.
     pub tick: u32,
@@ -111,7 +116,7 @@ impl Panel {
                 drawing.area(from, place.top, to - from, HEIGHT, span.colour);
             }
         }
-        self.draw_grid(drawing, place, across, upward, last);
+        self.draw_grid(drawing, place, time, last);
         drawing.clipped(place.left, place.top, place.width, HEIGHT, |drawing| {
             for &limit in self.limits.iter().filter(|&&limit| upward.shows(limit)) {
                 let height = upward.at(limit);
@@ -135,7 +140,8 @@ impl Panel {
     }
 
     /// Draws grid lines and the numbers along them.
-    fn draw_grid(&self, drawing: &mut Drawing, place: Place, across: Scale, upward: Scale, last: bool) {
+    fn draw_grid(&self, drawing: &mut Drawing, place: Place, time: &Timeline, last: bool) {
+        let (across, upward, time_name) = (place.across(time), self.upward(place.top), &time.name);
         for tick in across.round_values((place.width / 48.0).floor(), 1.0) {
             let x = across.at(tick);
             drawing.line(&[(x, place.top), (x, place.bottom())], stroke::GRID);
@@ -150,13 +156,13 @@ impl Panel {
             drawing.text(place.left - 6.0, y + 3.7, Anchor::End, Type::LABEL, &text);
         }
         if last {
-            drawing.text(place.right(), place.bottom() + 28.0, Anchor::End, Type::BODY, "tick");
+            drawing.text(place.right(), place.bottom() + 28.0, Anchor::End, Type::BODY, time_name);
         }
     }
 
     /// Draws the quantity's name and the remark above the plot.
     fn draw_names(&self, drawing: &mut Drawing, place: Place) {
-        drawing.text(place.left, place.top - 6.0, Anchor::Start, Type::BODY, self.name);
+        drawing.text(place.left, place.top - 6.0, Anchor::Start, Type::BODY, &self.name);
         drawing.text(place.right(), place.top - 6.0, Anchor::End, Type::LABEL, &self.remark);
     }
 
@@ -164,7 +170,7 @@ impl Panel {
     /// stand too far from its line for that is left out, except an only one.
     fn draw_labels(&self, drawing: &mut Drawing, place: Place, across: Scale, marks: &[Mark]) {
         let set = Type { bold: true, ..Type::BODY };
-        let mut free_from = place.left + Type::BODY.width_of(self.name) + 10.0;
+        let mut free_from = place.left + Type::BODY.width_of(&self.name) + 10.0;
         for mark in marks {
             let (x, half) = (across.at(mark.tick.into()), Type::BODY.width_of(&mark.label) / 2.0);
             let middle = x.clamp(free_from + half, (place.right() - half).max(free_from + half));
@@ -196,12 +202,12 @@ pub fn range_within(values: impl Iterator<Item = f64>, limit: f64) -> (f64, f64)
 }
 
 /// The range for values with a limit, the lines of the limit, and a remark that says it and whether it is too far off to show.
-pub fn limited(values: impl Iterator<Item = f64>, limit: u32) -> ((f64, f64), Vec<f64>, String) {
-    let limit = f64::from(limit);
+pub fn limited(values: impl Iterator<Item = f64>, limit: f64) -> ((f64, f64), Vec<f64>, String) {
     let range = range_within(values, limit);
     let shown = range.0 <= -limit || range.1 >= limit;
     let place = if shown { "" } else { ", off the scale" };
-    (range, vec![-limit, limit], format!("limit ±{}{place}", label(limit, 1.0)))
+    let text = if limit.fract() == 0.0 { label(limit, 1.0) } else { quantity(limit) };
+    (range, vec![-limit, limit], format!("limit ±{text}{place}"))
 }
 
 /// The least and the greatest of values.

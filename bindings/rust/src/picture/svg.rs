@@ -116,22 +116,24 @@ fn character_width(character: char) -> f64 {
 pub struct Drawing {
     elements: String,
     clips: usize,
+    /// What the names of its parts begin with, so that several drawings can stand in one page.
+    prefix: String,
 }
 
 impl Drawing {
-    /// A drawing with nothing in it.
-    pub fn new() -> Drawing {
-        Drawing { elements: String::new(), clips: 0 }
+    /// A drawing with nothing in it, whose parts have names that begin with a prefix.
+    pub fn new(prefix: &str) -> Drawing {
+        Drawing { elements: String::new(), clips: 0, prefix: prefix.into() }
     }
 
     /// The finished file, of a size, with a title and a description for those who cannot see it.
     pub fn finish(self, width: f64, height: f64, title: &str, description: &str) -> String {
-        let (title, description) = (escaped(title), escaped(description));
+        let (title, description, prefix) = (escaped(title), escaped(description), self.prefix);
         format!(
             "<svg xmlns=\"http://www.w3.org/2000/svg\" width=\"{width:.0}\" height=\"{height:.0}\" \
-             viewBox=\"0 0 {width:.0} {height:.0}\" role=\"img\" aria-labelledby=\"title description\" \
+             viewBox=\"0 0 {width:.0} {height:.0}\" role=\"img\" aria-labelledby=\"{prefix}title {prefix}description\" \
              font-family=\"Helvetica, Arial, 'DejaVu Sans', sans-serif\">\n\
-             <title id=\"title\">{title}</title>\n<desc id=\"description\">{description}</desc>\n\
+             <title id=\"{prefix}title\">{title}</title>\n<desc id=\"{prefix}description\">{description}</desc>\n\
              <rect width=\"100%\" height=\"100%\" fill=\"#FFFFFF\"/>\n{}</svg>\n",
             self.elements
         )
@@ -191,7 +193,7 @@ impl Drawing {
     /// What is drawn by `inside` shows within a rectangle alone.
     pub fn clipped(&mut self, x: f64, y: f64, width: f64, height: f64, inside: impl FnOnce(&mut Drawing)) {
         self.clips += 1;
-        let name = format!("clip{}", self.clips);
+        let name = format!("{}clip{}", self.prefix, self.clips);
         let _ = writeln!(
             self.elements,
             "<clipPath id=\"{name}\"><rect x=\"{x:.1}\" y=\"{y:.1}\" width=\"{width:.1}\" height=\"{height:.1}\"/></clipPath>\n\
@@ -203,7 +205,7 @@ impl Drawing {
 }
 
 /// Text with the characters that SVG keeps for itself written out, and without those that it cannot hold.
-fn escaped(text: &str) -> String {
+pub fn escaped(text: &str) -> String {
     let text: String = text.chars().filter(|character| !character.is_control()).collect();
     text.replace('&', "&amp;").replace('<', "&lt;").replace('>', "&gt;")
 }

@@ -17,7 +17,7 @@ pub struct Pole {
     points_to_a_tick: u32,
 }
 
-/// A point of a curve: the tick and the value.
+/// A point of a curve: the tick, or what else goes across, and the value.
 pub type Point = (f64, f64);
 
 /// A pole's sway over time.
@@ -29,19 +29,20 @@ pub struct Sway {
 }
 
 impl Pole {
-    /// The pole under an axis, or `None` where the axis has no half period, or damping without a weight.
-    pub fn of(axis: &Axis) -> Option<Pole> {
-        if axis.half_period == 0 {
-            return None;
-        }
-        let half_period = f64::from(axis.half_period);
-        let second_weight = f64::from(axis.damping.weight()?);
-        let shrinks_to = second_weight / (256.0 - second_weight);
-        Some(Pole {
+    /// A pole that swings over in a half period of ticks, above 0, and whose swing shrinks by a ratio in that time, above 0 and at
+    /// most 1.
+    pub fn new(half_period: f64, shrinks_to: f64) -> Pole {
+        Pole {
             swing: std::f64::consts::PI / half_period,
             decay: -shrinks_to.ln() / half_period,
-            points_to_a_tick: 16_u32.div_ceil(axis.half_period),
-        })
+            points_to_a_tick: (16.0 / half_period).ceil() as u32,
+        }
+    }
+
+    /// The pole under an axis, or `None` where the axis has no half period, or damping without a weight.
+    pub fn of(axis: &Axis) -> Option<Pole> {
+        let swing = Swing::of(axis).first().copied()?;
+        Some(Pole::new(swing.half_period.into(), swing.ratio))
     }
 
     /// The stiffness by the mass: what an acceleration is divided by to give the displacement at which the pole rests.
@@ -49,45 +50,106 @@ impl Pole {
         self.swing * self.swing + self.decay * self.decay
     }
 
-    /// The sway from tick 0 to a last tick, under the accelerations of rows 0 to arrival in units per tick². What remains is
-    /// looked for in a whole period from the arrival on, also where the last tick comes sooner.
+    /// The sway from tick 0 to a last tick, under the accelerations of rows 0 to arrival in units per tick².
     pub fn sway(&self, accelerations: &[f64], last_tick: u32) -> Sway {
-        let last_tick = last_tick as usize;
         let arrival = accelerations.len() - 1;
-        let rest = -accelerations[arrival] / self.stiffness();
-        let step = 1.0 / f64::from(self.points_to_a_tick);
-        let (mut displacement, mut velocity) = (0.0, 0.0);
+        let step = self.step(1.0 / f64::from(self.points_to_a_tick));
+        let mut state = State::default();
         let mut curve = vec![(0.0, 0.0)];
-        let mut remaining: f64 = 0.0;
-        for tick in 0..last_tick.max(arrival + self.period()) {
-            let acceleration = accelerations[tick.min(arrival)];
+        for tick in 0..last_tick as usize {
             for point in 0..self.points_to_a_tick {
-                if tick >= arrival {
-                    remaining = remaining.max((displacement - rest).abs());
-                }
-                (displacement, velocity) = self.after(displacement, velocity, acceleration, step);
-                if tick < last_tick {
-                    curve.push((tick as f64 + f64::from(point + 1) * step, displacement));
-                }
+                state = step.after(state, accelerations[tick.min(arrival)]);
+                curve.push((tick as f64 + f64::from(point + 1) / f64::from(self.points_to_a_tick), state.displacement));
             }
         }
-        Sway { curve, remaining }
+        Sway { curve, remaining: self.left(accelerations) }
     }
 
-    /// The ticks of a whole period.
-    fn period(&self) -> usize {
-        (2.0 * std::f64::consts::PI / self.swing).ceil() as usize
+    /// The greatest distance from where the pole comes to rest, from the arrival on.
+    pub fn left(&self, accelerations: &[f64]) -> f64 {
+        let Some((last, before)) = accelerations.split_last() else {
+            return 0.0;
+        };
+        let step = self.step(1.0);
+        let state = before.iter().fold(State::default(), |state, &acceleration| step.after(state, acceleration));
+        let rest = -last / self.stiffness();
+        self.greatest(State { displacement: state.displacement - rest, ..state })
     }
 
-    /// Displacement and velocity after a time under a constant acceleration, by the oscillator's own solution.
-    fn after(&self, displacement: f64, velocity: f64, acceleration: f64, time: f64) -> (f64, f64) {
-        let rest = -acceleration / self.stiffness();
-        let offset = displacement - rest;
+    /// The greatest distance from rest of a free swing: at its beginning, or where it first turns back.
+    fn greatest(&self, state: State) -> f64 {
+        let slope = (self.decay * state.velocity + self.stiffness() * state.displacement) / self.swing;
+        let turns_at = (state.velocity / slope).atan().rem_euclid(std::f64::consts::PI) / self.swing;
+        let turned = self.step(turns_at).after(state, 0.0).displacement.abs();
+        // A pole at rest does not turn back: 0 by 0 is no time.
+        if turned.is_nan() {
+            return state.displacement.abs();
+        }
+        turned.max(state.displacement.abs())
+    }
+
+    /// What a time under a constant acceleration does, by the oscillator's own solution.
+    fn step(&self, time: f64) -> Step {
         let (sine, cosine) = (self.swing * time).sin_cos();
         let remains = (-self.decay * time).exp();
-        let offset_after = remains * (offset * cosine + (velocity + self.decay * offset) / self.swing * sine);
-        let slope = (self.decay * velocity + self.stiffness() * offset) / self.swing;
-        (rest + offset_after, remains * (velocity * cosine - slope * sine))
+        let turned = remains * sine / self.swing;
+        Step {
+            kept: remains * cosine + self.decay * turned,
+            gained: turned,
+            slowed: -self.stiffness() * turned,
+            carried: remains * cosine - self.decay * turned,
+            stiffness: self.stiffness(),
+        }
+    }
+}
+
+/// Displacement of the pole's top and its velocity.
+#[derive(Debug, Clone, Copy, Default)]
+struct State {
+    displacement: f64,
+    velocity: f64,
+}
+
+/// What a time does to a swing around its rest: displacement and velocity after it are linear in those before.
+struct Step {
+    /// Displacement of displacement.
+    kept: f64,
+    /// Displacement of velocity.
+    gained: f64,
+    /// Velocity of displacement.
+    slowed: f64,
+    /// Velocity of velocity.
+    carried: f64,
+    stiffness: f64,
+}
+
+impl Step {
+    /// The state after the time, under a constant acceleration.
+    fn after(&self, state: State, acceleration: f64) -> State {
+        let rest = -acceleration / self.stiffness;
+        let offset = state.displacement - rest;
+        State {
+            displacement: rest + self.kept * offset + self.gained * state.velocity,
+            velocity: self.slowed * offset + self.carried * state.velocity,
+        }
+    }
+}
+
+/// A swing of the pole under an axis.
+#[derive(Debug, Clone, Copy, PartialEq)]
+pub struct Swing {
+    /// The ticks from one side to the other, at least 1.
+    pub half_period: u32,
+    /// How far it shrinks in that time: B / (256 − B).
+    pub ratio: f64,
+}
+
+impl Swing {
+    /// The swings that the blend of an axis cancels; none where the axis has no half period, or damping without a weight.
+    pub fn of(axis: &Axis) -> Vec<Swing> {
+        let ratio = |weight: u32| f64::from(weight) / (256.0 - f64::from(weight));
+        let first = axis.damping.weight().map(|weight| Swing { half_period: axis.half_period, ratio: ratio(weight) });
+        first.into_iter().filter(|swing| swing.half_period > 0).collect()
     }
 }
 
@@ -104,16 +166,92 @@ mod tests {
         Pole::of(&axis).expect("a half period")
     }
 
+    fn state(displacement: f64, velocity: f64) -> State {
+        State { displacement, velocity }
+    }
+
     /// A swing shrinks to B / (256 − B) and turns over in half a period.
     #[test]
     fn swings_turn_over_and_shrink() {
         for (half_period, second_weight) in [(1, 128), (7, 85), (40, 110), (256, 1)] {
             let pole = pole(half_period, second_weight);
             let ratio = f64::from(second_weight) / f64::from(256 - second_weight);
-            let (displacement, velocity) = pole.after(1.0, 0.3, 0.0, f64::from(half_period));
+            let State { displacement, velocity } = pole.step(half_period.into()).after(state(1.0, 0.3), 0.0);
             assert!((displacement + ratio).abs() < 1e-12, "{displacement} {ratio}");
             assert!((velocity + 0.3 * ratio).abs() < 1e-12);
         }
+    }
+
+    /// The sway under rows, as the sum of the answers to each change of acceleration: a change by `c` at tick k displaces the pole at a
+    /// later time t by −c/s (1 − e^(−d(t − k)) (cos w(t − k) + d/w sin w(t − k))), with s = w² + d².
+    fn by_closed_form(pole: &Pole, accelerations: &[f64], time: f64) -> f64 {
+        let (w, d) = (pole.swing, pole.decay);
+        let mut before = 0.0;
+        let mut sum = 0.0;
+        for (tick, &acceleration) in accelerations.iter().enumerate() {
+            let since = time - tick as f64;
+            if since > 0.0 {
+                let answer = 1.0 - (-d * since).exp() * ((w * since).cos() + d / w * (w * since).sin());
+                sum -= (acceleration - before) / (w * w + d * d) * answer;
+            }
+            before = acceleration;
+        }
+        sum
+    }
+
+    /// Rows with no pattern, the same in every run.
+    fn drawn_rows(count: u32, seed: u32) -> Vec<f64> {
+        (0..count).map(|row| f64::from((row * row * 7919 + row * 104_729 + seed) % 2001) / 100.0 - 10.0).collect()
+    }
+
+    /// Step by step the sway is that of the closed form, at every point of the curve.
+    #[test]
+    fn the_sway_is_that_of_the_closed_form() {
+        for (half_period, ratio) in [(1.0, 1.0), (3.7, 0.6), (12.0, 0.05), (30.3, 0.9), (256.0, 1.0)] {
+            let (pole, rows) = (Pole::new(half_period, ratio), drawn_rows(60, half_period as u32));
+            for (tick, sway) in pole.sway(&rows, 100).curve {
+                let expected = by_closed_form(&pole, &rows, tick);
+                assert!((sway - expected).abs() < 1e-6 * (1.0 + half_period * half_period), "{half_period} {tick}");
+            }
+        }
+    }
+
+    /// What is left is the greatest of the closed form from the arrival on, over a period in fine steps.
+    #[test]
+    fn what_is_left_is_that_of_the_closed_form() {
+        for (half_period, ratio) in [(2.0, 1.0), (5.5, 0.7), (17.0, 0.95), (40.0, 0.3)] {
+            let (pole, mut rows) = (Pole::new(half_period, ratio), drawn_rows(50, 11));
+            for last in [0.0, 2.0] {
+                rows[49] = last;
+                let rest = -last / pole.stiffness();
+                let from_rest = |point: i32| {
+                    let time = 49.0 + 2.0 * half_period * f64::from(point) / 20_000.0;
+                    (by_closed_form(&pole, &rows, time) - rest).abs()
+                };
+                let greatest = (0..20_000).map(from_rest).fold(0.0, f64::max);
+                assert!((pole.left(&rows) - greatest).abs() < 1e-6 * greatest, "{half_period} {last}");
+            }
+        }
+    }
+
+    /// A push one way for T ticks and the other way for T leaves 4a/w² sin²(wT/2) on an undamped pole, which is 0 for a whole period.
+    #[test]
+    fn a_push_and_its_opposite_leave_what_the_formula_says() {
+        for (half_period, ticks) in [(10.0, 7_u32), (6.25, 20), (8.0, 16), (33.0, 5)] {
+            let pole = Pole::new(half_period, 1.0);
+            let rows: Vec<f64> = (0..=2 * ticks).map(|row| if row < ticks { 3.0 } else { -3.0 }).collect();
+            let rows = [&rows[..2 * ticks as usize], &[0.0]].concat();
+            let sine = (pole.swing * f64::from(ticks) / 2.0).sin();
+            let expected = 4.0 * 3.0 / (pole.swing * pole.swing) * sine * sine;
+            assert!((pole.left(&rows) - expected).abs() < 1e-9 * (1.0 + half_period * half_period), "{half_period}");
+        }
+    }
+
+    /// A pole that nothing moves stays upright.
+    #[test]
+    fn nothing_is_left_of_nothing() {
+        assert_eq!(Pole::new(5.0, 0.8).left(&[0.0; 9]), 0.0);
+        assert_eq!(Pole::new(5.0, 0.8).left(&[]), 0.0);
     }
 
     /// Two pushes half a period apart, weighted as the blend weights them, leave nothing.

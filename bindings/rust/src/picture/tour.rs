@@ -9,7 +9,8 @@ use super::panel::{self, Mark, Panel, Span, Timeline};
 use super::scale::{self, quantity};
 use super::svg::{colour, stroke};
 use super::sway::{Point, Pole};
-use super::{pole_of, Planned};
+use super::{pole_of, tick_name, Planned};
+use crate::measure::{in_seconds, Measure};
 
 /// The width of a timeline's plots.
 const WIDTH: f64 = 900.0;
@@ -28,10 +29,16 @@ pub fn draw_tour(title: &str, sheet: &TourSheet) -> Result<String, TourRefusal> 
     let stays = stays_of(sheet, &schedule);
     let stacks = sheet.tour.entered().map(|(number, _)| {
         let way = Way::of(sheet, number, &legs, &stays);
-        Stack { title: sheet.axis_title(number), pole: pole_of(&way.axis), panels: way.panels(&stays) }
+        let panels = way.panels(&stays, &Measure::of_tour(sheet, number));
+        Stack { title: sheet.axis_title(number), pole: pole_of(&way.axis), panels }
     });
     let page = Page {
-        title: format!("{title}: {} stops in {} ticks", sheet.stops.len(), scale::label(schedule.total.into(), 1.0)),
+        title: format!(
+            "{title}: {} stops in {} ticks{}",
+            sheet.stops.len(),
+            scale::label(schedule.total.into(), 1.0),
+            in_seconds(schedule.total, sheet.tick_seconds())
+        ),
         stacks: stacks.collect(),
         columns: (1, WIDTH),
         legend: vec![
@@ -42,7 +49,7 @@ pub fn draw_tour(title: &str, sheet: &TourSheet) -> Result<String, TourRefusal> 
             ("dwell", Sample::Area(colour::DWELL)),
         ],
         caption: CAPTION.into(),
-        time: timeline(&stays, schedule.total),
+        time: timeline(&stays, schedule.total, sheet.tick_seconds()),
     };
     Ok(page.draw())
 }
@@ -77,10 +84,11 @@ fn stays_of(sheet: &TourSheet, schedule: &Schedule) -> Vec<Stay> {
 }
 
 /// The arrivals and the dwells.
-fn timeline(stays: &[Stay], total: u32) -> Timeline {
+fn timeline(stays: &[Stay], total: u32, tick: Option<f64>) -> Timeline {
     let span = |stay: &Stay| Span { from: stay.arrival, to: stay.departure, colour: colour::DWELL };
     let mark = |(stop, stay): (usize, &Stay)| Mark { tick: stay.arrival, label: stop.to_string() };
     Timeline {
+        name: tick_name(tick),
         last: total.max(1),
         spans: stays.iter().map(span).collect(),
         marks: stays.iter().enumerate().map(mark).collect(),
@@ -120,37 +128,56 @@ impl Way {
     }
 
     /// The panels; that of the sway only where the axis has a half period.
-    fn panels(&self, stays: &[Stay]) -> Vec<Panel> {
-        let mut panels = vec![self.position_panel(), self.velocity_panel()];
-        panels.extend(Pole::of(&self.axis).map(|pole| self.sway_panel(pole, stays)));
+    fn panels(&self, stays: &[Stay], measure: &Measure) -> Vec<Panel> {
+        let mut panels = vec![self.position_panel(measure), self.velocity_panel(measure)];
+        panels.extend(Pole::of(&self.axis).map(|pole| self.sway_panel(pole, stays, measure)));
         panels
     }
 
     /// The panel of the position.
-    fn position_panel(&self) -> Panel {
-        let positions = self.curve(|row| row.position);
+    fn position_panel(&self, measure: &Measure) -> Panel {
+        let positions = self.curve(|row| measure.position(row.position));
         let range = panel::range_of(positions.iter().map(|&(_, position)| position));
-        let curves = vec![(positions, stroke::PLAN), (self.stops.clone(), stroke::TARGET)];
-        Panel { name: "position, units", remark: String::new(), range, limits: Vec::new(), curves }
+        let stops = self.stops.iter().map(|&(tick, position)| (tick, measure.position(position))).collect();
+        let curves = vec![(positions, stroke::PLAN), (stops, stroke::TARGET)];
+        Panel {
+            name: format!("position, {}", measure.names()[0]),
+            remark: String::new(),
+            range,
+            limits: Vec::new(),
+            curves,
+        }
     }
 
     /// The panel of the velocity with its limits.
-    fn velocity_panel(&self) -> Panel {
-        let velocities = self.curve(|row| row.velocity);
+    fn velocity_panel(&self, measure: &Measure) -> Panel {
+        let velocities = self.curve(|row| measure.velocity(row.velocity));
         let shown = velocities.iter().map(|&(_, velocity)| velocity);
-        let (range, limits, remark) = panel::limited(shown, self.axis.speed_limit);
-        Panel { name: "velocity, units/tick", remark, range, limits, curves: vec![(velocities, stroke::PLAN)] }
+        let (range, limits, remark) = panel::limited(shown, measure.velocity(self.axis.speed_limit.into()));
+        Panel {
+            name: format!("velocity, {}", measure.names()[1]),
+            remark,
+            range,
+            limits,
+            curves: vec![(velocities, stroke::PLAN)],
+        }
     }
 
     /// The panel of the sway.
-    fn sway_panel(&self, pole: Pole, stays: &[Stay]) -> Panel {
-        let accelerations: Vec<f64> = self.rows.iter().map(|row| row.acceleration).collect();
+    fn sway_panel(&self, pole: Pole, stays: &[Stay], measure: &Measure) -> Panel {
+        let accelerations: Vec<f64> = self.rows.iter().map(|row| measure.position(row.acceleration)).collect();
         let curve = pole.sway(&accelerations, accelerations.len() as u32 - 1).curve;
         let stays_at =
             |tick: f64| stays.iter().any(|stay| (stay.arrival.into()..=stay.departure.into()).contains(&tick));
         let left = curve.iter().filter(|&&(tick, _)| stays_at(tick)).map(|&(_, sway)| sway.abs()).fold(0.0, f64::max);
         let remark = format!("left {}, exact plan 0", quantity(left));
         let range = panel::range_of(curve.iter().map(|&(_, sway)| sway));
-        Panel { name: "sway, units", remark, range, limits: Vec::new(), curves: vec![(curve, stroke::PLAN)] }
+        Panel {
+            name: format!("sway, {}", measure.names()[0]),
+            remark,
+            range,
+            limits: Vec::new(),
+            curves: vec![(curve, stroke::PLAN)],
+        }
     }
 }

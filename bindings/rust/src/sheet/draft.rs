@@ -94,7 +94,10 @@ impl Draft {
         let names: Vec<&str> = ENTRIES.iter().map(damping).collect();
         fault(
             line,
-            format!("`arrival`, `window`, `dwell`, `axis`, `stop`, `target` or one of: {}", names.join(", ")),
+            format!(
+                "`arrival`, `window`, `dwell`, `tick`, `unit`, `axis`, `stop`, `target` or one of: {}",
+                names.join(", ")
+            ),
             quoted(words),
         )
     }

@@ -1,13 +1,16 @@
 //! What a sheet says beside its numbers.
 
+use super::scales::Scales;
 use crate::words::WordKind;
 use crate::AXES;
 
-/// The names of the axes, and the lines that the entries stand on.
-#[derive(Debug, Clone, PartialEq, Eq, Default)]
+/// The names of the axes, what a tick and a unit stand for, and the lines that the entries stand on.
+#[derive(Debug, Clone, PartialEq, Default)]
 pub struct Notes {
     /// The name of each axis that has one.
     pub names: [Option<String>; AXES],
+    /// What a tick and a unit stand for.
+    pub scales: Scales,
     /// The lines of the entries.
     pub lines: Vec<EntryLine>,
     /// The lines of the windows.

@@ -102,9 +102,16 @@ impl Reading {
         if let Some(rest) = after(words, "dwell") {
             return self.take_dwell(rest);
         }
+        if let Some(rest) = after(words, "tick") {
+            return self.notes.scales.take_tick(self.line, rest);
+        }
+        if let Some(rest) = after(words, "unit") {
+            let axis = self.drafts.last().map(|draft| draft.number);
+            return self.notes.scales.take_unit(self.line, axis, rest);
+        }
         match self.drafts.last_mut() {
             Some(draft) => draft.take(self.line, words),
-            None => fault(self.line, "`arrival`, `window`, `dwell`, `axis` or `stop`", quoted(words)),
+            None => fault(self.line, "`arrival`, `window`, `dwell`, `tick`, `unit`, `axis` or `stop`", quoted(words)),
         }
     }
 

@@ -3,7 +3,7 @@
 use std::fmt;
 
 use super::notes::{EntryLine, Notes};
-use super::{write_damping, write_entry, Sheet};
+use super::{write_damping, write_entry, Sheet, Unit};
 use crate::tour::{Stop, Tour};
 use crate::words::WordKind;
 
@@ -34,6 +34,16 @@ impl TourSheet {
         self.notes.axis_title(number)
     }
 
+    /// The seconds of a tick, where the sheet says them: for what is shown, never for what is planned.
+    pub fn tick_seconds(&self) -> Option<f64> {
+        self.notes.scales.tick_seconds()
+    }
+
+    /// What a unit of an axis stands for, where the sheet says it: for what is shown, never for what is planned.
+    pub fn unit_of(&self, number: usize) -> Option<&Unit> {
+        self.notes.scales.unit_of(number)
+    }
+
     /// The line, from 1, that a stop stands on. A sheet that was not read from text has no lines.
     pub fn line_of_stop(&self, index: usize) -> Option<usize> {
         self.stop_lines.get(index).copied()
@@ -62,8 +72,10 @@ impl TourSheet {
 /// Writes the sheet in full, in a form that reads back as the same sheet. A tour without stops has no sheet that reads back.
 impl fmt::Display for TourSheet {
     fn fmt(&self, f: &mut fmt::Formatter<'_>) -> fmt::Result {
+        self.notes.scales.write_whole(f)?;
         for (number, axis) in self.tour.entered() {
             writeln!(f, "{}", self.axis_title(number))?;
+            self.notes.scales.write_of_axis(f, number)?;
             write_entry(f, WordKind::HalfPeriod, axis.half_period.into())?;
             write_damping(f, axis.damping)?;
             write_entry(f, WordKind::SpeedLimit, axis.speed_limit.into())?;

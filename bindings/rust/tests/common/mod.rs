@@ -3,6 +3,7 @@
 #![allow(dead_code)]
 
 pub mod command;
+pub mod json;
 
 use polgamir::{Axis, Damping, Job, RestPoint, State, Target};
 

@@ -1,0 +1,278 @@
+"""Tests of the module: the field cases, refusals, buffers, and every struct, call and number of the header."""
+
+import doctest
+import inspect
+import math
+import re
+import subprocess
+import sys
+import tempfile
+import threading
+import unittest
+from pathlib import Path
+
+HERE = Path(__file__).resolve().parent
+sys.path.insert(0, str(HERE.parent))
+REPOSITORY = HERE.parents[2]
+
+import polgamir
+from polgamir import (Axis, Fixed, Job, Motion, Moving, Number, Peaks, Ratio, Refusal, RestPoint, Schedule, Stop, Tour, TourAxis, Weight,
+                      Window, Windows)
+
+
+def field_axis(target, **changes):
+    """The axis of the field cases: L = 10, M = 1, h = 0, B = 128, from 0 at rest."""
+    said = dict(start=RestPoint(0), speed_limit=10, acceleration_limit=1, half_period=0, damping=Weight(128), target=target)
+    return Axis(**{**said, **changes})
+
+
+def to(position, asked=None, **changes):
+    return Job({0: field_axis(Fixed(position), **changes)}, asked)
+
+
+class FieldCases(unittest.TestCase):
+    """Tables and refusals of the field cases."""
+
+    def columns(self, job):
+        plan = job.plan()
+        return plan.arrival, plan.positions(0).tolist(), plan.velocities(0).tolist(), plan.accelerations(0).tolist()
+
+    def refused(self, job):
+        with self.assertRaises(Refusal) as caught:
+            job.plan()
+        refusal = caught.exception
+        return int(refusal.number), refusal.place, refusal.mask, refusal.arrival
+
+    def test_a(self):
+        self.assertEqual(self.columns(to(5, start=RestPoint(5))), (1, [1280, 1280], [0, 0], [0, 0]))
+
+    def test_b_and_e(self):
+        self.assertEqual(self.columns(to(4))[:2], (4, [0, 128, 512, 896, 1024]))
+        self.assertEqual(self.refused(to(4, 3)), (8, 0, 1, 0))
+
+    def test_c(self):
+        plan = to(1, 4).plan()
+        rows = [[0, 0, 86], [43, 86, -1], [129, 85, 0], [214, 85, -85], [256, 0, 0]]
+        self.assertEqual(plan.table.tolist(), [[row] for row in rows])
+        words = "10000001 20000004 30000000 40000000 5000000A 60000001 70000000 80000080 90000001 A0000000 F0000000"
+        self.assertEqual(polgamir.plan_words([int(word, 16) for word in words.split()]), plan)
+
+    def test_d(self):
+        expected = (3, [0, 64, 192, 256], [0, 128, 128, 0], [128, 0, -128, 0])
+        self.assertEqual(self.columns(to(1, half_period=1)), expected)
+
+    def test_g(self):
+        flying = field_axis(Moving(10, 10, 0, 39), start=RestPoint(0, 10), speed_limit=20)
+        plan = Job({0: flying, 1: field_axis(Fixed(1))}, 39).plan()
+        self.assertEqual((plan.arrival, plan.axes), (39, (0, 1)))
+
+    def test_h(self):
+        arrival, _, velocities, _ = self.columns(Job({0: field_axis(Moving(0, 1, 0, 0))}))
+        self.assertEqual((arrival, velocities), (3, [0, 256, 384, 256]))
+
+    def test_i_k_l(self):
+        with self.assertRaises(Refusal) as caught:
+            polgamir.plan_words([])
+        self.assertEqual(caught.exception.number, Number.REFUSED_MASK)
+        self.assertEqual(self.refused(Job({})), (1, 0, 0, 0))
+        self.assertEqual(self.refused(to(1, damping=Weight(129))), (5, 0, 0, 0))
+        self.assertEqual(self.refused(to(100_000_000, speed_limit=1)), (9, 0, 1, 0))
+
+    def test_asked_arrivals_past_the_last(self):
+        self.assertEqual(self.refused(to(1, 4097)), (3, 1, 0, 0))
+        self.assertEqual(to(4, 0).plan(), to(4).plan())
+
+    def test_windows(self):
+        touching = Windows(2, [Window(0, 5), Window(5, 9)])
+        self.assertEqual(Job({0: field_axis(Fixed(4))}, windows=touching).plan().arrival, 5)
+        self.assertEqual(self.refused(Job({0: field_axis(Fixed(4))}, windows=Windows(0, []))), (13, 0, 0, 0))
+        self.assertEqual(self.refused(Job({0: field_axis(Fixed(4))}, windows=Windows(0, [Window(0, 1)] * 40))), (13, 32, 0, 0))
+
+    def test_damping(self):
+        by_hand = to(9, half_period=3, damping=Weight(85)).plan()
+        self.assertEqual(to(9, half_period=3, damping=Ratio(0.5)).plan(), by_hand)
+        self.assertEqual(to(9, half_period=3, damping=Peaks(3.0, 1.5)).plan(), by_hand)
+        for wrong in (Ratio(math.nan), Ratio(0), Ratio(1.5), Ratio(1e300), Peaks(0.0, 0.0), Peaks(1.0, math.inf)):
+            self.assertEqual(self.refused(to(9, damping=wrong)), (12, 0, 0, 0))
+
+    def test_arrival_found(self):
+        self.assertEqual(to(4).arrival_found(), 4)
+        with self.assertRaises(Refusal):
+            to(4, 3).arrival_found()
+
+
+class Tours(unittest.TestCase):
+    AXIS = TourAxis(start=0, speed_limit=10, acceleration_limit=1, half_period=0, damping=Weight(128))
+
+    def test_schedule_and_legs(self):
+        tour = Tour({0: self.AXIS}, [Stop({0: 4}, 5), Stop({0: 4}), Stop({0: 0}, 7)])
+        self.assertEqual(tour.schedule(), Schedule((4, 10, 14), 21))
+        self.assertEqual([tour.leg(index).plan().arrival for index in range(3)], [4, 1, 4])
+        self.assertEqual(tour.leg(2).plan().positions(0).tolist(), [1024, 896, 512, 128, 0])
+        self.assertRaises(IndexError, tour.leg, 3)
+        self.assertEqual(Tour({}, []).schedule(), Schedule((), 0))
+
+    def test_refusals(self):
+        with self.assertRaises(Refusal) as caught:
+            Tour({0: self.AXIS}, [Stop({0: 4}), Stop({0: 100_000_000})]).schedule()
+        self.assertEqual((caught.exception.number, caught.exception.place, caught.exception.axes), (9, 1, (0,)))
+        with self.assertRaises(Refusal) as caught:
+            Tour({0: self.AXIS}, [Stop({0: 0})] * 65).schedule()
+        self.assertEqual((caught.exception.number, caught.exception.place), (Number.REFUSED_STOPS, 64))
+        with self.assertRaises(ValueError):
+            Tour({0: self.AXIS}, [Stop({1: 4})]).schedule()
+
+
+class Tables(unittest.TestCase):
+    def setUp(self):
+        axes = {1: field_axis(Fixed(30), half_period=3), 4: field_axis(Moving(-9, 1, 0, 2), half_period=2)}
+        self.plan = Job(axes).plan()
+
+    def test_rows(self):
+        plan = self.plan
+        self.assertEqual((plan.axes, plan.mask, len(plan)), ((1, 4), 0b10010, plan.arrival + 1))
+        self.assertEqual([row.tick for row in plan], list(range(len(plan))))
+        self.assertEqual(plan.motion(1, plan.arrival), Motion(30 * 256, 0, 0))
+        self.assertEqual(plan[-1], plan[plan.arrival])
+        self.assertRaises(IndexError, plan.__getitem__, len(plan))
+        self.assertRaises(KeyError, plan.positions, 0)
+        flat = [cell for row in plan for motion in row.motions.values() for cell in motion]
+        self.assertEqual(flat, plan.cells.tolist())
+        self.assertEqual([row[1][2] for row in plan.table.tolist()], plan.accelerations(4).tolist())
+
+    def test_buffers_are_shared_and_read_only(self):
+        plan = self.plan
+        for buffer in (plan.cells, plan.table, plan.velocities(4)):
+            self.assertTrue(buffer.readonly)
+            self.assertEqual((buffer.format, buffer.itemsize), ("q", 8))
+        self.assertEqual(plan.table.shape, (plan.arrival + 1, 2, 3))
+
+    def test_numpy_reads_without_a_copy(self):
+        try:
+            import numpy
+        except ImportError:
+            self.skipTest("numpy is not installed")
+        table, velocities = numpy.asarray(self.plan.table), numpy.asarray(self.plan.velocities(4))
+        self.assertTrue(numpy.shares_memory(table, velocities))
+        self.assertTrue((table[:, 1, 1] == velocities).all())
+        self.assertEqual((table.dtype, table.shape), (numpy.int64, self.plan.table.shape))
+
+    def test_units(self):
+        self.assertEqual(polgamir.in_units(self.plan.motion(1, self.plan.arrival).position), 30.0)
+
+    def test_threads(self):
+        found = []
+        job = Job({0: field_axis(Fixed(500), half_period=20), 3: field_axis(Fixed(-77))})
+        threads = [threading.Thread(target=lambda: found.append(job.plan())) for _ in range(8)]
+        for thread in threads:
+            thread.start()
+        for thread in threads:
+            thread.join()
+        self.assertEqual(found, [job.plan()] * 8)
+
+
+class Inputs(unittest.TestCase):
+    """What a field of the header cannot hold is turned down, and never cut to fit."""
+
+    def test_numbers_that_do_not_fit(self):
+        for wrong in (to(2**63), to(1, -1), to(1, 2**32), to(1, speed_limit=-1), to(1, half_period=2**32), to(1, damping=Weight(-1))):
+            self.assertRaises(ValueError, wrong.plan)
+        self.assertRaises(ValueError, Job({6: field_axis(Fixed(1))}).plan)
+        self.assertRaises(ValueError, polgamir.plan_words, [2**32])
+
+    def test_other_types(self):
+        for wrong in (to(1.5), to(1, speed_limit="10"), to(1, damping=128), Job({0: field_axis(target=1)})):
+            self.assertRaises(TypeError, wrong.plan)
+
+    def test_refusals_as_text(self):
+        with self.assertRaises(Refusal) as caught:
+            to(4, 3).plan()
+        refusal = caught.exception
+        self.assertEqual(refusal.printed_line, "refused 8 place 0 axes 1 arrival 0")
+        self.assertEqual(str(refusal), refusal.printed_line + ": " + refusal.text)
+        self.assertEqual(refusal.axes, (0,))
+        self.assertIn("does not have", Refusal(99).text)
+
+
+class Header(unittest.TestCase):
+    """Everything that include/polgamir.h declares has its place in the module."""
+
+    TYPES = {"uint32_t": "c_uint", "int64_t": "c_long", "uint64_t": "c_ulong", "float": "c_float"}
+
+    @classmethod
+    def setUpClass(cls):
+        header = (REPOSITORY / "include" / "polgamir.h").read_text()
+        cls.header = re.sub(r"/\*.*?\*/", "", header, flags=re.DOTALL)
+
+    def macro(self, name):
+        return int(re.search(rf"#define POLGAMIR_{name} (\d+)", self.header).group(1))
+
+    def test_calls(self):
+        declared = set(re.findall(r"^\w+ (polgamir_\w+)\(", self.header, flags=re.MULTILINE))
+        self.assertEqual(declared, set(polgamir._CALLS))
+
+    def test_structs(self):
+        structs = dict(re.findall(r"typedef struct (\w+) \{(.*?)\}", self.header, flags=re.DOTALL))
+        self.assertEqual(set(structs), set(polgamir._STRUCTS))
+        for name, body in structs.items():
+            fields = re.findall(r"(\w+) (\w+)(?:\[(\w+)\])?;", body)
+            expected = [(field, self.type_name(kind, count)) for kind, field, count in fields]
+            found = [(field, self.name_of(kind)) for field, kind in polgamir._STRUCTS[name]._fields_]
+            self.assertEqual(found, expected, name)
+
+    def type_name(self, kind, count):
+        name = self.TYPES.get(kind, kind)
+        return f"{name}[{self.macro(count[len('POLGAMIR_'):])}]" if count else name
+
+    def name_of(self, kind):
+        names = {struct: name for name, struct in polgamir._STRUCTS.items()}
+        if hasattr(kind, "_length_"):
+            return f"{self.name_of(kind._type_)}[{kind._length_}]"
+        return names.get(kind, kind.__name__)
+
+    def test_numbers_and_texts(self):
+        body = re.search(r"enum polgamir_number \{(.*?)\}", self.header, flags=re.DOTALL).group(1)
+        numbers = {name: int(number) for name, number in re.findall(r"POLGAMIR_(\w+) = (\d+)", body)}
+        self.assertEqual({number.name: int(number) for number in Number}, numbers)
+        self.assertEqual([number.name for number in Number], list(numbers))
+        cases = re.findall(r"case POLGAMIR_(\w+):\s*return ((?:\"[^\"]*\"\s*)+);", self.header)
+        texts = {Number[name]: "".join(re.findall(r"\"([^\"]*)\"", text)) for name, text in cases}
+        self.assertEqual(polgamir._TEXTS, texts)
+
+    def test_constants(self):
+        constants = {"AXES": polgamir.AXES, "WINDOWS": polgamir.MOST_WINDOWS, "LATEST_ARRIVAL": polgamir.LATEST_ARRIVAL,
+                     "FINE_STEPS": polgamir.FINE_STEPS, "MOST_CELLS": polgamir.MOST_CELLS, "MOST_STOPS": polgamir.MOST_STOPS,
+                     "LONGEST_DWELL": polgamir.LONGEST_DWELL}
+        self.assertEqual({name: self.macro(name) for name in constants}, constants)
+        parts = [self.macro(f"VERSION_{part}") for part in ("MAJOR", "MINOR", "PATCH")]
+        self.assertEqual(polgamir.__version__, ".".join(map(str, parts)))
+        self.assertEqual(polgamir.version(), 1_000_000 * parts[0] + 1_000 * parts[1] + parts[2])
+
+
+class Module(unittest.TestCase):
+    def test_the_documented_example(self):
+        self.assertEqual(doctest.testmod(polgamir).failed, 0)
+
+    def test_everything_public_is_documented(self):
+        for name in polgamir.__all__:
+            value = getattr(polgamir, name)
+            if isinstance(value, type) or inspect.isfunction(value):
+                self.assertTrue(value.__doc__, name)
+
+    def test_a_library_that_is_not_there(self):
+        code = "import polgamir\ntry:\n    polgamir.version()\nexcept polgamir.LibraryError as error:\n    print(error)"
+        run = subprocess.run([sys.executable, "-c", code], cwd=HERE.parent, env={"POLGAMIR_LIB_DIR": "/no/such/folder"},
+                             capture_output=True, text=True, check=True)
+        self.assertIn("run `tools/library`", run.stdout)
+
+    def test_the_example_draws_or_prints(self):
+        with tempfile.TemporaryDirectory() as folder:
+            file = Path(folder) / "table.png"
+            run = subprocess.run([sys.executable, str(HERE.parent / "examples" / "draw_table.py"), str(file)], capture_output=True, text=True)
+            self.assertEqual((run.returncode, run.stderr), (0, ""))
+            self.assertTrue(run.stdout.startswith("arrival 110"), run.stdout)
+            self.assertTrue(file.exists() or "nothing is drawn" in run.stdout)
+
+
+if __name__ == "__main__":
+    unittest.main()

@@ -1,0 +1,98 @@
+"""The module against the reference of tests/reference, which is written from the definitions and shares nothing with the library."""
+
+import struct
+import sys
+import unittest
+from pathlib import Path
+
+HERE = Path(__file__).resolve().parent
+sys.path[:0] = [str(HERE.parent), str(HERE.parents[2] / "tests" / "reference")]
+
+import builders
+import cases
+import damping
+import reference
+
+import polgamir
+
+
+def single(bits):
+    """The float of a single's bits."""
+    return struct.unpack("<f", struct.pack("<I", bits))[0]
+
+
+def damping_of(weight):
+    if isinstance(weight, damping.Ratio):
+        return polgamir.Ratio(single(*weight))
+    if isinstance(weight, damping.Peaks):
+        return polgamir.Peaks(*map(single, weight))
+    return polgamir.Weight(weight)
+
+
+def axis_of(axis):
+    moves = isinstance(axis.target, reference.State)
+    return polgamir.Axis(polgamir.RestPoint(*axis.start), axis.speed_limit, axis.acceleration_limit, axis.half_period,
+                         damping_of(axis.second_weight), (polgamir.Moving if moves else polgamir.Fixed)(*axis.target))
+
+
+def job_of(case):
+    axes = {bit: axis_of(axis) for bit, axis in enumerate(case.axes) if case.mask >> bit & 1}
+    windows = case.windows and polgamir.Windows(case.windows.dwell, [polgamir.Window(*pair) for pair in case.windows.pairs])
+    return polgamir.Job(axes, case.asked, windows)
+
+
+def found(case):
+    """The answer and the cells of a case."""
+    try:
+        plan = polgamir.plan_words(case.words) if case.words is not None else job_of(case).plan()
+    except polgamir.Refusal as refusal:
+        return (int(refusal.number), refusal.place, refusal.mask, refusal.arrival), []
+    return (0, 0, plan.mask, plan.arrival), plan.cells.tolist()
+
+
+def tour_of(case):
+    def chosen(values):
+        return {bit: value for bit, value in enumerate(values) if case.tour.mask >> bit & 1}
+    axes = {bit: polgamir.TourAxis(*axis[:4], damping_of(axis.second_weight)) for bit, axis in chosen(case.tour.axes).items()}
+    return polgamir.Tour(axes, [polgamir.Stop(chosen(stop.positions), stop.dwell) for stop in case.tour.stops])
+
+
+class AgainstTheReference(unittest.TestCase):
+    def agree(self, group):
+        for case in group.cases:
+            if case.words is None and not case.mask < 64:
+                continue  # a job has no such axis
+            expected, table = builders.outcome(case, [0] * polgamir.MOST_CELLS)
+            answer, cells = found(case)
+            self.assertEqual(answer, tuple(expected), case.name)
+            self.assertEqual(cells, table[:len(cells)], case.name)
+
+    def test_drawn_jobs(self):
+        self.agree(cases.drawn(seed=71, count=40))
+
+    def test_drawn_windows(self):
+        self.agree(cases.drawn_windows(seed=72, count=25))
+
+    def test_drawn_damping(self):
+        self.agree(cases.drawn_damping(seed=73, count=25))
+
+    def test_drawn_tours(self):
+        for case in cases.drawn_tours(seed=74, count=30):
+            if len(case.lent) < len(case.tour.stops):
+                continue  # the module lends a list that is long enough
+            if not 0 < case.tour.mask < 64:
+                continue
+            try:
+                schedule = tour_of(case).schedule()
+                answer = (0, schedule.total, list(schedule.arrivals))
+            except polgamir.Refusal as refusal:
+                answer = (int(refusal.number), refusal.place, refusal.mask)
+            if case.answer.number == 0:
+                expected = (0, case.answer.total, case.left[:len(case.tour.stops)])
+            else:
+                expected = (case.answer.number, case.answer.place, case.answer.mask)
+            self.assertEqual(answer, expected, case.name)
+
+
+if __name__ == "__main__":
+    unittest.main()

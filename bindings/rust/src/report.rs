@@ -1,0 +1,437 @@
+//! The report of a plan: one HTML page with the sheet as entered, the answer, the pictures, and what a maker asks first.
+//!
+//! Arrivals and raises are the planner's own answers, limits and misses are read off the table, and the sway is that of
+//! `picture::sway`, which is tested against the oscillator's closed form.
+
+mod arrivals;
+mod html;
+mod rows;
+mod wrong_axis;
+mod wrong_pole;
+
+use polgamir::sheet::Sheet;
+use polgamir::{Arrival, Axis, Motion, Plan, Refusal, LATEST_ARRIVAL};
+
+use crate::measure::{in_seconds, rounded, Measure};
+use crate::picture::scale::quantity;
+use crate::picture::sway::Swing;
+use crate::picture::{self, without_blend, Planned};
+use arrivals::{Arrivals, Earlier, OfAxis};
+use html::Cell;
+use rows::{Miss, Nearest};
+use wrong_pole::{Left, WrongPole};
+
+/// The report of a sheet whose text is as entered; job words have the sheet that stands for them.
+pub fn written(title: &str, entered: &str, sheet: &Sheet) -> Result<String, Refusal> {
+    let report = Report::of(sheet)?;
+    let pictures = picture::draw_parts(title, sheet)?;
+    let body = [
+        format!("<h1>{}</h1>\n", picture::svg::escaped(title)),
+        format!("<p class=\"sub\">{}</p>\n", report.headline()),
+        html::cards(&report.cards()),
+        html::section("The set-up sheet, as entered", &html::as_written(entered)),
+        html::section("The answer", &report.answer()),
+        html::section("The plan", &(html::paragraph(&report.plan_told()) + &pictures.concat())),
+        html::section("If the pole was measured wrongly", &report.wrong_poles()),
+        html::section("What the blend costs", &report.cost()),
+        html::section("What sets the arrival, and one tick earlier", &report.arrivals()),
+        html::section("How near each axis is to its limits", &report.limits()),
+        html::section("Carrying a row on", &report.misses()),
+        html::section("How these numbers were made", &html::paragraph(METHOD)),
+    ];
+    Ok(html::page(&format!("{title}: report"), &body.concat()))
+}
+
+/// How the numbers of a report were made.
+const METHOD: &str = "Arrival and table are those of the proved planner, which lands on the target exactly and leaves no sway before rounding. \
+    Other arrivals, and the limits that would do, are its answers to the same job with the half periods, the asked tick or one limit changed. \
+    Limits and carry misses are read off the table's cells. The sway is computed: an oscillator with the half period and the damping that are \
+    named, at rest at tick 0, follows each row's acceleration until the next row, by the exact solution for a constant acceleration; nothing is \
+    approximated but by double-precision floats. Left is the greatest distance, from arrival on, from where the pole comes to rest.";
+
+/// An axis of the report.
+struct Entry<'s> {
+    number: usize,
+    title: String,
+    axis: &'s Axis,
+    measure: Measure,
+    rows: Vec<Motion>,
+    /// Accelerations in the shown measure per tick², with the blend and without.
+    accelerations: Vec<f64>,
+    unblended: Option<Vec<f64>>,
+}
+
+impl Entry<'_> {
+    /// The swings of its pole, for what is left of each; none where the axis has no half period.
+    fn wrong_poles(&self) -> Vec<WrongPole<'_>> {
+        let swings = Swing::of(self.axis).into_iter();
+        swings.map(|swing| WrongPole::new(swing, &self.accelerations, self.unblended.as_deref())).collect()
+    }
+
+    /// The measure of a sway.
+    fn sway_name(&self) -> String {
+        self.measure.names()[0].clone()
+    }
+}
+
+/// What a report tells of.
+struct Report<'s> {
+    sheet: &'s Sheet,
+    plan: Plan,
+    axes: Vec<Entry<'s>>,
+    arrivals: Arrivals,
+}
+
+impl<'s> Report<'s> {
+    /// Plans a sheet, and what it is compared with.
+    fn of(sheet: &'s Sheet) -> Result<Report<'s>, Refusal> {
+        let plan = sheet.job.plan()?;
+        let planned = Planned::of(&sheet.job)?;
+        let unblended = Planned::of(&without_blend(&sheet.job)).ok();
+        let entry = |(number, axis): (usize, &'s Axis)| {
+            let measure = Measure::of(sheet, number);
+            let scaled = |planned: &Planned| -> Vec<f64> {
+                planned.accelerations(number).into_iter().map(|units| measure.position(units)).collect()
+            };
+            Entry {
+                number,
+                title: sheet.axis_title(number),
+                axis,
+                rows: plan.rows().filter_map(|row| row.axis(number)).collect(),
+                accelerations: scaled(&planned),
+                unblended: unblended.as_ref().map(scaled),
+                measure,
+            }
+        };
+        let axes = sheet.job.entered().map(entry).collect();
+        let arrivals = Arrivals::of(&sheet.job, plan.arrival());
+        Ok(Report { sheet, plan, axes, arrivals })
+    }
+
+    /// A number of ticks, with its seconds where they are known.
+    fn ticks(&self, ticks: u32) -> String {
+        counted(ticks) + &in_seconds(ticks, self.sheet.tick_seconds())
+    }
+
+    /// A tick, with its seconds where they are known.
+    fn tick(&self, tick: u32) -> String {
+        format!("tick {tick}{}", in_seconds(tick, self.sheet.tick_seconds()))
+    }
+
+    /// The titles of axes as words of a sentence.
+    fn titles(&self, numbers: impl Iterator<Item = usize>) -> String {
+        let titles: Vec<String> = numbers.map(|number| self.sheet.axis_title(number)).collect();
+        match titles.split_last() {
+            None => "no axis".into(),
+            Some((only, [])) => only.clone(),
+            Some((last, before)) => format!("{} and {last}", before.join(", ")),
+        }
+    }
+
+    /// The line below the title.
+    fn headline(&self) -> String {
+        let axes = match self.axes.len() {
+            1 => "1 axis".into(),
+            count => format!("{count} axes"),
+        };
+        let seconds = self.sheet.tick_seconds().map(|tick| format!("; a tick is {} s", rounded(tick)));
+        let version = env!("CARGO_PKG_VERSION");
+        format!("Motion table of {axes}, planned by polgamir {version}{}", seconds.unwrap_or_default())
+    }
+
+    /// What is read first.
+    fn cards(&self) -> Vec<(String, String)> {
+        let asked = match self.sheet.job.arrival {
+            Arrival::Earliest if self.sheet.job.windows.is_some() => "the earliest that fits a window",
+            Arrival::Earliest => "the earliest",
+            Arrival::At(_) => "as asked",
+        };
+        let mut cards = vec![
+            (self.tick(self.plan.arrival()), format!("arrival, {asked}")),
+            (self.setter(), "sets the arrival".into()),
+        ];
+        if let (Some(least), Some(unblended)) = (self.arrivals.least, self.arrivals.least_unblended) {
+            cards.push((self.ticks(least.saturating_sub(unblended)), "is what the blend costs".into()));
+        }
+        for entry in &self.axes {
+            for pole in entry.wrong_poles() {
+                let Left { plan, unblended } = pole.left();
+                let without = unblended.map(|left| format!(", without the blend {}", amount(left)));
+                cards.push((
+                    format!("{} {}", amount(plan), entry.sway_name()),
+                    format!("sway left on {} if the pole is as entered{}", entry.title, without.unwrap_or_default()),
+                ));
+            }
+        }
+        let worst = self.axes.iter().flat_map(|entry| rows::worst_misses(&entry.rows)).map(|miss| miss.halves).max();
+        let name = if worst == Some(2) || worst == Some(1) { "fine step" } else { "fine steps" };
+        cards.push((format!("{} {name}", halves(worst.unwrap_or(0))), "worst carry miss, of 3/2 at most".into()));
+        cards
+    }
+
+    /// What sets the arrival, in short.
+    fn setter(&self) -> String {
+        let setting = self.titles(self.arrivals.setting());
+        match self.arrivals.least {
+            _ if self.sheet.job.arrival != Arrival::Earliest => "the sheet".into(),
+            Some(least) if least < self.arrivals.found => "a window".into(),
+            _ if self.arrivals.setting().next().is_some() => setting,
+            _ => "all axes together".into(),
+        }
+    }
+
+    /// The answer, and where the table begins and ends.
+    fn answer(&self) -> String {
+        let arrival = self.plan.arrival();
+        let text = format!(
+            "Accepted: number 0, mask {}, arrival {}. The table has rows 0 to {arrival} and {} cells. Row 0 is on the start and row {arrival} \
+             on the target, both exactly.",
+            self.plan.axes().0,
+            self.tick(arrival),
+            self.plan.cells().len()
+        );
+        let row = |entry: &Entry, tick: usize| -> Vec<Cell> {
+            let numbers = entry.measure.shown(entry.rows[tick]).map(|number| Cell::Number(rounded(number)));
+            let [title, tick] = [entry.title.clone(), tick.to_string()];
+            let measures = Cell::Words(entry.measure.names().join(", "));
+            [Cell::Words(title), Cell::Number(tick)].into_iter().chain(numbers).chain([measures]).collect()
+        };
+        let rows: Vec<Vec<Cell>> =
+            self.axes.iter().flat_map(|entry| [row(entry, 0), row(entry, arrival as usize)]).collect();
+        let headings = ["axis", "row", "position", "velocity", "acceleration", "in"];
+        html::paragraph(&text) + &html::table(&headings, &rows)
+    }
+
+    /// What the pictures show.
+    fn plan_told(&self) -> String {
+        let sways = self.axes.iter().any(|entry| !entry.wrong_poles().is_empty());
+        let compared = match self.axes.iter().any(|entry| entry.unblended.is_some()) {
+            true => " The dashed line is the same job planned with half period 0 on every axis.",
+            false => "",
+        };
+        let sway = match sways {
+            true => format!(
+                " The sway is how far the top of the pole is from upright; after arrival there should be none.{compared}"
+            ),
+            false => " No axis has a half period, so no sway is drawn.".into(),
+        };
+        format!(
+            "Position, velocity and acceleration of each axis, with their limits and beside those of the target.{sway}"
+        )
+    }
+
+    /// What is left of the sway over the errors of half period and damping, axis by axis.
+    fn wrong_poles(&self) -> String {
+        let parts: Vec<String> = self
+            .axes
+            .iter()
+            .map(|entry| match entry.wrong_poles() {
+                poles if !poles.is_empty() => wrong_axis::of_axis(entry, &poles),
+                _ => {
+                    html::heading(&entry.title)
+                        + &html::paragraph("This axis has half period 0: it is planned without a blend, for no pole.")
+                }
+            })
+            .collect();
+        let text = "The blend cancels the sway of the pole that was entered. Here is what this table leaves, from arrival on, where the pole is \
+                    another: on the left its half period, on the right how far each swing shrinks. 0 is what was entered; a plus is a true \
+                    value above it.";
+        let key = "<p class=\"key\"><i></i>this table<i class=\"without\"></i>the same job without the blend, at its own arrival</p>\n";
+        html::paragraph(text) + key + &parts.concat()
+    }
+
+    /// What the blend costs in ticks.
+    fn cost(&self) -> String {
+        let of = |tick: Option<u32>| tick.map_or(format!("none up to {LATEST_ARRIVAL}"), |tick| tick.to_string());
+        let cost = |blended: Option<u32>, unblended: Option<u32>| match (blended, unblended) {
+            (Some(blended), Some(unblended)) => (i64::from(blended) - i64::from(unblended)).to_string(),
+            _ => "–".into(),
+        };
+        let mut rows: Vec<Vec<Cell>> = Vec::new();
+        let mut line = |name: String, half_period: String, blended: Option<u32>, unblended: Option<u32>| {
+            let cells = [half_period, of(blended), of(unblended), cost(blended, unblended)];
+            rows.push(std::iter::once(Cell::Words(name)).chain(cells.map(Cell::Number)).collect());
+        };
+        for (entry, alone) in self.axes.iter().zip(&self.arrivals.axes) {
+            let half_period = entry.axis.half_period.to_string();
+            line(format!("{} alone", entry.title), half_period, alone.alone, alone.alone_unblended);
+        }
+        if self.axes.len() > 1 {
+            line("all together".into(), String::new(), self.arrivals.least, self.arrivals.least_unblended);
+        }
+        let text = "Least arrivals, whatever the sheet asks for and whatever its windows, as entered and with half period 0 on every axis. An \
+                    axis that starts and lands at rest arrives by its half period later.";
+        let headings = ["", "half period", "with the blend", "without", "costs, ticks"];
+        html::paragraph(text) + &html::table(&headings, &rows)
+    }
+
+    /// What sets the arrival, and why it is not one tick earlier.
+    fn arrivals(&self) -> String {
+        let rows: Vec<Vec<Cell>> = self
+            .axes
+            .iter()
+            .zip(&self.arrivals.axes)
+            .map(|(entry, alone)| {
+                let least = alone.alone.map_or("none".into(), |tick| tick.to_string());
+                vec![
+                    Cell::Words(entry.title.clone()),
+                    Cell::Number(least),
+                    Cell::Words(earlier_told(entry, alone, self.plan.arrival())),
+                ]
+            })
+            .collect();
+        let before = match self.plan.arrival() {
+            1 => "one tick earlier".to_string(),
+            arrival => format!("at tick {}", arrival - 1),
+        };
+        let headings = ["axis", "least arrival alone", &before];
+        html::paragraph(&self.setter_told()) + &html::table(&headings, &rows)
+    }
+
+    /// What sets the arrival, in a sentence.
+    fn setter_told(&self) -> String {
+        let (found, least) = (self.arrivals.found, self.arrivals.least);
+        if self.sheet.job.arrival != Arrival::Earliest {
+            let least = least
+                .map_or("there is no other".into(), |least| format!("the least that suits all axes is tick {least}"));
+            return format!("The sheet asks for tick {found}; {least}.");
+        }
+        match least {
+            Some(least) if least < found => format!(
+                "Every axis can arrive at tick {least}; tick {found} is the least after it that suits all axes and fits a window with its dwell."
+            ),
+            _ if self.arrivals.setting().next().is_some() => format!(
+                "The arrival is set by {}: tick {found} is the least that it reaches alone. Axes that could be sooner are planned to arrive with it.",
+                self.titles(self.arrivals.setting())
+            ),
+            _ => format!(
+                "No axis alone sets the arrival. A head that moves may reach a tick and then none for a while, and tick {found} is the first \
+                 that suits all axes, later than each one's own least."
+            ),
+        }
+    }
+
+    /// How near each axis is to its limits.
+    fn limits(&self) -> String {
+        let rows: Vec<Vec<Cell>> = self
+            .axes
+            .iter()
+            .flat_map(|entry| {
+                let [_, speed, acceleration] = entry.measure.sizes();
+                let [_, speeds, accelerations] = entry.measure.names();
+                let [velocity, change] = rows::nearest(entry.axis, &entry.rows);
+                [
+                    limit_row(format!("{}, speed", entry.title), velocity, speed, &speeds),
+                    limit_row(format!("{}, acceleration", entry.title), change, acceleration, &accelerations),
+                ]
+            })
+            .collect();
+        let text = "The greatest sizes among the table's cells. The planned motion keeps its limits before the blend, and so does every cell after \
+                    it; the blend adds two parts, half a period apart, so that accelerations often stay well below their limit.";
+        let headings = ["", "of the limit", "greatest", "limit", "in", "at tick", "rows at the limit"];
+        html::paragraph(text) + &html::table(&headings, &rows)
+    }
+
+    /// The worst carry misses of the table.
+    fn misses(&self) -> String {
+        let rows: Vec<Vec<Cell>> = self
+            .axes
+            .iter()
+            .map(|entry| {
+                let [position, velocity] = rows::worst_misses(&entry.rows);
+                let cells = [halves(position.halves), at_tick(position), halves(velocity.halves), at_tick(velocity)];
+                std::iter::once(Cell::Words(entry.title.clone())).chain(cells.map(Cell::Number)).collect()
+            })
+            .collect();
+        let text = "A row that is carried on by one tick, to position + velocity + acceleration / 2 and velocity + acceleration, misses the next \
+                    row by at most 3/2 fine steps of 1/256 unit; this is proved of every table. Of this table the worst misses are:";
+        let headings = ["axis", "position, fine steps", "from row", "velocity, fine steps", "from row"];
+        html::paragraph(text) + &html::table(&headings, &rows)
+    }
+}
+
+/// A number of ticks.
+fn counted(ticks: u32) -> String {
+    match ticks {
+        1 => "1 tick".into(),
+        ticks => format!("{ticks} ticks"),
+    }
+}
+
+/// A quantity of a sway with three significant digits.
+fn amount(value: f64) -> String {
+    match value.abs() {
+        size if size < 1e-9 => "0".into(),
+        size if size >= 1.0 => quantity(value),
+        size => {
+            let decimals = (2.0 - size.log10().floor()).clamp(0.0, 12.0) as usize;
+            format!("{value:.decimals$}")
+        }
+    }
+}
+
+/// Half fine steps as a number of fine steps.
+fn halves(halves: i64) -> String {
+    match halves % 2 {
+        0 => (halves / 2).to_string(),
+        _ => format!("{halves}/2"),
+    }
+}
+
+/// The row that misses, where one does.
+fn at_tick(miss: Miss) -> String {
+    match miss.halves {
+        0 => "–".into(),
+        _ => miss.tick.to_string(),
+    }
+}
+
+/// A line of the limits.
+fn limit_row(name: String, nearest: Nearest, size: f64, measure: &str) -> Vec<Cell> {
+    let shown = |fine_steps: i64| rounded(polgamir::in_units(fine_steps) * size);
+    vec![
+        Cell::Words(name),
+        Cell::Bar(nearest.part(), format!("{:.0} %", 100.0 * nearest.part())),
+        Cell::Number(shown(nearest.size)),
+        Cell::Number(shown(nearest.limit)),
+        Cell::Words(measure.into()),
+        Cell::Number(nearest.tick.to_string()),
+        Cell::Number(nearest.rows_at_limit.to_string()),
+    ]
+}
+
+/// Whether an axis could arrive one tick earlier, and if not, what would have to be turned.
+fn earlier_told(entry: &Entry, alone: &OfAxis, arrival: u32) -> String {
+    match alone.earlier {
+        Earlier::NoTick => "there is no tick before tick 1".into(),
+        Earlier::Could => "it could".into(),
+        Earlier::CouldNot { acceleration_limit: None, speed_limit: None } if arrival - 1 <= entry.axis.half_period => {
+            format!("it could not: an arrival has to be after the half period, {}", counted(entry.axis.half_period))
+        }
+        Earlier::CouldNot { acceleration_limit: None, speed_limit: None } => {
+            "it could not, and no raise of one limit alone would do".into()
+        }
+        Earlier::CouldNot { acceleration_limit, speed_limit } => {
+            let [_, speed, acceleration] = entry.measure.sizes();
+            let [_, speeds, accelerations] = entry.measure.names();
+            let raise = |name: &str, from: u32, to: Option<u32>, size: f64, measure: &str| {
+                to.map(|to| {
+                    let (to, from) = (rounded(f64::from(to) * size), rounded(f64::from(from) * size));
+                    format!("{name} limit of {to} {measure} in place of {from}")
+                })
+            };
+            let raises = [
+                raise(
+                    "an acceleration",
+                    entry.axis.acceleration_limit,
+                    acceleration_limit,
+                    acceleration,
+                    &accelerations,
+                ),
+                raise("a speed", entry.axis.speed_limit, speed_limit, speed, &speeds),
+            ];
+            let raises: Vec<String> = raises.into_iter().flatten().collect();
+            format!("it could not; it would take {}", raises.join(", or "))
+        }
+    }
+}

@@ -1,0 +1,110 @@
+//! The charts and the numbers of what is left on a pole that is another than entered, axis by axis.
+
+use super::html::{self, Cell};
+use super::wrong_pole::{self, Left, WrongPole, TOLD_PERCENTS, TOLD_RATIOS};
+use super::{amount, counted, Entry};
+use crate::picture::chart::Chart;
+use crate::picture::svg::{stroke, Stroke};
+
+/// The charts and the numbers of one axis, for each swing of its pole.
+pub fn of_axis(entry: &Entry, poles: &[WrongPole]) -> String {
+    poles.iter().enumerate().map(|(index, pole)| of_swing(entry, pole, index)).collect()
+}
+
+/// The charts and the numbers of one swing.
+fn of_swing(entry: &Entry, pole: &WrongPole, index: usize) -> String {
+    let prefix = format!("axis{}swing{index}", entry.number);
+    let charts = chart_of_half_period(entry, pole).draw(&format!("{prefix}half"))
+        + &chart_of_damping(entry, pole).draw(&format!("{prefix}damping"));
+    format!(
+        "<div class=\"unit\">\n{}<div class=\"charts\">\n{charts}</div>\n{}{}</div>\n",
+        html::heading(&format!(
+            "{}: half period {}, each swing {} of the one before",
+            entry.title,
+            counted(pole.half_period()),
+            rounded_ratio(pole.ratio())
+        )),
+        percents_table(entry, pole),
+        ratios_table(entry, pole)
+    )
+}
+
+/// A swing ratio with three decimals, or 1.
+fn rounded_ratio(ratio: f64) -> String {
+    match ratio {
+        1.0 => "1".into(),
+        ratio => format!("{ratio:.3}"),
+    }
+}
+
+/// The curves of a chart: without the blend below, the table's above it.
+fn strokes(over: &[(f64, Left)]) -> Vec<(Vec<(f64, f64)>, Stroke)> {
+    let (plan, unblended) = wrong_pole::curves(over);
+    vec![(unblended, stroke::UNBLENDED), (plan, stroke::PLAN)]
+}
+
+/// The chart over the error of the half period.
+fn chart_of_half_period(entry: &Entry, pole: &WrongPole) -> Chart {
+    let over = pole.over_percents();
+    Chart {
+        title: format!("{}: sway left over the error of the half period", entry.title),
+        across: format!("true half period, above or below the entered {}", counted(pole.half_period())),
+        suffix: "%",
+        upward: format!("sway left, {}", entry.sway_name()),
+        range: (over[0].0, over[over.len() - 1].0),
+        curves: strokes(&over),
+    }
+}
+
+/// The chart over the error of the swing ratio.
+fn chart_of_damping(entry: &Entry, pole: &WrongPole) -> Chart {
+    let over = pole.over_ratios();
+    Chart {
+        title: format!("{}: sway left over the error of the damping", entry.title),
+        across: format!("true swing ratio, above or below the entered {}", rounded_ratio(pole.ratio())),
+        suffix: "",
+        upward: format!("sway left, {}", entry.sway_name()),
+        range: (over[0].0, over[over.len() - 1].0),
+        curves: strokes(&over),
+    }
+}
+
+/// A table of what is left at some errors: a line for the plan, and one without the blend.
+fn left_table(entry: &Entry, name: &str, errors: &[(String, Left)]) -> String {
+    let line = |what: String, of: &dyn Fn(&Left) -> Option<f64>| -> Vec<Cell> {
+        let numbers = errors.iter().map(|(_, left)| Cell::Number(of(left).map_or("–".into(), amount)));
+        std::iter::once(Cell::Words(what)).chain(numbers).collect()
+    };
+    let mut rows = vec![line(format!("this table, {}", entry.sway_name()), &|left| Some(left.plan))];
+    if entry.unblended.is_some() {
+        rows.push(line("without the blend".into(), &|left| left.unblended));
+    }
+    let headings: Vec<&str> = std::iter::once(name).chain(errors.iter().map(|(error, _)| error.as_str())).collect();
+    html::table(&headings, &rows)
+}
+
+/// What is left at some errors of the half period.
+fn percents_table(entry: &Entry, pole: &WrongPole) -> String {
+    let mut errors: Vec<(String, Left)> =
+        TOLD_PERCENTS.iter().map(|&percent| (format!("{}%", signed(percent)), pole.at_percent(percent))).collect();
+    errors.insert(TOLD_PERCENTS.len() / 2, ("0".into(), pole.left()));
+    left_table(entry, "half period", &errors)
+}
+
+/// What is left at some errors of the swing ratio.
+fn ratios_table(entry: &Entry, pole: &WrongPole) -> String {
+    let at = |error: f64| Some((signed(error), pole.at_ratio(error)?));
+    let (below, above) = TOLD_RATIOS.split_at(TOLD_RATIOS.len() / 2);
+    let entered = ("0".to_string(), pole.left());
+    let errors = below.iter().filter_map(|&error| at(error)).chain([entered]);
+    let errors: Vec<(String, Left)> = errors.chain(above.iter().filter_map(|&error| at(error))).collect();
+    left_table(entry, "swing ratio", &errors)
+}
+
+/// A number with its sign.
+fn signed(number: f64) -> String {
+    match number < 0.0 {
+        true => format!("−{}", -number),
+        false => format!("+{number}"),
+    }
+}

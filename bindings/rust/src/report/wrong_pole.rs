@@ -1,0 +1,131 @@
+//! How much sway is left on a pole whose half period or damping is not what was entered.
+
+use crate::picture::sway::{Point, Pole, Swing};
+
+/// The greatest error of the half period that is looked at, as a part of it.
+const HALF_PERIOD_ERROR: f64 = 0.3;
+
+/// The greatest error of the swing ratio that is looked at.
+const RATIO_ERROR: f64 = 0.3;
+
+/// The smallest swing ratio that is looked at.
+const LEAST_RATIO: f64 = 0.02;
+
+/// The points of a curve on each side of the entered value.
+const POINTS: i32 = 60;
+
+/// The errors of a half period that are told in numbers, in percent.
+pub const TOLD_PERCENTS: [f64; 10] = [-20.0, -10.0, -5.0, -2.0, -1.0, 1.0, 2.0, 5.0, 10.0, 20.0];
+
+/// The errors of a swing ratio that are told in numbers.
+pub const TOLD_RATIOS: [f64; 6] = [-0.2, -0.1, -0.05, 0.05, 0.1, 0.2];
+
+/// A swing of the pole under an axis as it was entered, and the accelerations of the axis with the blend and without.
+pub struct WrongPole<'a> {
+    swing: Swing,
+    plan: &'a [f64],
+    unblended: Option<&'a [f64]>,
+}
+
+/// What is left by the table, and by the same job without the blend.
+#[derive(Debug, Clone, Copy, PartialEq)]
+pub struct Left {
+    /// By the table.
+    pub plan: f64,
+    /// Without the blend, where such a job has a plan.
+    pub unblended: Option<f64>,
+}
+
+impl<'a> WrongPole<'a> {
+    /// A swing with accelerations.
+    pub fn new(swing: Swing, plan: &'a [f64], unblended: Option<&'a [f64]>) -> WrongPole<'a> {
+        WrongPole { swing, plan, unblended }
+    }
+
+    /// The half period that was entered.
+    pub fn half_period(&self) -> u32 {
+        self.swing.half_period
+    }
+
+    /// The swing ratio that was entered.
+    pub fn ratio(&self) -> f64 {
+        self.swing.ratio
+    }
+
+    /// What is left on the pole as it was entered.
+    pub fn left(&self) -> Left {
+        self.left_on(Pole::new(self.swing.half_period.into(), self.swing.ratio))
+    }
+
+    /// What is left where the true half period is greater by some percent than the entered one; each swing shrinks as entered.
+    pub fn at_percent(&self, percent: f64) -> Left {
+        let half_period = f64::from(self.swing.half_period) * (1.0 + percent / 100.0);
+        self.left_on(Pole::new(half_period, self.swing.ratio))
+    }
+
+    /// What is left where the true swing ratio is greater by an error than the entered one, or `None` where no pole has such a ratio.
+    pub fn at_ratio(&self, error: f64) -> Option<Left> {
+        let ratio = self.swing.ratio + error;
+        (LEAST_RATIO..=1.0 + 1e-12)
+            .contains(&ratio)
+            .then(|| self.left_on(Pole::new(self.swing.half_period.into(), ratio.min(1.0))))
+    }
+
+    fn left_on(&self, pole: Pole) -> Left {
+        Left { plan: pole.left(self.plan), unblended: self.unblended.map(|accelerations| pole.left(accelerations)) }
+    }
+
+    /// What is left over the errors of the half period, in percent.
+    pub fn over_percents(&self) -> Vec<(f64, Left)> {
+        let errors = (-POINTS..=POINTS).map(|point| 100.0 * HALF_PERIOD_ERROR * f64::from(point) / f64::from(POINTS));
+        errors.map(|percent| (percent, self.at_percent(percent))).collect()
+    }
+
+    /// What is left over the errors of the swing ratio that a pole can have.
+    pub fn over_ratios(&self) -> Vec<(f64, Left)> {
+        let errors = (-POINTS..=POINTS).map(|point| RATIO_ERROR * f64::from(point) / f64::from(POINTS));
+        errors.filter_map(|error| Some((error, self.at_ratio(error)?))).collect()
+    }
+}
+
+/// A curve of what is left by the table, and one of what is left without the blend.
+pub fn curves(over: &[(f64, Left)]) -> (Vec<Point>, Vec<Point>) {
+    let plan = over.iter().map(|&(error, left)| (error, left.plan)).collect();
+    let unblended = over.iter().filter_map(|&(error, left)| Some((error, left.unblended?))).collect();
+    (plan, unblended)
+}
+
+#[cfg(test)]
+mod tests {
+    use super::*;
+    /// Two equal pushes of one tick, half a period apart, leave 0 on the pole that they are made for. On an undamped pole whose half
+    /// period is H, a push of one tick leaves 2a/w² sin(w/2), and the two leave that times 2 |cos(w h/2)|, with w = π/H.
+    #[test]
+    fn errors_leave_what_the_formula_says() {
+        let mut pushes = [0.0; 30];
+        (pushes[0], pushes[12]) = (5.0, 5.0);
+        let mut once = [0.0; 30];
+        once[0] = 5.0;
+        let swing = Swing { half_period: 12, ratio: 1.0 };
+        let pole = WrongPole::new(swing, &pushes, Some(&once));
+        assert!(pole.left().plan < 1e-9);
+        for percent in [-30.0, -10.0, -1.0, 2.0, 25.0] {
+            let w = std::f64::consts::PI / (12.0 * (1.0 + percent / 100.0));
+            let of_one = 2.0 * 5.0 / (w * w) * (w / 2.0).sin();
+            let left = pole.at_percent(percent);
+            assert!((left.unblended.expect("the other motion") - of_one).abs() < 1e-9);
+            assert!((left.plan - of_one * 2.0 * (w * 6.0).cos().abs()).abs() < 1e-9, "{percent}");
+        }
+    }
+
+    /// Only ratios that a pole can have are looked at, on both sides where there are some.
+    #[test]
+    fn ratios_stay_within_those_of_poles() {
+        let rows = [1.0, -1.0, 0.0];
+        let pole = WrongPole::new(Swing { half_period: 5, ratio: 1.0 }, &rows, None);
+        assert_eq!((pole.at_ratio(0.01), pole.at_ratio(-0.99)), (None, None));
+        assert_eq!(pole.over_ratios().len(), 61);
+        let damped = WrongPole::new(Swing { half_period: 5, ratio: 0.5 }, &rows, None);
+        assert_eq!(damped.over_ratios().len(), 121);
+    }
+}
