@@ -1,7 +1,7 @@
 /*
  * Polgamir: motion tables for a head on a swaying pole.
  *
- * From a job (starts, targets, limits, the pole's half period and damping) a call writes a table of position, velocity and
+ * From a job (starts, targets, limits, the pole's half periods and damping) a call writes a table of position, velocity and
  * acceleration for each tick that lands exactly on the targets with the sway cancelled, or refuses with a number.
  *
  * Link with libpolgamir, for x86-64 Linux: in the repository `tools/library` writes target/lib/libpolgamir.a, and
@@ -82,8 +82,10 @@ uint32_t polgamir_version(void);
  * 12  Of damping as measured, also when h is 0: the first peak is not above zero, or the ratio is not a number above 0 and at most
  *     1; the place is the axis.
  *  5  h or B is outside its range, B also when h is 0; the place is the axis.
+ * 15  A second half period is outside its range; the place is the axis.
  *  6  Start or target velocity exceeds L in size, target acceleration exceeds M in size, target tick exceeds 4,096 in size, or a
  *     typed position is outside -17,179,869,184 to 17,179,869,183; the place is the axis.
+ * 16  The target accelerates on an axis with a second half period; the place is the axis.
  * 13  The window list is empty (place 0); there are more than 32 windows, or then the dwell is above 4,096 (place 32); then a
  *     window's closing is not above its opening, or it opens before the previous one closes (the place is the first such window).
  *  8  The asked arrival is not reachable for every axis, or fits no window; the mask names the axes for which it is not reachable,
@@ -94,7 +96,8 @@ uint32_t polgamir_version(void);
  *     the place is the number of stops.
  *
  * L is the speed limit, 1 to 1,048,576; M the acceleration limit, 1 to 65,536; h the half period, 0 to 256 ticks, 0 meaning no
- * blend; B the second weight, 1 to 128. A place that is an axis is the axis's number, 0 to 5.
+ * blend; B the second weight, 1 to 128; a second half period is 1 to 256 ticks, and none is no number. A place that is an axis is the
+ * axis's number, 0 to 5.
  */
 enum polgamir_number {
     POLGAMIR_ACCEPTED = 0,
@@ -106,7 +109,9 @@ enum polgamir_number {
     POLGAMIR_REFUSED_LIMITS = 4,
     POLGAMIR_REFUSED_DAMPING = 12,
     POLGAMIR_REFUSED_BLEND = 5,
+    POLGAMIR_REFUSED_SECOND_HALF_PERIOD = 15,
     POLGAMIR_REFUSED_START_OR_TARGET = 6,
+    POLGAMIR_REFUSED_ACCELERATION = 16,
     POLGAMIR_REFUSED_WINDOWS = 13,
     POLGAMIR_REFUSED_NOT_REACHABLE = 8,
     POLGAMIR_REFUSED_NO_COMMON_ARRIVAL = 9,
@@ -126,9 +131,11 @@ static inline const char *polgamir_refusal_text(uint32_t number)
     case POLGAMIR_REFUSED_LIMITS: return "the speed limit is not 1 to 1048576, or the acceleration limit is not 1 to 65536";
     case POLGAMIR_REFUSED_DAMPING: return "the first peak is not above zero, or the swing ratio is not a number above 0 and at most 1";
     case POLGAMIR_REFUSED_BLEND: return "the half period is not 0 to 256, or the second weight is not 1 to 128";
+    case POLGAMIR_REFUSED_SECOND_HALF_PERIOD: return "the second half period is not 1 to 256";
     case POLGAMIR_REFUSED_START_OR_TARGET:
         return "a velocity is above the speed limit, the target acceleration is above the acceleration limit, the target tick is "
                "more than 4096 ticks from tick 0, or a position is not -17179869184 to 17179869183";
+    case POLGAMIR_REFUSED_ACCELERATION: return "the target accelerates on an axis with a second half period";
     case POLGAMIR_REFUSED_WINDOWS: return "windows are lacking, more than 32, out of order or closed at once, or the dwell is above 4096";
     case POLGAMIR_REFUSED_NOT_REACHABLE: return "not every axis can arrive at the asked tick, or it fits no window";
     case POLGAMIR_REFUSED_NO_COMMON_ARRIVAL: return "no tick from 1 to 4096 suits every axis and fits a window where some are given";
@@ -157,7 +164,7 @@ typedef struct polgamir_answer {
  * velocity and acceleration at tick N. No velocity cell exceeds 256 * L in size and no acceleration cell 256 * M.
  *
  * After row N the head goes on with its target: uniformly where the target is fixed, with the acceleration of row N where it
- * moves. On a pole that swings as was entered the motion then leaves no sway but that of the cells' rounding.
+ * moves. On a pole that swings as was entered, at one rate or at two, the motion then leaves no sway but that of the cells' rounding.
  *
  * How long it is. A call with 0 cells writes nothing and returns refusal 10 with N, or the refusal that the job gets with any
  * table; 3 * axes * (N + 1) cells are then enough, and POLGAMIR_MOST_CELLS for every job.
@@ -168,12 +175,13 @@ typedef struct polgamir_answer {
  *
  * The top four bits of a word are its kind, the low 28 its payload. Kinds 3, 4, 9, 10, 11, 12, 14 carry two's complement payloads,
  * the others unsigned. In order: kind 1, axis mask; kind 2, 0 for the least arrival or 1 to 4,096 for an asked one; then for each
- * set mask bit, lowest first, kinds 3 start position, 4 start velocity, 5 L, 6 M, 7 h, 8 B, 9 target position, 10 target velocity,
- * and for a moving target also 11 acceleration and 12 tick; last kind 15 with payload 0.
+ * set mask bit, lowest first, kinds 3 start position, 4 start velocity, 5 L, 6 M, 7 h, 8 B, for a pole with a second sway 13 second
+ * half period, 9 target position, 10 target velocity, and for a moving target also 11 acceleration and 12 tick; last kind 15 with
+ * payload 0.
  *
  * A position that 28 bits do not hold has a word of kind 14 just before its word of kind 3 or 9: the payload of kind 14, -64 to 63,
  * times 2^28 plus the following payload read as unsigned is the position. A position that fits a single word has no word of kind 14.
- * The longest job has 75 words. Refusals, in checking order: 1, 2, 14, 3, 4, 5, 6, 8, 9 and 10.
+ * The longest job has 81 words, 324 bytes. Refusals, in checking order: 1, 2, 14, 3, 4, 5, 15, 6, 16, 8, 9 and 10.
  */
 polgamir_answer polgamir_plan_words(const uint32_t *words, size_t word_count, int64_t *table, size_t table_cells);
 
@@ -198,7 +206,10 @@ enum polgamir_damping_kind {
     POLGAMIR_PEAKS = 2
 };
 
-/* An axis. */
+/*
+ * An axis. A pole with a joint swings at two rates: the second swing is said by its half period alone and is taken as undamped. The
+ * arrival is then later than both half periods together, and the target does not accelerate.
+ */
 typedef struct polgamir_axis {
     int64_t start_position;
     int64_t start_velocity;
@@ -215,6 +226,8 @@ typedef struct polgamir_axis {
     float swing_ratio;
     float first_peak;
     float second_peak;
+    uint32_t second_sway_given;  /* 0 for a pole that swings at one rate: what follows is then not looked at */
+    uint32_t second_half_period; /* 1 to 256 */
 } polgamir_axis;
 
 /* A window of ticks. Arrival N fits it if opening <= N, N < closing and N + dwell <= closing. Windows may touch; they do not join. */
@@ -233,7 +246,7 @@ typedef struct polgamir_windows {
 
 /*
  * A job. `polgamir_job job = {0};` is a job with no axis and the least arrival, to be filled in. What is left at 0 in an axis of the
- * mask is a start or a target of 0 at rest, a fixed target and no blend; its limits and its damping have to be said.
+ * mask is a start or a target of 0 at rest, a fixed target, no blend and no second sway; its limits and its damping have to be said.
  */
 typedef struct polgamir_job {
     uint32_t mask;                     /* bit i is set where axis i takes part: 1 to 63 */
@@ -243,8 +256,8 @@ typedef struct polgamir_job {
 } polgamir_job;
 
 /*
- * Plans a job, and writes its table to the `table_cells` cells at `table`. Its refusals, in checking order, are 1, 3, 4, 12, 5, 6, 13,
- * 8, 9 and 10.
+ * Plans a job, and writes its table to the `table_cells` cells at `table`. Its refusals, in checking order, are 1, 3, 4, 12, 5, 15, 6,
+ * 16, 13, 8, 9 and 10.
  */
 polgamir_answer polgamir_plan_job(polgamir_job job, int64_t *table, size_t table_cells);
 
@@ -268,6 +281,8 @@ typedef struct polgamir_limits {
     float swing_ratio;
     float first_peak;
     float second_peak;
+    uint32_t second_sway_given;
+    uint32_t second_half_period;
 } polgamir_limits;
 
 /* What a tour has besides its stops. */
@@ -294,7 +309,7 @@ typedef struct polgamir_tour_answer {
  * rest at the stop, that seeks its least arrival. Writes each stop's arrival, counted from the tour's start, to the first entries
  * of the `list_entries` at `arrivals`; later entries stay. The total is the last arrival plus its dwell.
  *
- * Refusals, in checking order: 11; then leg after leg the first of 1, 4, 12, 5, 6 and 9 that its job gets, with that number, mask and
+ * Refusals, in checking order: 11; then leg after leg the first of 1, 4, 12, 5, 15, 6 and 9 that its job gets, with that number, mask and
  * arrival and with the stop as place, also where the number's own place is an axis; then 10. A refused tour writes nothing.
  * No stops: number 0 and total 0, and the answer's mask is 0; nothing else is read.
  *

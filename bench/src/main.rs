@@ -225,6 +225,8 @@ fn main() {
     let never = one(axis(1, 1, 0, 128, 100_000_000));
     let follow = Target::Moving { position: 0, velocity: 0, acceleration: 1, tick: 0 };
     let finer = one(Axis { target: follow, ..axis(10_000, 5, 40, 100, 0) });
+    let jointed = one(Axis { second: Some(15), ..axis(100, 1, 40, 128, 185_900) });
+    let wide_jointed = Job { axes: six().map(|axis| Axis { second: Some(15), ..axis }), ..wide };
 
     // The first second or two of a process run slower here, and are not counted.
     time([(&short, 60), (&long, 6_000)]);
@@ -237,6 +239,9 @@ fn main() {
     whole("one axis, long, asked arrival", &Job { asked: long_arrival, ..long });
     whole("six axes, asked arrival", &Job { asked: wide_arrival, ..wide });
     whole("one axis, long, finer grid, asked arrival", &Job { asked: long_arrival, ..finer });
+    let jointed_arrival = whole("one axis, long, second sway, least arrival", &jointed);
+    whole("one axis, long, second sway, asked arrival", &Job { asked: jointed_arrival, ..jointed });
+    let wide_jointed_arrival = whole("six axes, second sways, least arrival", &wide_jointed);
     println!();
     println!("| a tour | outcome | library, ns | plain Rust, ns | ratio |");
     println!("|---|---|---|---|---|");
@@ -249,4 +254,6 @@ fn main() {
     by_row("one axis, long", &long, long_arrival);
     by_row("six axes", &wide, wide_arrival);
     by_row("one axis, finer grid", &finer, long_arrival);
+    by_row("one axis, second sway", &jointed, jointed_arrival);
+    by_row("six axes, second sways", &wide_jointed, wide_jointed_arrival);
 }

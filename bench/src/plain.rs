@@ -1,7 +1,7 @@
 //! The planner in plain Rust, with the library's formulas and loops and none of its proofs: reach of an arrival from the
 //! areas under the envelopes, the least common arrival by axes that lead on from candidate to candidate, with sums that
-//! are carried from one to the next, cruise by halving steps over areas, rows by stepping a blended track an axis, each
-//! planned velocity by its region. Beside it the engine by ticks: every candidate is tried, and every sum is taken tick
+//! are carried from one to the next, cruise by halving steps over areas, rows by stepping a track an axis, blended once or,
+//! on a pole with a second sway, twice, each planned velocity by its region. Beside it the engine by ticks: every candidate is tried, and every sum is taken tick
 //! by tick.
 
 use std::ops::RangeInclusive;
@@ -27,19 +27,34 @@ struct Ends {
     leg: Leg,
 }
 
+/// The ticks from the landing to the arrival.
+fn delay_of(axis: &Axis) -> u32 {
+    axis.half_period + axis.second.unwrap_or(0)
+}
+
+/// The grid steps in a fine step.
+fn grid_of(axis: &Axis, acceleration: i64) -> i64 {
+    match axis.second {
+        Some(_) => 2,
+        None if acceleration != 0 && axis.half_period != 0 && weight_of(axis) != 128 => 256,
+        None => 1,
+    }
+}
+
 fn ends(axis: &Axis, arrival: u32) -> Ends {
     let (h, b) = (i64::from(axis.half_period), i64::from(weight_of(axis)));
-    let ticks = i64::from(arrival) - h;
+    let ticks = i64::from(arrival) - i64::from(delay_of(axis));
     let (p, v, a, t) = match axis.target {
         Target::Fixed { position, velocity } => (position, velocity, 0, i64::from(arrival)),
         Target::Moving { position, velocity, acceleration, tick } => (position, velocity, acceleration, tick),
     };
     let d = ticks - t;
-    let finer = if a != 0 && h != 0 && b != 128 { 256 } else { 1 };
+    let finer = grid_of(axis, a);
     let correction = 2 * b * h * h * (b - 128) * a;
     let target_velocity = v + a * d;
-    let first_position = finer * (512 * axis.start_position + 2 * b * h * axis.start_velocity);
-    let last_position = finer * (256 * (2 * p + 2 * v * d + a * d * d) + 2 * b * h * target_velocity) + correction;
+    let shift = 2 * b * h + 256 * i64::from(axis.second.unwrap_or(0));
+    let first_position = finer * (512 * axis.start_position + shift * axis.start_velocity);
+    let last_position = finer * (256 * (2 * p + 2 * v * d + a * d * d) + shift * target_velocity) + correction;
     let (first, last) = (finer * 256 * axis.start_velocity, finer * (256 * target_velocity + b * h * a));
     let leg = Leg {
         limit: finer * 256 * i64::from(axis.speed_limit),
@@ -212,11 +227,12 @@ impl Leg {
 }
 
 fn reaches(engine: Engine, axis: &Axis, arrival: u32) -> bool {
-    if arrival <= axis.half_period {
+    let delay = delay_of(axis);
+    if arrival <= delay {
         return false;
     }
     let Ends { change_after, leg, .. } = ends(axis, arrival);
-    (leg.last + change_after * i64::from(axis.half_period)).abs() <= leg.limit && leg.has_list(engine)
+    (leg.last + change_after * i64::from(delay)).abs() <= leg.limit && leg.has_list(engine)
 }
 
 /// The least arrival from n to the last that the axis reaches, or one past the last.
@@ -224,16 +240,17 @@ fn next_reached(axis: &Axis, n: u32, last: u32) -> u32 {
     if axis.target.acceleration() != 0 {
         return (n..=last).find(|&k| reaches(Engine::Areas, axis, k)).unwrap_or(last + 1);
     }
-    let first = n.max(axis.half_period + 1);
+    let delay = delay_of(axis);
+    let first = n.max(delay + 1);
     if first > last {
         return last + 1;
     }
     let drift = match axis.target {
         Target::Fixed { .. } => 0,
-        Target::Moving { velocity, .. } => 256 * velocity,
+        Target::Moving { velocity, .. } => grid_of(axis, 0) * 256 * velocity,
     };
-    let latest = i64::from(last - axis.half_period);
-    ends(axis, first).leg.next_with_list(drift, latest) as u32 + axis.half_period
+    let latest = i64::from(last - delay);
+    ends(axis, first).leg.next_with_list(drift, latest) as u32 + delay
 }
 
 /// The least common arrival in the ticks of a span: in each turn every axis leads on from the candidate so far to the next
@@ -280,7 +297,9 @@ struct Track {
     ticks: i64,
     change_after: i64,
     half_period: i64,
-    /// The weights of the blend, times the steps of 1/65,536 unit in a grid step.
+    /// The second half period, where the blend is applied once more.
+    second: Option<i64>,
+    /// The weights of the blend, so scaled that all of them together are 65,536 by the grid steps in a fine step.
     first_weight: i64,
     second_weight: i64,
     /// The blended position, in half 1/65,536 of a fine step, and the blended velocity at the row's tick.
@@ -303,11 +322,14 @@ impl Track {
         let cruise = leg.cruise(engine);
         let raised = leg.sum - leg.sum_by(engine, cruise);
         let half_period = i64::from(axis.half_period);
-        let scale = 256 / finer;
+        let second = axis.second.map(i64::from);
+        let blends = if second.is_some() { 2 } else { 1 };
+        let scale = 256 / finer / blends;
         let second_weight = scale * i64::from(weight_of(axis));
         let first_weight = scale * 256 - second_weight;
-        let position = scale * 256 * first_position - 2 * second_weight * half_period * leg.first;
-        let velocity = scale * 256 * leg.first;
+        let lag = blends * second_weight * half_period + scale * 256 * second.unwrap_or(0);
+        let position = blends * scale * 256 * first_position - 2 * lag * leg.first;
+        let velocity = blends * scale * 256 * leg.first;
         let Ramps { rise, up, fall, down } = leg.ramps(cruise);
         let Leg { first, last, ticks, .. } = leg;
         Track {
@@ -322,6 +344,7 @@ impl Track {
             ticks,
             change_after,
             half_period,
+            second,
             first_weight,
             second_weight,
             position,
@@ -344,18 +367,26 @@ impl Track {
         }
     }
 
-    /// The planned velocity a half period before a tick.
-    fn behind(&self, tick: i64) -> i64 {
-        if tick < self.half_period {
+    /// The planned velocity some ticks before a tick.
+    fn behind(&self, delay: i64, tick: i64) -> i64 {
+        if tick < delay {
             return self.first;
         }
-        self.planned(tick - self.half_period)
+        self.planned(tick - delay)
+    }
+
+    /// The blend some ticks before a tick.
+    fn blended(&self, delay: i64, tick: i64) -> i64 {
+        self.first_weight * self.behind(delay, tick) + self.second_weight * self.behind(delay + self.half_period, tick)
     }
 
     /// The three cells of the row at a tick, after which the track stands one tick on.
     fn row(&mut self, tick: i64) -> [i64; 3] {
-        let ahead = self.planned(tick + 1);
-        let next = self.first_weight * ahead + self.second_weight * self.behind(tick + 1);
+        let once = self.blended(0, tick + 1);
+        let next = match self.second {
+            None => once,
+            Some(delay) => once + self.blended(delay, tick + 1),
+        };
         let cells =
             [nearest(self.position, 131_072), nearest(self.velocity, 65_536), nearest(next - self.velocity, 65_536)];
         self.position += self.velocity + next;
@@ -368,15 +399,17 @@ fn refusal(number: u32, mask: u32, arrival: u32) -> Answer {
     Answer { number, place: 0, mask, arrival }
 }
 
-/// Refusals 3 to 6 and 12 are tested as the library tests them, and 13 where windows are brought; the jobs that are timed pass.
+/// Refusals 3 to 6, 12, 15 and 16 are tested as the library tests them, and 13 where windows are brought; the jobs that are timed pass.
 fn passes(job: &Job) -> bool {
     job.asked <= LATEST
         && job
             .set()
             .all(|(_, x)| (1..=1 << 20).contains(&x.speed_limit) && (1..=1 << 16).contains(&x.acceleration_limit))
         && job.set().all(|(_, x)| x.half_period <= 256 && (1..=128).contains(&weight_of(x)))
+        && job.set().all(|(_, x)| x.second.map_or(true, |second| (1..=256).contains(&second)))
         && job.set().all(|(_, x)| x.start_velocity.unsigned_abs() <= u64::from(x.speed_limit))
         && job.set().all(|(_, x)| x.target.velocity().unsigned_abs() <= u64::from(x.speed_limit))
+        && job.set().all(|(_, x)| x.second.is_none() || x.target.acceleration() == 0)
         && job.windows.as_ref().map_or(true, |windows| windows.refused().is_none())
 }
 

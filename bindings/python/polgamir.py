@@ -83,7 +83,9 @@ class Number(enum.IntEnum):
     REFUSED_LIMITS = 4
     REFUSED_DAMPING = 12
     REFUSED_BLEND = 5
+    REFUSED_SECOND_HALF_PERIOD = 15
     REFUSED_START_OR_TARGET = 6
+    REFUSED_ACCELERATION = 16
     REFUSED_WINDOWS = 13
     REFUSED_NOT_REACHABLE = 8
     REFUSED_NO_COMMON_ARRIVAL = 9
@@ -100,10 +102,12 @@ _TEXTS: Dict[int, str] = {
     Number.REFUSED_LIMITS: "the speed limit is not 1 to 1048576, or the acceleration limit is not 1 to 65536",
     Number.REFUSED_DAMPING: "the first peak is not above zero, or the swing ratio is not a number above 0 and at most 1",
     Number.REFUSED_BLEND: "the half period is not 0 to 256, or the second weight is not 1 to 128",
+    Number.REFUSED_SECOND_HALF_PERIOD: "the second half period is not 1 to 256",
     Number.REFUSED_START_OR_TARGET: (
         "a velocity is above the speed limit, the target acceleration is above the acceleration limit, the target tick is "
         "more than 4096 ticks from tick 0, or a position is not -17179869184 to 17179869183"
     ),
+    Number.REFUSED_ACCELERATION: "the target accelerates on an axis with a second half period",
     Number.REFUSED_WINDOWS: "windows are lacking, more than 32, out of order or closed at once, or the dwell is above 4096",
     Number.REFUSED_NOT_REACHABLE: "not every axis can arrive at the asked tick, or it fits no window",
     Number.REFUSED_NO_COMMON_ARRIVAL: "no tick from 1 to 4096 suits every axis and fits a window where some are given",
@@ -221,6 +225,8 @@ class Axis:
     """Half the period of the pole's sway, 0 to 256 ticks; 0 plans without a blend."""
     damping: Damping
     target: Target
+    second_half_period: Optional[int] = None
+    """Half the period of a second sway, 1 to 256 ticks, where the pole has one."""
 
 
 @dataclass(frozen=True)
@@ -387,6 +393,7 @@ class TourAxis:
     acceleration_limit: int
     half_period: int
     damping: Damping
+    second_half_period: Optional[int] = None
 
 
 @dataclass(frozen=True)
@@ -435,7 +442,7 @@ class Tour:
             start = self.stops[index - 1].positions[number] if index else axis.start
             target = Fixed(self.stops[index].positions[number])
             limits = (axis.speed_limit, axis.acceleration_limit, axis.half_period, axis.damping)
-            axes[number] = Axis(RestPoint(start), *limits, target)
+            axes[number] = Axis(RestPoint(start), *limits, target, axis.second_half_period)
         return Job(axes)
 
 
@@ -468,6 +475,8 @@ class _Axis(ctypes.Structure):
         ("swing_ratio", ctypes.c_float),
         ("first_peak", ctypes.c_float),
         ("second_peak", ctypes.c_float),
+        ("second_sway_given", ctypes.c_uint32),
+        ("second_half_period", ctypes.c_uint32),
     ]
 
 
@@ -507,6 +516,8 @@ class _Limits(ctypes.Structure):
         ("swing_ratio", ctypes.c_float),
         ("first_peak", ctypes.c_float),
         ("second_peak", ctypes.c_float),
+        ("second_sway_given", ctypes.c_uint32),
+        ("second_half_period", ctypes.c_uint32),
     ]
 
 
@@ -655,6 +666,9 @@ def _set_limits(fields: Union[_Axis, _Limits], axis: Union[Axis, TourAxis]) -> N
     fields.acceleration_limit = _unsigned(axis.acceleration_limit, "acceleration_limit")
     fields.half_period = _unsigned(axis.half_period, "half_period")
     _set_damping(fields, axis.damping)
+    if axis.second_half_period is not None:
+        fields.second_sway_given = 1
+        fields.second_half_period = _unsigned(axis.second_half_period, "second_half_period")
 
 
 def _set_axis(fields: _Axis, axis: Axis) -> None:

@@ -1,6 +1,6 @@
 /*
- * Plans a job of two axes and walks the rows of its table, then shows a refusal, an arrival in a window, the same calls from job words,
- * and a tour of two stops.
+ * Plans a job of two axes and walks the rows of its table, then shows a refusal, an arrival in a window, one on a pole with a joint, the
+ * same calls from job words, and a tour of two stops.
  *
  *     make -C examples/c run
  */
@@ -86,6 +86,13 @@ int main(void)
     job.windows = (polgamir_windows){.given = 1, .dwell = 2, .count = 2, .list = {{0, 9}, {10, 14}}};
     answer = polgamir_plan_job(job, table, CELLS);
     printf("in a window: arrival %" PRIu32 "\n", answer.arrival);
+
+    /* Axis 0 alone, on a pole that has also a joint above which it swings over in 2 ticks. */
+    job = (polgamir_job){.mask = 1u << 0, .axes = {job.axes[0]}};
+    job.axes[0].second_sway_given = 1;
+    job.axes[0].second_half_period = 2;
+    printf("on a pole with a joint: ");
+    show(polgamir_plan_job(job, table, CELLS), table);
 
     /* One axis from words: from rest at 0 to rest at 1, asked to arrive at tick 4. */
     static const uint32_t words[] = {

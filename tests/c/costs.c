@@ -110,6 +110,14 @@ static polgamir_axis to(int64_t position, uint32_t speed_limit, uint32_t acceler
     return axis;
 }
 
+/* The same on a pole with a second half period. */
+static polgamir_axis jointed(polgamir_axis axis, uint32_t second_half_period)
+{
+    axis.second_sway_given = 1;
+    axis.second_half_period = second_half_period;
+    return axis;
+}
+
 /* An axis to a target that accelerates, on a damped pole for one axis and on an undamped one for the next. */
 static polgamir_axis accelerating(unsigned i, int64_t position)
 {
@@ -133,6 +141,9 @@ static void as_words(void)
         words[word_count++] = 0x60000000 | job.axes[i].acceleration_limit;
         words[word_count++] = 0x70000000 | job.axes[i].half_period;
         words[word_count++] = 0x80000000 | job.axes[i].second_weight;
+        if (job.axes[i].second_sway_given != 0) {
+            words[word_count++] = 0xD0000000 | job.axes[i].second_half_period;
+        }
         words[word_count++] = 0x90000000 | (uint32_t)job.axes[i].target_position;
         words[word_count++] = 0xA0000000;
     }
@@ -163,11 +174,13 @@ static size_t run(void)
     both("a short table", 0, to(56, 10, 1, 4), 0);
     both("a late arrival", 0, to(2950000, 1000, 1, 40), 0);
     both("the largest table", 4096, to(70, 1048576, 1, 256), 0);
+    both("the largest table on poles with a joint", 4096, jointed(to(70, 1048576, 1, 256), 256), 0);
     both("an arrival too soon", 9, to(2950000, 1000, 1, 40), 8);
     both("an asked arrival out of reach", 4096, to(134217000, 32768, 1, 0), 8);
     both("a bad limit", 0, to(56, 0, 1, 4), 4);
     both("out of reach at a low speed", 0, to(100000000, 1, 1, 0), 9);
     both("out of reach at a high speed", 0, to(134217000, 32000, 1, 0), 9);
+    both("out of reach on poles with a joint", 0, jointed(to(134217000, 32000, 1, 0), 1), 9);
     for (unsigned i = 0; i < POLGAMIR_AXES - 1; i++) {
         job.axes[i] = to(0, 1048576, 65536, 0);
     }
@@ -196,6 +209,8 @@ static size_t run_tour(void)
     tour.mask = 63;
     for (unsigned i = 0; i < POLGAMIR_AXES; i++) {
         tour.limits[i] = (polgamir_limits){.speed_limit = 10, .acceleration_limit = 1, .half_period = 4, .second_weight = 128};
+        tour.limits[i].second_sway_given = i % 2;
+        tour.limits[i].second_half_period = 3;
         for (unsigned j = 0; j < POLGAMIR_MOST_STOPS; j++) {
             stops[j].positions[i] = j % 2 == 0 ? 56 + i : 0;
         }

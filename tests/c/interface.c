@@ -33,12 +33,14 @@ AT(polgamir_axis, second_weight, 68);
 AT(polgamir_axis, swing_ratio, 72);
 AT(polgamir_axis, first_peak, 76);
 AT(polgamir_axis, second_peak, 80);
-_Static_assert(sizeof(polgamir_axis) == 88, "polgamir_axis");
+AT(polgamir_axis, second_sway_given, 84);
+AT(polgamir_axis, second_half_period, 88);
+_Static_assert(sizeof(polgamir_axis) == 96, "polgamir_axis");
 AT(polgamir_job, mask, 0);
 AT(polgamir_job, asked, 4);
 AT(polgamir_job, axes, 8);
-AT(polgamir_job, windows, 536);
-_Static_assert(sizeof(polgamir_job) == 808, "polgamir_job");
+AT(polgamir_job, windows, 584);
+_Static_assert(sizeof(polgamir_job) == 856, "polgamir_job");
 AT(polgamir_windows, given, 0);
 AT(polgamir_windows, dwell, 4);
 AT(polgamir_windows, count, 8);
@@ -58,11 +60,13 @@ AT(polgamir_limits, second_weight, 16);
 AT(polgamir_limits, swing_ratio, 20);
 AT(polgamir_limits, first_peak, 24);
 AT(polgamir_limits, second_peak, 28);
-_Static_assert(sizeof(polgamir_limits) == 32, "polgamir_limits");
+AT(polgamir_limits, second_sway_given, 32);
+AT(polgamir_limits, second_half_period, 36);
+_Static_assert(sizeof(polgamir_limits) == 40, "polgamir_limits");
 AT(polgamir_tour, mask, 0);
 AT(polgamir_tour, start, 8);
 AT(polgamir_tour, limits, 56);
-_Static_assert(sizeof(polgamir_tour) == 248, "polgamir_tour");
+_Static_assert(sizeof(polgamir_tour) == 296, "polgamir_tour");
 AT(polgamir_tour_answer, number, 0);
 AT(polgamir_tour_answer, mask, 4);
 AT(polgamir_tour_answer, place, 8);
@@ -122,7 +126,7 @@ static polgamir_job distinct(unsigned axis)
 /* The job is refused with this number, for this axis where the number names one. */
 static void refused(const char *what, unsigned axis, polgamir_job job, uint32_t number)
 {
-    bool names_axis = (number >= 4 && number <= 6) || number == 12;
+    bool names_axis = (number >= 4 && number <= 6) || number == 12 || number == 15 || number == 16;
     uint32_t mask = number == 8 ? 1u << axis : 0;
     memset(table, 0x55, sizeof table);
     expect(is(polgamir_plan_job(job, table, CELLS), number, names_axis ? axis : number == 3, mask), what, axis);
@@ -245,6 +249,51 @@ static void reads_the_damping(unsigned axis)
     }
 }
 
+/* A second half period is read where it is given, by any number but 0, and nowhere else; start and target stay exact. */
+static void reads_the_second_sway(unsigned axis)
+{
+    polgamir_job job = distinct(axis);
+    job.axes[axis].second_half_period = 257;
+    expect(accepted(job), "a second half period that is not given is not looked at", axis);
+    job.axes[axis].second_sway_given = UINT32_MAX;
+    refused("second_half_period = 257", axis, job, 15);
+    job.axes[axis].second_half_period = 0;
+    refused("second_half_period = 0", axis, job, 15);
+    job.axes[axis].second_half_period = 13;
+    expect(accepted(job) && table[0] == 256 * -701 && table[1] == 256 * 11, "the start of a second sway", axis);
+    expect(table[3 * 300] == 256 * (902 - 13 * 13) && table[3 * 300 + 1] == 256 * -13, "the landing of a second sway", axis);
+    job.asked = 30; /* both half periods: an arrival is later */
+    refused("asked = half_period + second_half_period", axis, job, 8);
+    job.axes[axis].target_acceleration = 1;
+    refused("an accelerating target on a second sway", axis, job, 16);
+
+    polgamir_job small = {.mask = 1u << axis};
+    small.axes[axis] = (polgamir_axis){
+        .target_position = 1, .speed_limit = 10, .acceleration_limit = 1, .half_period = 1, .second_weight = 100,
+        .second_sway_given = 1, .second_half_period = 2,
+    };
+    static const int64_t rows[] = {0, 0, 78, 39, 78, -28, 103, 50, 28, 167, 78, -28, 231, 50, -50, 256, 0, 0};
+    polgamir_answer answer = polgamir_plan_job(small, table, CELLS);
+    expect(is(answer, 0, 0, 1u << axis) && answer.arrival == 5, "the arrival of a second sway", axis);
+    expect(memcmp(table, rows, sizeof rows) == 0, "the rows of a second sway", axis);
+}
+
+/* The word of kind 13 stands after that of kind 8: its rows are those of the typed call, and a payload of 0 is refused. */
+static void reads_words_of_kind_13(void)
+{
+    uint32_t words[] = {
+        0x10000001, 0x20000000, 0x30000000, 0x40000000, 0x5000000A, 0x60000001,
+        0x70000001, 0x80000064, 0xD0000002, 0x90000001, 0xA0000000, 0xF0000000,
+    };
+    polgamir_answer answer = polgamir_plan_words(words, sizeof words / sizeof words[0], table, CELLS);
+    expect(is(answer, 0, 0, 1) && answer.arrival == 5 && table[3] == 39, "a word of kind 13", 0);
+    words[8] = 0xD0000000;
+    expect(is(polgamir_plan_words(words, sizeof words / sizeof words[0], table, CELLS), 15, 0, 0), "kind 13 with payload 0", 0);
+    words[7] = 0xD0000002;
+    words[8] = 0x80000064;
+    expect(is(polgamir_plan_words(words, sizeof words / sizeof words[0], table, CELLS), 2, 7, 0), "kind 13 before kind 8", 0);
+}
+
 /* A null pointer with count 0: no words, no cells, and neither. */
 static void takes_null(void)
 {
@@ -295,7 +344,7 @@ static void reads_long_positions(void)
 /* Every number has a text of its own; 7 is not used, and has that of a number above the last. */
 static void has_texts(void)
 {
-    const uint32_t above = POLGAMIR_REFUSED_LONG_POSITION + 1;
+    const uint32_t above = POLGAMIR_REFUSED_ACCELERATION + 1;
     for (uint32_t number = 0; number <= above; number++) {
         for (uint32_t other = 0; other < number; other++) {
             bool unused = other == 7 && number == above;
@@ -336,6 +385,15 @@ static void tours(unsigned axis)
     tour.limits[axis].second_peak = 31;
     answer = polgamir_plan_tour(tour, stops, 1, list, 3);
     expect(answer.number == 0 && list[0] == 2, "peaks of a tour", axis);
+    tour.limits[axis].second_half_period = 3;
+    answer = polgamir_plan_tour(tour, stops, 1, list, 3);
+    expect(answer.number == 0 && list[0] == 2, "a tour's second half period that is not given", axis);
+    tour.limits[axis].second_sway_given = 1;
+    answer = polgamir_plan_tour(tour, stops, 1, list, 3);
+    expect(answer.number == 0 && list[0] == 5, "a tour's second half period", axis);
+    tour.limits[axis].second_half_period = 0;
+    answer = polgamir_plan_tour(tour, stops, 1, list, 3);
+    expect(answer.number == 15 && answer.place == 0, "a tour's second half period of 0", axis);
     answer = polgamir_plan_tour(tour, NULL, 0, NULL, 0);
     expect(answer.number == 0 && answer.mask == 0 && answer.total == 0, "a tour of no stops", axis);
 }
@@ -370,9 +428,11 @@ int main(void)
         tours(axis);
         windows(axis);
         reads_the_damping(axis);
+        reads_the_second_sway(axis);
     }
     takes_null();
     reads_long_positions();
+    reads_words_of_kind_13();
     has_texts();
     return failures == 0 ? 0 : 1;
 }

@@ -19,6 +19,7 @@ import cases
 from builders import UNSET, outcome
 from damping import Peaks, Ratio
 from reference import Answer, Axis, Windows
+from swaycases import words_cases
 from tourcases import TourCase, drawn_tours, tours
 from windowcases import drawn_windows, windows
 
@@ -55,25 +56,31 @@ def expected(case) -> Expected:
     return Expected(case, Outcome(answer, sum_of(buffer)), buffer)
 
 
+def rows_listed(answer: Answer) -> List[int]:
+    """The indices of some cells of a table: all of a small one, else those of
+    row 1, of a row in the middle and of the last row, for the first axis and
+    for the last."""
+    width = 3 * bin(answer.mask).count('1')
+    need = width * (answer.arrival + 1)
+    if need <= 18:
+        return list(range(need))
+    indices = []
+    for row in (1, answer.arrival // 2, answer.arrival):
+        ends = {row * width, row * width + width - 3}
+        indices += [first + k for first in sorted(ends) for k in range(3)]
+    return indices
+
+
 def listed(e: Expected) -> List[int]:
-    """The indices of the cells that a case lists: all of a small table, else
-    those of row 1, of a row in the middle and of the last row, for the first
-    axis and for the last; and the first cell after the table."""
+    """The indices of the cells that a case lists, and of the first cell after
+    the table."""
     answer = e.outcome.answer
     if isinstance(e.case, TourCase):
         return tour_listed(len(e.case.lent) + 1)
     if answer.number != 0:
         return []
-    width = 3 * bin(answer.mask).count('1')
-    need = width * (answer.arrival + 1)
-    if need <= 18:
-        indices = list(range(need))
-    else:
-        indices = []
-        for row in (1, answer.arrival // 2, answer.arrival):
-            ends = {row * width, row * width + width - 3}
-            indices += [first + k for first in sorted(ends) for k in range(3)]
-    return indices + [need] * (need < BUFFER)
+    need = 3 * bin(answer.mask).count('1') * (answer.arrival + 1)
+    return rows_listed(answer) + [need] * (need < BUFFER)
 
 
 def tour_listed(need: int) -> List[int]:
@@ -106,6 +113,7 @@ def weight_text(weight) -> str:
 
 
 def axis_line(axis: Axis) -> str:
+    assert axis.second_half_period is None, 'the program reads second half periods by words only'
     target = axis.target
     return ' axis %d %d limits %d %d pole %d %s target %d: %s' % (
         *axis.start, axis.speed_limit, axis.acceleration_limit, axis.half_period,
@@ -116,6 +124,7 @@ def tour_lines(case: TourCase) -> List[str]:
     """A tour: its mask, its six axes and its stops. It is lent a cell more than
     its list, for the total."""
     stops = case.tour.stops
+    assert not any(axis.second_half_period for axis in case.tour.axes), 'nor in a tour'
     axes = [' axis %d limits %d %d pole %d %s' % (*axis[:4], weight_text(axis[4])) for axis in case.tour.axes]
     return (['"%s" lent %d route mask %d' % (case.name, len(case.lent) + 1, case.tour.mask)] + axes
             + [' visits %d' % len(stops)]
@@ -251,7 +260,7 @@ def main(words: List[str]) -> int:
     if words[:1] == ['--drawn'] and len(words) == 4:
         write(words[3], texts(drawn_groups(int(words[1]), int(words[2]))))
         return 0
-    pair = texts(cases.groups() + [windows(), drawn_windows()] + tour_groups(), wrong_on_purpose())
+    pair = texts(cases.groups() + [words_cases(), windows(), drawn_windows()] + tour_groups(), wrong_on_purpose())
     if words == ['--check']:
         same = is_stored(CRATE, pair)
         print('as stored' if same else 'not as stored')

@@ -68,12 +68,13 @@ def layouts() -> List[Case]:
     return cases
 
 
-def longest() -> List[Case]:
-    """The longest job: six moving axes, all positions past a word."""
+def six_moving() -> List[Case]:
+    """Six moving axes, all positions past a word."""
     six = [along(axis(target=(bit, 1, 0, bit)), (-1) ** bit * (PAST + 9 * bit)) for bit in range(6)]
     words = words_of(six)
-    return [by_words('the longest job', words, lent=8192), by_words('the longest job, the end lacking', words[:-1]),
-            by_words('the longest job, a word left over', words + [0])]
+    return [by_words('six moving axes past a word', words, lent=8192),
+            by_words('six moving axes past a word, the end lacking', words[:-1]),
+            by_words('six moving axes past a word, a word left over', words + [0])]
 
 
 # --- Tables ----------------------------------------------------------------
@@ -126,7 +127,7 @@ def out_of_range() -> List[Case]:
 
 
 def rails() -> Group:
-    return Group('rails', 'Positions past 28 bits.', payloads() + layouts() + longest() + tables() + out_of_range())
+    return Group('rails', 'Positions past 28 bits.', payloads() + layouts() + six_moving() + tables() + out_of_range())
 
 
 # --- Random ones -----------------------------------------------------------

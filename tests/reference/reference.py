@@ -9,8 +9,8 @@ follows. Damping as measured is in `damping.py`, a tour of stops in `tour.py`.
     python3 reference.py --selftest  the paper's cases, and checks by definition
 
 Units: a fine step is 1/256 unit. An axis is planned on a grid of its own, of
-1/256 or 1/65,536 unit: planned positions are counted in half grid steps, planned
-velocities and accelerations in grid steps (rule 1).
+1/256, 1/512 or 1/65,536 unit: planned positions are counted in half grid steps,
+planned velocities and accelerations in grid steps (rule 1).
 """
 
 import sys
@@ -51,6 +51,7 @@ class Axis(NamedTuple):
     half_period: int            # h
     second_weight: Union[int, Damping]  # B, or by typed values what was measured
     target: Union[RestPoint, State]
+    second_half_period: Optional[int] = None    # h2 (request 2.9); none is no number
 
 
 class Windows(NamedTuple):
@@ -99,14 +100,25 @@ def is_corrected(axis: Axis) -> bool:
             and axis.second_weight != 128)
 
 
+def second_delay(axis: Axis) -> int:
+    """h2, or 0 where the axis has no second half period (request 2.9)."""
+    return axis.second_half_period or 0
+
+
+def delay(axis: Axis) -> int:
+    return axis.half_period + second_delay(axis)
+
+
 def finer(axis: Axis) -> int:
     """The grid steps in a fine step."""
+    if axis.second_half_period is not None:
+        return 512 // FINE
     return 65536 // FINE if is_corrected(axis) else 1
 
 
 class Ends(NamedTuple):
     """Where the planned motion starts and lands, for one arrival N."""
-    ticks: int                  # T = N - h
+    ticks: int                  # T = N - h, or N - h - h2
     start_position: int
     start_velocity: int
     end_position: int
@@ -117,17 +129,22 @@ class Ends(NamedTuple):
 
 
 def planned_ends(axis: Axis, arrival: int) -> Ends:
-    """Rules 2 and 3, carried over to the axis's grid, and the gain of 2.6."""
+    """Rules 2 and 3, carried over to the axis's grid, and the gain of 2.6.
+
+    Start and target are shifted by velocity x (Bh/256 + h2/2); `shift` is that
+    factor in fine steps (request 2.9). With h2 there is no acceleration.
+    """
     h, b, f = axis.half_period, axis.second_weight, finer(axis)
-    ticks = arrival - h
+    ticks = arrival - delay(axis)
     a = acceleration_of(axis.target)
     twice_y, y_velocity = target_at(axis, ticks, arrival)
     gain = 2 * b * h * h * (b - 128) * a if is_corrected(axis) else 0
+    shift = b * h + 128 * second_delay(axis)
     return Ends(
         ticks=ticks,
-        start_position=f * (512 * axis.start.position + 2 * b * h * axis.start.velocity),
+        start_position=f * (512 * axis.start.position + 2 * shift * axis.start.velocity),
         start_velocity=f * 256 * axis.start.velocity,
-        end_position=f * (256 * twice_y + 2 * b * h * y_velocity) + gain,
+        end_position=f * (256 * twice_y + 2 * shift * y_velocity) + gain,
         end_velocity=f * (256 * y_velocity + b * h * a),
         end_acceleration=f * 256 * a,
         limit=f * 256 * axis.speed_limit,
@@ -180,10 +197,10 @@ def list_exists(start: int, end: int, limit: int, step: int, ticks: int,
 
 def reachable(axis: Axis, arrival: int) -> bool:
     """Rule 4."""
-    if arrival <= axis.half_period:
+    if arrival <= delay(axis):
         return False
     e = planned_ends(axis, arrival)
-    at_arrival = e.end_velocity + e.end_acceleration * axis.half_period
+    at_arrival = e.end_velocity + e.end_acceleration * delay(axis)
     if abs(e.end_velocity) > e.limit or abs(at_arrival) > e.limit:
         return False
     return list_exists(e.start_velocity, e.end_velocity, e.limit, e.step, e.ticks,
@@ -258,12 +275,27 @@ def plan_axis(axis: Axis, arrival: int) -> Planned:
     return Planned(e, velocities, positions)
 
 
-def blended(axis: Axis, planned: Planned, k: int) -> Tuple[int, int, int]:
-    """The exact blends at tick k, each times 256: half grid steps for the
-    position, grid steps for velocity and acceleration."""
+def blended_once(axis: Axis, planned: Planned, k: int) -> Tuple[int, int, int]:
+    """The blend by the half period and its weights, times 256."""
     b = axis.second_weight
     first, second = planned.at(k), planned.at(k - axis.half_period)
     return tuple((FINE - b) * x + b * y for x, y in zip(first, second))
+
+
+def weights(axis: Axis) -> int:
+    """The sum of all weights of the blend, or of both blends."""
+    return FINE if axis.second_half_period is None else 2 * FINE
+
+
+def blended(axis: Axis, planned: Planned, k: int) -> Tuple[int, int, int]:
+    """The exact blends at tick k, each times the sum of the weights: half grid
+    steps for the position, grid steps for velocity and acceleration. A second
+    half period blends once more, with equal weights (request 2.9)."""
+    once = blended_once(axis, planned, k)
+    if axis.second_half_period is None:
+        return once
+    again = blended_once(axis, planned, k - axis.second_half_period)
+    return tuple(x + y for x, y in zip(once, again))
 
 
 def nearest(numerator: int, denominator: int) -> int:
@@ -275,7 +307,7 @@ def nearest(numerator: int, denominator: int) -> int:
 def row_cells(axis: Axis, planned: Planned, k: int) -> List[int]:
     """The blends in fine steps, rounded once."""
     position, velocity, acceleration = blended(axis, planned, k)
-    divisor = FINE * finer(axis)
+    divisor = weights(axis) * finer(axis)
     return [nearest(position, 2 * divisor), nearest(velocity, divisor),
             nearest(acceleration, divisor)]
 
@@ -357,10 +389,11 @@ class Reader:
     def axis(self) -> Axis:
         start = RestPoint(self.position(3), self.take(4))
         speed, acceleration, half, weight = (self.take(kind) for kind in range(5, 9))
+        second = self.take(13) if self.next_is(13) else None
         target = RestPoint(self.position(9), self.take(10))
         if self.next_is(11):
             target = State(*target, self.take(11), self.take(12))
-        return Axis(start, speed, acceleration, half, weight, target)
+        return Axis(start, speed, acceleration, half, weight, target, second)
 
     def end(self) -> None:
         if self.next_is(15) and payload_of(self.words[self.index]) != 0:
@@ -399,8 +432,9 @@ def position_words(kind: int, position: int) -> List[int]:
 
 def axis_words(axis: Axis) -> List[int]:
     pole = [axis.speed_limit, axis.acceleration_limit, axis.half_period, axis.second_weight]
+    second = [] if axis.second_half_period is None else [word(13, axis.second_half_period)]
     return (position_words(3, axis.start.position) + [word(4, axis.start.velocity)]
-            + [word(kind, value) for kind, value in enumerate(pole, 5)]
+            + [word(kind, value) for kind, value in enumerate(pole, 5)] + second
             + position_words(9, axis.target.position)
             + [word(kind, value) for kind, value in enumerate(axis.target[1:], 10)])
 
@@ -420,7 +454,7 @@ def words_of_bytes(data: bytes) -> List[int]:
     return words + [0] if whole < len(data) else words
 
 
-# --- Refusals 3 to 6, 12, 13; 7 is never given (request 2.6) ---------------
+# --- Refusals 3 to 6, 12, 13, 15, 16; 7 is never given (request 2.6) -------
 
 def breaks_4(axis: Axis) -> bool:
     return not (1 <= axis.speed_limit <= 1048576
@@ -447,6 +481,16 @@ def breaks_6(axis: Axis) -> bool:
             or not is_on_the_rail(target.position))
 
 
+def breaks_15(axis: Axis) -> bool:
+    """Request 2.9."""
+    return axis.second_half_period is not None and not 1 <= axis.second_half_period <= 256
+
+
+def breaks_16(axis: Axis) -> bool:
+    """Request 2.9."""
+    return axis.second_half_period is not None and acceleration_of(axis.target) != 0
+
+
 def breaks_12(axis: Axis) -> bool:
     """Request 2.3."""
     return not isinstance(axis.second_weight, int) and weight_of(axis.second_weight) is None
@@ -459,7 +503,7 @@ def weighed(axis: Axis) -> Axis:
 
 
 ENTERED = ((4, breaks_4), (12, breaks_12))
-WEIGHED = ((5, breaks_5), (6, breaks_6))
+WEIGHED = ((5, breaks_5), (15, breaks_15), (6, breaks_6), (16, breaks_16))
 
 
 def check_axes(job: Job, checks) -> None:
@@ -484,8 +528,8 @@ def check_windows(windows: Windows) -> None:
 
 
 def checked(job: Job) -> Job:
-    """Refusals 3 to 13, save those of arrival and table: 8, 9, 10; or the job
-    with every weight entered by hand."""
+    """The refusals from 3 on, save those of arrival and table: 8, 9, 10; or the
+    job with every weight entered by hand."""
     if job.asked > LAST_TICK:
         raise Refused(Answer(3, place=1))
     check_axes(job, ENTERED)

@@ -15,6 +15,7 @@ import damping
 import dampingcases
 import railcases
 import reference as ref
+import swaycases
 import tourcases
 from builders import DEFAULT, UNSET, axis, mask_of, placed, random_axis, to
 from cases import CHASING, F, F_TO_30
@@ -243,14 +244,19 @@ def demand_3(rng, one, n, cells):
     for _, v, acc in cells:
         assert abs(v) <= 256 * one.speed_limit, 'velocity cell'
         assert abs(acc) <= 256 * one.acceleration_limit, 'acceleration cell'
-    if one.half_period >= 1:
-        m = n + rng.randint(0, 5)
-        g = swing_list(rng, one.half_period, one.second_weight, m)
-        planned = ref.plan_axis(one, n)
-        exact = [ref.blended(one, planned, k)[2] for k in range(n + 1)]
+    planned, m = ref.plan_axis(one, n), n + rng.randint(0, 5)
+    exact = [ref.blended(one, planned, k)[2] for k in range(n + 1)]
+    for h, b in rates(one):
+        g = swing_list(rng, h, b, m)
         same('sway before rounding', sway(exact, g, m), 0)
         left = sway([row[2] for row in cells], g, m)
         assert abs(left) <= n * max(map(abs, g)), 'sway as rounded'
+
+
+def rates(one):
+    """Half period and second weight of each rate at which the pole swings."""
+    return ([(one.half_period, one.second_weight)] * (one.half_period >= 1)
+            + [(one.second_half_period, 128)] * (one.second_half_period is not None))
 
 
 def negated(planned):
@@ -265,7 +271,7 @@ def on_the_target(one, n):
     """Rule 3 by its aim: the exact blend is on the target at N, and it starts on
     the start; in fractions of a unit, whatever the grid is."""
     planned = ref.plan_axis(one, n)
-    grid = Fraction(1, 256 * 256 * ref.finer(one))
+    grid = Fraction(1, 256 * ref.weights(one) * ref.finer(one))
     twice_y, y_velocity = ref.target_at(one, n, n)
     p, v, a = (x * grid for x in ref.blended(one, planned, n))
     same('the exact landing', (p, v, a), (twice_y, y_velocity, ref.acceleration_of(one.target)))
@@ -347,7 +353,7 @@ def legs_are_single_jobs(rng, count=40):
         tour = random_tour(rng)
         here, clock, arrivals = [one.start for one in tour.axes], 0, []
         for positions, dwell in tour.stops:
-            axes = [ref.Axis(ref.RestPoint(here[i], 0), *tour.axes[i][1:], ref.RestPoint(positions[i], 0))
+            axes = [ref.Axis(ref.RestPoint(here[i], 0), *tour.axes[i][1:5], ref.RestPoint(positions[i], 0), tour.axes[i][5])
                     for i in range(6)]
             answer, _ = ref.plan_typed(tour.mask, 0, axes, [7] * 73746)
             same('a leg of a random tour', answer.number, 0)
@@ -506,8 +512,9 @@ def rail_readings():
     refuses('2 before 14', ref.plan_words(words + [0], [7]), 2, place=13)
     refuses('a wrong word after kind 14', ref.plan_words(words[:3] + words[4:], [7]), 2, place=3)
     refuses('kind 14 at the last', ref.plan_words(words[:3], [7]), 2, place=3)
-    same('the longest job', len(railcases.longest()[0].words), 75)
-    text = ref.table_program(bytes_of(railcases.longest()[0].words))
+    words = railcases.six_moving()[0].words
+    same('six moving axes', len(words), 75)
+    text = ref.table_program(bytes_of(words))
     assert text.startswith('arrival '), 'the table program reads 300 bytes'
     same('512 bytes are read', ref.table_program(bytes_of(C_WORDS) + bytes(600)), 'refused 2 place 11 axes 0 arrival 0\n')
 
@@ -536,13 +543,79 @@ def along_the_rail(rng, count=40):
         answer, cells = plan([moved])
         same('the same answer', answer, plan([one])[0])
         if answer.number == 0:
-            n, far = answer.arrival, 2 * 256 * 256 * ref.finer(one) * offset
+            n, far = answer.arrival, 2 * 256 * ref.weights(one) * ref.finer(one) * offset
             here, there = ref.plan_axis(one, n), ref.plan_axis(moved, n)
             for k in range(n + 1):
                 p, v, a = ref.blended(one, here, k)
                 same('moved', ref.blended(moved, there, k), (p + far, v, a))
             demand_3(rng, moved, n, [cells[3 * k:3 * k + 3] for k in range(n + 1)])
             on_the_target(moved, n)
+
+
+# --- Poles with a second sway (request 2.9) --------------------------------
+
+def sway_readings():
+    rows = arrives('half periods 1 and 2', plan([swaycases.ROWS]), 5)[1]
+    same('its rows', rows[:18], [0, 0, 78, 39, 78, -28, 103, 50, 28, 167, 78, -28, 231, 50, -50, 256, 0, 0])
+    rows = arrives('half periods 2 and 3', plan([swaycases.TO_2]), 8)
+    same('its positions', column(rows, 0), [0, 39, 117, 181, 270, 373, 437, 487, 512])
+    same('its words', ref.encode(ref.Job(1, 0, {0: swaycases.TO_2}))[8], 0xD0000003)
+    rows = arrives('on 1/512', plan([to(1, second_half_period=1)], asked=5), 5)[1]
+    same('row 1', rows[3:6], [21, 43, 43])
+    for h2 in (0, 257):
+        refuses('15', plan({2: to(1, second_half_period=h2)}), 15, place=2)
+    for h2 in (1, 256):
+        arrives('h2 at its end', plan([to(1, second_half_period=h2)]), 2 + h2)
+    turning = axis(second_half_period=1, target=(0, 0, 1, 0))
+    refuses('16 where h is 0', plan({1: turning}), 16, place=1)
+    refuses('16 where B is 128', plan({1: turning._replace(half_period=2)}), 16, place=1)
+    refuses('15 before 16', plan([turning, to(1, second_half_period=0)]), 15, place=1)
+    refuses('5 before 15', plan([to(1, second_half_period=0), axis(half_period=257)]), 5, place=1)
+    refuses('15 before 6', plan([axis(start=(0, 11)), to(1, second_half_period=0)]), 15, place=1)
+    refuses('6 before 16', plan([turning, axis(start=(0, 11))]), 6, place=1)
+    still = to(5, start=(5, 0), half_period=4, second_half_period=3)
+    refuses('N is above h + h2', plan([still], asked=7), 8, mask=1)
+    arrives('just above h + h2', plan([still]), 8)
+    same('grids', [ref.finer(one) for one in (still, still._replace(half_period=0), still._replace(second_weight=1))], [2, 2, 2])
+    words = swaycases.longest()[0].words
+    same('the longest job', (len(words), len(bytes_of(words))), (81, 324))
+    assert ref.table_program(bytes_of(words)).startswith('arrival '), 'the table program reads 324 bytes'
+
+
+def jointed_axes(rng, count=80):
+    """Axes with a second half period, alone: demand 3 with lists of either rate."""
+    accepted = 0
+    while accepted < count:
+        one = swaycases.random_jointed(rng)
+        if accepted % 2:
+            one = railcases.along(one, railcases.random_offset(rng))
+        if one.second_half_period is None:
+            continue
+        answer, cells = plan([one])
+        if answer.number == 0:
+            accepted += 1
+            rows = [cells[3 * k:3 * k + 3] for k in range(answer.arrival + 1)]
+            demand_3(rng, one, answer.arrival, rows)
+            on_the_target(one, answer.arrival)
+            mirrored(one, answer.arrival, rows)
+
+
+def second_blend_is_a_mean(rng, count=20):
+    """Both blends by their definition, in fractions of a fine step: the mean of
+    the first blend at k and at k - h2."""
+    for _ in range(count):
+        one = swaycases.jointed(rng.randint(1, 9), rng.randint(-40, 40), half_period=rng.randint(0, 5), second_weight=rng.randint(1, 128))
+        n = plan([one])[0].arrival
+        planned = ref.plan_axis(one, n)
+
+        def once(k):
+            return [Fraction((256 - one.second_weight) * x + one.second_weight * y, 256 * 2)
+                    for x, y in zip(planned.at(k), planned.at(k - one.half_period))]
+
+        for k in range(n + 1):
+            p, v, a = ((x + y) / 2 for x, y in zip(once(k), once(k - one.second_half_period)))
+            same('both blends', ref.row_cells(one, planned, k),
+                 [ref.nearest(x.numerator, x.denominator) for x in (p / 2, v, a)])
 
 
 def main():
@@ -566,8 +639,11 @@ def main():
     rail_readings()
     one_spelling(rng)
     along_the_rail(rng)
-    print('reference: field cases, traps, settled readings, ranges, definitions, rounding, demand 3,',
-          'tours, damping, windows, accelerating targets on damped poles, positions past 28 bits: ok')
+    sway_readings()
+    jointed_axes(rng)
+    second_blend_is_a_mean(rng)
+    print('reference: field cases, traps, settled readings, ranges, definitions, rounding, demand 3, tours, damping,',
+          'windows, accelerating targets on damped poles, positions past 28 bits, a second sway: ok')
     return 0
 
 

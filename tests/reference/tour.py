@@ -20,6 +20,7 @@ class TourAxis(NamedTuple):
     acceleration_limit: int     # M
     half_period: int            # h
     second_weight: Union[int, Damping]  # B, or what was measured
+    second_half_period: Optional[int] = None
 
 
 class Stop(NamedTuple):
@@ -57,8 +58,8 @@ def leg_axes(tour: Tour, leg: int) -> List[Axis]:
     to rest at the stop."""
     def of(bit: int, shared: TourAxis) -> Axis:
         start = tour.stops[leg - 1].positions[bit] if leg else shared.start
-        return Axis(RestPoint(start, 0), *shared[1:],
-                    RestPoint(tour.stops[leg].positions[bit], 0))
+        return Axis(RestPoint(start, 0), *shared[1:5],
+                    RestPoint(tour.stops[leg].positions[bit], 0), shared.second_half_period)
     return [of(bit, shared) for bit, shared in enumerate(tour.axes)]
 
 

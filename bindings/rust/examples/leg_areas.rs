@@ -26,6 +26,7 @@ fn planned() -> Result<Vec<i64>, Refusal> {
         acceleration_limit: ACCELERATION_LIMIT as u32,
         half_period: 0, // no blend: the rows are the planned motion
         damping: Damping::NONE,
+        second_half_period: None,
         target: Target::Moving(target),
     };
     let plan = Job::arriving_at(TICKS as u32).with_axis(0, axis).plan()?;

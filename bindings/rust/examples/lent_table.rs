@@ -16,6 +16,7 @@ fn main() {
         acceleration_limit: 12,
         half_period: 16,
         damping: Damping::NONE,
+        second_half_period: None,
         target: Target::Moving(carriage),
     };
     for asked in [60, 93] {

@@ -7,8 +7,11 @@ use polgamir::{Damping, Stop, Tour, TourAxis, TourRefusal};
 fn main() -> Result<(), TourRefusal> {
     // One unit is a hundredth of a degree, one tick is 20 ms.
     let damping = Damping::Ratio(0.8);
-    let pan = TourAxis { start: -350, speed_limit: 40, acceleration_limit: 2, half_period: 30, damping };
-    let tilt = TourAxis { start: 420, speed_limit: 25, acceleration_limit: 1, half_period: 27, damping };
+    let second_half_period = None; // the pole swings at one rate
+    let pan =
+        TourAxis { start: -350, speed_limit: 40, acceleration_limit: 2, half_period: 30, damping, second_half_period };
+    let tilt =
+        TourAxis { start: 420, speed_limit: 25, acceleration_limit: 1, half_period: 27, damping, second_half_period };
     let tour = Tour::new().with_axis(0, pan).with_axis(1, tilt);
     let stops = [(2050, -430, 50), (3900, -380, 50), (7400, -510, 80), (-350, 420, 0)];
     let stops = stops.map(|(pan, tilt, dwell)| Stop { positions: [pan, tilt, 0, 0, 0, 0], dwell });

@@ -12,6 +12,7 @@ fn main() -> Result<(), Refusal> {
         acceleration_limit: 2,
         half_period: 30,
         damping: Damping::Ratio(0.8), // each swing is four fifths of the one before
+        second_half_period: None,     // the pole swings at one rate
         target: Target::still(2050),
     };
     let tilt = Axis {
@@ -20,6 +21,7 @@ fn main() -> Result<(), Refusal> {
         acceleration_limit: 1,
         half_period: 27,
         damping: Damping::Peaks { first: 32.0, second: 24.5 }, // two peaks of the swing
+        second_half_period: None,
         target: Target::still(-430),
     };
     let plan = Job::earliest().with_axis(0, pan).with_axis(1, tilt).plan()?;

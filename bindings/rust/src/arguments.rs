@@ -44,8 +44,8 @@ tour    Plans a tour of stops. Prints the total and each stop's arrival, in tick
           --units        print the tables in units
           --plain        print numbers alone: the total, then for each stop its number and arrival
 plot    Draws the plan: position, velocity, acceleration with their limits and the target's, and the sway of the
-        pole beside the sway that the same job would leave without the blend. Windows are shaded. Of a tour it draws
-        the timeline.
+        pole, at each of its rates where it has two, beside the sway that the same job would leave without the
+        blend. Windows are shaded. Of a tour it draws the timeline.
 report  Writes one HTML page that opens in any browser, without a network: the sheet as entered, the answer, the
         pictures, how much sway is left where half period or damping was measured wrongly, what the blend costs,
         what sets the arrival and why it is not one tick earlier, how near each axis is to its limits, and the

@@ -59,6 +59,9 @@ pub struct Axis {
     pub half_period: u32,
     /// How far a swing of the pole shrinks in half a period.
     pub damping: Damping,
+    /// Of a pole that swings at two rates, as one with a joint does: half the period of its second sway in ticks, 1 to 256. The second
+    /// sway is taken as undamped; an axis that has one cannot have an accelerating target. `None` for a pole that swings at one rate.
+    pub second_half_period: Option<u32>,
     /// What the axis is to land on.
     pub target: Target,
 }
@@ -101,6 +104,7 @@ impl From<u32> for Arrival {
 ///     acceleration_limit: 1,
 ///     half_period: 1,
 ///     damping: Damping::NONE,
+///     second_half_period: None,
 ///     target: Target::still(1),
 /// };
 /// let job = Job::earliest().with_axis(0, pan);

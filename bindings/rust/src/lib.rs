@@ -1,6 +1,6 @@
 //! Motion tables for a scanner head on a swaying pole, planned by a proved library.
 //!
-//! A [`Job`] says for each axis where it starts, what it is to land on, its limits, and the half period and damping of the pole
+//! A [`Job`] says for each axis where it starts, what it is to land on, its limits, and the half periods and damping of the pole
 //! under it. [`Job::plan`] gives a table of position, velocity and acceleration for each tick that lands every axis exactly on
 //! its target at one common tick with the sway cancelled, or refuses with a number, a [`Refusal`]. [`plan()`] does
 //! the same in lent memory and allocates nothing. What the library promises of its answers is proved for every job; this crate
@@ -18,6 +18,7 @@
 //!     acceleration_limit: 1,
 //!     half_period: 0,
 //!     damping: Damping::NONE,
+//!     second_half_period: None,
 //!     target: Target::still(4),
 //! };
 //! let plan = Job::earliest().with_axis(0, pan).plan()?;

@@ -31,6 +31,7 @@ struct CAxis {
     acceleration_limit: u32,
     half_period: u32,
     damping: CDamping,
+    second_sway: CSecondSway,
 }
 
 /// The fields of `polgamir_axis` and `polgamir_limits` that say the damping, one after the other in both.
@@ -42,6 +43,14 @@ struct CDamping {
     swing_ratio: f32,
     first_peak: f32,
     second_peak: f32,
+}
+
+/// The fields of the same two that say the second sway.
+#[repr(C)]
+#[derive(Clone, Copy, Default)]
+struct CSecondSway {
+    second_sway_given: u32,
+    second_half_period: u32,
 }
 
 /// `polgamir_job`, field by field.
@@ -71,6 +80,7 @@ struct CLimits {
     acceleration_limit: u32,
     half_period: u32,
     damping: CDamping,
+    second_sway: CSecondSway,
 }
 
 /// `polgamir_tour`, field by field.
@@ -140,6 +150,15 @@ impl From<Damping> for CDamping {
     }
 }
 
+impl From<Option<u32>> for CSecondSway {
+    fn from(second_half_period: Option<u32>) -> CSecondSway {
+        match second_half_period {
+            None => CSecondSway::default(),
+            Some(second_half_period) => CSecondSway { second_sway_given: 1, second_half_period },
+        }
+    }
+}
+
 impl From<&Axis> for CAxis {
     fn from(axis: &Axis) -> CAxis {
         let (target_kind, target) = match axis.target {
@@ -160,6 +179,7 @@ impl From<&Axis> for CAxis {
             acceleration_limit: axis.acceleration_limit,
             half_period: axis.half_period,
             damping: axis.damping.into(),
+            second_sway: axis.second_half_period.into(),
         }
     }
 }
@@ -184,8 +204,9 @@ impl From<&Job> for CJob {
 
 impl From<&TourAxis> for CLimits {
     fn from(axis: &TourAxis) -> CLimits {
-        let &TourAxis { speed_limit, acceleration_limit, half_period, damping, .. } = axis;
-        CLimits { speed_limit, acceleration_limit, half_period, damping: damping.into() }
+        let &TourAxis { speed_limit, acceleration_limit, half_period, damping, second_half_period, .. } = axis;
+        let (damping, second_sway) = (damping.into(), second_half_period.into());
+        CLimits { speed_limit, acceleration_limit, half_period, damping, second_sway }
     }
 }
 
@@ -259,9 +280,11 @@ mod tests {
             offset_of!(CAxis, damping.swing_ratio),
             offset_of!(CAxis, damping.first_peak),
             offset_of!(CAxis, damping.second_peak),
+            offset_of!(CAxis, second_sway.second_sway_given),
+            offset_of!(CAxis, second_sway.second_half_period),
             size_of::<CAxis>(),
         ];
-        assert_eq!(axis, [0, 8, 16, 24, 32, 40, 48, 52, 56, 60, 64, 68, 72, 76, 80, 88]);
+        assert_eq!(axis, [0, 8, 16, 24, 32, 40, 48, 52, 56, 60, 64, 68, 72, 76, 80, 84, 88, 96]);
         let job = [
             offset_of!(CJob, mask),
             offset_of!(CJob, asked),
@@ -269,7 +292,7 @@ mod tests {
             offset_of!(CJob, windows),
             size_of::<CJob>(),
         ];
-        assert_eq!(job, [0, 4, 8, 536, 808]);
+        assert_eq!(job, [0, 4, 8, 584, 856]);
         let windows = [
             offset_of!(CWindows, given),
             offset_of!(CWindows, dwell),
@@ -292,11 +315,13 @@ mod tests {
             offset_of!(CLimits, damping.swing_ratio),
             offset_of!(CLimits, damping.first_peak),
             offset_of!(CLimits, damping.second_peak),
+            offset_of!(CLimits, second_sway.second_sway_given),
+            offset_of!(CLimits, second_sway.second_half_period),
             size_of::<CLimits>(),
         ];
-        assert_eq!(limits, [0, 4, 8, 12, 16, 20, 24, 28, 32]);
+        assert_eq!(limits, [0, 4, 8, 12, 16, 20, 24, 28, 32, 36, 40]);
         let tour = [offset_of!(CTour, mask), offset_of!(CTour, start), offset_of!(CTour, limits), size_of::<CTour>()];
-        assert_eq!(tour, [0, 8, 56, 248]);
+        assert_eq!(tour, [0, 8, 56, 296]);
         let stop = [offset_of!(Stop, positions), offset_of!(Stop, dwell), size_of::<Stop>()];
         assert_eq!(stop, [0, 48, 56]);
         let answer = [

@@ -1,5 +1,6 @@
 //! The picture of a plan: for each axis position, velocity and acceleration with their limits, the target's beside them and how
-//! both go on after arrival, and the sway of the pole beside the sway that the same job would leave without the blend.
+//! both go on after arrival, and the sway of the pole, at each of its rates, beside the sway that the same job would leave without the
+//! blend.
 
 pub mod chart;
 mod course;
@@ -42,7 +43,7 @@ pub fn draw_parts(title: &str, sheet: &Sheet) -> Result<Vec<String>, Refusal> {
 /// The page of a sheet's plan.
 fn page_of(title: &str, sheet: &Sheet) -> Result<Page, Refusal> {
     let planned = Planned::of(&sheet.job)?;
-    let sways = sheet.job.entered().any(|(_, axis)| axis.half_period > 0);
+    let sways = sheet.job.entered().any(|(_, axis)| Pole::rates(axis).next().is_some());
     let unblended = sways.then(|| Planned::of(&without_blend(&sheet.job)));
     let compared = unblended.as_ref().and_then(|unblended| unblended.as_ref().ok());
     let dwell = sheet.job.windows.map_or(0, |windows| windows.dwell());
@@ -58,7 +59,7 @@ fn page_of(title: &str, sheet: &Sheet) -> Result<Page, Refusal> {
         stacks: stacks.collect(),
         columns: page::columns_for(sheet.job.entered().count()),
         legend: legend(&sheet.job, compared.is_some()),
-        caption: caption(unblended.as_ref()) + &windows_told(&sheet.job),
+        caption: caption(&sheet.job, unblended.as_ref()) + &windows_told(&sheet.job),
         time: timeline(sheet, ticks),
     })
 }
@@ -122,8 +123,12 @@ const LEFT: &str =
     "Left: the greatest sway from arrival on, measured from where the pole comes to rest. The exact plan leaves 0, \
                     which is proved; rounding its cells to 1/256 unit leaves the rest.";
 
+/// What a second sway is, after another sentence.
+const SECOND: &str =
+    " A pole with a second half period swings at two rates: its second sway is undamped and has a panel of its own.";
+
 /// What the picture compares; `None` stands for a job without sway.
-fn caption(unblended: Option<&Result<Planned, Refusal>>) -> String {
+fn caption(job: &Job, unblended: Option<&Result<Planned, Refusal>>) -> String {
     let Some(unblended) = unblended else {
         return "No axis has a half period, so no sway is drawn.".into();
     };
@@ -131,7 +136,11 @@ fn caption(unblended: Option<&Result<Planned, Refusal>>) -> String {
         Ok(unblended) => format!("which arrives at tick {}", unblended.arrival),
         Err(refusal) => format!("which is refused with {} and not drawn", refusal.number()),
     };
-    format!("{SWAY} {LEFT} Without the blend: the same job planned with half period 0 on every axis, {comparison}.")
+    let (second, and_none) = match job.entered().any(|(_, axis)| axis.second_half_period.is_some()) {
+        true => (SECOND, " and no second one"),
+        false => ("", ""),
+    };
+    format!("{SWAY}{second} {LEFT} Without the blend: the same job planned with half period 0 on every axis{and_none}, {comparison}.")
 }
 
 /// What the windows of a job are, after another sentence.
@@ -142,18 +151,20 @@ fn windows_told(job: &Job) -> String {
     }
 }
 
-/// The job with half period 0 on every axis.
+/// The job with half period 0 on every axis, and no second one.
 pub fn without_blend(job: &Job) -> Job {
     let mut job = *job;
     for axis in job.axes.iter_mut().flatten() {
         axis.half_period = 0;
+        axis.second_half_period = None;
     }
     job
 }
 
 /// The ticks to draw after the arrival: a period or two of the slowest pole, so that what is left of the sway shows.
 fn time_after(job: &Job, arrival: u32) -> u32 {
-    let half_period = job.entered().map(|(_, axis)| axis.half_period).max().unwrap_or(0);
+    let slowest = |axis: &Axis| axis.half_period.max(axis.second_half_period.unwrap_or(0));
+    let half_period = job.entered().map(|(_, axis)| slowest(axis)).max().unwrap_or(0);
     match half_period {
         0 => (arrival / 12).max(1),
         half_period => (arrival / 2).clamp(2 * half_period, 4 * half_period),
@@ -183,9 +194,12 @@ impl Planned {
 
 /// The pole of an axis, as its heading says it.
 fn pole_of(axis: &Axis) -> String {
-    match axis.half_period {
-        0 => "no blend".into(),
-        half_period => format!("half period {half_period}, {}{}", axis.damping, weight_of(axis)),
+    let first = format!("half period {}, {}{}", axis.half_period, axis.damping, weight_of(axis));
+    match (axis.half_period, axis.second_half_period) {
+        (0, None) => "no blend".into(),
+        (0, Some(second)) => format!("second half period {second}"),
+        (_, None) => first,
+        (_, Some(second)) => format!("{first}, second half period {second}"),
     }
 }
 
@@ -197,7 +211,7 @@ fn weight_of(axis: &Axis) -> String {
     }
 }
 
-/// The panels of an axis; that of the sway only where the axis has a half period.
+/// The panels of an axis; those of the sway only where the axis has a half period, one for each.
 fn panels_of(
     number: usize,
     axis: &Axis,
@@ -221,13 +235,13 @@ fn panels_of(
             stepped(course(&|moment| measure.acceleration(moment.acceleration))),
         ),
     ];
-    if let Some(pole) = Pole::of(axis) {
-        // A pole's sway is in proportion to the accelerations, so that it is in the measure of these.
-        let scaled = |planned: &Planned| -> Vec<f64> {
-            planned.accelerations(number).into_iter().map(|units| measure.position(units)).collect()
-        };
-        let without = unblended.map(scaled);
-        panels.push(sway_panel(format!("sway, {position}"), pole, &scaled(planned), without.as_deref(), ticks));
+    // A pole's sway is in proportion to the accelerations, so that it is in the measure of these.
+    let scaled = |planned: &Planned| -> Vec<f64> {
+        planned.accelerations(number).into_iter().map(|units| measure.position(units)).collect()
+    };
+    let (with, without) = (scaled(planned), unblended.map(scaled));
+    for (sway, pole) in Pole::rates(axis) {
+        panels.push(sway_panel(format!("{sway}, {position}"), pole, &with, without.as_deref(), ticks));
     }
     panels
 }

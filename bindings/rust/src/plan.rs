@@ -170,7 +170,8 @@ impl Job {
     /// # use polgamir::{Axis, Damping, Job, Refusal, RestPoint, Target};
     /// # let start = RestPoint { position: 0, velocity: 0 };
     /// # let target = Target::still(4);
-    /// # let pan = Axis { start, speed_limit: 10, acceleration_limit: 1, half_period: 0, damping: Damping::NONE, target };
+    /// # let (half_period, damping, second_half_period) = (0, Damping::NONE, None);
+    /// # let pan = Axis { start, speed_limit: 10, acceleration_limit: 1, half_period, damping, second_half_period, target };
     /// let plan = Job::earliest().with_axis(0, pan).plan()?;
     /// for row in plan.rows().rev() {
     ///     println!("tick {}: {:?}", row.tick(), row.axis(0));

@@ -1,4 +1,4 @@
-//! The ranges of an axis's whole numbers: what refusals 4, 5 and 6 look at. Damping as measured is refusal 12's.
+//! The ranges of an axis's whole numbers: what refusals 4, 5, 15 and 6 look at. Damping as measured is refusal 12's.
 
 use std::ops::RangeInclusive;
 
@@ -26,6 +26,7 @@ impl Axis {
             WordKind::AccelerationLimit => 1..=65_536,
             WordKind::HalfPeriod => 0..=256,
             WordKind::SecondWeight => 1..=128,
+            WordKind::SecondHalfPeriod => 1..=256,
             WordKind::StartVelocity | WordKind::TargetVelocity => in_size(self.speed_limit),
             WordKind::TargetAcceleration => in_size(self.acceleration_limit),
             WordKind::TargetTick => in_size(LATEST_ARRIVAL),
@@ -47,11 +48,13 @@ impl Axis {
 }
 
 impl OutOfRange {
-    /// The number by which the planner refuses it: 4 for limits, 5 for the blend, 6 for start and target.
+    /// The number by which the planner refuses it: 4 for limits, 5 for the blend, 15 for the second half period, 6 for start and
+    /// target.
     pub const fn refusal_number(&self) -> u32 {
         match self.entry {
             WordKind::SpeedLimit | WordKind::AccelerationLimit => 4,
             WordKind::HalfPeriod | WordKind::SecondWeight => 5,
+            WordKind::SecondHalfPeriod => 15,
             _ => 6,
         }
     }

@@ -61,7 +61,7 @@ impl fmt::Display for AxisMask {
 /// );
 /// ```
 ///
-/// [`Axis::out_of_range`](crate::Axis::out_of_range) tells which number is at fault in 4, 5 and 6.
+/// [`Axis::out_of_range`](crate::Axis::out_of_range) tells which number is at fault in 4, 5, 15 and 6.
 #[derive(Debug, Clone, Copy, PartialEq, Eq, Hash)]
 #[non_exhaustive]
 pub enum Refusal {
@@ -95,9 +95,19 @@ pub enum Refusal {
         /// The first such axis.
         axis: usize,
     },
+    /// 15: a second half period is outside its range.
+    SecondHalfPeriod {
+        /// The first such axis.
+        axis: usize,
+    },
     /// 6: start or target velocity exceeds the speed limit in size, target acceleration exceeds the acceleration limit in size,
     /// target tick exceeds 4,096 in size, or a position is outside −17,179,869,184 to 17,179,869,183.
     StartOrTarget {
+        /// The first such axis.
+        axis: usize,
+    },
+    /// 16: the target accelerates on an axis with a second half period.
+    Acceleration {
         /// The first such axis.
         axis: usize,
     },
@@ -155,6 +165,8 @@ impl Refusal {
             12 => Refusal::Damping { axis: index },
             13 => Refusal::Windows { place: index },
             14 => Refusal::LongPosition { index },
+            15 => Refusal::SecondHalfPeriod { axis: index },
+            16 => Refusal::Acceleration { axis: index },
             _ => Refusal::Other { number, place, axes, arrival },
         }
     }
@@ -174,11 +186,14 @@ impl Refusal {
             Refusal::Damping { .. } => 12,
             Refusal::Windows { .. } => 13,
             Refusal::LongPosition { .. } => 14,
+            Refusal::SecondHalfPeriod { .. } => 15,
+            Refusal::Acceleration { .. } => 16,
             Refusal::Other { number, .. } => number,
         }
     }
 
-    /// The place: a word's index for 2 and 14, 1 for 3, the axis for 4 to 6 and 12, the window or 32 for 13, and 0 where no place is named.
+    /// The place: a word's index for 2 and 14, 1 for 3, the axis for 4 to 6, 12, 15 and 16, the window or 32 for 13, and 0 where no place
+    /// is named.
     pub const fn place(&self) -> u64 {
         match *self {
             Refusal::Words { index } | Refusal::LongPosition { index } => index as u64,
@@ -192,13 +207,15 @@ impl Refusal {
         }
     }
 
-    /// The axis that refusals 4 to 6 and 12 name.
+    /// The axis that refusals 4 to 6, 12, 15 and 16 name.
     pub const fn axis(&self) -> Option<usize> {
         match *self {
             Refusal::Limits { axis }
             | Refusal::Damping { axis }
             | Refusal::Blend { axis }
-            | Refusal::StartOrTarget { axis } => Some(axis),
+            | Refusal::SecondHalfPeriod { axis }
+            | Refusal::StartOrTarget { axis }
+            | Refusal::Acceleration { axis } => Some(axis),
             _ => None,
         }
     }
@@ -250,12 +267,16 @@ impl Refusal {
             Refusal::Blend { axis } => {
                 write!(f, "on axis {axis} `half_period` is outside 0 to 256, or the weight of `damping` outside 1 to 128")
             }
+            Refusal::SecondHalfPeriod { axis } => write!(f, "on axis {axis} `second_half_period` is outside 1 to 256"),
             Refusal::StartOrTarget { axis } => write!(
                 f,
                 "on axis {axis} a `velocity` of `start` or `target` exceeds `speed_limit` in size, the target's \
                  `acceleration` exceeds `acceleration_limit`, its `tick` exceeds 4096, or a `position` is outside \
                  -17179869184 to 17179869183"
             ),
+            Refusal::Acceleration { axis } => {
+                write!(f, "on axis {axis} the target has an `acceleration`, and the axis a `second_half_period`")
+            }
             Refusal::Windows { place: MOST_WINDOWS } => write!(
                 f,
                 "`windows` has more than {MOST_WINDOWS} windows, or its dwell is above {LONGEST_DWELL}"

@@ -206,12 +206,12 @@ impl<'s> Report<'s> {
     fn plan_told(&self) -> String {
         let sways = self.axes.iter().any(|entry| !entry.wrong_poles().is_empty());
         let compared = match self.axes.iter().any(|entry| entry.unblended.is_some()) {
-            true => " The dashed line is the same job planned with half period 0 on every axis.",
+            true => " The dashed line is the same job planned with half period 0 on every axis and no second one.",
             false => "",
         };
         let sway = match sways {
             true => format!(
-                " The sway is how far the top of the pole is from upright; after arrival there should be none.{compared}"
+                " The sway is how far the top of the pole is from upright, at each of its rates; after arrival there should be none.{compared}"
             ),
             false => " No axis has a half period, so no sway is drawn.".into(),
         };

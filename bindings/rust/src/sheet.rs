@@ -166,9 +166,10 @@ impl TargetKind {
 }
 
 /// The entries of an axis that are numbers, in the order in which a sheet is written.
-const ENTRIES: [WordKind; 10] = [
+const ENTRIES: [WordKind; 11] = [
     WordKind::HalfPeriod,
     WordKind::SecondWeight,
+    WordKind::SecondHalfPeriod,
     WordKind::SpeedLimit,
     WordKind::AccelerationLimit,
     WordKind::StartPosition,
@@ -183,6 +184,7 @@ const ENTRIES: [WordKind; 10] = [
 fn remark(entry: WordKind) -> &'static str {
     match entry {
         WordKind::HalfPeriod => "ticks, 0 to 256; 0: no blend",
+        WordKind::SecondHalfPeriod => "ticks, 1 to 256; the pole swings at two rates",
         WordKind::SpeedLimit => "units per tick, 1 to 1048576",
         WordKind::AccelerationLimit => "units per tick², 1 to 65536",
         WordKind::StartPosition | WordKind::TargetPosition => "units",

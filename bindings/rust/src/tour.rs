@@ -37,6 +37,8 @@ pub struct TourAxis {
     pub half_period: u32,
     /// How far a swing of the pole shrinks in half a period.
     pub damping: Damping,
+    /// Half the period of the pole's second sway in ticks, 1 to 256; `None` for a pole that swings at one rate.
+    pub second_half_period: Option<u32>,
 }
 
 impl TourAxis {
@@ -48,6 +50,7 @@ impl TourAxis {
             acceleration_limit: self.acceleration_limit,
             half_period: self.half_period,
             damping: self.damping,
+            second_half_period: self.second_half_period,
             target: Target::still(to),
         }
     }
@@ -60,7 +63,14 @@ impl TourAxis {
 /// ```
 /// use polgamir::{Damping, Stop, Tour, TourAxis, TourRefusal};
 ///
-/// let pan = TourAxis { start: 0, speed_limit: 10, acceleration_limit: 1, half_period: 0, damping: Damping::NONE };
+/// let pan = TourAxis {
+///     start: 0,
+///     speed_limit: 10,
+///     acceleration_limit: 1,
+///     half_period: 0,
+///     damping: Damping::NONE,
+///     second_half_period: None,
+/// };
 /// let tour = Tour::new().with_axis(0, pan);
 /// let stops = [(4, 3), (0, 5)].map(|(pan, dwell)| Stop { positions: [pan, 0, 0, 0, 0, 0], dwell });
 ///
@@ -123,7 +133,7 @@ impl Tour {
             10 => Err(TourRefusal::ListTooShort { stops: place }),
             11 => Err(TourRefusal::Stops { stop: place }),
             // The library names the stop alone; which axis is at fault, where one is, the leg's own job is told.
-            4..=6 | 12 => Err(TourRefusal::Leg { stop: place, refusal: self.leg_refusal(stops, place) }),
+            4..=6 | 12 | 15 => Err(TourRefusal::Leg { stop: place, refusal: self.leg_refusal(stops, place) }),
             _ => Err(TourRefusal::Leg { stop: place, refusal: Refusal::from_answer(answer) }),
         }
     }
@@ -181,7 +191,7 @@ pub enum TourRefusal {
     Leg {
         /// The stop that the leg leads to.
         stop: usize,
-        /// What the leg's job is refused with: 1, 4, 12, 5, 6 or 9.
+        /// What the leg's job is refused with: 1, 4, 12, 5, 15, 6 or 9.
         refusal: Refusal,
     },
     /// 10: the lent list is shorter than the stops.

@@ -10,8 +10,8 @@ use crate::AXES;
 /// What a word of a job holds.
 ///
 /// In order: the mask, the arrival, then for each axis of the mask, lowest first, the eight words from `StartPosition` to
-/// `TargetVelocity`, and for a moving target also `TargetAcceleration` and `TargetTick`; last `End`. A position that its own word
-/// cannot hold has a word `HighPosition` just before it.
+/// `TargetVelocity`, for a pole with a second sway `SecondHalfPeriod` after `SecondWeight`, and for a moving target also
+/// `TargetAcceleration` and `TargetTick`; last `End`. A position that its own word cannot hold has a word `HighPosition` just before it.
 #[derive(Debug, Clone, Copy, PartialEq, Eq, Hash)]
 pub enum WordKind {
     /// Kind 1: which axes take part, bit 0 for axis 0 up to bit 5.
@@ -38,6 +38,8 @@ pub enum WordKind {
     TargetAcceleration = 11,
     /// Kind 12: the tick at which a moving target's position and velocity hold.
     TargetTick = 12,
+    /// Kind 13, after kind 8: half the period of a second sway.
+    SecondHalfPeriod = 13,
     /// Kind 14, just before kind 3 or 9: times 2²⁸, and with the following payload read as unsigned, it is the position.
     HighPosition = 14,
     /// Kind 15: the end of the job, with payload 0.
@@ -87,6 +89,7 @@ impl WordKind {
             WordKind::TargetVelocity => "target velocity",
             WordKind::TargetAcceleration => "target acceleration",
             WordKind::TargetTick => "target tick",
+            WordKind::SecondHalfPeriod => "second half period",
             WordKind::HighPosition => "high part of a position",
             WordKind::End => "end of the job",
         }
@@ -301,7 +304,7 @@ impl Job {
 
 impl Axis {
     /// The numbers of the axis in the order of its words, each with what it is. The weight is that of the damping, and is left
-    /// out where the damping as measured has none.
+    /// out where the damping as measured has none; so is a second half period where the pole has none.
     pub fn entries(&self) -> impl Iterator<Item = (WordKind, i64)> {
         let (position, velocity, moving) = match self.target {
             Target::Fixed(RestPoint { position, velocity }) => (position, velocity, None),
@@ -317,8 +320,9 @@ impl Axis {
             (WordKind::HalfPeriod, self.half_period.into()),
         ];
         let weight = self.damping.weight().map(|weight| (WordKind::SecondWeight, weight.into()));
+        let second = self.second_half_period.map(|ticks| (WordKind::SecondHalfPeriod, ticks.into()));
         let target = [(WordKind::TargetPosition, position), (WordKind::TargetVelocity, velocity)];
-        always.into_iter().chain(weight).chain(target).chain(moving.into_iter().flatten())
+        always.into_iter().chain(weight).chain(second).chain(target).chain(moving.into_iter().flatten())
     }
 }
 
@@ -435,19 +439,32 @@ impl Reader<'_> {
             false => &[WordKind::HighPosition],
         };
         let position = self.position(WordKind::StartPosition, or)?;
-        Ok(Axis {
-            start: RestPoint { position, velocity: self.signed(WordKind::StartVelocity)? },
-            speed_limit: self.unsigned(WordKind::SpeedLimit)?,
-            acceleration_limit: self.unsigned(WordKind::AccelerationLimit)?,
-            half_period: self.unsigned(WordKind::HalfPeriod)?,
-            damping: Damping::Weight(self.unsigned(WordKind::SecondWeight)?),
-            target: self.target()?,
-        })
+        let start = RestPoint { position, velocity: self.signed(WordKind::StartVelocity)? };
+        let speed_limit = self.unsigned(WordKind::SpeedLimit)?;
+        let acceleration_limit = self.unsigned(WordKind::AccelerationLimit)?;
+        let half_period = self.unsigned(WordKind::HalfPeriod)?;
+        let damping = Damping::Weight(self.unsigned(WordKind::SecondWeight)?);
+        let second_half_period = self.second_half_period()?;
+        let target = self.target(second_half_period.is_some())?;
+        Ok(Axis { start, speed_limit, acceleration_limit, half_period, damping, second_half_period, target })
     }
 
-    /// The words of a target; it moves where a word of kind 11 follows its velocity.
-    fn target(&mut self) -> Result<Target, WordError> {
-        let position = self.position(WordKind::TargetPosition, &[WordKind::HighPosition])?;
+    /// The second half period, where a word of kind 13 says one.
+    fn second_half_period(&mut self) -> Result<Option<u32>, WordError> {
+        if !self.next_is(WordKind::SecondHalfPeriod) {
+            return Ok(None);
+        }
+        self.unsigned(WordKind::SecondHalfPeriod).map(Some)
+    }
+
+    /// The words of a target; it moves where a word of kind 11 follows its velocity. Where no second half period stands before them, a
+    /// word of kind 13 could stand too.
+    fn target(&mut self, after_second: bool) -> Result<Target, WordError> {
+        let or: &[WordKind] = match after_second {
+            true => &[WordKind::HighPosition],
+            false => &[WordKind::SecondHalfPeriod, WordKind::HighPosition],
+        };
+        let position = self.position(WordKind::TargetPosition, or)?;
         let velocity = self.signed(WordKind::TargetVelocity)?;
         if !self.next_is(WordKind::TargetAcceleration) {
             return Ok(Target::Fixed(RestPoint { position, velocity }));

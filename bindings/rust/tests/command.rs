@@ -207,9 +207,15 @@ fn texts_of(picture: &str) -> Vec<&str> {
 /// The pictures of the repository are what the command draws.
 #[test]
 fn pictures_are_up_to_date() {
-    for name in
-        ["pan-tilt-stem", "cable-carriage", "damped-carriage", "common-arrival", "plot-of-stems", "laser-windows"]
-    {
+    for name in [
+        "pan-tilt-stem",
+        "cable-carriage",
+        "damped-carriage",
+        "common-arrival",
+        "plot-of-stems",
+        "laser-windows",
+        "jointed-pole",
+    ] {
         let picture = fs::read_to_string(folder("docs/pictures").join(name).with_extension("svg")).expect("a picture");
         let (drawn, _) = printed(&run(&["plot", "-o", "-", &sheet(name)]));
         assert_eq!(texts_of(&picture), texts_of(&drawn), "{name}");

@@ -42,6 +42,14 @@ line 7: axis 0: peaks 25 31, expected two numbers above 0, the second not above 
     let text = refused(&changed_case_c("weight               128", "shrinks 1.25"));
     assert!(text.ends_with("\nline 7: axis 0: shrinks 1.25, expected a number above 0 and at most 1\n"), "{text}");
 
+    let expected = "\
+refused 15 place 0 axes 0 arrival 0
+the second half period of axis 0 is outside its range
+look at \"tap the pole, note the half period and how far each swing shrinks\": tap again and enter what the pole does
+line 8: axis 0: second half period 0, expected 1 to 256
+";
+    assert_eq!(refused(&changed_case_c("weight               128", "weight 128\nsecond half period 0")), expected);
+
     let (text, status) = printed(&run(&["plan", "--cells", "14", &sheet("case-c")]));
     assert_eq!(status, Some(1));
     assert!(text.starts_with("refused 10 place 0 axes 0 arrival 4\n"), "{text}");
@@ -73,6 +81,22 @@ fn refusal_6_names_the_guilty_line() {
         assert!(text.starts_with("refused 6 place 0 axes 0 arrival 0\n"), "{text}");
         assert_eq!(text.lines().skip(3).collect::<Vec<_>>(), [line]);
     }
+}
+
+/// Refusal 16 names both lines that do not go together.
+#[test]
+fn refusal_16_names_the_second_half_period_and_the_acceleration() {
+    let moving = "target moving\ntarget velocity 0\ntarget acceleration -1\ntarget tick 0\ntarget position 1";
+    let jointed = changed_case_c("weight               128", "weight 128\nsecond half period 9");
+    let expected = "\
+refused 16 place 0 axes 0 arrival 0
+the target of axis 0 accelerates, and its pole has a second half period
+look at \"enter start and target, still or moving\": enter a target without acceleration, or leave the second half period \
+out and let the pole sway at that rate
+line 8: axis 0: second half period 9
+line 15: axis 0: target acceleration -1
+";
+    assert_eq!(refused(&jointed.replace("target               still\n  target position      1", moving)), expected);
 }
 
 /// Refusal 8 says which arrivals would do. The numbers are those of cases F and L.

@@ -131,7 +131,14 @@ fn refusal_12_comes_after_4_and_before_5() {
     let refusal = Refusal::Damping { axis: 1 };
     assert_eq!((refusal.number(), refusal.place(), refusal.mask().0, refusal.arrival()), (12, 1, 0, 0));
 
-    let pan = TourAxis { start: 0, speed_limit: 10, acceleration_limit: 1, half_period: 0, damping: none };
+    let pan = TourAxis {
+        start: 0,
+        speed_limit: 10,
+        acceleration_limit: 1,
+        half_period: 0,
+        damping: none,
+        second_half_period: None,
+    };
     let stops = [Stop::default()];
     let refusal = Tour::new().with_axis(4, pan).schedule(&stops).expect_err("no damping");
     assert_eq!(refusal, TourRefusal::Leg { stop: 0, refusal: Refusal::Damping { axis: 4 } });
@@ -143,7 +150,14 @@ fn refusal_12_comes_after_4_and_before_5() {
 fn tours_have_the_weight_too() {
     let stops = [4, 90, 0].map(|pan| Stop { positions: [0, 0, 0, pan, 0, 0], dwell: 1 });
     let schedule = |damping: Damping| {
-        let axis = TourAxis { start: 0, speed_limit: 10, acceleration_limit: 1, half_period: 9, damping };
+        let axis = TourAxis {
+            start: 0,
+            speed_limit: 10,
+            acceleration_limit: 1,
+            half_period: 9,
+            damping,
+            second_half_period: None,
+        };
         let tour = Tour::new().with_axis(3, axis);
         let tables = (0..3).map(|leg| tour.leg(&stops, leg).expect("a leg").plan().expect("a table"));
         (tour.schedule(&stops).expect("a tour"), tables.collect::<Vec<_>>())

@@ -11,7 +11,7 @@ use polgamir::{plan_words, Job};
 const PROGRAM_CELLS: usize = 8192;
 
 /// The bytes that the table program reads.
-const PROGRAM_BYTES: usize = 256;
+const PROGRAM_BYTES: usize = 512;
 
 /// The repository's folder of a name.
 fn folder(name: &str) -> PathBuf {

@@ -55,12 +55,24 @@ fn all() -> Vec<(Refusal, &'static str, SheetLine, &'static str)> {
             "refused with 5: on axis 0 `half_period` is outside 0 to 256, or the weight of `damping` outside 1 to 128",
         ),
         (
+            Refusal::SecondHalfPeriod { axis: 4 },
+            "refused 15 place 4 axes 0 arrival 0",
+            TapThePole,
+            "refused with 15: on axis 4 `second_half_period` is outside 1 to 256",
+        ),
+        (
             Refusal::StartOrTarget { axis: 5 },
             "refused 6 place 5 axes 0 arrival 0",
             EnterStartAndTarget,
             "refused with 6: on axis 5 a `velocity` of `start` or `target` exceeds `speed_limit` in size, the target's \
              `acceleration` exceeds `acceleration_limit`, its `tick` exceeds 4096, or a `position` is outside \
              -17179869184 to 17179869183",
+        ),
+        (
+            Refusal::Acceleration { axis: 1 },
+            "refused 16 place 1 axes 0 arrival 0",
+            EnterStartAndTarget,
+            "refused with 16: on axis 1 the target has an `acceleration`, and the axis a `second_half_period`",
         ),
         (
             Refusal::Windows { place: 0 },
@@ -126,7 +138,7 @@ fn sentences_speak_of_fields() {
 fn every_number_of_a_job_has_its_case() {
     let mut numbers: Vec<u32> = all().iter().map(|(refusal, ..)| refusal.number()).collect();
     numbers.dedup();
-    assert_eq!(numbers, [1, 2, 14, 3, 4, 12, 5, 6, 13, 8, 9, 10]);
+    assert_eq!(numbers, [1, 2, 14, 3, 4, 12, 5, 15, 6, 16, 13, 8, 9, 10]);
 }
 
 #[test]
@@ -146,7 +158,7 @@ fn every_sheet_line_says_what_it_catches() {
     }
 }
 
-/// The first of the refusals 4, 5 and 6 that a job's ranges call for, and its axis.
+/// The first of the refusals 4, 12, 5, 15 and 6 that a job's ranges call for, and its axis.
 fn called_for(job: &Job) -> Option<Refusal> {
     let of = |number: u32| {
         let at_fault = |axis: &Axis| axis.out_of_range().any(|fault| fault.refusal_number() == number);
@@ -156,14 +168,15 @@ fn called_for(job: &Job) -> Option<Refusal> {
     let unmeasured = job.entered().find(|(_, axis)| axis.damping.weight().is_none());
     let limits = limits.or(unmeasured.map(|(axis, _)| Refusal::Damping { axis }));
     let blend = of(5).map(|axis| Refusal::Blend { axis });
-    limits.or(blend).or(of(6).map(|axis| Refusal::StartOrTarget { axis }))
+    let second = of(15).map(|axis| Refusal::SecondHalfPeriod { axis });
+    limits.or(blend).or(second).or(of(6).map(|axis| Refusal::StartOrTarget { axis }))
 }
 
-/// The ranges are the planner's: it refuses with 4, 5 or 6 exactly where a number is outside its range, at that axis.
+/// The ranges are the planner's: it refuses with 4, 5, 15 or 6 exactly where a number is outside its range, at that axis.
 #[test]
 fn the_planner_keeps_the_same_ranges() {
     let mut random = Random(0x4A6E_5EED_0000_0011);
-    let mut refused = [0; 7];
+    let mut refused = [0; 16];
     for round in 0..20000 {
         let mut job = random.plannable_job();
         job.arrival = Arrival::from(1);
@@ -177,10 +190,10 @@ fn the_planner_keeps_the_same_ranges() {
             refused[refusal.number() as usize] += 1;
             assert_eq!(job.arrival_found(), Err(refusal), "{job:?}");
         } else if let Err(refusal) = job.arrival_found() {
-            assert!(![4, 5, 6].contains(&refusal.number()), "{job:?}");
+            assert!(![4, 5, 15, 6].contains(&refusal.number()), "{job:?}");
         }
     }
-    assert!(refused[4] > 100 && refused[5] > 100 && refused[6] > 100, "{refused:?}");
+    assert!([4, 5, 15, 6].iter().all(|&number: &usize| refused[number] > 100), "{refused:?}");
 }
 
 /// Sets one number of an axis to an end of its range, or one past it.

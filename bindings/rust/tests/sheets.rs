@@ -121,6 +121,33 @@ fn damping_may_be_a_weight_a_ratio_or_two_peaks() {
     assert_eq!(told_with(4, both), told);
 }
 
+/// A pole that swings at two rates has a line for the second, and no other pole has one.
+#[test]
+fn a_second_half_period_may_stand_on_the_sheet() {
+    let line = "weight 128\nSecond half period: 9";
+    let sheet = read_with(4, line).expect("a good sheet");
+    assert_eq!(sheet.job.axes[0], Some(Axis { second_half_period: Some(9), ..field_axis(Target::still(1)) }));
+    assert_eq!(sheet.line_of(Some(0), WordKind::SecondHalfPeriod), Some(5));
+    assert_eq!(sheet.to_string().matches("second half period").count(), 1);
+    assert!(!read(&CASE_C).expect("a good sheet").to_string().contains("second"));
+    let refused = read_with(4, "weight 128\nsecond half period 0").expect("a sheet for the planner to refuse");
+    assert_eq!(refused.job.axes[0].and_then(|axis| axis.second_half_period), Some(0));
+    for (wrong, told) in [
+        (
+            "second half period",
+            "a whole number of ticks from 1 to 256 after `second half period`, found the end of the line",
+        ),
+        ("second half period none", "a whole number of ticks from 1 to 256 after `second half period`, found `none`"),
+        (
+            "second half period 9\nsecond half period 9",
+            "one `second half period` for axis 0, found another beside that of line 5",
+        ),
+    ] {
+        let line = 4 + wrong.lines().count();
+        assert_eq!(told_with(4, &format!("weight 128\n{wrong}")), format!("line {line}: expected {told}"));
+    }
+}
+
 /// Numbers that the planner refuses are its own to refuse, so that its number and sentence are what a crew reads.
 #[test]
 fn numbers_out_of_range_are_left_to_the_planner() {
@@ -166,8 +193,8 @@ fn wrong_entries_are_told_with_their_line() {
 fn unknown_and_misplaced_entries_are_told_with_their_line() {
     assert_eq!(
         told_with(3, "half perod 0"),
-        "line 3: expected `arrival`, `window`, `dwell`, `tick`, `unit`, `axis`, `stop`, `target` or one of: half period, `weight`, `shrinks` or `peaks`, speed limit, \
-         acceleration limit, start position, start velocity, target position, target velocity, target acceleration, target tick, \
+        "line 3: expected `arrival`, `window`, `dwell`, `tick`, `unit`, `axis`, `stop`, `target` or one of: half period, `weight`, `shrinks` or `peaks`, \
+         second half period, speed limit, acceleration limit, start position, start velocity, target position, target velocity, target acceleration, target tick, \
          found `half perod 0`"
     );
     assert_eq!(

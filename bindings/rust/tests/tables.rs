@@ -43,10 +43,15 @@ fn look_at_motion(axis: &Axis, rows: &[Motion], arrival: u32) {
     }
 }
 
+/// The half periods of an axis that sways, each with its second weight: a second sway is undamped.
+fn rates(axis: &Axis) -> Vec<(usize, u32)> {
+    let first = (axis.half_period > 0).then_some(axis.half_period).zip(axis.damping.weight());
+    let second = axis.second_half_period.map(|half_period| (half_period, 128));
+    first.into_iter().chain(second).map(|(half_period, weight)| (half_period as usize, weight)).collect()
+}
+
 /// A swing list with entries up to tick `last`: A × g(i + h) + B × g(i) = 0, from whole numbers that a generator chooses.
-fn swing_list(axis: &Axis, last: usize, random: &mut Random) -> Option<Vec<i128>> {
-    let half_period = axis.half_period as usize;
-    let weight = axis.damping.weight()?;
+fn swing_list((half_period, weight): (usize, u32), last: usize, random: &mut Random) -> Option<Vec<i128>> {
     let (first_weight, second_weight) = (256 - i128::from(weight), i128::from(weight));
     let divisor = (1..=second_weight).rev().find(|d| first_weight % d == 0 && second_weight % d == 0)?;
     let (first_weight, second_weight) = (first_weight / divisor, second_weight / divisor);
@@ -60,15 +65,12 @@ fn swing_list(axis: &Axis, last: usize, random: &mut Random) -> Option<Vec<i128>
     Some(list)
 }
 
-/// Looks at the sway that the rows leave at some ticks from the arrival on; true where there was a list to look with.
-fn look_at_sway(axis: &Axis, rows: &[Motion], random: &mut Random) -> bool {
-    if axis.half_period == 0 {
-        return false;
-    }
+/// Looks at the sway that the rows leave at a rate, at some ticks from the arrival on; true where there was a list to look with.
+fn look_at_sway(rate: (usize, u32), rows: &[Motion], random: &mut Random) -> bool {
     let arrival = rows.len() - 1;
     let mut looked = false;
     for tick in [arrival, arrival + 1, arrival + random.between(2, 90) as usize] {
-        let Some(list) = swing_list(axis, tick, random) else { continue };
+        let Some(list) = swing_list(rate, tick, random) else { continue };
         let greatest = list.iter().map(|entry| entry.abs()).max().unwrap_or(0);
         let mut before = 0;
         let mut sway = 0;
@@ -76,7 +78,7 @@ fn look_at_sway(axis: &Axis, rows: &[Motion], random: &mut Random) -> bool {
             sway += i128::from(motion.acceleration - before) * list[tick - row];
             before = motion.acceleration;
         }
-        assert!(sway.abs() <= arrival as i128 * greatest, "{axis:?} tick {tick}");
+        assert!(sway.abs() <= arrival as i128 * greatest, "{rate:?} tick {tick}");
         looked = true;
     }
     looked
@@ -85,7 +87,7 @@ fn look_at_sway(axis: &Axis, rows: &[Motion], random: &mut Random) -> bool {
 #[test]
 fn tables_keep_what_is_promised() {
     let mut random = Random(0x0001_9E3D_77C4_A151);
-    let (mut accepted_jobs, mut looked_at_sway) = (0, 0);
+    let (mut accepted_jobs, mut looked_at_sway, mut second_sways) = (0, 0, 0);
     for _ in 0..1500 {
         let job = random.plannable_job();
         let mut table = vec![i64::MIN; job.enough_cells() + 5];
@@ -100,13 +102,16 @@ fn tables_keep_what_is_promised() {
             let rows = motions(&accepted, number);
             assert_eq!(rows.len() as u32, accepted.arrival() + 1);
             look_at_motion(axis, &rows, accepted.arrival());
-            looked_at_sway += usize::from(look_at_sway(axis, &rows, &mut random));
+            for rate in rates(axis) {
+                looked_at_sway += usize::from(look_at_sway(rate, &rows, &mut random));
+            }
+            second_sways += usize::from(axis.second_half_period.is_some());
         }
         let written = accepted.cells().len();
         assert!(table[written..].iter().all(|&cell| cell == i64::MIN), "cells after the last row stay as they were");
     }
     assert!(accepted_jobs > 700, "{accepted_jobs}");
-    assert!(looked_at_sway > 500, "{looked_at_sway}");
+    assert!(looked_at_sway > 500 && second_sways > 300, "{looked_at_sway} {second_sways}");
 }
 
 /// A job gets the same answer from typed values and from its words.

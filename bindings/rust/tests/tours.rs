@@ -6,8 +6,14 @@ use common::{field_axis, Random};
 use polgamir::{AxisMask, Damping, Job, Refusal, Schedule, Stop, Target, Tour, TourAxis, TourRefusal, MOST_STOPS};
 
 /// The axis of the field cases, from 0.
-const FIELD_AXIS: TourAxis =
-    TourAxis { start: 0, speed_limit: 10, acceleration_limit: 1, half_period: 0, damping: Damping::NONE };
+const FIELD_AXIS: TourAxis = TourAxis {
+    start: 0,
+    speed_limit: 10,
+    acceleration_limit: 1,
+    half_period: 0,
+    damping: Damping::NONE,
+    second_half_period: None,
+};
 
 /// A tour of one axis.
 fn tour_of(axis: TourAxis) -> Tour {
@@ -143,6 +149,7 @@ fn random_tour(random: &mut Random) -> (Tour, Vec<Stop>) {
             acceleration_limit: axis.acceleration_limit,
             half_period: axis.half_period,
             damping: axis.damping,
+            second_half_period: axis.second_half_period,
         });
     }
     let stop = |random: &mut Random| Stop {

@@ -120,7 +120,8 @@ fn long_positions_have_their_faults() {
     );
     assert_eq!(
         told(|words| words[8] = 0xA000_0000).1,
-        "word 8: expected kind 9 (target position) or kind 14 (high part of a position), found kind 10 (A0000000)"
+        "word 8: expected kind 9 (target position), kind 13 (second half period) or kind 14 (high part of a position), \
+         found kind 10 (A0000000)"
     );
     assert_eq!(
         told(|words| {

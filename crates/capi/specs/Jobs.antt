@@ -9,6 +9,8 @@ use Rattle.model.specs.declared.Axis.{Axis}
 use Rattle.model.specs.declared.Damping.the-variants.{Ratio, Peaks}
 use Rattle.model.specs.declared.Job.{Job}
 use Rattle.model.specs.declared.RestPoint.{RestPoint}
+use Rattle.model.specs.declared.SecondSway.{SecondSway}
+use Rattle.model.specs.declared.SecondSway.the-variants.{Absent, HalfPeriod}
 use Rattle.model.specs.declared.State.{State}
 use Rattle.model.specs.declared.Target.{Target}
 use Rattle.model.specs.declared.Target.the-variants.{Fixed, Moving}
@@ -46,6 +48,10 @@ unfoldable pub weightOf : ℕ → ℕ → Float → Float → Float → Weight
 weightOf kind weight ratio first second =
     cond (eqb kind 0) (Given weight) (cond (eqb kind 1) (Measured (Ratio ratio)) (Measured (Peaks first second)))
 
+-- of an axis or of a tour's limits: none where it is given by 0, and by any other number of the half period
+unfoldable pub swayOf : ℕ → ℕ → SecondSway
+swayOf given period = cond (eqb given 0) Absent (HalfPeriod period)
+
 unfoldable pub axisOf : PolgamirAxis → Axis
 axisOf a =
     record {
@@ -54,6 +60,7 @@ axisOf a =
       «acceleration_limit» = a .«acceleration_limit»;
       «half_period» = a .«half_period»;
       «second_weight» = weightOf (a .«damping_kind») (a .«second_weight») (a .«swing_ratio») (a .«first_peak») (a .«second_peak»);
+      «second_sway» = swayOf (a .«second_sway_given») (a .«second_half_period»);
       target = targetOf a;
     }
 

@@ -4,7 +4,7 @@ use Rattle.model.specs.declared.AxisLimits.{AxisLimits}
 use Rattle.model.specs.declared.TourSettings.{TourSettings}
 use Rattle.capi.specs.declared.tours.PolgamirLimits.{PolgamirLimits}
 use Rattle.capi.specs.declared.tours.PolgamirTour.{PolgamirTour}
-use Rattle.capi.specs.Jobs.{weightOf}
+use Rattle.capi.specs.Jobs.{weightOf, swayOf}
 
 unfoldable pub limitsOf : PolgamirLimits → AxisLimits
 limitsOf l =
@@ -13,6 +13,7 @@ limitsOf l =
       «acceleration_limit» = l .«acceleration_limit»;
       «half_period» = l .«half_period»;
       «second_weight» = weightOf (l .«damping_kind») (l .«second_weight») (l .«swing_ratio») (l .«first_peak») (l .«second_peak»);
+      «second_sway» = swayOf (l .«second_sway_given») (l .«second_half_period»);
     }
 
 abbrev pub settingsOf : PolgamirTour → TourSettings

@@ -7,6 +7,7 @@ use model::Axis;
 use model::Damping;
 use model::Job;
 use model::RestPoint;
+use model::SecondSway;
 use model::State;
 use model::Target;
 use model::Weight;
@@ -16,7 +17,7 @@ ghost use mathlib.Core.Path.{_≡_};
 ghost use mathlib.Core.List.{map};
 ghost use Rattle.model.specs.Outcome as Input;
 ghost use Rattle.planner.specs.Promise.{Promise};
-ghost use Rattle.capi.specs.Jobs.{startOf, fixedOf, movingOf, targetOf, weightOf, axisOf, windowsOf, jobOf, answerOf};
+ghost use Rattle.capi.specs.Jobs.{startOf, fixedOf, movingOf, targetOf, weightOf, swayOf, axisOf, windowsOf, jobOf, answerOf};
 
 // What a call gives back, laid out as the header's `polgamir_answer`.
 #[repr(C)]
@@ -28,7 +29,7 @@ pub struct PolgamirAnswer {
 }
 
 // An axis, laid out as the header's `polgamir_axis`. The target is fixed where its kind is 0, else it moves. The second weight is given
-// where the damping's kind is 0, of a ratio where it is 1, else of two peaks.
+// where the damping's kind is 0, of a ratio where it is 1, else of two peaks. The pole has a second sway where it is given by any number but 0.
 #[repr(C)]
 pub struct PolgamirAxis {
     pub start_position: i64,
@@ -46,6 +47,8 @@ pub struct PolgamirAxis {
     pub swing_ratio: f32,
     pub first_peak: f32,
     pub second_peak: f32,
+    pub second_sway_given: u32,
+    pub second_half_period: u32,
 }
 
 // Windows, laid out as the header's `polgamir_windows`. They are given where the first field is not 0.
@@ -135,6 +138,16 @@ fn weight_of(kind: u32, weight: u32, ratio: f32, first: f32, second: f32) -> Wei
     Weight::Measured(peaks)
 }
 
+// The second sway of an axis or of a tour's limits, from its two fields.
+fn sway_of(given: u32, half_period: u32) -> SecondSway
+    ensures { λ r. ⌜ r ≡ swayOf given «half_period» ⌝ }
+{
+    if given == 0 {
+        return SecondSway::Absent;
+    }
+    SecondSway::HalfPeriod(half_period)
+}
+
 fn axis_of(a: PolgamirAxis) -> Axis
     ensures { λ r. ⌜ r ≡ axisOf a ⌝ }
 {
@@ -146,6 +159,7 @@ fn axis_of(a: PolgamirAxis) -> Axis
         a.first_peak,
         a.second_peak,
     );
+    let sway = sway_of(a.second_sway_given, a.second_half_period);
     let target = target_of(a);
     Axis {
         start: start,
@@ -153,6 +167,7 @@ fn axis_of(a: PolgamirAxis) -> Axis
         acceleration_limit: a.acceleration_limit,
         half_period: a.half_period,
         second_weight: weight,
+        second_sway: sway,
         target: target,
     }
 }
@@ -224,7 +239,7 @@ pub extern "C" fn polgamir_plan_words(words: &[u32], table: &mut [i64]) -> Polga
 
 // Plans the axes of a job that its mask names and writes their rows into the table. The asked arrival is a tick from 1 to 4,096, or 0 for
 // the least that every axis reaches and that fits a window where windows are given. The other axes are not looked at.
-// Gives back what the call for words gives; its refusals are 1, 3 to 6, 8 to 10, 12 and 13.
+// Gives back what the call for words gives; its refusals are 1, 3 to 6, 8 to 10, 12, 13, 15 and 16.
 #[no_mangle]
 pub extern "C" fn polgamir_plan_job(job: PolgamirJob, table: &mut [i64]) -> PolgamirAnswer
     ensures { λ r. ⌜ Promise (Input.typed (jobOf job)) (now (table .entry)) (answerOf r) (now (table .exit)) ⌝ }

@@ -1,4 +1,5 @@
 // The call for a tour of stops, as include/polgamir.h declares it. Stops and answer are the model's own, which have the header's layout.
+use crate::sway_of;
 use crate::weight_of;
 use model::AxisLimits;
 use model::Stop;
@@ -9,7 +10,7 @@ ghost use mathlib.Core.List.{map};
 ghost use Rattle.tour.specs.Promise.{TourPromise};
 ghost use Rattle.capi.specs.Tours.{limitsOf, settingsOf};
 
-// The limits and the blend of an axis, laid out as the header's `polgamir_limits`. The damping is as in an axis.
+// The limits and the blend of an axis, laid out as the header's `polgamir_limits`. The damping and the second sway are as in an axis.
 #[repr(C)]
 pub struct PolgamirLimits {
     pub speed_limit: u32,
@@ -20,6 +21,8 @@ pub struct PolgamirLimits {
     pub swing_ratio: f32,
     pub first_peak: f32,
     pub second_peak: f32,
+    pub second_sway_given: u32,
+    pub second_half_period: u32,
 }
 
 // What a tour has besides its stops, laid out as the header's `polgamir_tour`.
@@ -40,11 +43,13 @@ fn limits_of(l: PolgamirLimits) -> AxisLimits
         l.first_peak,
         l.second_peak,
     );
+    let sway = sway_of(l.second_sway_given, l.second_half_period);
     AxisLimits {
         speed_limit: l.speed_limit,
         acceleration_limit: l.acceleration_limit,
         half_period: l.half_period,
         second_weight: weight,
+        second_sway: sway,
     }
 }
 

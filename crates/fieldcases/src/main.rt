@@ -10,6 +10,7 @@ use model::AxisLimits;
 use model::Damping;
 use model::Job;
 use model::RestPoint;
+use model::SecondSway;
 use model::State;
 use model::Stop;
 use model::Target;
@@ -177,7 +178,7 @@ fn target_at(text: &[u8], from: usize) -> Target {
     })
 }
 
-// The axis whose numbers come next.
+// The axis whose numbers come next. It has no second sway: cases bring one by words.
 fn axis_at(text: &[u8], from: usize) -> Axis {
     let weight = weight_at(text, after(text, from, 5));
     let target = target_at(text, target_from(text, from));
@@ -190,6 +191,7 @@ fn axis_at(text: &[u8], from: usize) -> Axis {
         acceleration_limit: nth_low(text, from, 3),
         half_period: nth_low(text, from, 4),
         second_weight: weight,
+        second_sway: SecondSway::Absent,
         target: target,
     }
 }
@@ -274,7 +276,7 @@ fn read_words(text: &[u8], from: usize, words: &mut [u32]) -> usize
 
 // Calling the planner.
 
-// A call from words. The longest job has 75; more may be left over.
+// A call from words. The longest job has 81; more may be left over.
 fn plan_words(text: &[u8], from: usize, table: &mut [i64]) -> Answer {
     let mut words = [0u32; 128];
     let count = read_words(text, from, &mut words);
@@ -309,6 +311,7 @@ fn limits_at(text: &[u8], from: usize) -> AxisLimits {
         acceleration_limit: nth_low(text, from, 2),
         half_period: nth_low(text, from, 3),
         second_weight: weight,
+        second_sway: SecondSway::Absent,
     }
 }
 

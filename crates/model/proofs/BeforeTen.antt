@@ -1,6 +1,6 @@
 -- The answer before refusal 10: it does not depend on what is lent, and where its number is 0 the call with any table that has room is accepted
 -- with this arrival and meets demand 3.
-use Prim.Native.Nat.{ℕ, zero, suc, _+_, _≤_, _<_}
+use Prim.Native.Nat.{ℕ, zero, suc, _≤_, _<_}
 use native.Mathlib.Omega.{arith}
 use mathlib.Core.Path.{_≡_, refl, sym, ap, subst, _∙_}
 use mathlib.Core.Bool.{Bool, true, false, not}
@@ -21,7 +21,7 @@ use Rattle.model.specs.Words.{goodMask}
 use Rattle.model.specs.Refusals.{lastTick}
 use Rattle.model.specs.Outcome.{Outcome, Input, typed, call, inputAxes, refuse, accept, filled, arrived, tested, axisRefusals, jobOutcome}
 use Rattle.model.specs.Outcome.{cellsNeeded, leastFrom, arrives, firstAxis, reachesNone, beforeTen, answerOf}
-use Rattle.model.specs.Verdict.{Verdict, refused3, refused4, refused12, refused5, refused6, refused13, refused8, refused9, refused10, accepted}
+use Rattle.model.specs.Verdict.{Verdict, refused3, refused4, refused12, refused5, refused15, refused6, refused16, refused13, refused8, refused9, refused10, accepted}
 use Rattle.model.specs.Verdict.{CallVerdict, typed1, typedJobs}
 use Rattle.model.specs.Demand.{Demand3}
 use Rattle.model.proofs.CallVerdict.{call-verdict}
@@ -140,7 +140,9 @@ module _ (t : Typed.Job) (lent : List ℤ) where
       of-job (refused4 i a b r) = let z = r .number in absurd (omega arith)
       of-job (refused12 i a b c r) = let z = r .number in absurd (omega arith)
       of-job (refused5 i a b c d r) = let z = r .number in absurd (omega arith)
-      of-job (refused6 i a b c d f r) = let z = r .number in absurd (omega arith)
+      of-job (refused15 i a b c d f r) = let z = r .number in absurd (omega arith)
+      of-job (refused6 i a b c d f g r) = let z = r .number in absurd (omega arith)
+      of-job (refused16 i a b c d f g h r) = let z = r .number in absurd (omega arith)
       of-job (refused13 p a b c d r) = let z = r .number in absurd (omega arith)
       of-job (refused8 n a b c w d f r) = let z = r .number in absurd (omega arith)
       of-job (refused9 n a b w c d r) = let z = r .number in absurd (omega arith)

@@ -1,6 +1,6 @@
 -- A job with damping as measured has the outcome of the same job with each B entered by hand: `measured-is-by-hand`. Of one axis every
 -- definition but refusal 12 reads the weight as a number only, so that both sides compute to the same.
-use Prim.Native.Nat.{ℕ, zero, suc, _+_, _/_, _%_, _^_}
+use Prim.Native.Nat.{ℕ, zero, suc, _+_, _*_, _/_, _%_, _^_}
 use mathlib.Core.Path.{_≡_, refl, ap, ap₂, _∙_}
 use mathlib.Core.Bool.{Bool, true, false, not, _&&_}
 use mathlib.Core.Option.{Option, none, some}
@@ -8,17 +8,20 @@ use mathlib.Core.List.{List, [], _∷_, _++_, map}
 use lib.IntN.{ℤ}
 use lib.Dec.{eqb, leb, ltb}
 use lib.ListN.{length, drop}
+use Rattle.whole.specs.Integers.{nearest}
 use Rattle.model.specs.declared.Axis.{Axis}
+use Rattle.model.specs.declared.SecondSway.{SecondSway}
+use Rattle.model.specs.declared.SecondSway.the-variants.{Absent, HalfPeriod}
 use Rattle.model.specs.declared.Target.{Target}
 use Rattle.model.specs.declared.Target.the-variants.{Fixed, Moving}
 use Rattle.model.specs.declared.Job as Typed
 use Rattle.model.specs.Windows.{noWindows, inWindows, refused13}
-use Rattle.model.specs.Motion.{reachable}
-use Rattle.model.specs.Rows.{track, row, table, cells, concat, tabulate}
+use Rattle.model.specs.Motion.{Tick, reachable}
+use Rattle.model.specs.Rows.{track, blend, blendBy, divisor, row, table, cells, concat, tabulate}
 use Rattle.model.specs.Job.{Job, JobAxis, axesOf, jobOf, maskWhere, setAxes, byHand, axesByHand, jobByHand}
 use Rattle.model.specs.Words.{goodMask}
 use Rattle.model.specs.Quantities.{finer}
-use Rattle.model.specs.Refusals.{lastTick, limitsRefused, dampingRefused, blendRefused, valuesRefused}
+use Rattle.model.specs.Refusals.{lastTick, limitsRefused, dampingRefused, blendRefused, swayRefused, valuesRefused, accelerationRefused}
 use Rattle.model.specs.Refusals.{restAllowed, targetAllowed, AllPassed}
 use Rattle.model.specs.Outcome.{Outcome, typed, call, refuse, allReach, leastFrom, arrives, reachesNone, cellsNeeded, tableOver}
 use Rattle.model.specs.Outcome.{filled, arrived, firstAxis, axisRefusals, tested, jobOutcome}
@@ -39,7 +42,14 @@ values-by-hand x = ap (λ (b : Bool). not (restAllowed x (x .start) && b)) (targ
 pub passed-by-hand : (l : List JobAxis) → AllPassed l → AllPassed (axesByHand l)
 passed-by-hand [] p = tt
 passed-by-hand (x ∷ l) (p, ps) = (
-  record { limits = p .limits; damping = refl; blend = p .blend; values = values-by-hand (x .axis) ∙ p .values },
+  record {
+    limits = p .limits;
+    damping = refl;
+    blend = p .blend;
+    sway = p .sway;
+    values = values-by-hand (x .axis) ∙ p .values;
+    acceleration = p .acceleration;
+  },
   passed-by-hand l ps,
 )
 
@@ -89,11 +99,27 @@ none-by-hand x =
 
 -- ---- the table
 
+blend-by-hand : (n k : ℕ) (x : Axis) (f : Tick → ℤ) → blend (track n (byHand x)) k f ≡ blend (track n x) k f
+unfolding finer
+blend-by-hand n k x f = go (x .«second_sway»)
+  where
+    go : (s : SecondSway) → blendBy s (track n (byHand x)) k f ≡ blendBy s (track n x) k f
+    go Absent = refl
+    go (HalfPeriod d) = refl
+
+cells-by-hand : (n k : ℕ) (x : Axis) → cells k (track n (byHand x)) ≡ cells k (track n x)
+unfolding finer
+cells-by-hand n k x =
+    λ i.
+    nearest (blend-by-hand n k x (λ s. s .position) i) (2 * divisor x)
+    ∷ nearest (blend-by-hand n k x (λ s. s .velocity) i) (divisor x)
+    ∷ nearest (blend-by-hand n k x (λ s. s .acceleration) i) (divisor x)
+    ∷ []
+
 row-by-hand : (l : List JobAxis) (n k : ℕ)
     → row (map (track n) (map (λ x. x .axis) (axesByHand l))) k ≡ row (map (track n) (map (λ x. x .axis) l)) k
-unfolding finer
 row-by-hand [] n k = refl
-row-by-hand (x ∷ l) n k = ap (λ (r : List ℤ). cells k (track n (x .axis)) ++ r) (row-by-hand l n k)
+row-by-hand (x ∷ l) n k = ap₂ (λ (c r : List ℤ). c ++ r) (cells-by-hand n k (x .axis)) (row-by-hand l n k)
 
 table-by-hand : (j : Job) (n : ℕ) → table (axesOf (jobByHand j)) n ≡ table (axesOf j) n
 table-by-hand j n = ap (λ (f : ℕ → List ℤ). concat (tabulate f 0 (suc n))) (λ i k. row-by-hand (j .axes) n k i)
@@ -111,7 +137,7 @@ abbrev Tests : Type 0
 Tests = List (ℕ × (Axis → Bool))
 
 abbrev afterDamping : Tests
-afterDamping = (5, blendRefused) ∷ (6, valuesRefused) ∷ []
+afterDamping = (5, blendRefused) ∷ (15, swayRefused) ∷ (6, valuesRefused) ∷ (16, accelerationRefused) ∷ []
 
 abbrev fromDamping : Tests
 fromDamping = (12, dampingRefused) ∷ afterDamping
@@ -141,20 +167,21 @@ arrived-by-hand j (suc n) lent =
       | false ↦ refuse 8 0 (mask-by-hand (λ x. not (reachable x (suc n))) (λ x. refl) (j .axes) i) 0 lent
     ]
 
+-- tests that read the weights as numbers only
+abbrev AllBlind : Tests → Type 0
+AllBlind [] = Unit
+AllBlind (t ∷ ts) = Blind (t .1) × AllBlind ts
+
+tested-by-hand : (ts : Tests) → AllBlind ts → (j : Job) (lent : List ℤ) → tested ts (jobByHand j) lent ≡ tested ts j lent
+tested-by-hand [] h j lent =
+    ap (λ (o : Outcome). elim (refused13 (j .windows)) as (λ _. Outcome) [ some p ↦ refuse 13 p 0 0 lent | none ↦ o ]) (arrived-by-hand j (j .asked) lent)
+tested-by-hand (t ∷ ts) (h, hs) j lent =
+    ap₂ (λ (o : Option ℕ) (r : Outcome). elim o as (λ _. Outcome) [ some k ↦ refuse (t .0) k 0 0 lent | none ↦ r ])
+    (first-by-hand (t .1) h (j .axes)) (tested-by-hand ts hs j lent)
+
 -- after refusal 12
 rest-by-hand : (j : Job) (lent : List ℤ) → tested afterDamping (jobByHand j) lent ≡ tested afterDamping j lent
-rest-by-hand j lent =
-    λ i.
-    elim (first-by-hand blendRefused (λ x. refl) (j .axes) i) as (λ _. Outcome) [
-      | some k ↦ refuse 5 k 0 0 lent
-      | none ↦ elim (first-by-hand valuesRefused values-by-hand (j .axes) i) as (λ _. Outcome) [
-        | some k ↦ refuse 6 k 0 0 lent
-        | none ↦ elim (refused13 (j .windows)) as (λ _. Outcome) [
-          | some p ↦ refuse 13 p 0 0 lent
-          | none ↦ arrived-by-hand j (j .asked) lent i
-        ]
-      ]
-    ]
+rest-by-hand = tested-by-hand afterDamping ((λ x. refl), ((λ x. refl), (values-by-hand, ((λ x. refl), tt))))
 
 none-refused : (l : List JobAxis) → firstAxis dampingRefused (axesByHand l) ≡ none
 none-refused [] = refl

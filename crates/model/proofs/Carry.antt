@@ -15,13 +15,13 @@ use Rattle.whole.proofs.Laws.{natAbs-*}
 use Rattle.whole.proofs.Ring.{pol, same}
 use Rattle.whole.proofs.Rounding.{WithinHalf, half-iff, nearest-half}
 use Rattle.model.specs.declared.Axis.{Axis}
-use Rattle.model.specs.Quantities.{halfPeriod, secondWeight}
+use Rattle.model.specs.Quantities.{halfPeriod, secondWeight, secondHalfPeriod, delay}
 use Rattle.model.specs.Leg.{chosen}
 use Rattle.model.specs.Motion.{Tick, leg, requiredSum, earlier, changesFrom, accelerations}
 use Rattle.model.specs.Motion.{startPosition, startVelocity, landingTick, landingAcceleration}
-use Rattle.model.specs.Rows.{track, tickAt, tickBack, blend, divisor}
+use Rattle.model.specs.Rows.{track, tickAt, tickBack, blendOnce}
 use Rattle.model.specs.Refusals.{Ready}
-use Rattle.model.proofs.Grid.{divisor-some}
+use Rattle.model.proofs.TwoBlends.{both, bothDivisor, both-some}
 use Rattle.model.proofs.ReadyAxis as R
 use Rattle.model.proofs.BlendTicks.{tick-start, tick-before, tick-after}
 use Rattle.model.proofs.PlannedMotion.{Follows, run-follows}
@@ -86,16 +86,13 @@ changes-length v [] = refl
 changes-length v (w ∷ ws) = ap suc (changes-length w ws)
 
 module _ (x : Axis) (n : ℕ) (r : Ready x n) where
-  abbrev h : ℕ
-  h = halfPeriod x
-
   -- ---- the planned ticks of row k + 1 follow those of row k
 
   accelerations-length : length (accelerations x n) ≡ suc n
   accelerations-length =
-      length-append (changesFrom (startVelocity x) list) (replicate (suc h) (landingAcceleration x n))
-      ∙ ap₂ _+_ (changes-length (startVelocity x) list ∙ velocities-length x n r) (length-replicate (suc h) (landingAcceleration x n))
-      ∙ plain (landingTick x n) h n (omega (arith, R.after x n r))
+      length-append (changesFrom (startVelocity x) list) (replicate (suc (delay x)) (landingAcceleration x n))
+      ∙ ap₂ _+_ (changes-length (startVelocity x) list ∙ velocities-length x n r) (length-replicate (suc (delay x)) (landingAcceleration x n))
+      ∙ plain (landingTick x n) (delay x) n (omega (arith, R.after x n r))
     where
       list : List ℤ
       list = chosen (leg x n) (requiredSum x n)
@@ -108,8 +105,8 @@ module _ (x : Axis) (n : ℕ) (r : Ready x n) where
       run-follows (startPosition x) (startVelocity x) (accelerations x n) (earlier x 0) k
       (subst (λ (l : ℕ). suc k < l) (sym accelerations-length) (omega arith))
 
-  back-follows : (k : ℕ) → k < n → Follows (tickBack (track n x) k h) (tickBack (track n x) (suc k) h)
-  back-follows k q = ⊎-elim (λ a. ⊎-elim (λ b. before a b) (λ b. across a b) (lt-or-le (suc k) h)) within (lt-or-le k h)
+  back-follows : (h k : ℕ) → k < n → Follows (tickBack (track n x) k h) (tickBack (track n x) (suc k) h)
+  back-follows h k q = ⊎-elim (λ a. ⊎-elim (λ b. before a b) (λ b. across a b) (lt-or-le (suc k) h)) within (lt-or-le k h)
     where
       before : k < h → suc k < h → Follows (tickBack (track n x) k h) (tickBack (track n x) (suc k) h)
       before a b =
@@ -141,63 +138,98 @@ module _ (x : Axis) (n : ℕ) (r : Ready x n) where
 
   -- ---- so do their blends
 
-  abbrev position : ℕ → ℤ
-  position k = blend (track n x) k (λ s. s .position)
-
-  abbrev velocity : ℕ → ℤ
-  velocity k = blend (track n x) k (λ s. s .velocity)
-
-  abbrev acceleration : ℕ → ℤ
-  acceleration k = blend (track n x) k (λ s. s .acceleration)
-
   abbrev A : ℤ
   A = pos (256 - secondWeight x)
 
   abbrev B : ℤ
   B = pos (secondWeight x)
 
-  position-follows : (k : ℕ) → k < n → position (suc k) ≡ position k +ℤ pos 2 *ℤ velocity k +ℤ acceleration k
-  position-follows k q =
-      ap₂ (λ (y z : ℤ). A *ℤ y +ℤ B *ℤ z) (now-follows k q .position) (back-follows k q .position)
+  -- one blend, d ticks back
+  abbrev once : (Tick → ℤ) → ℕ → ℕ → ℤ
+  once f d k = blendOnce (track n x) k d f
+
+  once-position : (d k : ℕ) → k < n
+      → once (λ s. s .position) d (suc k) ≡ once (λ s. s .position) d k +ℤ pos 2 *ℤ once (λ s. s .velocity) d k +ℤ once (λ s. s .acceleration) d k
+  once-position d k q =
+      ap₂ (λ (y z : ℤ). A *ℤ y +ℤ B *ℤ z) (back-follows d k q .position) (back-follows (d + halfPeriod x) k q .position)
       ∙ mixed A B (s .position) (s .velocity) (s .acceleration) (u .position) (u .velocity) (u .acceleration)
     where
       s : Tick
-      s = tickAt (track n x) k
+      s = tickBack (track n x) k d
 
       u : Tick
-      u = tickBack (track n x) k h
+      u = tickBack (track n x) k (d + halfPeriod x)
 
       mixed : (A B q v a r w b : ℤ) → A *ℤ (q +ℤ pos 2 *ℤ v +ℤ a) +ℤ B *ℤ (r +ℤ pos 2 *ℤ w +ℤ b)
           ≡ A *ℤ q +ℤ B *ℤ r +ℤ pos 2 *ℤ (A *ℤ v +ℤ B *ℤ w) +ℤ (A *ℤ a +ℤ B *ℤ b)
       mixed A B q v a r w b = same (A ∷ B ∷ q ∷ v ∷ a ∷ r ∷ w ∷ b ∷ []) (search pol depth 30 fits 9000) tt
 
-  velocity-follows : (k : ℕ) → k < n → velocity (suc k) ≡ velocity k +ℤ acceleration k
-  velocity-follows k q =
-      ap₂ (λ (y z : ℤ). A *ℤ y +ℤ B *ℤ z) (now-follows k q .velocity) (back-follows k q .velocity)
+  once-velocity : (d k : ℕ) → k < n → once (λ s. s .velocity) d (suc k) ≡ once (λ s. s .velocity) d k +ℤ once (λ s. s .acceleration) d k
+  once-velocity d k q =
+      ap₂ (λ (y z : ℤ). A *ℤ y +ℤ B *ℤ z) (back-follows d k q .velocity) (back-follows (d + halfPeriod x) k q .velocity)
       ∙ mixed A B (s .velocity) (s .acceleration) (u .velocity) (u .acceleration)
     where
       s : Tick
-      s = tickAt (track n x) k
+      s = tickBack (track n x) k d
 
       u : Tick
-      u = tickBack (track n x) k h
+      u = tickBack (track n x) k (d + halfPeriod x)
 
       mixed : (A B v a w b : ℤ) → A *ℤ (v +ℤ a) +ℤ B *ℤ (w +ℤ b) ≡ A *ℤ v +ℤ B *ℤ w +ℤ (A *ℤ a +ℤ B *ℤ b)
       mixed A B v a w b = same (A ∷ B ∷ v ∷ a ∷ w ∷ b ∷ []) (search pol depth 20 fits 9000) tt
+
+  -- the two together
+  abbrev position : ℕ → ℤ
+  position k = both (track n x) k (λ s. s .position)
+
+  abbrev velocity : ℕ → ℤ
+  velocity k = both (track n x) k (λ s. s .velocity)
+
+  abbrev acceleration : ℕ → ℤ
+  acceleration k = both (track n x) k (λ s. s .acceleration)
+
+  position-follows : (k : ℕ) → k < n → position (suc k) ≡ position k +ℤ pos 2 *ℤ velocity k +ℤ acceleration k
+  position-follows k q =
+      ap₂ (λ (y z : ℤ). y +ℤ z) (once-position 0 k q) (once-position (secondHalfPeriod x) k q)
+      ∙ sorted (now (λ s. s .position)) (now (λ s. s .velocity)) (now (λ s. s .acceleration)) (late (λ s. s .position)) (late (λ s. s .velocity))
+      (late (λ s. s .acceleration))
+    where
+      now : (Tick → ℤ) → ℤ
+      now f = once f 0 k
+
+      late : (Tick → ℤ) → ℤ
+      late f = once f (secondHalfPeriod x) k
+
+      sorted : (q v a r w b : ℤ) → q +ℤ pos 2 *ℤ v +ℤ a +ℤ (r +ℤ pos 2 *ℤ w +ℤ b) ≡ q +ℤ r +ℤ pos 2 *ℤ (v +ℤ w) +ℤ (a +ℤ b)
+      sorted q v a r w b = same (q ∷ v ∷ a ∷ r ∷ w ∷ b ∷ []) (search pol depth 20 fits 9000) tt
+
+  velocity-follows : (k : ℕ) → k < n → velocity (suc k) ≡ velocity k +ℤ acceleration k
+  velocity-follows k q =
+      ap₂ (λ (y z : ℤ). y +ℤ z) (once-velocity 0 k q) (once-velocity (secondHalfPeriod x) k q)
+      ∙ sorted (now (λ s. s .velocity)) (now (λ s. s .acceleration)) (late (λ s. s .velocity)) (late (λ s. s .acceleration))
+    where
+      now : (Tick → ℤ) → ℤ
+      now f = once f 0 k
+
+      late : (Tick → ℤ) → ℤ
+      late f = once f (secondHalfPeriod x) k
+
+      sorted : (v a w b : ℤ) → v +ℤ a +ℤ (w +ℤ b) ≡ v +ℤ w +ℤ (a +ℤ b)
+      sorted v a w b = same (v ∷ a ∷ w ∷ b ∷ []) (search pol depth 20 fits 9000) tt
 
   -- ---- and so their cells miss by little
 
   -- twice the position to which row k is carried on
   abbrev carried : ℕ → ℤ
-  carried k = pos 2 *ℤ nearest (position k) (2 * divisor x) +ℤ pos 2 *ℤ nearest (velocity k) (divisor x) +ℤ nearest (acceleration k) (divisor x)
+  carried k = pos 2 *ℤ nearest (position k) (2 * bothDivisor x) +ℤ pos 2 *ℤ nearest (velocity k) (bothDivisor x) +ℤ nearest (acceleration k) (bothDivisor x)
 
-  pub carries-position : (k : ℕ) → k < n → natAbs (carried k -ℤ pos 2 *ℤ nearest (position (suc k)) (2 * divisor x)) ≤ 3
+  pub carries-position : (k : ℕ) → k < n → natAbs (carried k -ℤ pos 2 *ℤ nearest (position (suc k)) (2 * bothDivisor x)) ≤ 3
   carries-position k q =
-      subst (λ (z : ℤ). natAbs (carried k -ℤ pos 2 *ℤ nearest z (2 * divisor x)) ≤ 3)
-      (sym (position-follows k q)) (miss (divisor x) (divisor-some x) (position k) (velocity k) (acceleration k))
+      subst (λ (z : ℤ). natAbs (carried k -ℤ pos 2 *ℤ nearest z (2 * bothDivisor x)) ≤ 3)
+      (sym (position-follows k q)) (miss (bothDivisor x) (both-some x) (position k) (velocity k) (acceleration k))
 
   pub carries-velocity : (k : ℕ) → k < n
-      → natAbs (pos 2 *ℤ (nearest (velocity k) (divisor x) +ℤ nearest (acceleration k) (divisor x) -ℤ nearest (velocity (suc k)) (divisor x))) ≤ 3
+      → natAbs (pos 2 *ℤ (nearest (velocity k) (bothDivisor x) +ℤ nearest (acceleration k) (bothDivisor x) -ℤ nearest (velocity (suc k)) (bothDivisor x))) ≤ 3
   carries-velocity k q =
-      subst (λ (z : ℤ). natAbs (pos 2 *ℤ (nearest (velocity k) (divisor x) +ℤ nearest (acceleration k) (divisor x) -ℤ nearest z (divisor x))) ≤ 3)
-      (sym (velocity-follows k q)) (miss-velocity (divisor x) (divisor-some x) (velocity k) (acceleration k))
+      subst (λ (z : ℤ). natAbs (pos 2 *ℤ (nearest (velocity k) (bothDivisor x) +ℤ nearest (acceleration k) (bothDivisor x) -ℤ nearest z (bothDivisor x))) ≤ 3)
+      (sym (velocity-follows k q)) (miss-velocity (bothDivisor x) (both-some x) (velocity k) (acceleration k))

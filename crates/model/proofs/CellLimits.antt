@@ -14,14 +14,14 @@ use Rattle.whole.proofs.Laws.{add-sub}
 use Rattle.whole.proofs.Bounds.{add-holds, mul-holds}
 use Rattle.whole.proofs.Rounding.{nearest-half, half-size}
 use Rattle.model.specs.declared.Axis.{Axis}
-use Rattle.model.specs.Quantities.{fineSteps, speedLimit, accelerationLimit, halfPeriod, secondWeight, asMoving}
+use Rattle.model.specs.Quantities.{fineSteps, speedLimit, accelerationLimit, halfPeriod, secondWeight, secondHalfPeriod, delay, asMoving}
 use Rattle.model.specs.Quantities.{finer, speedSteps, accelerationSteps}
 use Rattle.model.specs.Leg.{Meets, chosen}
 use Rattle.model.specs.Motion.{Tick, run, changesFrom, leg, displacement, requiredSum}
 use Rattle.model.specs.Motion.{earlier, landingTick, startPosition, startVelocity, landingVelocity, landingAcceleration}
-use Rattle.model.specs.Rows.{track, tickAt, tickBack, blend, divisor}
+use Rattle.model.specs.Rows.{track, tickAt, tickBack, blendOnce}
 use Rattle.model.specs.Refusals.{Ready}
-use Rattle.model.proofs.Grid.{divisor-some}
+use Rattle.model.proofs.TwoBlends.{both, bothDivisor, both-some}
 use Rattle.model.proofs.PassedAxis.{target-acceleration}
 use Rattle.model.proofs.ReadyAxis as R
 use Rattle.model.proofs.Reaches.{reach-lands, reach-arrives}
@@ -96,7 +96,7 @@ module _ (x : Axis) (n : ℕ) (r : Ready x n) where
   long : length (chosen (leg x n) (requiredSum x n)) ≡ landingTick x n
   long = velocities-length x n r
 
-  late : (j : ℕ) → j ≤ halfPeriod x → tickAt (track n x) (landingTick x n + j) ≡ landed x n j
+  late : (j : ℕ) → j ≤ delay x → tickAt (track n x) (landingTick x n + j) ≡ landed x n j
   late j h = tick-landed x n r j h
 
   landing-acceleration : natAbs (landingAcceleration x n) ≤ accelerationSteps x
@@ -113,11 +113,11 @@ module _ (x : Axis) (n : ℕ) (r : Ready x n) where
       subst (λ (v : ℤ). natAbs v ≤ speedSteps x)
       (sym
       (run-velocity (startPosition x) (startVelocity x) (chosen (leg x n) (requiredSum x n)) (landingAcceleration x n)
-      (replicate (halfPeriod x) (landingAcceleration x n)) (earlier x 0) k (omega (arith, long))))
+      (replicate (delay x) (landingAcceleration x n)) (earlier x 0) k (omega (arith, long))))
       (meets .speeds k (omega arith)))
       (λ j e l.
       subst (λ (t : Tick). natAbs (t .velocity) ≤ speedSteps x) (sym (late j (omega arith)))
-      (between (landingVelocity x n) (landingAcceleration x n) j (halfPeriod x) (speedSteps x) (omega arith)
+      (between (landingVelocity x n) (landingAcceleration x n) j (delay x) (speedSteps x) (omega arith)
       (reach-lands x n (R.reached x n r)) (reach-arrives x n (R.reached x n r))))
       h
 
@@ -129,32 +129,43 @@ module _ (x : Axis) (n : ℕ) (r : Ready x n) where
       subst (λ (v : ℤ). natAbs v ≤ accelerationSteps x)
       (sym
       (run-change (startPosition x) (startVelocity x) (chosen (leg x n) (requiredSum x n))
-      (replicate (suc (halfPeriod x)) (landingAcceleration x n)) (earlier x 0) k (omega (arith, long))))
+      (replicate (suc (delay x)) (landingAcceleration x n)) (earlier x 0) k (omega (arith, long))))
       (meets .changes k q))
       (λ j e l. subst (λ (t : Tick). natAbs (t .acceleration) ≤ accelerationSteps x) (sym (late j (omega arith))) landing-acceleration)
       h
 
   -- a cell of what is at most c fine steps in size before tick 0 and at every tick
   cell : (f : Tick → ℤ) (c : ℕ) → ((j : ℕ) → natAbs (f (earlier x j)) ≤ finer x * c) → ((k : ℕ) → k ≤ n → natAbs (f (tickAt (track n x) k)) ≤ finer x * c)
-      → (k : ℕ) → k ≤ n → natAbs (nearest (blend (track n x) k f) (divisor x)) ≤ c
-  cell f c a b k h =
-      half-size c (divisor-some x)
-      (subst (λ (m : ℕ). natAbs (blend (track n x) k f) ≤ m) (sym (N.mul-assoc 256 (finer x) c))
-      (blend-within (secondWeight x) (f (tickAt (track n x) k)) (f (tickBack (track n x) k (halfPeriod x))) (finer x * c) (R.weight-range x n r) (b k h)
-      (back (ltb k (halfPeriod x)))))
-      (nearest-half (blend (track n x) k f) (divisor x) (divisor-some x))
+      → (k : ℕ) → k ≤ n → natAbs (nearest (both (track n x) k f) (bothDivisor x)) ≤ c
+  cell f c a b k h = half-size c (both-some x) total (nearest-half (both (track n x) k f) (bothDivisor x) (both-some x))
     where
-      back : (t : Bool)
-          → natAbs (f (elim t as (λ y. Tick) [ true ↦ earlier x (halfPeriod x - k) | false ↦ tickAt (track n x) (k - halfPeriod x) ])) ≤ finer x * c
-      back true = a (halfPeriod x - k)
-      back false = b (k - halfPeriod x) (omega arith)
+      back : (d : ℕ) → natAbs (f (tickBack (track n x) k d)) ≤ finer x * c
+      back d = go (ltb k d)
+        where
+          go : (t : Bool) → natAbs (f (elim t as (λ y. Tick) [ true ↦ earlier x (d - k) | false ↦ tickAt (track n x) (k - d) ])) ≤ finer x * c
+          go true = a (d - k)
+          go false = b (k - d) (omega arith)
+
+      once : (d : ℕ) → natAbs (blendOnce (track n x) k d f) ≤ 256 * (finer x * c)
+      once d =
+          blend-within (secondWeight x) (f (tickBack (track n x) k d)) (f (tickBack (track n x) k (d + halfPeriod x))) (finer x * c)
+          (R.weight-range x n r) (back d) (back (d + halfPeriod x))
+
+      sized : (f c : ℕ) → 256 * (f * c) + 256 * (f * c) ≡ 512 * f * c
+      sized f c = omega arith
+
+      total : natAbs (both (track n x) k f) ≤ bothDivisor x * c
+      total =
+          subst (λ (m : ℕ). natAbs (both (track n x) k f) ≤ m) (sized (finer x) c)
+          (add-holds (blendOnce (track n x) k 0 f) (blendOnce (track n x) k (secondHalfPeriod x) f) (256 * (finer x * c)) (256 * (finer x * c)) (once 0)
+          (once (secondHalfPeriod x)))
 
   start-speed : natAbs (startVelocity x) ≤ speedSteps x
   unfolding W
   start-speed = meets .speeds 0 (omega arith)
 
-  pub velocity-cell : (k : ℕ) → k ≤ n → natAbs (nearest (blend (track n x) k (λ s. s .velocity)) (divisor x)) ≤ 256 * speedLimit x
+  pub velocity-cell : (k : ℕ) → k ≤ n → natAbs (nearest (both (track n x) k (λ s. s .velocity)) (bothDivisor x)) ≤ 256 * speedLimit x
   velocity-cell = cell (λ s. s .velocity) (256 * speedLimit x) (λ j. start-speed) now-velocity
 
-  pub acceleration-cell : (k : ℕ) → k ≤ n → natAbs (nearest (blend (track n x) k (λ s. s .acceleration)) (divisor x)) ≤ 256 * accelerationLimit x
+  pub acceleration-cell : (k : ℕ) → k ≤ n → natAbs (nearest (both (track n x) k (λ s. s .acceleration)) (bothDivisor x)) ≤ 256 * accelerationLimit x
   acceleration-cell = cell (λ s. s .acceleration) (256 * accelerationLimit x) (λ j. omega arith) now-acceleration

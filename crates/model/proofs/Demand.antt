@@ -10,7 +10,7 @@ use lib.Seq.{getD-take}
 use lib.IntN.{ℤ, pos, natAbs, _+ℤ_, _-ℤ_, _*ℤ_}
 use Rattle.model.specs.declared.Axis.{Axis}
 use Rattle.whole.specs.Integers.{nearest}
-use Rattle.model.specs.Rows.{track, blend, divisor, cells, table}
+use Rattle.model.specs.Rows.{track, cells, table}
 use Rattle.model.specs.Job.{Job, JobAxis, axesOf, jobOf}
 use Rattle.model.specs.Words.{Decoded, noMask, badWord, badLong, job}
 use Rattle.model.specs.Motion.{reachable}
@@ -22,12 +22,14 @@ use Rattle.whole.proofs.Elements.{at-below, element}
 use Rattle.model.proofs.CellPlaces.{table-length, table-at}
 use Rattle.model.specs.Refusals.{Ready, AllPassed}
 use Rattle.model.specs.Verdict.{Among, IsArrival, Verdict, CallVerdict, words1, words2, words14, wordsJob, typed1, typedJobs}
-use Rattle.model.specs.Verdict.{accepted, refused3, refused4, refused12, refused13, refused5, refused6, refused8, refused9, refused10}
+use Rattle.model.specs.Verdict.{accepted, refused3, refused4, refused12, refused5, refused15, refused6, refused16}
+use Rattle.model.specs.Verdict.{refused13, refused8, refused9, refused10}
 use Rattle.model.specs.Quantities.{speedLimit, accelerationLimit}
 use Rattle.model.proofs.CellLimits as L
 use Rattle.model.proofs.ExactStart as S
 use Rattle.model.proofs.Verdict.{passed-among, reach-is}
 use Rattle.model.proofs.CallVerdict.{call-verdict}
+use Rattle.model.proofs.TwoBlends.{both, bothDivisor, cell-both, position-both}
 use Rattle.model.proofs.Landing.{lands-position, lands-velocity, lands-acceleration}
 use Rattle.model.proofs.Carry.{carries-position, carries-velocity}
 use Rattle.model.proofs.SwayExact.{sway-same}
@@ -51,37 +53,45 @@ module _ (xs : List Axis) (n : ℕ) (lent rest : List ℤ) (is : lent ≡ table 
     g : Ready x n
     g = ready i x e
 
-    lands : Lands x i n (tableIn xs n lent)
-    lands =
-        record {
-          position = cell-is i 0 n x e (omega arith) (omega arith)
-              ∙ lands-position x n g;
-          velocity = cell-is i 1 n x e (omega arith) (omega arith)
-              ∙ lands-velocity x n g;
-          acceleration = cell-is i 2 n x e (omega arith) (omega arith)
-              ∙ lands-acceleration x n g;
-        }
-
+    -- the cells of row k, from the two blends
     p : ℕ → ℤ
-    p k = nearest (blend (track n x) k (λ s. s .position)) (2 * divisor x)
+    p k = nearest (both (track n x) k (λ s. s .position)) (2 * bothDivisor x)
 
     v : ℕ → ℤ
-    v k = nearest (blend (track n x) k (λ s. s .velocity)) (divisor x)
+    v k = nearest (both (track n x) k (λ s. s .velocity)) (bothDivisor x)
 
     a : ℕ → ℤ
-    a k = nearest (blend (track n x) k (λ s. s .acceleration)) (divisor x)
+    a k = nearest (both (track n x) k (λ s. s .acceleration)) (bothDivisor x)
+
+    position-is : (k : ℕ) → k ≤ n → positionCell (tableIn xs n lent) i k ≡ p k
+    unfolding p
+    position-is k h = cell-is i 0 k x e (omega arith) h ∙ position-both (track n x) k (λ s. s .position)
+
+    velocity-is : (k : ℕ) → k ≤ n → velocityCell (tableIn xs n lent) i k ≡ v k
+    unfolding v
+    velocity-is k h = cell-is i 1 k x e (omega arith) h ∙ cell-both (track n x) k (λ s. s .velocity)
+
+    acceleration-is : (k : ℕ) → k ≤ n → accelerationCell (tableIn xs n lent) i k ≡ a k
+    unfolding a
+    acceleration-is k h = cell-is i 2 k x e (omega arith) h ∙ cell-both (track n x) k (λ s. s .acceleration)
 
     p-is : (k : ℕ) → k ≤ n → p k ≡ positionCell (tableIn xs n lent) i k
-    unfolding p
-    p-is k h = sym (cell-is i 0 k x e (omega arith) h)
+    p-is k h = sym (position-is k h)
 
     v-is : (k : ℕ) → k ≤ n → v k ≡ velocityCell (tableIn xs n lent) i k
-    unfolding v
-    v-is k h = sym (cell-is i 1 k x e (omega arith) h)
+    v-is k h = sym (velocity-is k h)
 
     a-is : (k : ℕ) → k ≤ n → a k ≡ accelerationCell (tableIn xs n lent) i k
-    unfolding a
-    a-is k h = sym (cell-is i 2 k x e (omega arith) h)
+    a-is k h = sym (acceleration-is k h)
+
+    lands : Lands x i n (tableIn xs n lent)
+    unfolding p v a
+    lands =
+        record {
+          position = position-is n (omega arith) ∙ lands-position x n g;
+          velocity = velocity-is n (omega arith) ∙ lands-velocity x n g;
+          acceleration = acceleration-is n (omega arith) ∙ lands-acceleration x n g;
+        }
 
     miss-p : (k : ℕ) → k < n → natAbs (pos 2 *ℤ p k +ℤ pos 2 *ℤ v k +ℤ a k -ℤ pos 2 *ℤ p (suc k)) ≤ 3
     unfolding p v a
@@ -128,19 +138,21 @@ module _ (xs : List Axis) (n : ℕ) (lent rest : List ℤ) (is : lent ≡ table 
       }
 
   limited : CellLimits xs n lent
+  unfolding v a
   limited =
       record {
         velocities = λ i k x e h.
-            subst (λ (z : ℤ). natAbs z ≤ 256 * speedLimit x) (sym (cell-is i 1 k x e (omega arith) h)) (L.velocity-cell x n (ready i x e) k h);
+            subst (λ (z : ℤ). natAbs z ≤ 256 * speedLimit x) (sym (velocity-is i x e k h)) (L.velocity-cell x n (ready i x e) k h);
         accelerations = λ i k x e h.
-            subst (λ (z : ℤ). natAbs z ≤ 256 * accelerationLimit x) (sym (cell-is i 2 k x e (omega arith) h)) (L.acceleration-cell x n (ready i x e) k h);
+            subst (λ (z : ℤ). natAbs z ≤ 256 * accelerationLimit x) (sym (acceleration-is i x e k h)) (L.acceleration-cell x n (ready i x e) k h);
       }
 
   started : ExactStart xs n lent
+  unfolding p v
   started =
       record {
-        positions = λ i x e. cell-is i 0 0 x e (omega arith) (omega arith) ∙ S.start-position x n (ready i x e);
-        velocities = λ i x e. cell-is i 1 0 x e (omega arith) (omega arith) ∙ S.start-velocity x n (ready i x e);
+        positions = λ i x e. position-is i x e 0 (omega arith) ∙ S.start-position x n (ready i x e);
+        velocities = λ i x e. velocity-is i x e 0 (omega arith) ∙ S.start-velocity x n (ready i x e);
       }
 
 -- the axes of what the words are read as
@@ -178,7 +190,9 @@ module _ (Claim : List Axis → ℕ → List ℤ → Type 0)
   by-verdict j lent o (refused4 i a b e) z = absurd (let n = e .number in omega arith)
   by-verdict j lent o (refused12 i a b c e) z = absurd (let n = e .number in omega arith)
   by-verdict j lent o (refused5 i a b c d e) z = absurd (let n = e .number in omega arith)
-  by-verdict j lent o (refused6 i a b c d f e) z = absurd (let n = e .number in omega arith)
+  by-verdict j lent o (refused15 i a b c d f e) z = absurd (let n = e .number in omega arith)
+  by-verdict j lent o (refused6 i a b c d f g e) z = absurd (let n = e .number in omega arith)
+  by-verdict j lent o (refused16 i a b c d f g k e) z = absurd (let n = e .number in omega arith)
   by-verdict j lent o (refused13 p a b c d e) z = absurd (let n = e .number in omega arith)
   by-verdict j lent o (refused8 m a b c w d f e) z = absurd (let n = e .number in omega arith)
   by-verdict j lent o (refused9 m a b w c d e) z = absurd (let n = e .number in omega arith)

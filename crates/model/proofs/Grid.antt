@@ -9,20 +9,22 @@ use lib.IntN.{pos, natAbs}
 use Rattle.whole.proofs.Tests.{not-false-T}
 use Rattle.whole.proofs.Laws.{natAbs-zero}
 use Rattle.model.specs.declared.Axis.{Axis}
+use Rattle.model.specs.declared.SecondSway.{SecondSway}
+use Rattle.model.specs.declared.SecondSway.the-variants.{Absent, HalfPeriod}
 use Rattle.model.specs.declared.Target.{Target}
 use Rattle.model.specs.declared.Target.the-variants.{Fixed, Moving}
 use Rattle.model.specs.Quantities.{fineSteps, speedLimit, accelerationLimit, halfPeriod, secondWeight, asMoving}
-use Rattle.model.specs.Quantities.{accelerates, finestSteps, finer, speedSteps, accelerationSteps}
-use Rattle.model.specs.Rows.{divisor}
+use Rattle.model.specs.Quantities.{accelerates, swaySteps, finestSteps, finer, finerBy, speedSteps, accelerationSteps}
 
--- the fine grid has one of three reasons
 pub data Grid (x : Axis) : Type 0 where
-  still : finer x ≡ 1 → ((n : ℕ) → asMoving (x .target) n .acceleration ≡ pos 0) → Grid x
-  unblended : finer x ≡ 1 → halfPeriod x ≡ 0 → Grid x
-  undamped : finer x ≡ 1 → secondWeight x ≡ 128 → Grid x
-  corrected : finer x ≡ finestSteps → Grid x
+  twoSways : (d : ℕ) → finer x ≡ swaySteps → x .«second_sway» ≡ HalfPeriod d → Grid x
+  -- one sway: the fine grid has one of three reasons
+  still : finer x ≡ 1 → x .«second_sway» ≡ Absent → ((n : ℕ) → asMoving (x .target) n .acceleration ≡ pos 0) → Grid x
+  unblended : finer x ≡ 1 → x .«second_sway» ≡ Absent → halfPeriod x ≡ 0 → Grid x
+  undamped : finer x ≡ 1 → x .«second_sway» ≡ Absent → secondWeight x ≡ 128 → Grid x
+  corrected : finer x ≡ finestSteps → x .«second_sway» ≡ Absent → Grid x
 
-no-acceleration : (t : Target) → accelerates t ≡ false → (n : ℕ) → asMoving t n .acceleration ≡ pos 0
+pub no-acceleration : (t : Target) → accelerates t ≡ false → (n : ℕ) → asMoving t n .acceleration ≡ pos 0
 no-acceleration (Fixed r) e n = refl
 no-acceleration (Moving m) e n = natAbs-zero (m .acceleration) (eqb→eq (natAbs (m .acceleration)) 0 (not-false-T (eqb (natAbs (m .acceleration)) 0) e))
 
@@ -30,16 +32,17 @@ module _ (x : Axis) where
   pub grid : Grid x
   unfolding finer
   grid =
-      go (accelerates (x .target)) (eqb (halfPeriod x) 0) (eqb (secondWeight x) 128) (no-acceleration (x .target)) (eqb→eq (halfPeriod x) 0)
-      (eqb→eq (secondWeight x) 128) refl refl
+      go (x .«second_sway») (accelerates (x .target)) (eqb (halfPeriod x) 0) (eqb (secondWeight x) 128) (no-acceleration (x .target))
+      (eqb→eq (halfPeriod x) 0) (eqb→eq (secondWeight x) 128) refl refl refl
     where
-      go : (moves h0 b128 : Bool) → (accelerates (x .target) ≡ false → (n : ℕ) → asMoving (x .target) n .acceleration ≡ pos 0)
-          → (T h0 → halfPeriod x ≡ 0) → (T b128 → secondWeight x ≡ 128) → accelerates (x .target) ≡ moves
-          → finer x ≡ (elim (moves && (not h0 && not b128)) as (λ _. ℕ) [ true ↦ finestSteps | false ↦ 1 ]) → Grid x
-      go false h0 b128 f g h e r = still r (f e)
-      go true true b128 f g h e r = unblended r (g tt)
-      go true false true f g h e r = undamped r (h tt)
-      go true false false f g h e r = corrected r
+      go : (s : SecondSway) (moves h0 b128 : Bool) → (accelerates (x .target) ≡ false → (n : ℕ) → asMoving (x .target) n .acceleration ≡ pos 0)
+          → (T h0 → halfPeriod x ≡ 0) → (T b128 → secondWeight x ≡ 128) → x .«second_sway» ≡ s → accelerates (x .target) ≡ moves
+          → finer x ≡ finerBy s (moves && (not h0 && not b128)) → Grid x
+      go (HalfPeriod d) moves h0 b128 f g h s e r = twoSways d r s
+      go Absent false h0 b128 f g h s e r = still r s (f e)
+      go Absent true true b128 f g h s e r = unblended r s (g tt)
+      go Absent true false true f g h s e r = undamped r s (h tt)
+      go Absent true false false f g h s e r = corrected r s
 
   -- ---- ranges
 
@@ -47,13 +50,11 @@ module _ (x : Axis) where
   finer-range = go grid
     where
       go : Grid x → (1 ≤ finer x) × (finer x ≤ 256)
-      go (still e a) = (omega arith, omega arith)
-      go (unblended e a) = (omega arith, omega arith)
-      go (undamped e a) = (omega arith, omega arith)
-      go (corrected e) = (omega arith, omega arith)
-
-  pub divisor-some : 0 < divisor x
-  divisor-some = omega (arith, finer-range .0)
+      go (twoSways d e s) = (omega arith, omega arith)
+      go (still e s a) = (omega arith, omega arith)
+      go (unblended e s a) = (omega arith, omega arith)
+      go (undamped e s a) = (omega arith, omega arith)
+      go (corrected e s) = (omega arith, omega arith)
 
   -- 36 bits
   pub speed-range : speedLimit x ≤ 1048576 → speedSteps x ≤ 2 ^ 37

@@ -1,14 +1,14 @@
 -- The weight of damping as measured: it is the largest that paper 02 asks for, and by computation 128 for ratio 1 and 85 for ratio 0.5.
-use Prim.Native.Nat.{ℕ, zero, suc, _+_, _-_, _≤_, _<_}
+use Prim.Native.Nat.{ℕ, zero, suc, _-_, _≤_, _<_}
 use native.Mathlib.Omega.{arith}
 use mathlib.Core.Path.{_≡_, refl, sym, ap, subst, _∙_}
 use mathlib.Core.Bool.{Bool, true, false, not, false≢true}
-use mathlib.Core.Logic.{_⊎_, inl, inr}
+use mathlib.Core.Logic.{inl, inr}
 use mathlib.Core.List.{[], _∷_, map}
 use lib.IntN.{ℤ, pos, negsuc}
 use lib.Dec.{T, leb, leb→le, nleb→lt}
 use lib.Ieee
-use lib.Ieee.{Float, fin, nan, inf}
+use lib.Ieee.{Float, fin}
 use Rattle.whole.proofs.Tests.{T-iff}
 use Rattle.model.specs.declared.Damping.the-variants.{Ratio, Peaks}
 use Rattle.model.specs.declared.Weight.{Weight}

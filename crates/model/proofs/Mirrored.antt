@@ -1,24 +1,26 @@
 -- Negating a planned motion negates every cell: the blend is linear, and halves go away from zero.
-use Prim.Native.Nat.{ℕ, zero, suc, _*_, _-_, _<_}
-use mathlib.Core.Path.{_≡_, refl, ap, ap₂, _∙_}
+use Prim.Native.Nat.{ℕ, zero, suc, _+_, _*_, _-_, _<_}
+use mathlib.Core.Path.{_≡_, refl, sym, ap, ap₂, _∙_}
 use mathlib.Core.Bool.{Bool, true, false, not, _&&_}
 use mathlib.Core.List.{List, [], _∷_, map}
 use native.Mathlib.Omega.{arith}
 use lib.Dec.{ltb, eqb}
 use lib.ListN.{getD}
-use lib.IntN.{ℤ, pos, negℤ, _+ℤ_, _-ℤ_, _*ℤ_}
+use lib.IntN.{ℤ, pos, negℤ, _+ℤ_, _-ℤ_, _*ℤ_, negℤ-+ℤ}
 use Rattle.whole.specs.Integers.{nearest}
 use Rattle.whole.proofs.Laws.{natAbs-neg}
 use Rattle.whole.proofs.Ring.{pol, same}
 use Rattle.whole.proofs.Rounding.{nearest-neg}
 use Rattle.model.specs.declared.Axis.{Axis}
+use Rattle.model.specs.declared.SecondSway.{SecondSway}
+use Rattle.model.specs.declared.SecondSway.the-variants.{Absent, HalfPeriod}
 use Rattle.model.specs.declared.Target.{Target}
 use Rattle.model.specs.declared.Target.the-variants.{Fixed, Moving}
-use Rattle.model.specs.Quantities.{halfPeriod, secondWeight, accelerates, damped, finer}
+use Rattle.model.specs.Quantities.{halfPeriod, secondWeight, accelerates, damped, finer, finerBy}
 use Rattle.model.specs.Motion.{Tick, earlier, shift}
-use Rattle.model.specs.Rows.{Track, tickAt, tickBack, blend}
+use Rattle.model.specs.Rows.{Track, tickAt, tickBack, blendOnce, blendBy, weightsBy, blend}
 use Rattle.model.specs.Mirror.{negatedTick, negatedTarget, negatedAxis, negatedTrack, Mirrored}
-use Rattle.model.proofs.Grid.{divisor-some}
+use Rattle.model.proofs.TwoBlends.{divisor-some}
 
 map-getD : (l : List Tick) (k : ℕ) (d : Tick) → getD (map negatedTick l) k (negatedTick d) ≡ negatedTick (getD l k d)
 map-getD [] k d = refl
@@ -32,7 +34,7 @@ accelerates-negated (Moving m) = ap (λ (n : ℕ). not (eqb n 0)) (natAbs-neg (m
 -- the grid stays
 finer-negated : (x : Axis) → finer (negatedAxis x) ≡ finer x
 unfolding finer
-finer-negated x = ap (λ (b : Bool). elim (b && damped x) as (λ _. ℕ) [ true ↦ 256 | false ↦ 1 ]) (accelerates-negated (x .target))
+finer-negated x = ap (λ (b : Bool). finerBy (x .«second_sway») (b && damped x)) (accelerates-negated (x .target))
 
 earlier-negated : (x : Axis) (j : ℕ) → earlier (negatedAxis x) j ≡ negatedTick (earlier x j)
 earlier-negated x j =
@@ -70,24 +72,32 @@ module _ (t : Track) where
       go false = now-negated (k - h)
 
   module _ (k : ℕ) (f : Tick → ℤ) (odd : (s : Tick) → f (negatedTick s) ≡ negℤ (f s)) where
-    blend-negated : blend (negatedTrack t) k f ≡ negℤ (blend t k f)
-    blend-negated =
-        ap₂ (λ (y z : ℤ). pos (256 - secondWeight (t .axis)) *ℤ y +ℤ pos (secondWeight (t .axis)) *ℤ z)
-        (ap f (now-negated k) ∙ odd (tickAt t k))
-        (ap f (back-negated k (halfPeriod (t .axis))) ∙ odd (tickBack t k (halfPeriod (t .axis))))
-        ∙ turned (pos (256 - secondWeight (t .axis))) (pos (secondWeight (t .axis))) (f (tickAt t k)) (f (tickBack t k (halfPeriod (t .axis))))
+    once-negated : (d : ℕ) → blendOnce (negatedTrack t) k d f ≡ negℤ (blendOnce t k d f)
+    once-negated d =
+        ap₂ (λ (y z : ℤ). pos (256 - secondWeight (t .axis)) *ℤ y +ℤ pos (secondWeight (t .axis)) *ℤ z) (at d) (at (d + halfPeriod (t .axis)))
+        ∙ turned (pos (256 - secondWeight (t .axis))) (pos (secondWeight (t .axis))) (f (tickBack t k d)) (f (tickBack t k (d + halfPeriod (t .axis))))
       where
+        at : (d : ℕ) → f (tickBack (negatedTrack t) k d) ≡ negℤ (f (tickBack t k d))
+        at d = ap f (back-negated k d) ∙ odd (tickBack t k d)
+
         turned : (a b y z : ℤ) → a *ℤ negℤ y +ℤ b *ℤ negℤ z ≡ negℤ (a *ℤ y +ℤ b *ℤ z)
         turned a b y z = same (a ∷ b ∷ y ∷ z ∷ []) (search pol depth 20 fits 9000) tt
+
+    blend-negated : blend (negatedTrack t) k f ≡ negℤ (blend t k f)
+    blend-negated = go (t .axis .«second_sway»)
+      where
+        go : (s : SecondSway) → blendBy s (negatedTrack t) k f ≡ negℤ (blendBy s t k f)
+        go Absent = once-negated 0
+        go (HalfPeriod d) = ap₂ (λ (y z : ℤ). y +ℤ z) (once-negated 0) (once-negated d) ∙ sym (negℤ-+ℤ (blendOnce t k 0 f) (blendOnce t k d f))
 
     cell-negated : (d : ℕ) → 0 < d → nearest (blend (negatedTrack t) k f) d ≡ negℤ (nearest (blend t k f) d)
     cell-negated d h = ap (λ (z : ℤ). nearest z d) blend-negated ∙ nearest-neg (blend t k f) d h
 
 pub mirrored : Mirrored
 mirrored t k =
-    λ i. cell t (λ s. s .position) (λ s. refl) (λ f. 2 * (256 * f)) (omega (arith, divisor-some (t .axis))) i
-    ∷ cell t (λ s. s .velocity) (λ s. refl) (λ f. 256 * f) (divisor-some (t .axis)) i
-    ∷ cell t (λ s. s .acceleration) (λ s. refl) (λ f. 256 * f) (divisor-some (t .axis)) i
+    λ i. cell t (λ s. s .position) (λ s. refl) (λ f. 2 * (weightsBy (t .axis .«second_sway») * f)) (omega (arith, divisor-some (t .axis))) i
+    ∷ cell t (λ s. s .velocity) (λ s. refl) (λ f. weightsBy (t .axis .«second_sway») * f) (divisor-some (t .axis)) i
+    ∷ cell t (λ s. s .acceleration) (λ s. refl) (λ f. weightsBy (t .axis .«second_sway») * f) (divisor-some (t .axis)) i
     ∷ []
   where
     -- the divisor is one of the grid

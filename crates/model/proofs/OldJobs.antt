@@ -1,4 +1,4 @@
--- A job without words of kind 14 is read as before there were any: `old-jobs-kept`.
+-- A job without words of kinds 13 and 14 is read as before there were any: `old-jobs-kept`.
 use Prim.Native.Nat.{ℕ, suc}
 use mathlib.Core.Path.{_≡_, refl, ap, _∙_}
 use mathlib.Core.Bool.{Bool, true, false, not, _&&_}
@@ -7,19 +7,20 @@ use mathlib.Core.List.{List, [], _∷_}
 use lib.Dec.{eqb}
 use lib.IntN.{ℤ}
 use borrow.Author.Tests.{ne-eqb}
+use Rattle.model.specs.declared.SecondSway.the-variants.{Absent}
 use Rattle.model.specs.Job.{Job, setBits}
-use Rattle.model.specs.Words.{kind, payload, Reading, got, wrong, Reader, _>>=_, give, field, signed, next, positionBy, position, target}
+use Rattle.model.specs.Words.{kind, payload, Reading, got, wrong, Reader, _>>=_, give, field, signed, next, positionBy, position, swayBy, secondSway, target}
 use Rattle.model.specs.Words.{axisBy, axesBy, ending, afterMaskBy, goodMask, longAllowed, firstBadLong, Decoded, noMask, badWord, job, spelled, decided}
-use Rattle.model.specs.Spelling.{NoLong, OldJobsKept}
+use Rattle.model.specs.Spelling.{OldKinds, OldJobsKept}
 
--- what is left to read has no long position either
+-- what is left to read has no such word either
 abbrev Left : {A : Type 0} → Reading A → Type 0
-Left (got a j vs) = NoLong vs
+Left (got a j vs) = OldKinds vs
 Left (wrong p) = Unit
 
 -- two readers that read such words alike
 abbrev Alike : {A : Type 0} → Reader A → Reader A → Type 0
-Alike m n = (i : ℕ) (ws : List ℕ) → NoLong ws → (m i ws ≡ n i ws) × Left (n i ws)
+Alike m n = (i : ℕ) (ws : List ℕ) → OldKinds ws → (m i ws ≡ n i ws) × Left (n i ws)
 
 -- what f makes of a reading
 on : {A B : Type 0} → (A → Reader B) → Reading A → Reading B
@@ -46,7 +47,7 @@ either false r s h k = (refl, k)
 
 field-alike : (k : ℕ) → Alike (field k) (field k)
 field-alike k i [] c = (refl, tt)
-field-alike k i (w ∷ ws) c = either (eqb (kind w) k) (got (payload w) (suc i) ws) (wrong i) (c .1) tt
+field-alike k i (w ∷ ws) c = either (eqb (kind w) k) (got (payload w) (suc i) ws) (wrong i) (c .1 .1) tt
 
 give-alike : {A : Type 0} (a : A) → Alike (give a) (give a)
 give-alike a i ws c = (refl, c)
@@ -75,14 +76,19 @@ position-alike k i [] c = (refl, tt)
 position-alike k i (w ∷ ws) c =
     (ap (λ (b : Bool). positionBy b k i (w ∷ ws)) (ne-eqb (kind w) 14 (c .0)), signed-alike k i (w ∷ ws) c .1)
 
-axis-alike : Alike (axisBy position) (axisBy signed)
+sway-alike : Alike secondSway (give Absent)
+sway-alike i [] c = (refl, c)
+sway-alike i (w ∷ ws) c = (ap (λ (b : Bool). swayBy b i (w ∷ ws)) (ne-eqb (kind w) 13 (c .1 .0)), c)
+
+axis-alike : Alike (axisBy position secondSway) (axisBy signed (give Absent))
 axis-alike =
-    then _ _ (λ p₀. then _ _ (λ v₀. then _ _ (λ l. then _ _ (λ m. then _ _ (λ h. then _ _ (λ b. then _ _ (λ p. then _ _ (λ v. then _ _ (λ moving.
+    then _ _ (λ p₀. then _ _ (λ v₀. then _ _ (λ l. then _ _ (λ m. then _ _ (λ h. then _ _ (λ b. then _ _ (λ s. then _ _ (λ p. then _ _ (λ v. then _ _ (λ moving.
     then _ _ (λ g. give-alike _)
     (target moving p v) (target moving p v) (target-alike moving p v))
     (next 11) (next 11) (next-alike 11))
     (signed 10) (signed 10) (signed-alike 10))
     (position 9) (signed 9) (position-alike 9))
+    secondSway (give Absent) sway-alike)
     (field 8) (field 8) (field-alike 8))
     (field 7) (field 7) (field-alike 7))
     (field 6) (field 6) (field-alike 6))
@@ -90,30 +96,30 @@ axis-alike =
     (signed 4) (signed 4) (signed-alike 4))
     (position 3) (signed 3) (position-alike 3)
 
-axes-alike : (ns : List ℕ) → Alike (axesBy position ns) (axesBy signed ns)
+axes-alike : (ns : List ℕ) → Alike (axesBy position secondSway ns) (axesBy signed (give Absent) ns)
 axes-alike [] = give-alike []
 axes-alike (n ∷ ns) =
-    then _ _ (λ x. then _ _ (λ xs. give-alike _) (axesBy position ns) (axesBy signed ns) (axes-alike ns)) (axisBy position) (axisBy signed) axis-alike
+    then _ _ (λ x. then _ _ (λ xs. give-alike _) (axesBy position secondSway ns) (axesBy signed (give Absent) ns) (axes-alike ns)) (axisBy position secondSway) (axisBy signed (give Absent)) axis-alike
 
-job-alike : (m : ℕ) → Alike (afterMaskBy position m) (afterMaskBy signed m)
+job-alike : (m : ℕ) → Alike (afterMaskBy position secondSway m) (afterMaskBy signed (give Absent) m)
 job-alike m =
-    then _ _ (λ a. then _ _ (λ xs. ending-alike _) (axesBy position (setBits m)) (axesBy signed (setBits m)) (axes-alike (setBits m)))
+    then _ _ (λ a. then _ _ (λ xs. ending-alike _) (axesBy position secondSway (setBits m)) (axesBy signed (give Absent) (setBits m)) (axes-alike (setBits m)))
     (field 2) (field 2) (field-alike 2)
 
-none-named : (i : ℕ) (ws : List ℕ) → NoLong ws → firstBadLong i ws ≡ none
+none-named : (i : ℕ) (ws : List ℕ) → OldKinds ws → firstBadLong i ws ≡ none
 none-named i [] c = refl
 none-named i (w ∷ []) c = refl
 none-named i (w ∷ u ∷ ws) c =
     ap (λ (b : Bool).
     elim (b && not (longAllowed (payload w) (payload u))) as (λ _. Option ℕ) [ true ↦ some i | false ↦ firstBadLong (suc i) (u ∷ ws) ])
     (ne-eqb (kind w) 14 (c .0))
-    ∙ none-named (suc i) (u ∷ ws) (c .1)
+    ∙ none-named (suc i) (u ∷ ws) (c .1 .1)
 
 pub old-jobs-kept : OldJobsKept
 old-jobs-kept [] c = refl
 old-jobs-kept (w ∷ ws) c =
-    ap (λ (r : Reading Job). by-mask (decided (w ∷ ws) r)) (job-alike (payload w) 1 ws (c .1) .0)
-    ∙ ap by-mask (unspelled (afterMaskBy signed (payload w) 1 ws))
+    ap (λ (r : Reading Job). by-mask (decided (w ∷ ws) r)) (job-alike (payload w) 1 ws (c .1 .1) .0)
+    ∙ ap by-mask (unspelled (afterMaskBy signed (give Absent) (payload w) 1 ws))
   where
     by-mask : Decoded → Decoded
     by-mask d = elim (eqb (kind w) 1 && goodMask (payload w)) as (λ _. Decoded) [ true ↦ d | false ↦ noMask ]

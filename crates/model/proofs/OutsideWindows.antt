@@ -16,7 +16,7 @@ use Rattle.model.specs.declared.Windows.{Windows}
 use Rattle.model.specs.Motion.{reachable}
 use Rattle.model.specs.Windows.{inWindows, refused13, WindowsWrong, empty, tooMany, longDwell, wrongWindow, WindowsRight}
 use Rattle.model.specs.Job.{Job, JobAxis, maskWhere}
-use Rattle.model.specs.Refusals.{lastTick, limitsRefused, dampingRefused, blendRefused, valuesRefused, Passed, AllPassed}
+use Rattle.model.specs.Refusals.{lastTick, limitsRefused, dampingRefused, blendRefused, swayRefused, valuesRefused, accelerationRefused, Passed, AllPassed}
 use Rattle.model.specs.Outcome.{Outcome, refuse, accept, allReach, leastFrom, arrives, cellsNeeded, reachesNone}
 use Rattle.model.specs.Outcome.{firstAxis, axisRefusals, filled, arrived, admitted, tested, jobOutcome}
 use Rattle.model.specs.Verdict.{Arrives, Passing, OutsideWindows, EightOutside, NineNowhere}
@@ -60,17 +60,17 @@ module _ (j : Job) (lent : List ℤ) (p : Passing j) where
   tests-clear (t ∷ ts) (e, c) =
       ap (λ (o : Option ℕ). elim o as (λ _. Outcome) [ some i ↦ refuse (t .0) i 0 0 lent | none ↦ tested ts j lent ]) e ∙ tests-clear ts c
 
+  -- of each test that no axis that passed meets
+  clear : (f : Axis → Bool) → ((x : Axis) → Passed x → f x ≡ false) → firstAxis f (j .axes) ≡ none
+  clear f h = first-none f h (j .axes) (p .axes)
+
   all-clear : Clear axisRefusals
-  all-clear = (
-    first-none limitsRefused (λ x q. q .limits) (j .axes) (p .axes),
-    (
-      first-none dampingRefused (λ x q. q .damping) (j .axes) (p .axes),
-      (
-        first-none blendRefused (λ x q. q .blend) (j .axes) (p .axes),
-        (first-none valuesRefused (λ x q. q .values) (j .axes) (p .axes), tt),
-      ),
-    ),
-  )
+  all-clear =
+      let last : Clear ((6, valuesRefused) ∷ (16, accelerationRefused) ∷ []) =
+      (clear valuesRefused (λ x q. q .values), (clear accelerationRefused (λ x q. q .acceleration), tt)) in
+      let blends : Clear ((5, blendRefused) ∷ (15, swayRefused) ∷ (6, valuesRefused) ∷ (16, accelerationRefused) ∷ []) =
+      (clear blendRefused (λ x q. q .blend), (clear swayRefused (λ x q. q .sway), last)) in
+      (clear limitsRefused (λ x q. q .limits), (clear dampingRefused (λ x q. q .damping), blends))
 
   no-thirteen : refused13 (j .windows) ≡ none
   no-thirteen = go (refused13 (j .windows)) refl

@@ -1,15 +1,19 @@
 -- What an axis has that passed the refusals of one axis: the ranges of its values.
 use Prim.Native.Nat.{ℕ, _≤_, _<_}
-use mathlib.Core.Bool.{_&&_}
+use mathlib.Core.Path.{_≡_, subst}
+use mathlib.Core.Bool.{false, _&&_}
 use native.Mathlib.Omega.{arith}
 use lib.Dec.{T, leb, leb→le}
-use lib.IntN.{natAbs}
+use lib.IntN.{pos, natAbs}
 use Rattle.whole.proofs.Tests.{both, not-false-T}
 use Rattle.model.specs.declared.Axis.{Axis}
+use Rattle.model.specs.declared.SecondSway.{SecondSway}
+use Rattle.model.specs.declared.SecondSway.the-variants.{Absent, HalfPeriod}
 use Rattle.model.specs.declared.Target.{Target}
 use Rattle.model.specs.declared.Target.the-variants.{Fixed, Moving}
-use Rattle.model.specs.Quantities.{speedLimit, accelerationLimit, halfPeriod, secondWeight, asMoving}
-use Rattle.model.specs.Refusals.{within, lastTick, restAllowed, motionAllowed, targetAllowed, Passed}
+use Rattle.model.specs.Quantities.{speedLimit, accelerationLimit, halfPeriod, secondWeight, swayDelay, secondHalfPeriod, asMoving}
+use Rattle.model.specs.Refusals.{within, lastTick, restAllowed, motionAllowed, targetAllowed, swayAllowed, accelerationRefusedBy, Passed}
+use Rattle.model.proofs.Grid.{no-acceleration}
 
 at-least : (a b n : ℕ) → T (within a b n) → a ≤ n
 at-least a b n t = leb→le a n (both (leb a n) (leb n b) t .0)
@@ -53,3 +57,20 @@ module _ (x : Axis) (p : Passed x) where
       acceleration-allowed x (x .target) n
       (both (restAllowed x (x .start)) (targetAllowed x (x .target))
       (not-false-T (restAllowed x (x .start) && targetAllowed x (x .target)) (p .values)) .1)
+
+  pub second-half-period : secondHalfPeriod x ≤ 256
+  second-half-period = go (x .«second_sway») (not-false-T (swayAllowed (x .«second_sway»)) (p .sway))
+    where
+      go : (s : SecondSway) → T (swayAllowed s) → swayDelay s ≤ 256
+      go Absent t = omega arith
+      go (HalfPeriod d) t = at-most 1 256 d t
+
+  -- where a second half period is given it is 1 to 256, and the target does not accelerate
+  pub second-range : (d : ℕ) → x .«second_sway» ≡ HalfPeriod d → (1 ≤ d) × (d ≤ 256)
+  second-range d e =
+      let t : T (within 1 256 d) = subst (λ (s : SecondSway). T (swayAllowed s)) e (not-false-T (swayAllowed (x .«second_sway»)) (p .sway)) in
+      (at-least 1 256 d t, at-most 1 256 d t)
+
+  pub second-still : (d : ℕ) → x .«second_sway» ≡ HalfPeriod d → (n : ℕ) → asMoving (x .target) n .acceleration ≡ pos 0
+  second-still d e =
+      no-acceleration (x .target) (subst (λ (s : SecondSway). accelerationRefusedBy s (x .target) ≡ false) e (p .acceleration))

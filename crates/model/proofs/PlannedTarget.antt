@@ -7,7 +7,7 @@ use lib.ListN.{getD, length, replicate}
 use lib.IntN.{ℤ, pos, _+ℤ_, _-ℤ_}
 use Rattle.whole.proofs.Laws.{add-sub}
 use Rattle.model.specs.declared.Axis.{Axis}
-use Rattle.model.specs.Quantities.{halfPeriod}
+use Rattle.model.specs.Quantities.{delay}
 use Rattle.model.specs.Leg.{Meets, chosen, travelled}
 use Rattle.model.specs.Motion.{Tick, run, leg, displacement, requiredSum, planned, earlier}
 use Rattle.model.specs.Motion.{startPosition, startVelocity, landingTick, landingPosition, landingVelocity, landingAcceleration}
@@ -50,12 +50,12 @@ module _ (x : Axis) (n : ℕ) (r : Ready x n) where
       ∙ ap (λ (k : ℕ). getD (startVelocity x ∷ velocities) k (pos 0)) velocities-length
       ∙ meets .ends
 
-  planned-landed : (j : ℕ) (d : Tick) → j ≤ halfPeriod x → getD (planned x n) (landingTick x n + j) d ≡ landed x n j
+  planned-landed : (j : ℕ) (d : Tick) → j ≤ delay x → getD (planned x n) (landingTick x n + j) d ≡ landed x n j
   planned-landed j d h =
       ap (λ (k : ℕ). getD (planned x n) (k + j) d) (sym velocities-length)
-      ∙ run-over (startPosition x) (startVelocity x) velocities (replicate (suc (halfPeriod x)) (landingAcceleration x n)) d j
-      ∙ ap₂ (λ (q v : ℤ). getD (run q v (replicate (suc (halfPeriod x)) (landingAcceleration x n))) j d) lands-position lands-velocity
-      ∙ run-steady (landingPosition x n) (landingVelocity x n) (landingAcceleration x n) (suc (halfPeriod x)) j d (omega arith)
+      ∙ run-over (startPosition x) (startVelocity x) velocities (replicate (suc (delay x)) (landingAcceleration x n)) d j
+      ∙ ap₂ (λ (q v : ℤ). getD (run q v (replicate (suc (delay x)) (landingAcceleration x n))) j d) lands-position lands-velocity
+      ∙ run-steady (landingPosition x n) (landingVelocity x n) (landingAcceleration x n) (suc (delay x)) j d (omega arith)
 
-  pub tick-landed : (j : ℕ) → j ≤ halfPeriod x → tickAt (track n x) (landingTick x n + j) ≡ landed x n j
+  pub tick-landed : (j : ℕ) → j ≤ delay x → tickAt (track n x) (landingTick x n + j) ≡ landed x n j
   tick-landed j h = planned-landed j (earlier x 0) h

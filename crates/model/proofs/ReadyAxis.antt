@@ -4,7 +4,7 @@ use mathlib.Core.Path.{sym, subst}
 use native.Mathlib.Omega.{arith}
 use lib.Dec.{T}
 use Rattle.model.specs.declared.Axis.{Axis}
-use Rattle.model.specs.Quantities.{halfPeriod, secondWeight, speedSteps, accelerationSteps}
+use Rattle.model.specs.Quantities.{secondWeight, delay, speedSteps, accelerationSteps}
 use Rattle.model.specs.Leg.{feasible}
 use Rattle.model.specs.Motion.{reachable, leg, displacement}
 use Rattle.model.specs.Refusals.{Ready}
@@ -16,7 +16,7 @@ module _ (x : Axis) (n : ℕ) (r : Ready x n) where
   pub reached : T (reachable x n)
   reached = subst T (sym (r .reach)) tt
 
-  pub after : halfPeriod x < n
+  pub after : delay x < n
   after = reach-after x n reached
 
   pub some-acceleration : 0 < accelerationSteps x

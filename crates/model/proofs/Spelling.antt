@@ -9,14 +9,16 @@ use lib.Dec.{eqb}
 use lib.IntN.{ℤ}
 use borrow.Author.Tests.{eqb-true}
 use Rattle.model.specs.declared.Axis.{Axis}
+use Rattle.model.specs.declared.SecondSway.{SecondSway}
+use Rattle.model.specs.declared.SecondSway.the-variants.{Absent, HalfPeriod}
 use Rattle.model.specs.declared.Target.{Target}
 use Rattle.model.specs.declared.Target.the-variants.{Fixed, Moving}
 use Rattle.model.specs.declared.Weight.the-variants.{Given}
 use Rattle.model.specs.Job.{Job, setBits}
 use Rattle.model.specs.Words.{kind, payload, firstBadLong}
-use Rattle.model.specs.Words.{Reading, got, wrong, Reader, _>>=_, give, field, signed, next, position, target, axis, axes}
+use Rattle.model.specs.Words.{Reading, got, wrong, Reader, _>>=_, give, field, signed, next, position, swayBy, secondSway, target, axis, axes}
 use Rattle.model.specs.Words.{ending, readJob, afterMask, goodMask, Decoded, noMask, job, spelled, decided}
-use Rattle.model.specs.Spelling.{word, bits, positionWords, axisWords, axesWords, jobWords, OneSpelling}
+use Rattle.model.specs.Spelling.{word, bits, positionWords, swayWords, axisWords, axesWords, jobWords, OneSpelling}
 use Rattle.model.proofs.CallVerdict.{before, ending-gives}
 use Rattle.model.proofs.PositionSpelling.{Clean, clean, clean-tail, value-of, rest-of, unread, word-is, field-is, signed-is, position-is}
 
@@ -79,7 +81,16 @@ assoc₂ {A} {B} {C} {D} m n f g i vs = outer (m i vs)
 
 -- ---- an axis, the axes, the job
 
-module _ (p₀ v₀ : ℤ) (l m h b : ℕ) (p v : ℤ) where
+sway-spells : Spells secondSway swayWords
+sway-spells = then swayWords (λ vs. vs) (next 13) (λ _. []) swayBy (next-spells 13) (λ b. by b)
+  where
+    by : (b : Bool) → Ends swayWords (λ vs. vs) (swayBy b)
+    by true =
+        then swayWords (λ vs. vs) (field 13) (λ n. word 13 n ∷ []) _ (field-spells 13)
+        (λ d. last swayWords (λ vs. word 13 d ∷ vs) (HalfPeriod d) (λ vs. refl))
+    by false = last swayWords (λ vs. vs) Absent (λ vs. refl)
+
+module _ (p₀ v₀ : ℤ) (l m h b : ℕ) (s : SecondSway) (p v : ℤ) where
   toward : Target → Axis
   toward g =
       record {
@@ -88,22 +99,23 @@ module _ (p₀ v₀ : ℤ) (l m h b : ℕ) (p v : ℤ) where
         «acceleration_limit» = m;
         «half_period» = h;
         «second_weight» = Given b;
+        «second_sway» = s;
         target = g;
       }
 
   front : List ℕ → List ℕ
   front vs =
       positionWords 3 p₀
-      ++ (word 4 (bits v₀) ∷ word 5 l ∷ word 6 m ∷ word 7 h ∷ word 8 b ∷ (positionWords 9 p ++ (word 10 (bits v) ∷ vs)))
+      ++ (word 4 (bits v₀) ∷ word 5 l ∷ word 6 m ∷ word 7 h ∷ word 8 b ∷ (swayWords s ++ (positionWords 9 p ++ (word 10 (bits v) ∷ vs))))
 
   whole-front : (us vs : List ℕ)
       → front (us ++ vs)
       ≡ (positionWords 3 p₀
-      ++ (word 4 (bits v₀) ∷ word 5 l ∷ word 6 m ∷ word 7 h ∷ word 8 b ∷ (positionWords 9 p ++ (word 10 (bits v) ∷ us)))) ++ vs
+      ++ (word 4 (bits v₀) ∷ word 5 l ∷ word 6 m ∷ word 7 h ∷ word 8 b ∷ (swayWords s ++ (positionWords 9 p ++ (word 10 (bits v) ∷ us))))) ++ vs
   unfolding front
   whole-front us vs =
       ap (λ (ws : List ℕ). positionWords 3 p₀ ++ (word 4 (bits v₀) ∷ word 5 l ∷ word 6 m ∷ word 7 h ∷ word 8 b ∷ ws))
-      (sym (append-assoc (positionWords 9 p) (word 10 (bits v) ∷ us) vs))
+      (ap (λ (ws : List ℕ). swayWords s ++ ws) (sym (append-assoc (positionWords 9 p) (word 10 (bits v) ∷ us) vs)) ∙ sym (append-assoc (swayWords s) _ vs))
       ∙ sym (append-assoc (positionWords 3 p₀) _ vs)
 
   target-ends : (moving : Bool) → Ends axisWords front (λ i ws. _>>=_ (target moving p v) (λ g. give (toward g)) i ws)
@@ -129,10 +141,11 @@ axis-spells =
     (λ l. then axisWords _ (field 6) (λ n. word 6 n ∷ []) _ (field-spells 6)
     (λ m. then axisWords _ (field 7) (λ n. word 7 n ∷ []) _ (field-spells 7)
     (λ h. then axisWords _ (field 8) (λ n. word 8 n ∷ []) _ (field-spells 8)
-    (λ b. then axisWords _ (position 9) (positionWords 9) _ (position-spells 9)
+    (λ b. then axisWords _ secondSway swayWords _ sway-spells
+    (λ s. then axisWords _ (position 9) (positionWords 9) _ (position-spells 9)
     (λ p. then axisWords _ (signed 10) (λ z. word 10 (bits z) ∷ []) _ (signed-spells 10)
     (λ v. then axisWords _ (next 11) (λ _. []) _ (next-spells 11)
-    (λ moving. target-ends p₀ v₀ l m h b p v moving)))))))))
+    (λ moving. target-ends p₀ v₀ l m h b s p v moving))))))))))
 
 axes-spells : (ns : List ℕ) → Spells (axes ns) axesWords
 axes-spells [] = λ i ws xs j vs c e. (λ l. axesWords (value-of e l) ++ rest-of e l)

@@ -1,13 +1,15 @@
 -- The sway left before rounding is 0: the accelerations α do not change from tick t on, and each row blends them with those h ticks
--- back. The changes now and the same changes h ticks later cancel in every swing list.
+-- back. The changes now and the same changes h ticks later cancel in every swing list. Two blends may be applied in either order, so that
+-- each is the last one for the swing lists of its own rate.
 use Prim.Native.Nat.{ℕ, zero, suc, _+_, _-_, _≤_, _<_}
-use mathlib.Core.Path.{_≡_, ap, ap₂, _∙_, subst}
-use mathlib.Core.Bool.{true, false}
+use mathlib.Core.Path.{_≡_, refl, sym, ap, ap₂, _∙_, subst}
+use mathlib.Core.Bool.{Bool, true, false}
+use mathlib.Core.Logic.{⊎-elim}
 use mathlib.Core.List.{[], _∷_}
 use native.Mathlib.Omega.{arith}
 use lib.Dec.{ltb}
 use lib.IntN.{ℤ, pos, _+ℤ_, _-ℤ_, _*ℤ_, *ℤ-zero}
-use Rattle.whole.proofs.Tests.{lt-choice, le-choice}
+use Rattle.whole.proofs.Tests.{lt-choice, le-choice, lt-or-le}
 use Rattle.whole.proofs.Ring.{pol, same}
 use Rattle.model.specs.Demand.{accelerationChange, sway}
 
@@ -17,6 +19,13 @@ sway-same c d w m zero f = ap (λ (z : ℤ). z *ℤ w m) (f 0 (omega arith))
 sway-same c d w m (suc k) f =
     ap₂ (λ (y z : ℤ). y +ℤ z *ℤ w (m - suc k)) (sway-same c d w m k (λ q h. f q (omega arith)))
     (ap₂ (λ (y z : ℤ). y -ℤ z) (f (suc k) (omega arith)) (f k (omega arith)))
+
+-- the sway is linear in the accelerations
+pub sway-times : (a : ℤ) (c w : ℕ → ℤ) (m k : ℕ) → sway (λ i. a *ℤ c i) w m k ≡ a *ℤ sway c w m k
+sway-times a c w m zero = same (a ∷ c 0 ∷ w m ∷ []) (search pol depth 20 fits 9000) tt
+sway-times a c w m (suc k) =
+    ap (λ (z : ℤ). z +ℤ (a *ℤ c (suc k) -ℤ a *ℤ c k) *ℤ w (m - suc k)) (sway-times a c w m k)
+    ∙ same (a ∷ sway c w m k ∷ c (suc k) ∷ c k ∷ w (m - suc k) ∷ []) (search pol depth 20 fits 9000) tt
 
 -- f h ticks back, 0 before tick 0
 abbrev pub back : (ℕ → ℤ) → ℕ → ℕ → ℤ
@@ -28,10 +37,14 @@ back-before f h k q = lt-choice k h (pos 0) (f (k - h)) q
 back-after : (f : ℕ → ℤ) (h k j : ℕ) → k ≡ h + j → back f h k ≡ f j
 back-after f h k j e = le-choice k h (pos 0) (f (k - h)) (omega arith) ∙ ap f (omega arith)
 
+-- a weighted sum of f now and h ticks back
+abbrev pub filtered : ℤ → ℤ → (ℕ → ℤ) → ℕ → ℕ → ℤ
+filtered a b f h k = a *ℤ f k +ℤ b *ℤ back f h k
+
 module _ (A B : ℤ) (α w : ℕ → ℤ) (h m : ℕ) (blended : 0 < h)
     (swings : (i : ℕ) → i + h ≤ m → A *ℤ w (i + h) +ℤ B *ℤ w i ≡ pos 0) where
   abbrev exact : ℕ → ℤ
-  exact k = A *ℤ α k +ℤ B *ℤ back α h k
+  exact k = filtered A B α h k
 
   -- the sums of the two halves of the blend
   abbrev now : ℕ → ℤ
@@ -132,3 +145,47 @@ module _ (A B : ℤ) (α w : ℕ → ℤ) (h m : ℕ) (blended : 0 < h)
 
     pub sway-exact : sway exact w m (t + h) ≡ pos 0
     sway-exact = after (t + h) t (omega arith) ∙ ap (λ (z : ℤ). z +ℤ late t) (flat h (omega arith)) ∙ cancel t fits
+
+-- ---- two delays, one after the other
+
+pub back-none : (f : ℕ → ℤ) (k : ℕ) → back f 0 k ≡ f k
+back-none f k = back-after f 0 k k (omega arith)
+
+back-back : (f : ℕ → ℤ) (g h k : ℕ) → back (back f g) h k ≡ back f (g + h) k
+back-back f g h k = ⊎-elim before (λ q. ⊎-elim (between q) (within q) (lt-or-le (k - h) g)) (lt-or-le k h)
+  where
+    before : k < h → back (back f g) h k ≡ back f (g + h) k
+    before q = back-before (back f g) h k q ∙ sym (back-before f (g + h) k (omega arith))
+
+    between : h ≤ k → k - h < g → back (back f g) h k ≡ back f (g + h) k
+    between q p = back-after (back f g) h k (k - h) (omega arith) ∙ back-before f g (k - h) p ∙ sym (back-before f (g + h) k (omega arith))
+
+    within : h ≤ k → g ≤ k - h → back (back f g) h k ≡ back f (g + h) k
+    within q p =
+        back-after (back f g) h k (k - h) (omega arith)
+        ∙ back-after f g (k - h) (k - h - g) (omega arith)
+        ∙ sym (back-after f (g + h) k (k - h - g) (omega arith))
+
+back-sum : (a b : ℤ) (f g : ℕ → ℤ) (h k : ℕ) → back (λ i. a *ℤ f i +ℤ b *ℤ g i) h k ≡ a *ℤ back f h k +ℤ b *ℤ back g h k
+back-sum a b f g h k = go (ltb k h)
+  where
+    none : (a b : ℤ) → pos 0 ≡ a *ℤ pos 0 +ℤ b *ℤ pos 0
+    none a b = same (a ∷ b ∷ []) (search pol depth 20 fits 9000) tt
+
+    go : (t : Bool) → (elim t as (λ _. ℤ) [ true ↦ pos 0 | false ↦ a *ℤ f (k - h) +ℤ b *ℤ g (k - h) ])
+        ≡ a *ℤ (elim t as (λ _. ℤ) [ true ↦ pos 0 | false ↦ f (k - h) ]) +ℤ b *ℤ (elim t as (λ _. ℤ) [ true ↦ pos 0 | false ↦ g (k - h) ])
+    go true = none a b
+    go false = refl
+
+-- one filter after another, written out
+pub filtered-twice : (a b c e : ℤ) (f : ℕ → ℤ) (g h k : ℕ)
+    → filtered a b (filtered c e f g) h k ≡ a *ℤ (c *ℤ f k +ℤ e *ℤ back f g k) +ℤ b *ℤ (c *ℤ back f h k +ℤ e *ℤ back f (g + h) k)
+filtered-twice a b c e f g h k =
+    ap (λ (z : ℤ). a *ℤ filtered c e f g k +ℤ b *ℤ z) (back-sum c e f (back f g) h k ∙ ap (λ (z : ℤ). c *ℤ back f h k +ℤ e *ℤ z) (back-back f g h k))
+
+-- where f does not change from tick t on, its filter does not change from tick t + h on
+pub filtered-steady : (a b : ℤ) (f : ℕ → ℤ) (h t l : ℕ) → ((k : ℕ) → t ≤ k → k < l → f (suc k) ≡ f k)
+    → (k : ℕ) → t + h ≤ k → k < l → filtered a b f h (suc k) ≡ filtered a b f h k
+filtered-steady a b f h t l steady k p q =
+    ap₂ (λ (y z : ℤ). a *ℤ y +ℤ b *ℤ z) (steady k (omega arith) q)
+    (back-after f h (suc k) (suc (k - h)) (omega arith) ∙ steady (k - h) (omega arith) (omega arith) ∙ sym (back-after f h k (k - h) (omega arith)))

@@ -1,7 +1,7 @@
 -- A planned motion negated, as pan right is to pan left (paper 02, request 2.4). The theorem `mirrored` says that every cell is then negated.
 use Prim.Native.Nat.{ℕ}
 use mathlib.Core.Path.{_≡_}
-use mathlib.Core.List.{List, map}
+use mathlib.Core.List.{map}
 use lib.IntN.{negℤ}
 use Rattle.model.specs.declared.Axis.{Axis}
 use Rattle.model.specs.declared.RestPoint.{RestPoint}
@@ -30,6 +30,7 @@ negatedAxis x =
       «acceleration_limit» = x .«acceleration_limit»;
       «half_period» = x .«half_period»;
       «second_weight» = x .«second_weight»;
+      «second_sway» = x .«second_sway»;
       target = negatedTarget (x .target);
     }
 

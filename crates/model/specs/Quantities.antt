@@ -1,9 +1,11 @@
 -- The quantities of a job and its targets (paper 01, "Quantities").
-use Prim.Native.Nat.{ℕ, _*_}
+use Prim.Native.Nat.{ℕ, _+_, _*_}
 use mathlib.Core.Bool.{Bool, true, false, not, _&&_}
 use lib.IntN.{ℤ, pos, natAbs, _+ℤ_, _-ℤ_, _*ℤ_}
 use lib.Dec.{eqb}
 use Rattle.model.specs.declared.Axis.{Axis}
+use Rattle.model.specs.declared.SecondSway.{SecondSway}
+use Rattle.model.specs.declared.SecondSway.the-variants.{Absent, HalfPeriod}
 use Rattle.model.specs.declared.State.{State}
 use Rattle.model.specs.declared.Target.{Target}
 use Rattle.model.specs.declared.Target.the-variants.{Fixed, Moving}
@@ -25,6 +27,18 @@ halfPeriod x = x .«half_period»
 
 abbrev pub secondWeight : Axis → ℕ
 secondWeight x = weightOf (x .«second_weight»)
+
+-- h₂, 0 where there is no second sway
+abbrev pub swayDelay : SecondSway → ℕ
+swayDelay Absent = 0
+swayDelay (HalfPeriod d) = d
+
+abbrev pub secondHalfPeriod : Axis → ℕ
+secondHalfPeriod x = swayDelay (x .«second_sway»)
+
+-- how far the blend looks back: h + h₂
+abbrev pub delay : Axis → ℕ
+delay x = halfPeriod x + secondHalfPeriod x
 
 -- a fixed target is read as moving, with a = 0 and t the arrival tick
 abbrev pub asMoving : Target → ℕ → State
@@ -51,13 +65,22 @@ accelerates (Moving m) = not (eqb (natAbs (m .acceleration)) 0)
 abbrev pub damped : Axis → Bool
 damped x = not (eqb (halfPeriod x) 0) && not (eqb (secondWeight x) 128)
 
--- steps of 1/65,536 unit in a fine step
+-- steps of 1/512 and of 1/65,536 unit in a fine step
+abbrev pub swaySteps : ℕ
+swaySteps = 2
+
 abbrev pub finestSteps : ℕ
 finestSteps = 256
 
--- grid steps in a fine step: the grid is 1/65,536 unit where the target accelerates and the pole is damped, and else 1/256 unit
+-- grid steps in a fine step: the grid is 1/512 unit where the pole has a second sway, 1/65,536 unit where the target accelerates and the pole is
+-- damped, and else 1/256 unit
+abbrev pub finerBy : SecondSway → Bool → ℕ
+finerBy (HalfPeriod d) b = swaySteps
+finerBy Absent true = finestSteps
+finerBy Absent false = 1
+
 unfoldable pub finer : Axis → ℕ
-finer x = elim (accelerates (x .target) && damped x) [ true ↦ finestSteps | false ↦ 1 ]
+finer x = finerBy (x .«second_sway») (accelerates (x .target) && damped x)
 
 -- fine steps as grid steps, and half fine steps as half grid steps
 abbrev pub onGrid : Axis → ℤ → ℤ

@@ -1,5 +1,5 @@
--- The refusals that one axis meets by itself (paper 01, "Refusal list", numbers 4 to 6, and paper 02, number 12), and what an axis has that
--- none of them refuses.
+-- The refusals that one axis meets by itself (paper 01, "Refusal list", numbers 4 to 6, and paper 02, numbers 12, 15 and 16), in checking order, and
+-- what an axis has that none of them refuses.
 use Prim.Native.Nat.{ℕ, _≤_}
 use mathlib.Core.Path.{_≡_}
 use mathlib.Core.Bool.{Bool, true, false, not, _&&_}
@@ -9,10 +9,12 @@ use lib.Signed.{leZ}
 use lib.Dec.{leb}
 use Rattle.model.specs.declared.Axis.{Axis}
 use Rattle.model.specs.declared.RestPoint.{RestPoint}
+use Rattle.model.specs.declared.SecondSway.{SecondSway}
+use Rattle.model.specs.declared.SecondSway.the-variants.{Absent, HalfPeriod}
 use Rattle.model.specs.declared.State.{State}
 use Rattle.model.specs.declared.Target.{Target}
 use Rattle.model.specs.declared.Target.the-variants.{Fixed, Moving}
-use Rattle.model.specs.Quantities.{speedLimit, accelerationLimit, halfPeriod, secondWeight}
+use Rattle.model.specs.Quantities.{speedLimit, accelerationLimit, halfPeriod, secondWeight, accelerates}
 use Rattle.model.specs.Damping.{weightAllowed}
 use Rattle.model.specs.Motion.{reachable}
 use Rattle.model.specs.Job.{JobAxis}
@@ -40,6 +42,15 @@ dampingRefused x = not (weightAllowed (x .«second_weight»))
 abbrev pub blendRefused : Axis → Bool
 blendRefused x = not (within 0 256 (halfPeriod x) && within 1 128 (secondWeight x))
 
+-- ---- 15: a second half period is outside its range
+
+abbrev pub swayAllowed : SecondSway → Bool
+swayAllowed Absent = true
+swayAllowed (HalfPeriod d) = within 1 256 d
+
+abbrev pub swayRefused : Axis → Bool
+swayRefused x = not (swayAllowed (x .«second_sway»))
+
 -- ---- 6: start or target velocity exceeds L in size, target acceleration exceeds M in size, target tick exceeds 4,096 in size, or a
 -- position is outside −17,179,869,184 to 17,179,869,183, which two words hold (paper 02, 2.8)
 
@@ -63,13 +74,24 @@ targetAllowed x (Moving m) = restAllowed x (record { position = m .position; vel
 abbrev pub valuesRefused : Axis → Bool
 valuesRefused x = not (restAllowed x (x .start) && targetAllowed x (x .target))
 
+-- ---- 16: the target of an axis with a second sway accelerates
+
+abbrev pub accelerationRefusedBy : SecondSway → Target → Bool
+accelerationRefusedBy Absent g = false
+accelerationRefusedBy (HalfPeriod d) g = accelerates g
+
+abbrev pub accelerationRefused : Axis → Bool
+accelerationRefused x = accelerationRefusedBy (x .«second_sway») (x .target)
+
 -- ---- what an axis has that none of them refuses
 
 pub record Passed (x : Axis) : Type 0 where
   pub limits : limitsRefused x ≡ false
   pub damping : dampingRefused x ≡ false
   pub blend : blendRefused x ≡ false
+  pub sway : swayRefused x ≡ false
   pub values : valuesRefused x ≡ false
+  pub acceleration : accelerationRefused x ≡ false
 
 abbrev pub AllPassed : List JobAxis → Type 0
 AllPassed [] = Unit

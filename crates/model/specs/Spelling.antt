@@ -9,11 +9,13 @@ use lib.Dec.{eqb}
 use lib.IntN.{ℤ, pos, negsuc}
 use lib.ListN.{length}
 use Rattle.model.specs.declared.Axis.{Axis}
+use Rattle.model.specs.declared.SecondSway.{SecondSway}
+use Rattle.model.specs.declared.SecondSway.the-variants.{Absent, HalfPeriod}
 use Rattle.model.specs.declared.Target.{Target}
 use Rattle.model.specs.declared.Target.the-variants.{Fixed, Moving}
 use Rattle.model.specs.Quantities.{speedLimit, accelerationLimit, halfPeriod, secondWeight}
 use Rattle.model.specs.Job.{Job, JobAxis}
-use Rattle.model.specs.Words.{kind, payload, fitsWord, firstBadLong, got, wrong, signed, position}
+use Rattle.model.specs.Words.{kind, payload, fitsWord, firstBadLong, got, wrong, give, signed, position}
 use Rattle.model.specs.Words.{afterMaskBy, goodMask, Decoded, noMask, badWord, job, decode}
 use Rattle.model.specs.Refusals.{positionAllowed}
 
@@ -63,6 +65,10 @@ targetWords (Moving m) =
     positionWords 9 (m .position)
     ++ (word 10 (bits (m .velocity)) ∷ word 11 (bits (m .acceleration)) ∷ word 12 (bits (m .tick)) ∷ [])
 
+abbrev pub swayWords : SecondSway → List ℕ
+swayWords Absent = []
+swayWords (HalfPeriod d) = word 13 d ∷ []
+
 abbrev pub axisWords : Axis → List ℕ
 axisWords x =
     positionWords 3 (x .start .position)
@@ -71,7 +77,7 @@ axisWords x =
     ∷ word 6 (accelerationLimit x)
     ∷ word 7 (halfPeriod x)
     ∷ word 8 (secondWeight x)
-    ∷ targetWords (x .target))
+    ∷ (swayWords (x .«second_sway») ++ targetWords (x .target)))
 
 abbrev pub axesWords : List JobAxis → List ℕ
 axesWords [] = []
@@ -85,19 +91,19 @@ OneSpelling = (ws : List ℕ) (j : Job) → decode ws ≡ job j → ws ≡ jobWo
 
 -- ---- old jobs keep their meaning
 
--- the reading of paper 01: each position is one word, and 1 and 2 are the only refusals
+-- the reading of paper 01: each position is one word, no axis has a second sway, and 1 and 2 are the only refusals
 abbrev pub oldDecode : List ℕ → Decoded
 oldDecode [] = noMask
 oldDecode (w ∷ ws) =
     elim (eqb (kind w) 1 && goodMask (payload w)) [
-      | true ↦ elim (afterMaskBy signed (payload w) 1 ws) [ got j i rest ↦ job j | wrong p ↦ badWord p ]
+      | true ↦ elim (afterMaskBy signed (give Absent) (payload w) 1 ws) [ got j i rest ↦ job j | wrong p ↦ badWord p ]
       | false ↦ noMask
     ]
 
--- no word is of kind 14
-abbrev pub NoLong : List ℕ → Type 0
-NoLong [] = Unit
-NoLong (w ∷ ws) = (kind w ≡ 14 → ⊥) × NoLong ws
+-- no word is of kind 14 or 13
+abbrev pub OldKinds : List ℕ → Type 0
+OldKinds [] = Unit
+OldKinds (w ∷ ws) = (kind w ≡ 14 → ⊥) × ((kind w ≡ 13 → ⊥) × OldKinds ws)
 
 abbrev pub OldJobsKept : Type 0
-OldJobsKept = (ws : List ℕ) → NoLong ws → decode ws ≡ oldDecode ws
+OldJobsKept = (ws : List ℕ) → OldKinds ws → decode ws ≡ oldDecode ws

@@ -28,6 +28,7 @@ legAxis l p q =
       «acceleration_limit» = l .«acceleration_limit»;
       «half_period» = l .«half_period»;
       «second_weight» = l .«second_weight»;
+      «second_sway» = l .«second_sway»;
       target = Fixed (record { position = q; velocity = pos 0 });
     }
 

@@ -6,7 +6,7 @@ use lib.Dec.{leb, ltb}
 use lib.IntN.{natAbs}
 use Rattle.whole.proofs.Tests.{left, T-true, true-T}
 use Rattle.model.specs.declared.Axis.{Axis}
-use Rattle.model.specs.Quantities.{halfPeriod, speedSteps}
+use Rattle.model.specs.Quantities.{delay, speedSteps}
 use Rattle.model.specs.Leg.{required, sumIsWhole}
 use Rattle.model.specs.Motion.{leg, displacement, landingVelocity, arrivalVelocity, reachable, requiredSum}
 use Rattle.model.specs.Refusals.{Passed}
@@ -36,7 +36,7 @@ module _ (x : Axis) (p : Passed x) (n : ℕ) where
       record {
         reach =
             ap
-            (λ (b : Bool). ltb (halfPeriod x) n
+            (λ (b : Bool). ltb (delay x) n
             && (leb (natAbs (landingVelocity x n)) (speedSteps x) && (leb (natAbs (arrivalVelocity x n)) (speedSteps x) && b)))
             (agree .reach (displacement x n));
         cruises = λ e. agree .cruises (ends e) (requiredSum x n);

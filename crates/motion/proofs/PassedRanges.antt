@@ -15,7 +15,7 @@ use Rattle.model.specs.declared.Target.{Target}
 use Rattle.model.specs.declared.Target.the-variants.{Fixed, Moving}
 use Rattle.model.specs.Quantities.{speedLimit, accelerationLimit, asMoving}
 use Rattle.model.specs.Refusals.{lastTick, within, positionAllowed, velocityAllowed, restAllowed, motionAllowed, targetAllowed, Passed}
-use Rattle.model.proofs.PassedAxis.{speed-limit, half-period, second-weight}
+use Rattle.model.proofs.PassedAxis.{speed-limit, half-period, second-weight, second-half-period}
 use Rattle.motion.specs.Motions.{StateRanges, Ranges}
 
 position-within : (p : ℤ) → T (positionAllowed p) → Within (2 ^ 34) p
@@ -78,6 +78,7 @@ ranges-of {x} k =
       «acceleration_limit» = limited k .«acceleration_limit»;
       «half_period» = half-period x k;
       «second_weight» = second-weight x k;
+      «second_half_period» = second-half-period x k;
       position = start .0;
       velocity = start .1;
       target = target-within x (x .target) (limited k) (right s g values);

@@ -11,7 +11,7 @@ use Rattle.whole.proofs.Tests.{T-true, true-T}
 use Rattle.whole.proofs.Bounds.{exact, within, mul-holds}
 use Rattle.model.specs.declared.Axis.{Axis}
 use Rattle.model.specs.Leg.{feasible}
-use Rattle.model.specs.Quantities.{fineSteps, halfPeriod, asMoving, finer, speedSteps}
+use Rattle.model.specs.Quantities.{fineSteps, delay, asMoving, finer, speedSteps}
 use Rattle.model.specs.Motion.{reachable, shift, leg, displacement}
 use Rattle.model.specs.Motion.{startPosition, startVelocity, landingVelocity, landingAcceleration, arrivalVelocity}
 use Rattle.model.specs.Refusals.{Ready}
@@ -21,7 +21,7 @@ use Rattle.profile.specs.Profiles.{Ranged}
 use Rattle.motion.specs.Motions.{Ranges, profileFor}
 use Rattle.motion.proofs.PassedRanges.{ranges-of}
 
-start-within : (s p v : ℤ) → Within (2 ^ 15) s → Within (2 ^ 34) p → Within (2 ^ 20) v
+start-within : (s p v : ℤ) → Within (2 ^ 16) s → Within (2 ^ 34) p → Within (2 ^ 20) v
     → Within (2 ^ 44) (pos (2 * fineSteps) *ℤ p +ℤ pos 2 *ℤ (s *ℤ v))
 start-within s p v h k l = within (search exact depth 20) tt
 
@@ -34,7 +34,7 @@ module _ {x : Axis} {n : ℕ} (r : Ready x n) where
   reached : T (reachable x n)
   reached = true-T (r .reach)
 
-  pub ready-after : halfPeriod x < n
+  pub ready-after : delay x < n
   ready-after = reach-after x n reached
 
   pub ready-landed : natAbs (landingVelocity x n) ≤ speedSteps x
@@ -57,7 +57,7 @@ module _ {x : Axis} {n : ℕ} (r : Ready x n) where
   pub start-position-size : natAbs (startPosition x) ≤ finer x * 2 ^ 44
   start-position-size =
       let h = ready-ranges in
-      let s : Within (2 ^ 15) (shift x) = record { within = mul-le-mul (h .«second_weight») (h .«half_period») } in
+      let s : Within (2 ^ 16) (shift x) = record { within = omega (arith, mul-le-mul (h .«second_weight») (h .«half_period»), h .«second_half_period») } in
       mul-holds (pos (finer x)) (pos (2 * fineSteps) *ℤ x .start .position +ℤ pos 2 *ℤ (shift x *ℤ x .start .velocity)) (finer x) (2 ^ 44) (omega arith)
       (start-within (shift x) (x .start .position) (x .start .velocity) s (h .position) (h .velocity) .within)
 

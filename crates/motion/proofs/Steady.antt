@@ -20,7 +20,7 @@ use Rattle.model.specs.declared.RestPoint.{RestPoint}
 use Rattle.model.specs.declared.State.{State}
 use Rattle.model.specs.declared.Target.{Target}
 use Rattle.model.specs.declared.Target.the-variants.{Fixed, Moving}
-use Rattle.model.specs.Quantities.{fineSteps, speedLimit, halfPeriod, secondWeight, asMoving, velocityAt, accelerates, finer, onGrid, speedSteps}
+use Rattle.model.specs.Quantities.{fineSteps, speedLimit, halfPeriod, secondWeight, delay, asMoving, velocityAt, accelerates, finer, onGrid, speedSteps}
 use Rattle.model.specs.Leg.{twiceRequired, sumIsWhole, feasible}
 use Rattle.model.specs.Motion.{shift, startPosition, startVelocity, landingVelocity, landingTick, arrivalVelocity, leg, displacement, requiredSum, reachable}
 use Rattle.model.specs.Refusals.{positionAllowed, velocityAllowed, restAllowed, motionAllowed, targetAllowed, Passed}
@@ -79,13 +79,17 @@ since k n h t p q =
 
 module _ (x : Axis) where
   abbrev h : ℕ
-  h = halfPeriod x
+  h = delay x
+
+  -- half of what the position gains, by the acceleration
+  abbrev gained : ℤ
+  gained =
+      let b : ℤ = pos (secondWeight x) in
+      b *ℤ (pos (halfPeriod x) *ℤ pos (halfPeriod x)) *ℤ (b -ℤ pos 128)
 
   -- twice the required sum for a target in motion
   abbrev twiceOf : ℤ → ℤ → ℤ → ℤ → ℤ
-  twiceOf =
-      let b : ℤ = pos (secondWeight x) in
-      twice (pos (finer x)) (b *ℤ (pos h *ℤ pos h) *ℤ (b -ℤ pos 128)) (shift x) (startPosition x) (startVelocity x)
+  twiceOf = twice (pos (finer x)) gained (shift x) (startPosition x) (startVelocity x)
 
   abbrev twiceFor : Target → ℕ → ℤ
   twiceFor t n =
@@ -102,11 +106,9 @@ module _ (x : Axis) where
       none y j f = same (y ∷ j ∷ f ∷ []) (search pol depth 20 fits 9000) tt
   twice-later (Moving m) e n k p q =
       let a = still (Moving m) n e in
-      let b : ℤ = pos (secondWeight x) in
       ap (λ (z : ℤ). twiceOf (m .position) (m .velocity) z (pos (k - h) -ℤ m .tick)) a
       ∙ ap (twiceOf (m .position) (m .velocity) (pos 0)) (since k n h (m .tick) p q)
-      ∙ later (pos (finer x)) (b *ℤ (pos h *ℤ pos h) *ℤ (b -ℤ pos 128)) (shift x) (startPosition x) (startVelocity x) (m .position) (m .velocity)
-      (pos (n - h) -ℤ m .tick) (pos (k - n))
+      ∙ later (pos (finer x)) gained (shift x) (startPosition x) (startVelocity x) (m .position) (m .velocity) (pos (n - h) -ℤ m .tick) (pos (k - n))
       ∙ ap (λ (z : ℤ). twiceOf (m .position) (m .velocity) z (pos (n - h) -ℤ m .tick) +ℤ pos 2 *ℤ (pos (k - n) *ℤ onGrid x (driftOf (Moving m)))) (sym a)
 
   -- ---- an axis that passed
@@ -188,42 +190,42 @@ module _ (x : Axis) where
           (and-yes (leb (natAbs (arrivalVelocity x k)) (speedSteps x)) _
           (leb-yes (subst (λ (z : ℤ). natAbs z ≤ speedSteps x) (sym (arrival-is k)) (landing-slow k))) moves))
 
-  -- no arrival is reached that is not after the half period
+  -- no arrival is reached that is not after the delay
   pub reach-after : (k : ℕ) → k ≤ h → reachable x k ≡ false
   reach-after k p = sym (and-no (ltb h k) _ (ltb-no p))
 
--- ---- the next arrival, from the first one that is after the half period
+-- ---- the next arrival, from the first one that is after the delay
 
 first-past : (n h k : ℕ) → n ≤ k → k < max n (suc h) → k ≤ h
 first-past n h k p q = omega arith
 
-pub none-after : (x : Axis) (n last : ℕ) → n ≤ suc last → last < max n (suc (halfPeriod x)) → Next (reachable x) n last (last + 1)
+pub none-after : (x : Axis) (n last : ℕ) → n ≤ suc last → last < max n (suc (delay x)) → Next (reachable x) n last (last + 1)
 none-after x n last p q =
     record {
       low = omega arith;
       high = omega arith;
-      missed = λ k l r. reach-after x k (first-past n (halfPeriod x) k l (omega arith));
+      missed = λ k l r. reach-after x k (first-past n (delay x) k l (omega arith));
       passed = λ l. absurd (omega arith);
     }
 
-pub next-arrival : (x : Axis) → Passed x → accelerates (x .target) ≡ false → (n last f t : ℕ) → f ≡ max n (suc (halfPeriod x)) → f ≤ last
-    → Next (betweenAt (leg x f) (requiredSum x f) (drift x)) (f - halfPeriod x) (last - halfPeriod x) t
-    → Next (reachable x) n last (t + halfPeriod x)
+pub next-arrival : (x : Axis) → Passed x → accelerates (x .target) ≡ false → (n last f t : ℕ) → f ≡ max n (suc (delay x)) → f ≤ last
+    → Next (betweenAt (leg x f) (requiredSum x f) (drift x)) (f - delay x) (last - delay x) t
+    → Next (reachable x) n last (t + delay x)
 next-arrival x passed steady n last f t e h w =
     record { low = omega (arith, w .low); high = omega (arith, w .high); missed = missed; passed = reached }
   where
-    after : halfPeriod x < f
+    after : delay x < f
     after = omega arith
 
-    missed : (k : ℕ) → n ≤ k → k < t + halfPeriod x → reachable x k ≡ false
+    missed : (k : ℕ) → n ≤ k → k < t + delay x → reachable x k ≡ false
     missed k p q = go (lt-or-le k f)
       where
         go : (k < f) ⊎ (f ≤ k) → reachable x k ≡ false
-        go (inl l) = reach-after x k (first-past n (halfPeriod x) k p (omega arith))
-        go (inr l) = sym (reach-later x passed steady f k after l) ∙ w .missed (k - halfPeriod x) (omega arith) (omega arith)
+        go (inl l) = reach-after x k (first-past n (delay x) k p (omega arith))
+        go (inr l) = sym (reach-later x passed steady f k after l) ∙ w .missed (k - delay x) (omega arith) (omega arith)
 
-    reached : t + halfPeriod x ≤ last → reachable x (t + halfPeriod x) ≡ true
+    reached : t + delay x ≤ last → reachable x (t + delay x) ≡ true
     reached l =
-        sym (reach-later x passed steady f (t + halfPeriod x) after (omega (arith, w .low)))
-        ∙ ap (betweenAt (leg x f) (requiredSum x f) (drift x)) {x = t + halfPeriod x - halfPeriod x} {y = t} (omega arith)
+        sym (reach-later x passed steady f (t + delay x) after (omega (arith, w .low)))
+        ∙ ap (betweenAt (leg x f) (requiredSum x f) (drift x)) {x = t + delay x - delay x} {y = t} (omega arith)
         ∙ w .passed (omega arith)

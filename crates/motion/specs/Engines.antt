@@ -6,7 +6,7 @@ use mathlib.Core.Bool.{Bool, true, _&&_}
 use lib.Dec.{leb, ltb}
 use lib.IntN.{natAbs}
 use Rattle.model.specs.declared.Axis.{Axis}
-use Rattle.model.specs.Quantities.{halfPeriod, speedSteps}
+use Rattle.model.specs.Quantities.{delay, speedSteps}
 use Rattle.model.specs.Leg.{cruise, remainder}
 use Rattle.model.specs.Motion.{leg, displacement, landingVelocity, arrivalVelocity, reachable, requiredSum}
 use Rattle.profile.specs.Areas.{feasibleByAreas, cruiseByAreas, remainderByAreas}
@@ -14,7 +14,7 @@ use Rattle.profile.specs.Areas.{feasibleByAreas, cruiseByAreas, remainderByArea
 -- `reachable`, with the areas under the envelopes in place of their sums
 abbrev pub reachableByAreas : Axis → ℕ → Bool
 reachableByAreas x n =
-    ltb (halfPeriod x) n
+    ltb (delay x) n
     && (leb (natAbs (landingVelocity x n)) (speedSteps x)
     && (leb (natAbs (arrivalVelocity x n)) (speedSteps x) && feasibleByAreas (leg x n) (displacement x n)))
 

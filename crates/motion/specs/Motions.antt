@@ -1,5 +1,5 @@
 -- The ranges of an axis that passed the refusals of one axis, and what the functions of this crate give back.
-use Prim.Native.Nat.{ℕ, _*_, _^_, _≤_, _<_}
+use Prim.Native.Nat.{ℕ, _^_, _≤_, _<_}
 use mathlib.Core.Path.{_≡_}
 use mathlib.Core.Bool.{Bool, true, false}
 use mathlib.Core.List.{List, [], _∷_}
@@ -10,7 +10,7 @@ use Rattle.model.specs.declared.Axis.{Axis}
 use Rattle.model.specs.declared.State.{State}
 use Rattle.model.specs.declared.Target.{Target}
 use Rattle.model.specs.declared.Target.the-variants.{Fixed, Moving}
-use Rattle.model.specs.Quantities.{fineSteps, speedLimit, accelerationLimit, halfPeriod, secondWeight, asMoving, twicePositionAt, velocityAt}
+use Rattle.model.specs.Quantities.{fineSteps, speedLimit, accelerationLimit, halfPeriod, secondWeight, secondHalfPeriod, asMoving, twicePositionAt, velocityAt}
 use Rattle.model.specs.Quantities.{onGrid, speedSteps, accelerationSteps}
 use Rattle.model.specs.Motion.{shift, startVelocity, landingTick, landingPosition, landingVelocity, landingAcceleration}
 use Rattle.model.specs.Refusals.{lastTick}
@@ -19,7 +19,7 @@ use Rattle.profile.specs.declared.Profile.{Profile}
 use Rattle.profile.specs.Profiles.{Ranged}
 use Rattle.motion.specs.declared.Landing.{Landing}
 
--- ---- ranges, in powers of two that hold what refusals 4 to 6 leave, and for positions more
+-- ---- ranges, in powers of two that hold what the refusals of one axis leave, and for positions more
 
 -- a target, read as moving
 pub record StateRanges (m : State) : Type 0 where
@@ -34,6 +34,7 @@ pub record Ranges (x : Axis) : Type 0 where
   pub «acceleration_limit» : accelerationLimit x ≤ 2 ^ 16
   pub «half_period» : halfPeriod x ≤ 256
   pub «second_weight» : secondWeight x ≤ 128
+  pub «second_half_period» : secondHalfPeriod x ≤ 256
   pub position : Within (2 ^ 34) (x .start .position)
   pub velocity : Within (2 ^ 20) (x .start .velocity)
   -- the target, for every arrival

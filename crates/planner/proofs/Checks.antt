@@ -1,4 +1,4 @@
--- Refusals 3, 4, 12, 5, 6 and 13, in checking order.
+-- Refusals 3, 4, 12, 5, 15, 6, 16 and 13, in checking order.
 use Prim.Native.Nat.{ℕ, zero, suc, _+_, _<_, _≤_}
 use native.Mathlib.Omega.{arith}
 use mathlib.Core.Path.{_≡_, refl, sym, ap, _∙_}
@@ -13,7 +13,7 @@ use Rattle.model.specs.declared.Axis.{Axis}
 use Rattle.model.specs.declared.Windows.{Windows}
 use Rattle.model.specs.Windows.{refused13}
 use Rattle.model.specs.Job.{Job, JobAxis}
-use Rattle.model.specs.Refusals.{AllPassed, lastTick, limitsRefused, dampingRefused, blendRefused, valuesRefused}
+use Rattle.model.specs.Refusals.{AllPassed, lastTick, limitsRefused, dampingRefused, blendRefused, swayRefused, valuesRefused, accelerationRefused}
 use Rattle.model.specs.Outcome.{Outcome, refuse, firstAxis, axisRefusals, tested, arrived, jobOutcome}
 use Rattle.motion.specs.Motions.{refusalTest}
 use Rattle.planner.specs.declared.Refusal.{Refusal}
@@ -35,12 +35,14 @@ numberAt i = getD numbers i 0
 abbrev rulesFrom : ℕ → Tests
 rulesFrom i = drop i axisRefusals
 
-rules-more : (i : ℕ) → i < 4 → rulesFrom i ≡ (numberAt i, refusalTest (numberAt i)) ∷ rulesFrom (i + 1)
+rules-more : (i : ℕ) → i < 6 → rulesFrom i ≡ (numberAt i, refusalTest (numberAt i)) ∷ rulesFrom (i + 1)
 rules-more zero h = refl
 rules-more (suc zero) h = refl
 rules-more (suc (suc zero)) h = refl
 rules-more (suc (suc (suc zero))) h = refl
-rules-more (suc (suc (suc (suc i)))) h = absurd (omega arith)
+rules-more (suc (suc (suc (suc zero)))) h = refl
+rules-more (suc (suc (suc (suc (suc zero))))) h = refl
+rules-more (suc (suc (suc (suc (suc (suc i)))))) h = absurd (omega arith)
 
 module _ (xs : List JobAxis) (w : Windows) where
   -- the first refusal of the tests from test i on
@@ -50,12 +52,12 @@ module _ (xs : List JobAxis) (w : Windows) where
   by : ℕ → Option ℕ → Refusal
   by i o = elim o [ some k ↦ record { number = numberAt i; place = k } | none ↦ firstRefusal (rulesFrom (i + 1)) xs w ]
 
-  opened : (i : ℕ) → i < 4 → from i ≡ by i (firstAxis (refusalTest (numberAt i)) xs)
+  opened : (i : ℕ) → i < 6 → from i ≡ by i (firstAxis (refusalTest (numberAt i)) xs)
   unfolding from by
   opened i h = ap (λ (ts : Tests). firstRefusal ts xs w) (rules-more i h)
 
   -- n is the number of test i
-  module _ (i n : ℕ) (h : i < 4) (is : n ≡ numberAt i) where
+  module _ (i n : ℕ) (h : i < 6) (is : n ≡ numberAt i) where
     answered : from i ≡ by i (firstAxis (refusalTest n) xs)
     answered = opened i h ∙ ap (λ (k : ℕ). by i (firstAxis (refusalTest k) xs)) (sym is)
 
@@ -67,7 +69,7 @@ module _ (xs : List JobAxis) (w : Windows) where
     unfolding from by
     refused-later e = answered ∙ ap (by i) e
 
-  pub none-refused : (i : ℕ) → i ≡ 4 → from i ≡ windowRefusal w
+  pub none-refused : (i : ℕ) → i ≡ 6 → from i ≡ windowRefusal w
   unfolding from
   none-refused i e = ap (λ (k : ℕ). firstRefusal (rulesFrom k) xs w) e
 
@@ -127,12 +129,16 @@ split f x xs e = go (f (x .axis)) e
 
 all-passed : (xs : List JobAxis) (w : Windows) → Clear axisRefusals xs w → AllPassed xs
 all-passed [] w c = tt
-all-passed (x ∷ xs) w (l, (d, (b, (v, r)))) =
+all-passed (x ∷ xs) w (l, (d, (b, (s, (v, (a, r)))))) =
     let l' = split limitsRefused x xs l in
     let d' = split dampingRefused x xs d in
     let b' = split blendRefused x xs b in
+    let s' = split swayRefused x xs s in
     let v' = split valuesRefused x xs v in
-    (record { limits = l' .0; damping = d' .0; blend = b' .0; values = v' .0 }, all-passed xs w (l' .1, (d' .1, (b' .1, (v' .1, r)))))
+    let a' = split accelerationRefused x xs a in (
+      record { limits = l' .0; damping = d' .0; blend = b' .0; sway = s' .0; values = v' .0; acceleration = a' .0 },
+      all-passed xs w (l' .1, (d' .1, (b' .1, (s' .1, (v' .1, (a' .1, r)))))),
+    )
 
 -- ---- what `check` gives back
 
@@ -151,7 +157,7 @@ checked j r e = go (leb (j .asked) lastTick) refl
           is = e;
           asked = λ z. leb-true (j .asked) lastTick t;
           passed = λ z. all-passed (j .axes) (j .windows) (clear axisRefusals (j .axes) (j .windows) all-numbered (sym number ∙ z));
-          windows = λ z. clear axisRefusals (j .axes) (j .windows) all-numbered (sym number ∙ z) .1 .1 .1 .1;
+          windows = λ z. clear axisRefusals (j .axes) (j .windows) all-numbered (sym number ∙ z) .1 .1 .1 .1 .1 .1;
         }
     go false t =
         let number = ap (λ (q : Refusal). q .number) (e ∙ ap (by-asked j) t) in

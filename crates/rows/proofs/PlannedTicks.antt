@@ -7,7 +7,7 @@ use native.Mathlib.Omega.{arith}
 use lib.IntN.{ℤ, pos, _+ℤ_, _-ℤ_, _*ℤ_}
 use lib.ListN.{getD, replicate}
 use Rattle.model.specs.declared.Axis.{Axis}
-use Rattle.model.specs.Quantities.{halfPeriod}
+use Rattle.model.specs.Quantities.{delay}
 use Rattle.model.specs.Leg.{Leg}
 use Rattle.model.specs.Motion.{Tick, run, changesFrom, leg, displacement, startVelocity, planned, earlier, landingTick}
 use Rattle.model.specs.Refusals.{Ready}
@@ -105,7 +105,7 @@ module _ (x : Axis) (n : ℕ) (ready : Ready x n) where
 
   -- the definition's list of accelerations, over the velocities of the plan
   abbrev over : ℤ → List ℤ → List Tick
-  over v ws = run (p .origin) v (changesFrom v ws ++ replicate (suc (halfPeriod x)) (p .acceleration))
+  over v ws = run (p .origin) v (changesFrom v ws ++ replicate (suc (delay x)) (p .acceleration))
 
   planned-walk : planned x n ≡ walk p 0 (p .origin) (suc n)
   planned-walk =
@@ -113,8 +113,8 @@ module _ (x : Axis) (n : ℕ) (ready : Ready x n) where
       ap (over (startVelocity x))
       (chosen-in-regions g (displacement x n) (omega arith) (some-acceleration x n ready) (speed-range x n ready) (moves x n ready))
       ∙ ap (λ (v : ℤ). over v (tabulate (velocityIn (p .regions)) 1 (landingTick x n - 1) ++ (p .regions .end ∷ []))) (planned-start p (omega arith))
-      ∙ up-to-landing p (landingTick x n - 1) 0 (suc (halfPeriod x)) (p .origin) (omega arith)
-      ∙ ap (walk p 0 (p .origin)) {x = suc (landingTick x n - 1 + suc (halfPeriod x))} {y = suc n} (omega arith)
+      ∙ up-to-landing p (landingTick x n - 1) 0 (suc (delay x)) (p .origin) (omega arith)
+      ∙ ap (walk p 0 (p .origin)) {x = suc (landingTick x n - 1 + suc (delay x))} {y = suc n} (omega arith)
 
 -- ---- tick k of it
 

@@ -14,7 +14,7 @@ use native.Mathlib.Nat.{mul-le-mul-left, mul-le-mul-right}
 use Rattle.whole.proofs.Laws.{natAbs-+}
 use Rattle.whole.proofs.Ring.{pol, same}
 use Rattle.model.specs.declared.Axis.{Axis}
-use Rattle.model.specs.Quantities.{halfPeriod, secondWeight, finer, speedSteps}
+use Rattle.model.specs.Quantities.{halfPeriod, secondWeight, delay, finer, speedSteps}
 use Rattle.model.specs.Leg.{Leg, feasible, required}
 use Rattle.model.specs.Motion.{startPosition, landingVelocity, landingAcceleration, arrivalVelocity, leg, displacement, requiredSum, reachable}
 use Rattle.model.specs.Job.{JobAxis, setAxes, unsetAxis}
@@ -33,8 +33,8 @@ use Rattle.motion.proofs.ReadyAxis.{ready-after, ready-landed, ready-arrived, r
 use Rattle.motion.proofs.ReadyAxis.{start-position-size, landing-acceleration-size, profile-ranged}
 use Rattle.rows.specs.declared.AxisPlan.{AxisPlan}
 use Rattle.rows.specs.Plans.{scale, planOf, unsetPlan, planAt, axisPlans, setPlans, arrivalOf, PlanRanges, Each}
-use Rattle.rows.specs.Tracks.{plannedAt}
-use Rattle.rows.proofs.Scale.{scale-some, scale-small, weight-is, weighed-within}
+use Rattle.rows.specs.Tracks.{plannedAt, weightOf}
+use Rattle.rows.proofs.Scale.{weight-is, weighed-within}
 use Rattle.rows.proofs.Velocities.{planned-before, planned-after}
 
 module _ {x : Axis} {n : ℕ} (r : Ready x n) where
@@ -72,9 +72,9 @@ module _ {x : Axis} {n : ℕ} (r : Ready x n) where
   within-speed v h = omega (arith, h, speed-most)
 
   -- one tick after the arrival
-  after-most : natAbs (landingVelocity x n +ℤ pos (halfPeriod x + 1) *ℤ landingAcceleration x n) ≤ finer x * most
+  after-most : natAbs (landingVelocity x n +ℤ pos (delay x + 1) *ℤ landingAcceleration x n) ≤ finer x * most
   after-most =
-      subst (λ (v : ℤ). natAbs v ≤ finer x * most) (sym (one-more (landingVelocity x n) (pos (halfPeriod x)) (landingAcceleration x n)))
+      subst (λ (v : ℤ). natAbs v ≤ finer x * most) (sym (one-more (landingVelocity x n) (pos (delay x)) (landingAcceleration x n)))
       (omega (arith, natAbs-+ (arrivalVelocity x n) (landingAcceleration x n), ready-arrived r, speed-most, landing-acceleration-size r))
     where
       one-more : (v h a : ℤ) → v +ℤ (h +ℤ pos 1) *ℤ a ≡ (v +ℤ h *ℤ a) +ℤ a
@@ -89,7 +89,7 @@ module _ {x : Axis} {n : ℕ} (r : Ready x n) where
           (within-speed (velocityIn (p .regions) k) (chosen-within g d some steep slow can k l))
       go (Dec.no l) =
           subst (λ (v : ℤ). natAbs v ≤ finer x * most) (planned-after p k (omega arith))
-          (between (landingVelocity x n) (landingAcceleration x n) (k - g .ticks) (halfPeriod x + 1) (finer x * most) (omega arith)
+          (between (landingVelocity x n) (landingAcceleration x n) (k - g .ticks) (delay x + 1) (finer x * most) (omega arith)
           (within-speed (landingVelocity x n) (ready-landed r)) after-most)
 
   -- ---- the ranges
@@ -101,14 +101,15 @@ module _ {x : Axis} {n : ℕ} (r : Ready x n) where
   plan-ranges =
       let after = ready-after r in
       record {
-        light = omega (arith, weight-is x n light-weight, scale-small x);
-        weighs = omega (arith, weight-is x n light-weight, scale-some x);
+        light = omega (arith, weight-is x n light-weight, mul-le-mul-left (weightOf p) (finer-range x .0));
+        weighs = omega (arith, weight-is x n light-weight, mul-le-mul-left (weightOf p) (finer-range x .1));
         origin = record { within = weighed-within x n (2 ^ 44) (startPosition x) light-weight (start-position-size r) };
         regions = chosen-ranged g d some steep slow can (profile-ranged r .ticks) (profile-ranged r .«acceleration_limit»);
         some = some;
         velocities = λ k h. record { within = omega (arith, weighed-within x n most (plannedAt p k) light-weight (velocity-most k h)) };
         acceleration = record { within = omega (arith, landing-acceleration-size r, mul-le-mul-right (2 ^ 24) (finer-range x .1)) };
         «half_period» = ready-ranges r .«half_period»;
+        «second_sway» = ready-ranges r .«second_half_period»;
         last = omega (arith, r .tick);
       }
 
@@ -124,7 +125,15 @@ module _ (x : Axis) (n : ℕ) (f : Profile) (d : ℤ) (same : f ≡ profileFor x
   -- a plan with the blend of the axis: its second weight b, and both weights scaled by k
   abbrev planWith : ℤ → Regions → ℤ → ℕ → ℕ → AxisPlan
   planWith o c a b k =
-      record { origin = o; regions = c; acceleration = a; «half_period» = halfPeriod x; «first_weight» = k * (256 - b); «second_weight» = k * b }
+      record {
+        origin = o;
+        regions = c;
+        acceleration = a;
+        «half_period» = halfPeriod x;
+        «first_weight» = k * (256 - b);
+        «second_weight» = k * b;
+        «second_sway» = x .«second_sway»;
+      }
 
   pub plan-is : (o : ℤ) (c : Regions) (a : ℤ) (b k : ℕ) → o ≡ startPosition x → c ≡ chosenRegions (legOf f) (required (legOf f) d)
       → a ≡ landingAcceleration x n → b ≡ secondWeight x → k ≡ scale x → planWith o c a b k ≡ planOf n x

@@ -1,9 +1,9 @@
--- The planned velocity of a tick by the part of the motion that it is in, and a half period before a tick.
-use mathlib.Core.Path.{_≡_, refl, sym, ap, _∙_}
+-- The planned velocity of a tick by the part of the motion that it is in, and some ticks before a tick.
+use mathlib.Core.Path.{_≡_, sym, ap, _∙_}
 use mathlib.Core.List.{[], _∷_}
 use Rattle.whole.proofs.Ring.{pol, same}
 use Rattle.whole.proofs.Tests.{choice-yes, choice-no, ltb-yes, ltb-no}
-use Prim.Native.Nat.{ℕ, suc, _+_, _-_, _*_, _<_, _≤_}
+use Prim.Native.Nat.{ℕ, suc, _+_, _-_, _<_, _≤_}
 use native.Mathlib.Omega.{arith}
 use native.Mathlib.Decide.{decLt}
 use lib.IntN.{ℤ, pos, _+ℤ_, _-ℤ_, _*ℤ_}
@@ -11,9 +11,8 @@ use Rattle.profile.specs.Regions.{velocityIn}
 use Rattle.profile.proofs.ChosenRegions.{in-first}
 use Rattle.rows.specs.declared.AxisPlan.{AxisPlan}
 use Rattle.rows.specs.declared.Track.{Track}
-use Rattle.rows.specs.Plans.{weightOf}
-use Rattle.rows.specs.Tracks.{plannedAt, velocityBack, mix, blendedVelocity, blendedPosition, trackAt}
-use Rattle.rows.proofs.Blend.{mix-same}
+use Rattle.rows.specs.Tracks.{plannedAt, velocityBack, mix, blendedBack, added, blendedVelocity, weightOf, lagOf, blendedPosition, trackAt}
+use Rattle.rows.proofs.Blend.{mix-same, added-same}
 
 module _ (p : AxisPlan) (k : ℕ) where
   -- before the landing
@@ -49,44 +48,46 @@ module _ (p : AxisPlan) (k : ℕ) where
       one-more : (v j a : ℤ) → v +ℤ j *ℤ a +ℤ a ≡ v +ℤ (j +ℤ pos 1) *ℤ a
       one-more v j a = same (v ∷ j ∷ a ∷ []) (search pol depth 20 fits 9000) tt
 
-  -- ---- a half period before
+-- ---- d ticks before
 
-  pub back-before : k < p .«half_period» → p .regions .start ≡ velocityBack p k
+module _ (p : AxisPlan) (d k : ℕ) where
+  pub back-before : k < d → p .regions .start ≡ velocityBack p d k
   unfolding velocityBack
   back-before h = choice-yes _ _ _ (ltb-yes h)
 
-  pub back-late : p .«half_period» ≤ k → plannedAt p (k - p .«half_period») ≡ velocityBack p k
+  pub back-late : d ≤ k → plannedAt p (k - d) ≡ velocityBack p d k
   unfolding velocityBack
   back-late h = choice-no _ _ _ (ltb-no h)
 
   -- up to tick 0 of the planned motion
-  pub back-early : 0 < p .regions .ticks → k ≤ p .«half_period» → p .regions .start ≡ velocityBack p k
-  back-early some h = go (decLt k (p .«half_period»))
+  pub back-early : 0 < p .regions .ticks → k ≤ d → p .regions .start ≡ velocityBack p d k
+  back-early some h = go (decLt k d)
     where
-      go : Dec (k < p .«half_period») → p .regions .start ≡ velocityBack p k
+      go : Dec (k < d) → p .regions .start ≡ velocityBack p d k
       go (Dec.yes l) = back-before l
-      go (Dec.no l) = planned-start p some ∙ ap (plannedAt p) {x = 0} {y = k - p .«half_period»} (omega arith) ∙ back-late (omega arith)
+      go (Dec.no l) = planned-start p some ∙ ap (plannedAt p) {x = 0} {y = k - d} (omega arith) ∙ back-late (omega arith)
 
 -- ---- at tick 0
 
 velocity-0 : (p : AxisPlan) → 0 < p .regions .ticks → pos (weightOf p) *ℤ p .regions .start ≡ blendedVelocity p 0
-unfolding blendedVelocity
+unfolding blendedVelocity blendedBack
 velocity-0 p some =
-    sym (mix-same (p .«first_weight») (p .«second_weight») (p .regions .start))
-    ∙ (λ i. mix (p .«first_weight») (p .«second_weight») (planned-start p some i) (back-early p 0 some (omega arith) i))
+    sym (added-same (p .«second_sway») (p .«first_weight» + p .«second_weight») (p .regions .start))
+    ∙ ap (added (p .«second_sway»)) (λ i d. back-0 d i)
+  where
+    back-0 : (d : ℕ) → pos (p .«first_weight» + p .«second_weight») *ℤ p .regions .start ≡ blendedBack p d 0
+    back-0 d =
+        sym (mix-same (p .«first_weight») (p .«second_weight») (p .regions .start))
+        ∙ (λ i. mix (p .«first_weight») (p .«second_weight») (back-early p d 0 some (omega arith) i) (back-early p (d + p .«half_period») 0 some (omega arith) i))
 
 pub track-0 : (p : AxisPlan) (q v : ℤ)
-    → q ≡ pos (weightOf p) *ℤ p .origin -ℤ pos 2 *ℤ (pos (p .«second_weight» * p .«half_period») *ℤ p .regions .start)
+    → q ≡ pos (weightOf p) *ℤ p .origin -ℤ pos 2 *ℤ (pos (lagOf p) *ℤ p .regions .start)
     → v ≡ pos (weightOf p) *ℤ p .regions .start → 0 < p .regions .ticks
     → _≡_ {A = Track} (record { position = q; velocity = v }) (trackAt p 0)
 unfolding blendedPosition
 track-0 p q v e f some = λ i. record { position = e i; velocity = (f ∙ velocity-0 p some) i }
 
 -- ---- one tick on
-
-pub velocity-is : (p : AxisPlan) (k : ℕ) → mix (p .«first_weight») (p .«second_weight») (plannedAt p k) (velocityBack p k) ≡ blendedVelocity p k
-unfolding blendedVelocity
-velocity-is p k = refl
 
 pub track-next : (p : AxisPlan) (k : ℕ) (q v : ℤ)
     → q ≡ blendedPosition p k +ℤ blendedVelocity p k +ℤ blendedVelocity p (suc k) → v ≡ blendedVelocity p (suc k)

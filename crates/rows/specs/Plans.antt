@@ -7,17 +7,18 @@ use mathlib.Core.List.{List, [], _∷_}
 use lib.Dec.{eqb}
 use lib.IntN.{pos, _*ℤ_}
 use Rattle.model.specs.declared.Axis.{Axis}
-use Rattle.model.specs.Quantities.{halfPeriod, secondWeight, finer}
+use Rattle.model.specs.declared.SecondSway.the-variants.{Absent}
+use Rattle.model.specs.Quantities.{halfPeriod, secondWeight, swayDelay, finer}
 use Rattle.model.specs.Motion.{leg, startPosition, landingAcceleration, requiredSum}
 use Rattle.model.specs.Refusals.{lastTick}
 use Rattle.profile.specs.Regions.{chosenRegions, RegionsRanged}
 use Rattle.rows.specs.declared.AxisPlan.{AxisPlan}
 use Rattle.rows.specs.declared.Plan.{Plan}
-use Rattle.rows.specs.Tracks.{plannedAt}
+use Rattle.rows.specs.Tracks.{plannedAt, blendsBy, weightOf}
 
--- steps of 1/65,536 unit in a grid step
+-- what both weights are multiplied by: all weights together are then 65,536, by the grid steps in a fine step
 abbrev pub scale : Axis → ℕ
-scale x = 256 / finer x
+scale x = 256 / blendsBy (x .«second_sway») / finer x
 
 -- the plan of axis x for arrival n
 abbrev pub planOf : ℕ → Axis → AxisPlan
@@ -29,6 +30,7 @@ planOf n x =
       «half_period» = halfPeriod x;
       «first_weight» = scale x * (256 - secondWeight x);
       «second_weight» = scale x * secondWeight x;
+      «second_sway» = x .«second_sway»;
     }
 
 -- what stands where the mask names no axis
@@ -42,6 +44,7 @@ unsetPlan =
       «half_period» = 0;
       «first_weight» = 0;
       «second_weight» = 0;
+      «second_sway» = Absent;
     }
 
 -- the plan of the axis that the lowest bit of a mask stands for
@@ -68,15 +71,11 @@ plansOf plan = setPlans (plan .mask) (plan .axes)
 
 -- ---- ranges: those of an axis that passed the refusals of one axis and reaches the arrival, and wider
 
--- N = T + h
+-- N = T + h + h₂
 abbrev pub arrivalOf : AxisPlan → ℕ
-arrivalOf p = p .regions .ticks + p .«half_period»
+arrivalOf p = p .regions .ticks + (p .«half_period» + swayDelay (p .«second_sway»))
 
--- the two weights together
-abbrev pub weightOf : AxisPlan → ℕ
-weightOf p = p .«first_weight» + p .«second_weight»
-
--- positions and velocities are small as the blend weighs them, whatever the grid is
+-- positions and velocities are small as the blends weigh them, whatever the grid is
 pub record PlanRanges (p : AxisPlan) : Type 0 where
   pub light : weightOf p ≤ 2 ^ 16
   pub weighs : 256 ≤ weightOf p
@@ -86,6 +85,7 @@ pub record PlanRanges (p : AxisPlan) : Type 0 where
   pub velocities : (k : ℕ) → k ≤ suc (arrivalOf p) → Within (2 ^ 45) (pos (weightOf p) *ℤ plannedAt p k)
   pub acceleration : Within (2 ^ 32) (p .acceleration)
   pub «half_period» : p .«half_period» ≤ 256
+  pub «second_sway» : swayDelay (p .«second_sway») ≤ 256
   pub last : arrivalOf p ≤ lastTick
 
 -- what holds of every plan of a list

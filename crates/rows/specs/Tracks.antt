@@ -6,6 +6,9 @@ use mathlib.Core.List.{List, [], _∷_}
 use lib.Dec.{ltb}
 use lib.IntN.{ℤ, pos, _+ℤ_, _-ℤ_, _*ℤ_}
 use Rattle.whole.specs.Integers.{nearest}
+use Rattle.model.specs.declared.SecondSway.{SecondSway}
+use Rattle.model.specs.declared.SecondSway.the-variants.{Absent, HalfPeriod}
+use Rattle.model.specs.Quantities.{swayDelay}
 use Rattle.profile.specs.Regions.{velocityIn}
 use Rattle.rows.specs.declared.AxisPlan.{AxisPlan}
 use Rattle.rows.specs.declared.Track.{Track}
@@ -20,22 +23,43 @@ plannedAt p k =
       | false ↦ p .regions .end +ℤ pos (k - p .regions .ticks) *ℤ p .acceleration
     ]
 
--- a half period before tick k: before tick 0 the planned motion is uniform
-unfoldable pub velocityBack : AxisPlan → ℕ → ℤ
-velocityBack p k = elim (ltb k (p .«half_period»)) [ true ↦ p .regions .start | false ↦ plannedAt p (k - p .«half_period») ]
+-- d ticks before tick k: before tick 0 the planned motion is uniform
+unfoldable pub velocityBack : AxisPlan → ℕ → ℕ → ℤ
+velocityBack p d k = elim (ltb k d) [ true ↦ p .regions .start | false ↦ plannedAt p (k - d) ]
 
--- ---- the blend, by the weights of the plan
+-- ---- the blends, by the weights of the plan
 
 abbrev pub mix : ℕ → ℕ → ℤ → ℤ → ℤ
 mix a b x y = pos a *ℤ x +ℤ pos b *ℤ y
 
-unfoldable pub blendedVelocity : AxisPlan → ℕ → ℤ
-blendedVelocity p k = mix (p .«first_weight») (p .«second_weight») (plannedAt p k) (velocityBack p k)
+-- one blend, d ticks before tick k
+unfoldable pub blendedBack : AxisPlan → ℕ → ℕ → ℤ
+blendedBack p d k = mix (p .«first_weight») (p .«second_weight») (velocityBack p d k) (velocityBack p (d + p .«half_period») k)
 
--- at tick 0 the planned position, less the second weight times the way 2hv₀ of the half period before it; each tick goes on by the velocities at its
--- two ends
+-- the blends added up, g d being the one of delay d: that of delay 0 and, for a second sway, that of delay h₂; and how many they are
+abbrev pub added : SecondSway → (ℕ → ℤ) → ℤ
+added Absent g = g 0
+added (HalfPeriod d) g = g 0 +ℤ g d
+
+abbrev pub blendsBy : SecondSway → ℕ
+blendsBy Absent = 1
+blendsBy (HalfPeriod d) = 2
+
+unfoldable pub blendedVelocity : AxisPlan → ℕ → ℤ
+blendedVelocity p k = added (p .«second_sway») (λ d. blendedBack p d k)
+
+-- all weights together
+abbrev pub weightOf : AxisPlan → ℕ
+weightOf p = blendsBy (p .«second_sway») * (p .«first_weight» + p .«second_weight»)
+
+-- each weight times its delay, together
+abbrev pub lagOf : AxisPlan → ℕ
+lagOf p =
+    blendsBy (p .«second_sway») * (p .«second_weight» * p .«half_period») + (p .«first_weight» + p .«second_weight») * swayDelay (p .«second_sway»)
+
+-- at tick 0 the planned position by all weights, less the way 2v₀ of a tick by each weight's delay; each tick goes on by the velocities at its two ends
 unfoldable pub blendedPosition : AxisPlan → ℕ → ℤ
-blendedPosition p zero = pos (p .«first_weight» + p .«second_weight») *ℤ p .origin -ℤ pos 2 *ℤ (pos (p .«second_weight» * p .«half_period») *ℤ p .regions .start)
+blendedPosition p zero = pos (weightOf p) *ℤ p .origin -ℤ pos 2 *ℤ (pos (lagOf p) *ℤ p .regions .start)
 blendedPosition p (suc k) = blendedPosition p k +ℤ blendedVelocity p k +ℤ blendedVelocity p (suc k)
 
 abbrev pub trackAt : AxisPlan → ℕ → Track

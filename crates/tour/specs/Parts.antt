@@ -10,6 +10,7 @@ use lib.ListN.{getD, take}
 use Rattle.model.specs.declared.Answer.{Answer}
 use Rattle.model.specs.declared.Axis.{Axis}
 use Rattle.model.specs.declared.AxisLimits.{AxisLimits}
+use Rattle.model.specs.declared.SecondSway.the-variants.{Absent}
 use Rattle.model.specs.declared.Weight.the-variants.{Given}
 use Rattle.model.specs.declared.TourSettings.{TourSettings}
 use Rattle.model.specs.Refusals.{lastTick}
@@ -19,7 +20,7 @@ use Rattle.tour.specs.declared.FirstStop.the-variants.{At, Nowhere}
 use Rattle.tour.specs.declared.LegRow.{LegRow}
 
 abbrev pub noLimits : AxisLimits
-noLimits = record { «speed_limit» = 0; «acceleration_limit» = 0; «half_period» = 0; «second_weight» = Given 0 }
+noLimits = record { «speed_limit» = 0; «acceleration_limit» = 0; «half_period» = 0; «second_weight» = Given 0; «second_sway» = Absent }
 
 abbrev pub legAxisAt : TourSettings → List ℤ → List ℤ → ℕ → Axis
 legAxisAt t here there i = legAxis (getD (t .limits) i noLimits) (getD here i (pos 0)) (getD there i (pos 0))

@@ -198,12 +198,14 @@ fn leg_axis(settings: TourSettings, here: [i64; 6], there: [i64; 6], i: usize) -
     };
     let target = Target::Fixed(end);
     let weight = limit.second_weight;
+    let sway = limit.second_sway;
     Axis {
         start: start,
         speed_limit: limit.speed_limit,
         acceleration_limit: limit.acceleration_limit,
         half_period: limit.half_period,
         second_weight: weight,
+        second_sway: sway,
         target: target,
     }
 }

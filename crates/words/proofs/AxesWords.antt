@@ -99,17 +99,17 @@ module _ (ws : List ℕ) (i m : ℕ) (s : AxesReading) where
   turn-set e h r q p f = ap (withAxis i s) (sym f ∙ p) ∙ sym (going-on true e (eq-eqb (m % 2) 1 h))
 
 -- an axis has at most twelve words
-reading-end : (ws : List ℕ) (i : ℕ) (s : AxesReading) (r : Reading Axis) → Follows ws (s .at) r → withAxis i s (axisReading r) .at ≤ s .at + 12
+reading-end : (ws : List ℕ) (i : ℕ) (s : AxesReading) (r : Reading Axis) → Follows ws (s .at) r → withAxis i s (axisReading r) .at ≤ s .at + 13
 reading-end ws i s (got x j vs) h = h .1
 reading-end ws i s (wrong p) h = h
 
-pub turn-end : (ws : List ℕ) (i m : ℕ) (s : AxesReading) → readOn ws i m s .at ≤ s .at + 12
+pub turn-end : (ws : List ℕ) (i m : ℕ) (s : AxesReading) → readOn ws i m s .at ≤ s .at + 13
 turn-end ws i m s = go (s .got) (eqb (m % 2) 1) (reading-end ws i s (axis (s .at) (drop (s .at) ws)) (axis-follows ws (s .at)))
   where
     read : AxesReading
     read = withAxis i s (axisReading (axis (s .at) (drop (s .at) ws)))
 
-    go : (b d : Bool) → read .at ≤ s .at + 12 → cond b (cond d read s) s .at ≤ s .at + 12
+    go : (b d : Bool) → read .at ≤ s .at + 13 → cond b (cond d read s) s .at ≤ s .at + 13
     go true true h = h
     go true false h = omega arith
     go false d h = omega arith

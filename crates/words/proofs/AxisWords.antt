@@ -15,7 +15,7 @@ use Rattle.model.specs.Words.{Reading, got, wrong, Reader, _>>=_, give, signed,
 use Rattle.model.proofs.Spelling.{assoc₂}
 use Rattle.words.specs.declared.AxisReading.the-variants.{Got, Wrong}
 use Rattle.words.specs.ByIndex.{isKind, passing, firstWrong, signedAt, positionAt, restAt, stateAt, axisAt, axisReading}
-use Rattle.words.proofs.Reader.{on, next-is, step-field, step-signed, step-position, passing-within}
+use Rattle.words.proofs.Reader.{on, next-is, step-field, step-signed, step-position, step-sway, passing-within}
 use Rattle.words.proofs.Reader.{after, after-none, after-short, after-full, after-both, run-within, full-there}
 
 module _ (ws : List ℕ) (i : ℕ) where
@@ -24,7 +24,7 @@ module _ (ws : List ℕ) (i : ℕ) where
   first = passing ws i 14
 
   abbrev goal : ℕ
-  goal = first + 6
+  goal = passing ws (first + 6) 13
 
   abbrev ninth : ℕ
   ninth = passing ws goal 14
@@ -36,7 +36,7 @@ module _ (ws : List ℕ) (i : ℕ) where
   rest : ℕ → List ℕ → Reading Axis
   rest = λ j vs. _>>=_ (next 11) by-target j vs
 
-  -- once the words of kinds 3 to 8 are there
+  -- once the words of kinds 3 to 8 are there, and that of kind 13 where it stands
   tail : ℕ → List ℕ → Reading Axis
   tail =
       λ j vs.
@@ -51,7 +51,7 @@ module _ (ws : List ℕ) (i : ℕ) where
       (step-field ws 6 2 (first + 3) (first + 4) _ _ (omega arith)
       (step-field ws 7 1 (first + 4) (first + 5) _ _ (omega arith)
       (step-field ws 8 0 (first + 5) (first + 6) _ _ (omega arith)
-      (after-none ws _ 9 _))))))
+      (step-sway ws (first + 6) _ ∙ after-none ws (first + 6) 9 _))))))
 
   tail-is : tail goal (drop goal ws) ≡ after ws ninth 9 2 (rest (ninth + 2) (drop (ninth + 2) ws))
   unfolding tail rest by-target
@@ -103,9 +103,12 @@ module _ (ws : List ℕ) (i : ℕ) where
     pub axis-short : n < s + 6 → Wrong n ≡ axisReading (axis i (drop i ws))
     axis-short h = ap (λ (p : ℕ). Wrong p) run₁ ∙ sym (ap axisReading (axis-is ∙ after-short ws first 3 6 _ (omega (arith, es, run₁))))
 
-    module _ (h : s + 6 ≤ n) (t : ℕ) (et : t ≡ passing ws (s + 6) 14) (m : ℕ) (im : m ≡ firstWrong ws t 9 2) where
+    module _ (h : s + 6 ≤ n) (g : ℕ) (eg : g ≡ passing ws (s + 6) 13) (t : ℕ) (et : t ≡ passing ws g 14) (m : ℕ) (im : m ≡ firstWrong ws t 9 2) where
+      is-goal : g ≡ goal
+      is-goal = eg ∙ ap (λ (k : ℕ). passing ws (k + 6) 13) es
+
       is-ninth : t ≡ ninth
-      is-ninth = et ∙ ap (λ (k : ℕ). passing ws (k + 6) 14) es
+      is-ninth = et ∙ ap (λ (k : ℕ). passing ws k 14) is-goal
 
       run₂ : m ≡ firstWrong ws ninth 9 2
       run₂ = im ∙ ap (λ (k : ℕ). firstWrong ws k 9 2) is-ninth
@@ -113,7 +116,7 @@ module _ (ws : List ℕ) (i : ℕ) where
       full₂ : t + 2 ≤ m → firstWrong ws ninth 9 2 ≡ ninth + 2
       full₂ k = omega (arith, is-ninth, run₂, run-within ws ninth 9 2)
 
-      pub target-there : t + 2 ≤ m → passing ws (s + 6) 14 + 2 ≤ length ws
+      pub target-there : t + 2 ≤ m → passing ws g 14 + 2 ≤ length ws
       target-there k = omega (arith, et, is-ninth, full-there ws ninth 9 1 (full₂ k))
 
       axis-tail : axis i (drop i ws) ≡ after ws ninth 9 2 (rest (ninth + 2) (drop (ninth + 2) ws))
@@ -129,10 +132,10 @@ module _ (ws : List ℕ) (i : ℕ) where
         kind-there : (b : Bool) → isKind ws (t + 2) 11 ≡ b → isKind ws (ninth + 2) 11 ≡ b
         kind-there b e = sym (ap (λ (k : ℕ). isKind ws (k + 2) 11) is-ninth) ∙ e
 
-        pub axis-fixed : isKind ws (t + 2) 11 ≡ false → Got (axisAt ws i (Fixed (restAt ws (s + 6)))) (t + 2) ≡ axisReading (axis i (drop i ws))
+        pub axis-fixed : isKind ws (t + 2) 11 ≡ false → Got (axisAt ws i (Fixed (restAt ws g))) (t + 2) ≡ axisReading (axis i (drop i ws))
         unfolding fixed
         axis-fixed e =
-            (λ j. Got (axisAt ws i (Fixed (restAt ws (es j + 6)))) (is-ninth j + 2))
+            (λ j. Got (axisAt ws i (Fixed (restAt ws (is-goal j)))) (is-ninth j + 2))
             ∙ sym (ap axisReading (axis-rest ∙ rest-fixed (kind-there false e)))
 
         module _ (e : isKind ws (t + 2) 11 ≡ true) (l : ℕ) (il : l ≡ firstWrong ws (t + 2) 11 2) where
@@ -142,7 +145,7 @@ module _ (ws : List ℕ) (i : ℕ) where
           full₃ : t + 4 ≤ l → firstWrong ws (ninth + 2) 11 2 ≡ ninth + 2 + 2
           full₃ k = omega (arith, is-ninth, run₃, run-within ws (ninth + 2) 11 2)
 
-          pub motion-there : t + 4 ≤ l → passing ws (s + 6) 14 + 4 ≤ length ws
+          pub motion-there : t + 4 ≤ l → passing ws g 14 + 4 ≤ length ws
           motion-there k = omega (arith, et, is-ninth, full-there ws (ninth + 2) 11 1 (full₃ k))
 
           axis-motion : axis i (drop i ws) ≡ after ws (ninth + 2) 11 2 (got moving (ninth + 4) (drop (ninth + 4) ws))
@@ -153,20 +156,20 @@ module _ (ws : List ℕ) (i : ℕ) where
               ap (λ (p : ℕ). Wrong p) run₃
               ∙ sym (ap axisReading (axis-motion ∙ after-short ws (ninth + 2) 11 2 _ (omega (arith, is-ninth, run₃))))
 
-          pub axis-moving : t + 4 ≤ l → Got (axisAt ws i (Moving (stateAt ws (s + 6)))) (t + 4) ≡ axisReading (axis i (drop i ws))
+          pub axis-moving : t + 4 ≤ l → Got (axisAt ws i (Moving (stateAt ws g))) (t + 4) ≡ axisReading (axis i (drop i ws))
           unfolding moving
           axis-moving k =
-              (λ j. Got (axisAt ws i (Moving (stateAt ws (es j + 6)))) (is-ninth j + 4))
+              (λ j. Got (axisAt ws i (Moving (stateAt ws (is-goal j)))) (is-ninth j + 4))
               ∙ sym (ap axisReading (axis-motion ∙ after-full ws (ninth + 2) 11 2 _ (full₃ k)))
 
-  -- ---- what comes after an axis: the words from the next index on, at most twelve after i
+  -- ---- what comes after an axis: the words from the next index on, at most thirteen after i
 
   abbrev pub Follows : Reading Axis → Type 0
-  Follows (got x j vs) = (vs ≡ drop j ws) × (j ≤ i + 12)
-  Follows (wrong p) = p ≤ i + 12
+  Follows (got x j vs) = (vs ≡ drop j ws) × (j ≤ i + 13)
+  Follows (wrong p) = p ≤ i + 13
 
-  near : ninth ≤ i + 8
-  near = omega (arith, passing-within ws i 14, passing-within ws goal 14)
+  near : ninth ≤ i + 9
+  near = omega (arith, passing-within ws i 14, passing-within ws (first + 6) 13, passing-within ws goal 14)
 
   rest-follows : Follows (rest (ninth + 2) (drop (ninth + 2) ws))
   rest-follows = ⊎-elim

@@ -7,6 +7,8 @@ use lib.ListN.{getD, length, drop, set}
 use lib.Dec.{eqb, ltb}
 use Rattle.model.specs.declared.Weight.the-variants.{Given}
 use Rattle.model.specs.declared.Axis.{Axis}
+use Rattle.model.specs.declared.SecondSway.{SecondSway}
+use Rattle.model.specs.declared.SecondSway.the-variants.{Absent, HalfPeriod}
 use Rattle.model.specs.declared.State.{State}
 use Rattle.model.specs.declared.Target.{Target}
 use Rattle.model.specs.declared.RestPoint.{RestPoint}
@@ -75,6 +77,10 @@ stateAt ws i =
       tick = signedAt ws (s + 3);
     }
 
+-- the second sway whose word may stand at i
+unfoldable pub swayAt : List ℕ → ℕ → SecondSway
+swayAt ws i = cond (isKind ws i 13) (HalfPeriod (payloadAt ws i)) Absent
+
 unfoldable pub axisAt : List ℕ → ℕ → Target → Axis
 axisAt ws i g =
     let s : ℕ = passing ws i 14 in
@@ -84,6 +90,7 @@ axisAt ws i g =
       «acceleration_limit» = payloadAt ws (s + 3);
       «half_period» = payloadAt ws (s + 4);
       «second_weight» = Given (payloadAt ws (s + 5));
+      «second_sway» = swayAt ws (s + 6);
       target = g;
     }
 

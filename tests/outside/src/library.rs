@@ -44,6 +44,24 @@ impl CDamping {
     }
 }
 
+/// A second half period, as the same structs hold it.
+#[repr(C)]
+#[derive(Clone, Copy)]
+pub struct CSecond {
+    pub second_sway_given: u32,
+    pub second_half_period: u32,
+}
+
+impl CSecond {
+    /// Any number but 0 says that there is one.
+    fn of(second: Option<u32>, fill: u64) -> CSecond {
+        match second {
+            None => CSecond { second_sway_given: 0, second_half_period: fill as u32 },
+            Some(second) => CSecond { second_sway_given: (fill as u32).max(1), second_half_period: second },
+        }
+    }
+}
+
 /// `polgamir_axis`.
 #[repr(C)]
 #[derive(Clone, Copy)]
@@ -59,6 +77,7 @@ pub struct CAxis {
     pub acceleration_limit: u32,
     pub half_period: u32,
     pub damping: CDamping,
+    pub second: CSecond,
 }
 
 /// `polgamir_window`.
@@ -132,6 +151,7 @@ impl CAxis {
             acceleration_limit: axis.acceleration_limit,
             half_period: axis.half_period,
             damping: CDamping::of(axis.damping, fill),
+            second: CSecond::of(axis.second, fill),
         }
     }
 }
@@ -185,6 +205,7 @@ struct CLimits {
     acceleration_limit: u32,
     half_period: u32,
     damping: CDamping,
+    second: CSecond,
 }
 
 /// `polgamir_tour`.
@@ -232,6 +253,7 @@ pub fn plan_tour(tour: &Tour, stops: &[Stop], list: &mut [u32]) -> Toured {
             acceleration_limit: axis.acceleration_limit,
             half_period: axis.half_period,
             damping: CDamping::of(axis.damping, 0),
+            second: CSecond::of(axis.second, 0),
         }),
     };
     let raw: Vec<CStop> = stops.iter().map(|stop| CStop { positions: stop.positions, dwell: stop.dwell }).collect();

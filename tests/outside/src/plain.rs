@@ -10,6 +10,7 @@ pub const PLAIN: Axis = Axis {
     acceleration_limit: 1,
     half_period: 0,
     damping: Damping::Weight(128),
+    second: None,
     target: Target::Fixed { position: 0, velocity: 0 },
 };
 

@@ -167,6 +167,36 @@ fn positions_past_28_bits() {
     }
 }
 
+/// Request 2.9.
+#[test]
+fn poles_with_a_second_sway() {
+    let both = one(Axis { half_period: 1, damping: Damping::Weight(100), second: Some(2), ..to(1) });
+    let rows = [[0, 0, 78], [39, 78, -28], [103, 50, 28], [167, 78, -28], [231, 50, -50], [256, 0, 0]];
+    assert_eq!(outcome(both, 18).1, rows);
+    assert_eq!(outcome(both, 17).0, Answer { number: 10, place: 0, mask: 0, arrival: 5 });
+    // Cells are rounded once, on the grid of 1/512 unit also where h is 0.
+    assert_eq!(outcome(asked(one(Axis { second: Some(1), ..to(1) }), 5), 18).1[1], [21, 43, 43]);
+    // Arrival exceeds h + h₂, also where nothing moves.
+    let still = one(Axis { half_period: 256, second: Some(256), ..to(0) });
+    assert_eq!(refused(asked(still, 512)), (8, 0, 1, 0));
+    assert_eq!(arrival(asked(still, 513)), 513);
+    // A head that moves starts as it moved before tick 0.
+    let passing = Axis { start_velocity: 2, second: Some(2), ..after(2, 2, 0, 1) };
+    assert_eq!(outcome(one(passing), 12).1, [[0, 512, 0], [512, 512, 0], [1024, 512, 0], [1536, 512, 0]]);
+    // 15 after 5 and before 6; 16 after 6, also where h is 0 or B is 128; both by number, then by axis.
+    for (second, number) in [(0, 15), (1, 0), (256, 0), (257, 15)] {
+        assert_eq!(outcome(one(Axis { second: Some(second), ..to(1) }), 2_000).0.number, number);
+    }
+    let swaying = Axis { second: Some(0), ..to(1) };
+    assert_eq!(refused(job(&[swaying, Axis { half_period: 257, ..to(1) }])), (5, 1, 0, 0));
+    assert_eq!(refused(job(&[Axis { start_velocity: 11, ..to(1) }, swaying])), (15, 1, 0, 0));
+    let chasing = Axis { second: Some(1), ..after(0, 0, 1, 0) };
+    assert_eq!(refused(one(chasing)), (16, 0, 0, 0));
+    assert_eq!(refused(one(Axis { half_period: 1, ..chasing })), (16, 0, 0, 0));
+    assert_eq!(refused(job(&[chasing, Axis { start_velocity: 11, ..to(1) }])), (6, 1, 0, 0));
+    assert_eq!(refused(asked(job(&[to(1), chasing]), 1)), (16, 1, 0, 0));
+}
+
 /// Case C's words, asked for tick 1, with other words for the start and the target position.
 fn spelled(start: &[u32], target: &[u32]) -> Vec<u32> {
     let c = jobs::CASE_C;

@@ -1,6 +1,6 @@
 //! Demand 3 of paper 01 on the tables that the library writes: the landing is exact, both misses are at most 3/2 fine
-//! steps on every row, and the sway of every kind of swing list is 0 before rounding and at most N times G as rounded.
-//! The limits on cells hold too.
+//! steps on every row, and the sway of every kind of swing list, of either rate, is 0 before rounding and at most N times G
+//! as rounded. The start is exact and the limits on cells hold too.
 
 use outside::jobs::{self, Reach};
 use outside::library;
@@ -11,6 +11,10 @@ use outside::swing;
 /// The cells of one axis of a table, a row each.
 fn rows_of(table: &[i64], axes: usize, rank: usize, arrival: usize) -> Vec<[i64; 3]> {
     (0..=arrival).map(|k| table[3 * (axes * k + rank)..][..3].try_into().unwrap()).collect()
+}
+
+fn start_is_exact(axis: &Axis, first: [i64; 3]) {
+    assert_eq!(first[..2], [256 * axis.start_position, 256 * axis.start_velocity], "{axis:?}");
 }
 
 fn landing_is_exact(axis: &Axis, arrival: i64, last: [i64; 3]) {
@@ -32,18 +36,27 @@ fn cells_are_within_limits(axis: &Axis, rows: &[[i64; 3]]) {
     assert!(rows.iter().all(|&[_, v, a]| v.abs() <= speed && a.abs() <= acceleration), "{axis:?}");
 }
 
-/// Tries swing lists of an axis with a blend, for ticks from the arrival on. Answers how many were not zero.
-fn sway_is_cancelled(random: &mut Random, axis: &Axis, arrival: usize, rows: &[[i64; 3]], lists: usize) -> usize {
-    let (h, b) = (axis.half_period as usize, axis.weight());
-    let rounded: Vec<i64> = rows.iter().map(|row| row[2]).collect();
-    let planned = Planned::reaching(axis, arrival as i64).unwrap().with_list();
-    let exact: Vec<i64> = (0..=arrival as i64).map(|k| planned.exact(axis, k).acceleration).collect();
+/// The delay and the second weight of each blend of an axis: the swings that it cancels. The second swing is undamped.
+fn rates(axis: &Axis) -> Vec<(usize, i64)> {
+    let first = (axis.half_period > 0).then_some((axis.half_period as usize, axis.weight()));
+    first.into_iter().chain(axis.second.map(|delay| (delay as usize, 128))).collect()
+}
+
+/// The accelerations of an axis's rows, before and after they are rounded.
+struct Accelerations {
+    exact: Vec<i64>,
+    rounded: Vec<i64>,
+}
+
+/// Tries swing lists of a rate, for ticks from the arrival on. Answers how many were not zero.
+fn sway_is_cancelled(random: &mut Random, rate: (usize, i64), rows: &Accelerations, lists: usize) -> usize {
+    let ((h, b), arrival) = (rate, rows.rounded.len() - 1);
     let longest = swing::longest(h, b, arrival + 3_000);
     let mut tried = 0;
     for _ in 0..lists {
         if longest < arrival {
             // No list of this length with entries that can be held here but the zero list.
-            assert_eq!(swing::sway(&rounded, &vec![0; arrival + 1]), 0);
+            assert_eq!(swing::sway(&rows.rounded, &vec![0; arrival + 1]), 0);
             break;
         }
         let m = match random.below(3) {
@@ -54,8 +67,8 @@ fn sway_is_cancelled(random: &mut Random, axis: &Axis, arrival: usize, rows: &[[
         let g = swing::list(random, h, b, m);
         assert!(swing::is_swing(&g, h, b));
         let most = g.iter().map(|entry| entry.abs()).max().unwrap();
-        assert_eq!(swing::sway(&exact, &g), 0, "{axis:?} at {arrival}, tick {m}");
-        assert!(swing::sway(&rounded, &g).abs() <= arrival as i128 * most, "{axis:?} at {arrival}, tick {m}");
+        assert_eq!(swing::sway(&rows.exact, &g), 0, "{rate:?} at {arrival}, tick {m}");
+        assert!(swing::sway(&rows.rounded, &g).abs() <= arrival as i128 * most, "{rate:?} at {arrival}, tick {m}");
         tried += usize::from(most > 0);
     }
     tried
@@ -70,7 +83,7 @@ fn cells_are_rounded_alike(planned: &Planned, axis: &Axis, rows: &[[i64; 3]]) {
 }
 
 /// What was tried: axes that landed, and of them those far out on the rail and those after accelerating targets on damped
-/// poles; and swing lists that are not zero, of undamped and of damped poles.
+/// poles; and swing lists that are not zero, of undamped and of damped first swings and of second ones.
 #[derive(Debug, Default)]
 struct Tried {
     axes: usize,
@@ -78,10 +91,13 @@ struct Tried {
     accelerating: usize,
     undamped_lists: usize,
     damped_lists: usize,
+    second_lists: usize,
 }
 
 impl Tried {
-    fn axis(&mut self, random: &mut Random, axis: &Axis, arrival: usize, rows: &[[i64; 3]], lists: usize) {
+    fn axis(&mut self, random: &mut Random, axis: &Axis, rows: &[[i64; 3]], lists: usize) {
+        let arrival = rows.len() - 1;
+        start_is_exact(axis, rows[0]);
         landing_is_exact(axis, arrival as i64, rows[arrival]);
         misses_are_small(rows);
         cells_are_within_limits(axis, rows);
@@ -89,11 +105,21 @@ impl Tried {
         cells_are_rounded_alike(&planned, axis, rows);
         self.axes += 1;
         self.far_out += usize::from(!fits_a_word(axis.target.position()));
-        if axis.half_period > 0 {
-            let damped = axis.weight() != 128;
-            self.accelerating += usize::from(damped && axis.target.acceleration() != 0);
-            let kind = if damped { &mut self.damped_lists } else { &mut self.undamped_lists };
-            *kind += sway_is_cancelled(random, axis, arrival, rows, lists);
+        let damped = axis.half_period > 0 && axis.weight() != 128;
+        self.accelerating += usize::from(damped && axis.target.acceleration() != 0);
+        let accelerations = Accelerations {
+            exact: (0..=arrival as i64).map(|k| planned.exact(axis, k).acceleration).collect(),
+            rounded: rows.iter().map(|row| row[2]).collect(),
+        };
+        for (place, rate) in rates(axis).into_iter().enumerate() {
+            let tried = sway_is_cancelled(random, rate, &accelerations, lists);
+            let second = place == 1 || axis.half_period == 0;
+            let kind = match (second, damped) {
+                (true, _) => &mut self.second_lists,
+                (_, true) => &mut self.damped_lists,
+                _ => &mut self.undamped_lists,
+            };
+            *kind += tried;
         }
     }
 }
@@ -119,7 +145,7 @@ fn run(seed: u64, draw: fn(&mut Random) -> Job, count: usize, lists: usize) -> T
         let arrival = answer.arrival as usize;
         for (rank, (_, axis)) in job.by_hand().set().enumerate() {
             let rows = rows_of(&table, job.count(), rank, arrival);
-            tried.axis(&mut random, axis, arrival, &rows, lists);
+            tried.axis(&mut random, axis, &rows, lists);
         }
     }
     eprintln!("{tried:?}");
@@ -130,21 +156,21 @@ fn run(seed: u64, draw: fn(&mut Random) -> Job, count: usize, lists: usize) -> T
 fn near_jobs_meet_demand_3() {
     let tried = run(11, |random| jobs::job(random, Reach::Near), 10_000, 3);
     assert!(tried.axes > 1_000 && tried.far_out > 500 && tried.accelerating > 50, "{tried:?}");
-    assert!(tried.undamped_lists > 1_000 && tried.damped_lists > 1_000, "{tried:?}");
+    assert!(tried.undamped_lists > 1_000 && tried.damped_lists > 1_000 && tried.second_lists > 1_000, "{tried:?}");
 }
 
 #[test]
 fn quick_jobs_meet_demand_3() {
     let tried = run(12, |random| jobs::job(random, Reach::Quick), 5_000, 3);
     assert!(tried.axes > 500 && tried.far_out > 100 && tried.accelerating > 30, "{tried:?}");
-    assert!(tried.undamped_lists > 500 && tried.damped_lists > 500, "{tried:?}");
+    assert!(tried.undamped_lists > 500 && tried.damped_lists > 500 && tried.second_lists > 500, "{tried:?}");
 }
 
 #[test]
 fn asked_jobs_meet_demand_3() {
     let tried = run(13, |random| jobs::job(random, Reach::Asked), 1_000, 2);
     assert!(tried.axes > 200 && tried.far_out > 20, "{tried:?}");
-    assert!(tried.undamped_lists > 100 && tried.damped_lists > 10, "{tried:?}");
+    assert!(tried.undamped_lists > 100 && tried.damped_lists > 10 && tried.second_lists > 50, "{tried:?}");
 }
 
 #[test]

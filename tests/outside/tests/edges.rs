@@ -12,6 +12,7 @@ const FIXED: Axis = Axis {
     acceleration_limit: 65_536,
     half_period: 2,
     damping: Damping::Weight(128),
+    second: None,
     target: Target::Fixed { position: 7, velocity: 0 },
 };
 
@@ -53,7 +54,7 @@ fn every_signed_value_at_every_end() {
 
 #[test]
 fn every_unsigned_value_at_every_end() {
-    at_every_end(4, &UNSIGNED_ENDS, with_unsigned, 300, 301);
+    at_every_end(5, &UNSIGNED_ENDS, with_unsigned, 300, 301);
 }
 
 /// The answers and the cells agree from words.
@@ -124,7 +125,7 @@ fn both_ends_of_every_weight() {
 fn two_values_at_ends_on_two_axes() {
     for (first, second) in [(0, 1), (2, 5), (4, 3)] {
         for j in 0..6 {
-            for k in 0..4 {
+            for k in 0..5 {
                 for value in [i64::MIN, 1 << 27, 1 << 34, i64::MAX] {
                     for limit in [0, 129, 257, u32::MAX] {
                         let mut job = Job { mask: 63, asked: 9, axes: [MOVING; 6], windows: None };
@@ -182,6 +183,7 @@ fn axes_off_the_mask_are_never_looked_at() {
         acceleration_limit: 0,
         half_period: u32::MAX,
         damping: Damping::Peaks(Single(u32::MAX), Single(0)),
+        second: Some(u32::MAX),
         target: Target::Moving { position: i64::MIN, velocity: i64::MIN, acceleration: i64::MIN, tick: i64::MIN },
     };
     for mask in 1..64u32 {

@@ -23,9 +23,11 @@ fn structs_are_laid_out_as_in_c() {
         offset_of!(CAxis, damping.swing_ratio),
         offset_of!(CAxis, damping.first_peak),
         offset_of!(CAxis, damping.second_peak),
+        offset_of!(CAxis, second.second_sway_given),
+        offset_of!(CAxis, second.second_half_period),
         size_of::<CAxis>(),
     ];
-    assert_eq!(axis, [0, 8, 16, 24, 32, 40, 48, 52, 56, 60, 64, 68, 72, 76, 80, 88]);
+    assert_eq!(axis, [0, 8, 16, 24, 32, 40, 48, 52, 56, 60, 64, 68, 72, 76, 80, 84, 88, 96]);
     let windows = [
         offset_of!(CWindows, given),
         offset_of!(CWindows, dwell),
@@ -43,7 +45,7 @@ fn structs_are_laid_out_as_in_c() {
         offset_of!(CJob, windows),
         size_of::<CJob>(),
     ];
-    assert_eq!(job, [0, 4, 8, 536, 808]);
+    assert_eq!(job, [0, 4, 8, 584, 856]);
 }
 
 /// A file of the repository.

@@ -77,7 +77,7 @@ fn a_table_that_just_fits_and_one_that_does_not() {
     }
 }
 
-/// The job of the most words: six axes after moving targets, with long positions.
+/// The job of the most words: six axes after moving targets, with long positions and second half periods.
 fn longest() -> Vec<u8> {
     let axis = |i: i64| Axis {
         start_position: (i - 3) << 32,
@@ -86,6 +86,7 @@ fn longest() -> Vec<u8> {
         acceleration_limit: 4,
         half_period: i as u32,
         damping: Damping::Weight(128 - i as u32),
+        second: Some(6 - i as u32),
         target: Target::Moving { position: ((i - 3) << 32) - 9, velocity: -i, acceleration: 0, tick: 3 },
     };
     let mut job = Job { mask: 63, asked: 30, axes: [0, 1, 2, 3, 4, 5].map(axis), windows: None };
@@ -99,7 +100,7 @@ fn longest() -> Vec<u8> {
 #[test]
 fn input_of_many_bytes() {
     let whole = longest();
-    assert_eq!(whole.len(), 4 * 75);
+    assert_eq!(whole.len(), 324);
     assert!(printed(&whole).starts_with("arrival 30\n"));
     for count in (250..whole.len()).chain([509, 510, 511, 512, 513, 516, 600]) {
         let mut input = whole.clone();

@@ -22,7 +22,7 @@ fn agrees(tour: &Tour, stops: &[Stop], entries: usize) -> u32 {
 #[test]
 fn random_tours_agree() {
     let mut random = Random::new(31);
-    let mut seen = [0; 13];
+    let mut seen = [0; 19];
     let mut long_searches = 20;
     for _ in 0..4_000 {
         let (tour, stops) = jobs::tour(&mut random);
@@ -43,7 +43,7 @@ fn random_tours_agree() {
         }
     }
     eprintln!("tours by number {seen:?}");
-    for number in [0, 1, 4, 5, 6, 9, 10, 11, 12] {
+    for number in [0, 11, 1, 4, 12, 5, 15, 6, 9, 10] {
         assert!(seen[number] > 5, "{number}: {seen:?}");
     }
 }
@@ -68,7 +68,7 @@ fn every_value_at_every_end() {
                 agrees(&tour, &changed, 3);
             }
         }
-        for j in 0..4 {
+        for j in 0..5 {
             for value in UNSIGNED_ENDS {
                 let mut changed = tour;
                 changed.axes[i] = jobs::with_unsigned(tour.axes[i], j, value);

@@ -69,7 +69,11 @@ fn cause(sheet: &Sheet, refusal: &Refusal) -> String {
         Refusal::Limits { .. } => format!("a limit of {title} is outside its range"),
         Refusal::Damping { .. } => format!("the damping of {title} as measured is outside its range"),
         Refusal::Blend { .. } => format!("the half period or weight of {title} is outside its range"),
+        Refusal::SecondHalfPeriod { .. } => format!("the second half period of {title} is outside its range"),
         Refusal::StartOrTarget { .. } => format!("start or target of {title} is outside its range"),
+        Refusal::Acceleration { .. } => {
+            format!("the target of {title} accelerates, and its pole has a second half period")
+        }
         Refusal::Windows { .. } => "the windows cannot be used as they stand".into(),
         Refusal::NotReachable { axes } if axes.is_empty() => {
             let asked = sheet.job.arrival.number();
@@ -103,8 +107,13 @@ fn remedy(sheet: &Sheet, refusal: &Refusal) -> String {
         Refusal::Words { .. } | Refusal::LongPosition { .. } => "write the words again from the sheet".into(),
         Refusal::AskedArrival => format!("ask for a tick from 1 to {LATEST_ARRIVAL}, or for the earliest"),
         Refusal::Limits { .. } => "enter what the motor allows, within the range".into(),
-        Refusal::Damping { .. } | Refusal::Blend { .. } => "tap again and enter what the pole does".into(),
+        Refusal::Damping { .. } | Refusal::Blend { .. } | Refusal::SecondHalfPeriod { .. } => {
+            "tap again and enter what the pole does".into()
+        }
         Refusal::StartOrTarget { .. } => "enter where the axis is and goes, within what its limits allow".into(),
+        Refusal::Acceleration { .. } => {
+            "enter a target without acceleration, or leave the second half period out and let the pole sway at that rate".into()
+        }
         Refusal::Windows { .. } => {
             format!(
                 "enter 1 to {MOST_WINDOWS} windows in the order of their ticks, and a dwell from 0 to {LONGEST_DWELL}"
@@ -263,6 +272,7 @@ fn concerned_lines(sheet: &Sheet, number: usize, concerned: &[WordKind]) -> Vec<
 fn concerns(refusal: &Refusal) -> &'static [WordKind] {
     use WordKind::*;
     match refusal {
+        Refusal::Acceleration { .. } => &[SecondHalfPeriod, TargetAcceleration],
         Refusal::NotReachable { .. } => &[SpeedLimit, AccelerationLimit],
         Refusal::NoCommonArrival { .. } => &[SpeedLimit, AccelerationLimit, StartPosition, TargetPosition],
         _ => &[],

@@ -1,12 +1,13 @@
 //! The sway of a pole, driven by the accelerations of a table.
 //!
 //! The pole is an oscillator that swings over in `half_period` ticks and whose swing shrinks to B / (256 − B) in that time, B
-//! being the second weight. Each row's acceleration holds from its tick to the next, the last one's from the arrival on, and
-//! pushes the pole the other way.
+//! being the second weight. One with a second half period swings at two rates: the second is an oscillator of its own, which swings
+//! over in that time and does not shrink. Each row's acceleration holds from its tick to the next, the last one's from the arrival
+//! on, and pushes the pole the other way.
 
 use polgamir::Axis;
 
-/// A pole: how fast it swings and how fast the swing dies away.
+/// A pole, or one of its two rates: how fast it swings and how fast the swing dies away.
 #[derive(Debug, Clone, Copy)]
 pub struct Pole {
     /// Radians of swing in a tick.
@@ -29,7 +30,7 @@ pub struct Sway {
 }
 
 impl Pole {
-    /// A pole that swings over in a half period of ticks, above 0, and whose swing shrinks by a ratio in that time, above 0 and at
+    /// A pole that swings over in a half period of ticks, above 0, and whose swing shrinks to a ratio in that time, above 0 and at
     /// most 1.
     pub fn new(half_period: f64, shrinks_to: f64) -> Pole {
         Pole {
@@ -39,10 +40,9 @@ impl Pole {
         }
     }
 
-    /// The pole under an axis, or `None` where the axis has no half period, or damping without a weight.
-    pub fn of(axis: &Axis) -> Option<Pole> {
-        let swing = Swing::of(axis).first().copied()?;
-        Some(Pole::new(swing.half_period.into(), swing.ratio))
+    /// The rates at which the pole under an axis swings, each with the name of its sway.
+    pub fn rates(axis: &Axis) -> impl Iterator<Item = (&'static str, Pole)> {
+        Swing::of(axis).into_iter().map(|swing| (swing.name(), Pole::new(swing.half_period.into(), swing.ratio)))
     }
 
     /// The stiffness by the mass: what an acceleration is divided by to give the displacement at which the pole rests.
@@ -138,18 +138,42 @@ impl Step {
 /// A swing of the pole under an axis.
 #[derive(Debug, Clone, Copy, PartialEq)]
 pub struct Swing {
+    /// Whether it is that of the second half period.
+    pub second: bool,
     /// The ticks from one side to the other, at least 1.
     pub half_period: u32,
-    /// How far it shrinks in that time: B / (256 − B).
+    /// How far it shrinks in that time: B / (256 − B), and 1 for a second swing.
     pub ratio: f64,
 }
 
 impl Swing {
-    /// The swings that the blend of an axis cancels; none where the axis has no half period, or damping without a weight.
+    /// The swings that the blend of an axis cancels: that of its half period, where the damping has a weight, and that of its second half
+    /// period, each where it is above 0.
     pub fn of(axis: &Axis) -> Vec<Swing> {
         let ratio = |weight: u32| f64::from(weight) / (256.0 - f64::from(weight));
-        let first = axis.damping.weight().map(|weight| Swing { half_period: axis.half_period, ratio: ratio(weight) });
-        first.into_iter().filter(|swing| swing.half_period > 0).collect()
+        let first = axis.damping.weight().map(|weight| (false, axis.half_period, ratio(weight)));
+        let second = axis.second_half_period.map(|half_period| (true, half_period, 1.0));
+        let swings =
+            first.into_iter().chain(second).map(|(second, half_period, ratio)| Swing { second, half_period, ratio });
+        swings.filter(|swing| swing.half_period > 0).collect()
+    }
+
+    /// The name of its sway.
+    pub fn name(&self) -> &'static str {
+        if self.second {
+            "second sway"
+        } else {
+            "sway"
+        }
+    }
+
+    /// The name of its half period.
+    pub fn half_period_name(&self) -> &'static str {
+        if self.second {
+            "second half period"
+        } else {
+            "half period"
+        }
     }
 }
 
@@ -158,12 +182,25 @@ mod tests {
     use super::*;
     use polgamir::{Damping, RestPoint, Target};
 
+    fn axis(half_period: u32, second_weight: u32, second_half_period: Option<u32>) -> Axis {
+        Axis {
+            start: RestPoint { position: 0, velocity: 0 },
+            speed_limit: 1,
+            acceleration_limit: 1,
+            half_period,
+            damping: Damping::Weight(second_weight),
+            second_half_period,
+            target: Target::still(0),
+        }
+    }
+
+    /// The rate of a sway of the pole under an axis.
+    fn rate(axis: &Axis, name: &str) -> Pole {
+        Pole::rates(axis).find(|&(sway, _)| sway == name).expect("a half period").1
+    }
+
     fn pole(half_period: u32, second_weight: u32) -> Pole {
-        let start = RestPoint { position: 0, velocity: 0 };
-        let target = Target::still(0);
-        let damping = Damping::Weight(second_weight);
-        let axis = Axis { start, speed_limit: 1, acceleration_limit: 1, half_period, damping, target };
-        Pole::of(&axis).expect("a half period")
+        rate(&axis(half_period, second_weight, None), "sway")
     }
 
     fn state(displacement: f64, velocity: f64) -> State {
@@ -266,6 +303,39 @@ mod tests {
         assert!(pole.sway(&accelerations, 60).remaining < 1e-9);
         accelerations[4] += 1.0;
         assert!(pole.sway(&accelerations, 60).remaining > 0.1);
+    }
+
+    /// A pole has a rate for each of its half periods, the second one undamped.
+    #[test]
+    fn a_pole_swings_at_each_of_its_rates() {
+        let names = |axis: Axis| Pole::rates(&axis).map(|(name, _)| name).collect::<Vec<_>>();
+        assert!(names(axis(0, 128, None)).is_empty());
+        assert_eq!(names(axis(7, 85, None)), ["sway"]);
+        assert_eq!(names(axis(0, 128, Some(3))), ["second sway"]);
+        assert_eq!(names(axis(7, 85, Some(3))), ["sway", "second sway"]);
+        let second = rate(&axis(7, 85, Some(3)), "second sway");
+        let State { displacement, velocity } = second.step(3.0).after(state(1.0, 0.3), 0.0);
+        assert!((displacement + 1.0).abs() < 1e-12 && (velocity + 0.3).abs() < 1e-12);
+    }
+
+    /// Pushes that are blended twice leave nothing at either rate; blended once, something at the other.
+    #[test]
+    fn pushes_blended_twice_cancel_at_both_rates() {
+        let mut once = [0.0; 24];
+        for (tick, push) in [(0, 1.0), (1, 0.5), (3, -1.5)] {
+            once[tick] += push * 156.0;
+            once[tick + 5] += push * 100.0;
+        }
+        let mut twice = once;
+        for tick in (0..=15).rev() {
+            twice[tick + 8] += once[tick];
+        }
+        let axis = axis(5, 100, Some(8));
+        for (name, pole) in Pole::rates(&axis) {
+            assert!(pole.sway(&twice, 90).remaining < 1e-9, "{name}");
+        }
+        let second = rate(&axis, "second sway");
+        assert!(second.sway(&once, 90).remaining > 1.0);
     }
 
     /// Under a steady acceleration the pole comes to rest displaced against it.

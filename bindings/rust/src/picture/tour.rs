@@ -9,7 +9,7 @@ use super::panel::{self, Mark, Panel, Span, Timeline};
 use super::scale::{self, quantity};
 use super::svg::{colour, stroke};
 use super::sway::{Point, Pole};
-use super::{pole_of, tick_name, Planned};
+use super::{pole_of, tick_name, Planned, SECOND};
 use crate::measure::{in_seconds, Measure};
 
 /// The width of a timeline's plots.
@@ -21,6 +21,12 @@ const CAPTION: &str =
      is from upright, in the axis's units. The pole has the entered half period and weight, is at rest at tick 0 and is driven by \
      the accelerations of the legs' tables. Left: the greatest sway from an arrival to the next departure. The exact plan leaves \
      0, which is proved of every leg; rounding its cells to 1/256 unit leaves the rest.";
+
+/// What the timeline of a sheet shows.
+fn caption(sheet: &TourSheet) -> String {
+    let second = sheet.tour.entered().any(|(_, axis)| axis.second_half_period.is_some());
+    CAPTION.to_owned() + if second { SECOND } else { "" }
+}
 
 /// Draws the timeline of a tour.
 pub fn draw_tour(title: &str, sheet: &TourSheet) -> Result<String, TourRefusal> {
@@ -48,7 +54,7 @@ pub fn draw_tour(title: &str, sheet: &TourSheet) -> Result<String, TourRefusal> 
             ("arrival", Sample::Line(stroke::ARRIVAL)),
             ("dwell", Sample::Area(colour::DWELL)),
         ],
-        caption: CAPTION.into(),
+        caption: caption(sheet),
         time: timeline(&stays, schedule.total, sheet.tick_seconds()),
     };
     Ok(page.draw())
@@ -127,10 +133,10 @@ impl Way {
         (0..).zip(&self.rows).map(|(tick, row): (u32, _)| (tick.into(), quantity(row))).collect()
     }
 
-    /// The panels; that of the sway only where the axis has a half period.
+    /// The panels; those of the sway only where the axis has a half period, one for each.
     fn panels(&self, stays: &[Stay], measure: &Measure) -> Vec<Panel> {
         let mut panels = vec![self.position_panel(measure), self.velocity_panel(measure)];
-        panels.extend(Pole::of(&self.axis).map(|pole| self.sway_panel(pole, stays, measure)));
+        panels.extend(Pole::rates(&self.axis).map(|(sway, pole)| self.sway_panel(sway, pole, stays, measure)));
         panels
     }
 
@@ -163,8 +169,8 @@ impl Way {
         }
     }
 
-    /// The panel of the sway.
-    fn sway_panel(&self, pole: Pole, stays: &[Stay], measure: &Measure) -> Panel {
+    /// The panel of a sway.
+    fn sway_panel(&self, sway: &str, pole: Pole, stays: &[Stay], measure: &Measure) -> Panel {
         let accelerations: Vec<f64> = self.rows.iter().map(|row| measure.position(row.acceleration)).collect();
         let curve = pole.sway(&accelerations, accelerations.len() as u32 - 1).curve;
         let stays_at =
@@ -173,7 +179,7 @@ impl Way {
         let remark = format!("left {}, exact plan 0", quantity(left));
         let range = panel::range_of(curve.iter().map(|&(_, sway)| sway));
         Panel {
-            name: format!("sway, {}", measure.names()[0]),
+            name: format!("{sway}, {}", measure.names()[0]),
             remark,
             range,
             limits: Vec::new(),

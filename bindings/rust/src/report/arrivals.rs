@@ -119,6 +119,7 @@ mod tests {
             acceleration_limit,
             half_period: 0,
             damping: Damping::NONE,
+            second_half_period: None,
             target: Target::still(target),
         }
     }

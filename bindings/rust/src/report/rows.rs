@@ -91,8 +91,15 @@ mod tests {
     fn limits_of_case_c() {
         let start = RestPoint { position: 0, velocity: 0 };
         let target = Target::still(1);
-        let axis =
-            Axis { start, speed_limit: 10, acceleration_limit: 1, half_period: 0, damping: Damping::NONE, target };
+        let axis = Axis {
+            start,
+            speed_limit: 10,
+            acceleration_limit: 1,
+            half_period: 0,
+            damping: Damping::NONE,
+            second_half_period: None,
+            target,
+        };
         let [velocity, acceleration] = nearest(&axis, &rows());
         assert_eq!(velocity, Nearest { size: 86, tick: 1, limit: 2560, rows_at_limit: 0 });
         assert_eq!(acceleration, Nearest { size: 86, tick: 0, limit: 256, rows_at_limit: 0 });

@@ -19,8 +19,9 @@ fn of_swing(entry: &Entry, pole: &WrongPole, index: usize) -> String {
     format!(
         "<div class=\"unit\">\n{}<div class=\"charts\">\n{charts}</div>\n{}{}</div>\n",
         html::heading(&format!(
-            "{}: half period {}, each swing {} of the one before",
+            "{}: {} {}, each swing {} of the one before",
             entry.title,
+            pole.swing().half_period_name(),
             counted(pole.half_period()),
             rounded_ratio(pole.ratio())
         )),
@@ -47,8 +48,12 @@ fn strokes(over: &[(f64, Left)]) -> Vec<(Vec<(f64, f64)>, Stroke)> {
 fn chart_of_half_period(entry: &Entry, pole: &WrongPole) -> Chart {
     let over = pole.over_percents();
     Chart {
-        title: format!("{}: sway left over the error of the half period", entry.title),
-        across: format!("true half period, above or below the entered {}", counted(pole.half_period())),
+        title: format!("{}: {} left over the error of the half period", entry.title, pole.swing().name()),
+        across: format!(
+            "true {}, above or below the entered {}",
+            pole.swing().half_period_name(),
+            counted(pole.half_period())
+        ),
         suffix: "%",
         upward: format!("sway left, {}", entry.sway_name()),
         range: (over[0].0, over[over.len() - 1].0),

@@ -42,6 +42,11 @@ impl<'a> WrongPole<'a> {
         WrongPole { swing, plan, unblended }
     }
 
+    /// The swing that was entered.
+    pub fn swing(&self) -> Swing {
+        self.swing
+    }
+
     /// The half period that was entered.
     pub fn half_period(&self) -> u32 {
         self.swing.half_period
@@ -106,7 +111,7 @@ mod tests {
         (pushes[0], pushes[12]) = (5.0, 5.0);
         let mut once = [0.0; 30];
         once[0] = 5.0;
-        let swing = Swing { half_period: 12, ratio: 1.0 };
+        let swing = Swing { second: false, half_period: 12, ratio: 1.0 };
         let pole = WrongPole::new(swing, &pushes, Some(&once));
         assert!(pole.left().plan < 1e-9);
         for percent in [-30.0, -10.0, -1.0, 2.0, 25.0] {
@@ -122,10 +127,10 @@ mod tests {
     #[test]
     fn ratios_stay_within_those_of_poles() {
         let rows = [1.0, -1.0, 0.0];
-        let pole = WrongPole::new(Swing { half_period: 5, ratio: 1.0 }, &rows, None);
+        let pole = WrongPole::new(Swing { second: false, half_period: 5, ratio: 1.0 }, &rows, None);
         assert_eq!((pole.at_ratio(0.01), pole.at_ratio(-0.99)), (None, None));
         assert_eq!(pole.over_ratios().len(), 61);
-        let damped = WrongPole::new(Swing { half_period: 5, ratio: 0.5 }, &rows, None);
+        let damped = WrongPole::new(Swing { second: false, half_period: 5, ratio: 0.5 }, &rows, None);
         assert_eq!(damped.over_ratios().len(), 121);
     }
 }

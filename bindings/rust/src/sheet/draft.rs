@@ -12,6 +12,7 @@ use crate::words::WordKind;
 fn expectation(entry: WordKind) -> &'static str {
     match entry {
         WordKind::HalfPeriod => "a whole number of ticks from 0 to 256",
+        WordKind::SecondHalfPeriod => "a whole number of ticks from 1 to 256",
         WordKind::SpeedLimit => "a whole number of units per tick from 1 to 1048576",
         WordKind::AccelerationLimit => "a whole number of units per tick² from 1 to 65536",
         WordKind::StartPosition | WordKind::TargetPosition => {
@@ -46,8 +47,13 @@ const DAMPINGS: [DampingLine; 3] = [
 ];
 
 /// The entries of an axis of a tour that are numbers.
-const TOUR_ENTRIES: [WordKind; 4] =
-    [WordKind::HalfPeriod, WordKind::SpeedLimit, WordKind::AccelerationLimit, WordKind::StartPosition];
+const TOUR_ENTRIES: [WordKind; 5] = [
+    WordKind::HalfPeriod,
+    WordKind::SecondHalfPeriod,
+    WordKind::SpeedLimit,
+    WordKind::AccelerationLimit,
+    WordKind::StartPosition,
+];
 
 /// An entry that is a number, with the line that it stands on.
 struct Entry {
@@ -147,6 +153,12 @@ impl Draft {
         }
     }
 
+    /// The second half period, of which an axis has a line only where its pole swings at two rates.
+    fn second_half_period(&self) -> Option<u32> {
+        // It was read as a u32, so the cast keeps it.
+        self.entry(WordKind::SecondHalfPeriod).map(|entry| entry.number as u32)
+    }
+
     /// Takes what the target is.
     fn take_target(&mut self, line: usize, value: &[&str]) -> Result<(), SheetError> {
         if let Some((_, first)) = self.target {
@@ -181,6 +193,7 @@ impl Draft {
         Ok(TourAxis {
             half_period: self.unsigned(WordKind::HalfPeriod)?,
             damping: self.damping()?,
+            second_half_period: self.second_half_period(),
             speed_limit: self.unsigned(WordKind::SpeedLimit)?,
             acceleration_limit: self.unsigned(WordKind::AccelerationLimit)?,
             start: self.number(WordKind::StartPosition)?,
@@ -200,6 +213,7 @@ impl Draft {
         Ok(Axis {
             half_period: self.unsigned(WordKind::HalfPeriod)?,
             damping: self.damping()?,
+            second_half_period: self.second_half_period(),
             speed_limit: self.unsigned(WordKind::SpeedLimit)?,
             acceleration_limit: self.unsigned(WordKind::AccelerationLimit)?,
             start: RestPoint {

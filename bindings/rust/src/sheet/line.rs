@@ -52,9 +52,11 @@ impl SheetLine {
     /// The line to look at after a refusal.
     pub const fn after(refusal: &Refusal) -> SheetLine {
         match refusal {
-            Refusal::Damping { .. } | Refusal::Blend { .. } => SheetLine::TapThePole,
+            Refusal::Damping { .. } | Refusal::Blend { .. } | Refusal::SecondHalfPeriod { .. } => SheetLine::TapThePole,
             Refusal::Mask | Refusal::Limits { .. } => SheetLine::EnterLimits,
-            Refusal::StartOrTarget { .. } | Refusal::NoCommonArrival { .. } => SheetLine::EnterStartAndTarget,
+            Refusal::StartOrTarget { .. } | Refusal::Acceleration { .. } | Refusal::NoCommonArrival { .. } => {
+                SheetLine::EnterStartAndTarget
+            }
             Refusal::AskedArrival
             | Refusal::Windows { .. }
             | Refusal::NotReachable { .. }

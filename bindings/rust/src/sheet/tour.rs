@@ -78,6 +78,9 @@ impl fmt::Display for TourSheet {
             self.notes.scales.write_of_axis(f, number)?;
             write_entry(f, WordKind::HalfPeriod, axis.half_period.into())?;
             write_damping(f, axis.damping)?;
+            if let Some(ticks) = axis.second_half_period {
+                write_entry(f, WordKind::SecondHalfPeriod, ticks.into())?;
+            }
             write_entry(f, WordKind::SpeedLimit, axis.speed_limit.into())?;
             write_entry(f, WordKind::AccelerationLimit, axis.acceleration_limit.into())?;
             write_entry(f, WordKind::StartPosition, axis.start)?;

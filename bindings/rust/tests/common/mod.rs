@@ -15,6 +15,7 @@ pub fn field_axis(target: Target) -> Axis {
         acceleration_limit: 1,
         half_period: 0,
         damping: Damping::NONE,
+        second_half_period: None,
         target,
     }
 }
@@ -71,8 +72,9 @@ impl Random {
         let acceleration_limit = 1 + self.small(40);
         let second_weight = if self.once_in(2) { 128 } else { self.between(1, 128) };
         let half_period = if self.once_in(4) { 0 } else { self.small(60) };
+        let second_half_period = self.once_in(3).then(|| 1 + self.small(60) as u32);
         let start = RestPoint { position: self.between(-3000, 3000), velocity: self.velocity(speed_limit) };
-        let accelerates = self.once_in(3);
+        let accelerates = second_half_period.is_none() && self.once_in(3);
         let state = State {
             position: self.between(-3000, 3000),
             velocity: self.velocity(speed_limit),
@@ -90,6 +92,7 @@ impl Random {
             acceleration_limit: acceleration_limit as u32,
             half_period: half_period as u32,
             damping: Damping::Weight(second_weight as u32),
+            second_half_period,
             target,
         }
     }
@@ -143,6 +146,7 @@ impl Random {
             acceleration_limit: unsigned(self),
             half_period: unsigned(self),
             damping: Damping::Weight(unsigned(self)),
+            second_half_period: self.once_in(2).then(|| unsigned(self)),
             target,
         }
     }

@@ -16,6 +16,7 @@ returns c =
       «acceleration_limit» = x .«acceleration_limit»;
       «half_period» = x .«half_period»;
       «second_weight» = Given (c .second-weight .ensures i);
+      «second_sway» = x .«second_sway»;
       target = x .target;
     }
 

@@ -1,37 +1,31 @@
-use mathlib.Core.Path.{sym, _∙_}
-use Rattle.whole.proofs.Tests.{choice-yes, choice-no, and-yes, and-no}
-use Rattle.model.specs.Quantities.{accelerates, damped, finer}
+use mathlib.Core.Path.{sym, ap, _∙_}
+use mathlib.Core.Bool.{_&&_}
+use Rattle.model.specs.declared.SecondSway.{SecondSway}
+use Rattle.model.specs.Quantities.{accelerates, damped, finerBy, finer}
 use borrow.Author.Needs.{needs}
 use Rattle.motion.proofs.finer.Statement.{statement}
 use Rattle.motion.proofs.finer.Tie as tie
 
-accelerates-requires : tie.Need-accelerates-requires
-accelerates-requires c κs = search needs
+enum-told : tie.Need-enum-told
+enum-told c = search needs
 
-damped-requires : tie.Need-damped-requires
-damped-requires c κs = search needs
+enum-told-2 : tie.Need-enum-told-2
+enum-told-2 c = search needs
+
+finer-by-target-requires : tie.Need-finer-by-target-requires
+finer-by-target-requires c κs = search needs
 
 returns : tie.Need-returns
 unfolding finer
 returns c =
-    let x = c .before .before .before .before .args .x in
-    let first = sym (c .before .before .before .accelerates .ensures) ∙ c .before .before .if1 .taken in
-    let second = sym (c .before .damped .ensures) ∙ c .if2 .taken in
-    choice-yes _ _ _ (sym (and-yes (accelerates (x .target)) (damped x) first (sym second)))
+    let x = c .before .before .args .x in
+    sym (ap (λ (s : SecondSway). finerBy s (accelerates (x .target) && damped x)) (c .enum-told .given .1))
 
 returns-2 : tie.Need-returns-2
 unfolding finer
 returns-2 c =
-    let x = c .before .before .before .before .args .x in
-    let first = sym (c .before .before .before .accelerates .ensures) ∙ c .before .before .if1 .taken in
-    let second = sym (c .before .damped .ensures) ∙ c .if2 .left in
-    choice-no _ _ _ (sym (and-yes (accelerates (x .target)) (damped x) first (sym second)))
-
-returns-3 : tie.Need-returns-3
-unfolding finer
-returns-3 c =
-    let x = c .before .before .args .x in
-    choice-no _ _ _ (sym (and-no (accelerates (x .target)) (damped x) (sym (c .before .accelerates .ensures) ∙ c .if1 .left)))
+    let x = c .before .before .before .args .x in
+    c .finer-by-target .ensures ∙ sym (ap (λ (s : SecondSway). finerBy s (accelerates (x .target) && damped x)) (c .before .enum-told2 .given .1))
 
 pub finer-spec : {M : Type 1} → statement M
-finer-spec = tie.close (tie.spec accelerates-requires damped-requires returns returns-2 returns-3)
+finer-spec = tie.close (tie.spec enum-told enum-told-2 finer-by-target-requires returns returns-2)

@@ -1,4 +1,4 @@
-use Prim.Native.Nat.{ℕ, _-_, _≤_, _<_}
+use Prim.Native.Nat.{ℕ, suc, _+_, _-_, _≤_, _<_, max}
 use mathlib.Core.Path.{_≡_, sym, ap, subst, _∙_}
 use mathlib.Core.Bool.{Bool}
 use native.Mathlib.Omega.{arith}
@@ -7,8 +7,8 @@ use mir.Syntax.{w64}
 use mir.Val.{toZ, ofZ}
 use Rattle.whole.proofs.Bounds.{within, exactly, computed}
 use Rattle.model.specs.Leg.{required}
-use Rattle.model.specs.Motion.{startPosition, displacement, requiredSum}
-use Rattle.model.specs.Quantities.{halfPeriod}
+use Rattle.model.specs.Motion.{startPosition, requiredSum, reachable}
+use Rattle.model.specs.Quantities.{delay}
 use Rattle.profile.specs.declared.Profile.{Profile}
 use Rattle.profile.specs.Profiles.{legOf}
 use Rattle.running.specs.Running.{Next, betweenAt}
@@ -19,31 +19,45 @@ use borrow.Author.Needs.{needs}
 use Rattle.motion.proofs.next_steady.Statement.{statement}
 use Rattle.motion.proofs.next_steady.Tie as tie
 
+delay-of-requires : tie.Need-delay-of-requires
+delay-of-requires c κs = ranges-of (c .pre .0)
+
+-- the delay
+small : (c : tie.After-delay-of) → c .delay-of .result ≤ 512
+small c =
+    let h = ranges-of (c .before .pre .0) in
+    omega (arith, c .delay-of .ensures, h .«half_period», h .«second_half_period»)
+
 first-after-requires : tie.Need-first-after-requires
-first-after-requires c κs = ranges-of (c .pre .0) .«half_period»
+first-after-requires c κs = small c
 
 add-result : tie.Need-add-result
 add-result c = search needs
 
 returns : tie.Need-returns
 returns c =
-    let a = c .before .before in
-    none-after (a .args .x) (a .args .n) (a .args .last) (a .pre .1 .1 .0) (omega (arith, c .before .first-after .ensures, c .if1 .taken))
+    let d = c .before .before in
+    let a = d .before in
+    none-after (a .args .x) (a .args .n) (a .args .last) (a .pre .1 .1 .0) (omega (arith, d .delay-of .ensures, c .before .first-after .ensures, c .if1 .taken))
 
--- the first candidate: not past the last one, and after the half period
+-- what was known at the start
+abbrev start : tie.Else1 → tie.Start
+start c = c .before .before .before
+
+-- the first candidate: not past the last one, and after the delay
 first-late : (c : tie.Else1) → c .before .first-after .result ≤ 4096
-first-late c = omega (arith, c .if1 .left, c .before .before .pre .1 .1 .1)
+first-late c = omega (arith, c .if1 .left, start c .pre .1 .1 .1)
 
-first-after : (c : tie.Else1) → halfPeriod (c .before .before .args .x) < c .before .first-after .result
-first-after c = omega (arith, c .before .first-after .ensures)
+first-after : (c : tie.Else1) → delay (start c .args .x) < c .before .first-after .result
+first-after c = omega (arith, c .before .before .delay-of .ensures, c .before .first-after .ensures)
 
 landing-at-requires : tie.Need-landing-at-requires
-landing-at-requires c κs = (c .before .before .pre .0, (first-late c, first-after c))
+landing-at-requires c κs = (start c .pre .0, (first-late c, first-after c))
 
 profile-of-requires : tie.Need-profile-of-requires
 profile-of-requires c κs =
     let b = c .before in
-    let a = b .before .before in (
+    let a = start b in (
       a .pre .0,
       (
         first-late b,
@@ -58,14 +72,14 @@ profile-of-requires c κs =
     )
 
 displacement-requires : tie.Need-displacement-requires
-displacement-requires c κs = let l = c .before .landing-at .ensures in (c .before .before .before .before .pre .0, within (search computed depth 9) tt)
+displacement-requires c κs = let l = c .before .landing-at .ensures in (start (c .before .before) .pre .0, within (search computed depth 9) tt)
 
 required-requires : tie.Need-required-requires
 required-requires c κs = (c .before .profile-of .ensures .ranged, within (search computed depth 9) tt)
 
 drift-requires : tie.Need-drift-requires
 drift-requires c κs =
-    let a = c .before .before .before .before .before .before in
+    let a = start (c .before .before .before .before) in
     record { within = omega (arith, speed-slow (a .args .x) (a .pre .0) (a .pre .1 .0), ranges-of (a .pre .0) .«speed_limit») }
 
 sub-next-feasible : tie.Need-sub-next-feasible
@@ -78,11 +92,11 @@ next-feasible-requires : tie.Need-next-feasible-requires
 next-feasible-requires c κs =
     let f = c .before .before .before .profile-of in
     let b = c .before .before .before .before .before in
-    let a = b .before .before in
+    let a = start b in
     let x = a .args .x in
     let slow = subst (λ (p : Profile). (natAbs (p .start) ≤ p .«speed_limit») × (natAbs (p .end) ≤ p .«speed_limit»)) (sym (f .ensures .is))
     (start-slow x (a .pre .0) (a .pre .1 .0), landing-slow x (a .pre .0) (a .pre .1 .0) (b .before .first-after .result)) in
-    let ticks : f .result .ticks ≡ b .before .first-after .result - halfPeriod x = ap (λ (p : Profile). p .ticks) (f .ensures .is) in (
+    let ticks : f .result .ticks ≡ b .before .first-after .result - delay x = ap (λ (p : Profile). p .ticks) (f .ensures .is) in (
       f .ensures .ranged,
       (
         f .ensures .acceleration,
@@ -94,7 +108,7 @@ next-feasible-requires c κs =
               slow .1,
               (
                 within (search computed depth 9) tt,
-                (within (search computed depth 9) tt, (omega (arith, ticks, b .if1 .left), omega (arith, a .pre .1 .1 .1))),
+                (within (search computed depth 9) tt, (omega (arith, ticks, b .if1 .left, b .before .before .delay-of .ensures), omega (arith, a .pre .1 .1 .1))),
               ),
             ),
           ),
@@ -103,12 +117,12 @@ next-feasible-requires c κs =
     )
 
 cast-result : tie.Need-cast-result
-cast-result c = omega (arith, c .next-feasible .ensures .high, c .before .before .before .before .before .before .before .before .pre .1 .1 .1)
+cast-result c = omega (arith, c .next-feasible .ensures .high, start (c .before .before .before .before .before .before) .pre .1 .1 .1)
 
 add-result-2 : tie.Need-add-result-2
 add-result-2 c =
-    let a = c .before .before .before .before .before .before .before .before in
-    omega (arith, c .next-feasible .ensures .high, a .pre .1 .1 .1, ranges-of (a .pre .0) .«half_period»)
+    let b = c .before .before .before .before .before .before in
+    omega (arith, c .next-feasible .ensures .high, start b .pre .1 .1 .1, small (b .before .before))
 
 returns-2 : tie.Need-returns-2
 returns-2 c =
@@ -116,8 +130,9 @@ returns-2 c =
     let f = c .before .before .before .before .profile-of in
     let l = c .before .before .before .before .before .landing-at in
     let b = c .before .before .before .before .before .before in
-    let a = b .before .before in
+    let a = start b in
     let x = a .args .x in
+    let late = b .before .before .delay-of in
     let n = b .before .first-after .result in
     let far : toZ w64 (ofZ w64 (c .before .before .before .displacement .result)) ≡ l .result .position -ℤ startPosition x =
     exactly (search computed depth 9) tt in
@@ -125,17 +140,21 @@ returns-2 c =
     let sum : toZ w64 (ofZ w64 (d .required .result)) ≡ requiredSum x n =
     exactly (search computed depth 9) tt ∙ (λ i. required (legOf (f .ensures .is i)) (way i)) in
     let change : toZ w64 (ofZ w64 (c .before .drift .result)) ≡ drift x = exactly (search computed depth 9) tt in
-    next-arrival x (a .pre .0) (a .pre .1 .0) (a .args .n) (a .args .last) n (c .next-feasible .result) (b .before .first-after .ensures) (b .if1 .left)
-    (subst (λ (p : Profile). Next (betweenAt (legOf p) (requiredSum x n) (drift x)) (p .ticks) (a .args .last - halfPeriod x)
-    (c .next-feasible .result))
-    (f .ensures .is)
-    (subst (λ (t : ℕ → Bool). Next t (f .result .ticks) (a .args .last - halfPeriod x) (c .next-feasible .result))
-    (λ i. betweenAt (legOf (f .result)) (sum i) (change i)) (c .next-feasible .ensures)))
+    let t = c .next-feasible .result in
+    let last = a .args .last in
+    subst (λ (d : ℕ). Next (reachable x) (a .args .n) last (t + d)) (sym (late .ensures))
+    (next-arrival x (a .pre .0) (a .pre .1 .0) (a .args .n) last n t (b .before .first-after .ensures ∙ ap (λ (d : ℕ). max (a .args .n) (suc d)) (late .ensures))
+    (b .if1 .left)
+    (subst (λ (p : Profile). Next (betweenAt (legOf p) (requiredSum x n) (drift x)) (p .ticks) (last - delay x) t) (f .ensures .is)
+    (subst (λ (d : ℕ). Next (betweenAt (legOf (f .result)) (requiredSum x n) (drift x)) (f .result .ticks) (last - d) t) (late .ensures)
+    (subst (λ (g : ℕ → Bool). Next g (f .result .ticks) (last - late .result) t)
+    (λ i. betweenAt (legOf (f .result)) (sum i) (change i)) (c .next-feasible .ensures)))))
 
 pub next-steady-spec : {M : Type 1} → statement M
 next-steady-spec =
     tie.close
     (tie.spec
+    delay-of-requires
     first-after-requires
     add-result
     returns

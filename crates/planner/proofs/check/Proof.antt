@@ -16,11 +16,11 @@ Inv-loop mask asked axes windows order i₀ i =
     record {
       first : from (setAxes 0 mask axes) windows i ≡ firstRefusal axisRefusals (setAxes 0 mask axes) windows;
       numbers : order ≡ numbers;
-      low : i ≤ 4;
+      low : i ≤ 6;
     }
 
 abbrev μ-loop : tie.MeasureT-loop
-μ-loop mask asked axes windows order i₀ i = 4 - i
+μ-loop mask asked axes windows order i₀ i = 6 - i
 
 refusal-of-requires : tie.Need-refusal-of-requires Inv-loop μ-loop
 refusal-of-requires c κs = search needs

@@ -72,16 +72,16 @@ small c =
     let x = c .before .before .before .before .before .before .before .before .args .x in
     subst (λ (s : ℕ). s ≤ 256) (sym (c .weight-scale .ensures)) (scale-small x)
 
-sub-t11 : tie.Need-sub-t11
-sub-t11 c = omega (arith, light (c .before))
-
-mul-t12 : tie.Need-mul-t12
-mul-t12 c =
-    let l : 256 - c .before .second-weight .result ≤ 256 = omega arith in
-    omega (arith, mul-le-mul (small c) l)
+sub-t12 : tie.Need-sub-t12
+sub-t12 c = omega (arith, light (c .before))
 
 mul-t13 : tie.Need-mul-t13
 mul-t13 c =
+    let l : 256 - c .before .second-weight .result ≤ 256 = omega arith in
+    omega (arith, mul-le-mul (small c) l)
+
+mul-t14 : tie.Need-mul-t14
+mul-t14 c =
     let l = light (c .before) in
     omega (arith, l, mul-le-mul (small c) l)
 
@@ -106,7 +106,7 @@ axis-plan-spec =
     start-position-requires
     second-weight-requires
     weight-scale-requires
-    sub-t11
-    mul-t12
+    sub-t12
     mul-t13
+    mul-t14
     returns)

@@ -27,8 +27,8 @@ cast-result : tie.Need-cast-result
 cast-result c = search needs
 
 -- the ticks since the landing
-since : (a : tie.Start) → Is 257 (toZ w64 (a .args .k - a .args .p .regions .ticks)) (pos (a .args .k - a .args .p .regions .ticks))
-since a = cast-small 257 (a .args .k - a .args .p .regions .ticks) (omega (arith, a .pre .0 .«half_period»)) tt
+since : (a : tie.Start) → Is 513 (toZ w64 (a .args .k - a .args .p .regions .ticks)) (pos (a .args .k - a .args .p .regions .ticks))
+since a = cast-small 513 (a .args .k - a .args .p .regions .ticks) (omega (arith, a .pre .0 .«half_period», a .pre .0 .«second_sway»)) tt
 
 mul-result : tie.Need-mul-result
 mul-result c = let s = since (c .before .before .before .before) in sfits (search exact depth 9) tt

@@ -2,7 +2,7 @@ use native.Mathlib.Omega.{arith}
 use Prim.Native.Nat.{ℕ, _+_}
 use mathlib.Core.Path.{ap, _∙_}
 use Rattle.model.specs.declared.Weight.the-variants.{Given}
-use Rattle.words.specs.ByIndex.{payloadAt, axisAt}
+use Rattle.words.specs.ByIndex.{payloadAt, swayAt, axisAt}
 use borrow.Author.Needs.{needs}
 use Rattle.words.proofs.axis_to.Statement.{statement}
 use Rattle.words.proofs.axis_to.Tie as tie
@@ -37,16 +37,22 @@ add-payload-4 c = let e = c .before .before .before .passing .ensures in search 
 payload-requires-4 : tie.Need-payload-requires-4
 payload-requires-4 c κs = omega (arith, c .before .before .before .passing .ensures)
 
+add-second-sway : tie.Need-add-second-sway
+add-second-sway c = let e = c .before .before .before .before .passing .ensures in search needs
+
+second-sway-requires : tie.Need-second-sway-requires
+second-sway-requires c κs = search needs
+
 returns : tie.Need-returns
 unfolding axisAt
 returns c =
-    let weight = c .payload4 in
-    let period = c .before .payload3 in
-    let acceleration = c .before .before .payload2 in
-    let speed = c .before .before .before .payload in
-    let first = c .before .before .before .before .passing .ensures in
-    let start = c .before .before .before .before .before .rest-point in
-    let args = c .before .before .before .before .before .before .before .args in
+    let weight = c .before .payload4 in
+    let period = c .before .before .payload3 in
+    let acceleration = c .before .before .before .payload2 in
+    let speed = c .before .before .before .before .payload in
+    let first = c .before .before .before .before .before .passing .ensures in
+    let start = c .before .before .before .before .before .before .rest-point in
+    let args = c .before .before .before .before .before .before .before .before .args in
     let ws = args .words .now in
     λ i.
     record {
@@ -55,6 +61,7 @@ returns c =
       «acceleration_limit» = (acceleration .ensures ∙ ap (λ (k : ℕ). payloadAt ws (k + 3)) first) i;
       «half_period» = (period .ensures ∙ ap (λ (k : ℕ). payloadAt ws (k + 4)) first) i;
       «second_weight» = Given ((weight .ensures ∙ ap (λ (k : ℕ). payloadAt ws (k + 5)) first) i);
+      «second_sway» = (c .second-sway .ensures ∙ ap (λ (k : ℕ). swayAt ws (k + 6)) first) i;
       target = args .target;
     }
 
@@ -72,4 +79,6 @@ axis-to-spec =
     payload-requires-3
     add-payload-4
     payload-requires-4
+    add-second-sway
+    second-sway-requires
     returns)

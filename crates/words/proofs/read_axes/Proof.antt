@@ -15,7 +15,7 @@ abbrev Inv-loop : tie.InvT-loop
 Inv-loop words mask axes₀ at₀ bits₀ number₀ axes at bits number =
     record {
       low : number ≤ 6;
-      within : at ≤ 2 + 12 * number;
+      within : at ≤ 2 + 13 * number;
       reads : readAll words (6 - number) number bits (going at axes) ≡ readAll words 6 0 mask begun;
     }
 

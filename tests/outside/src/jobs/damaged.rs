@@ -58,7 +58,7 @@ pub const UNSIGNED_ENDS: [u32; 20] = [
     u32::MAX,
 ];
 
-/// The axis with signed value `j`, in the order of the flat array, replaced. A value that a fixed target lacks is left.
+/// The axis with signed value `j`, in the order of C's struct, replaced. A value that a fixed target lacks is left.
 pub fn with_signed(axis: Axis, j: usize, value: i64) -> Axis {
     let target = match (axis.target, j) {
         (Target::Fixed { velocity, .. }, 2) => Target::Fixed { position: value, velocity },
@@ -84,13 +84,14 @@ pub fn with_signed(axis: Axis, j: usize, value: i64) -> Axis {
     }
 }
 
-/// The axis with unsigned value `j`, in the order of the flat array, replaced; the target's kind stays.
+/// The axis with unsigned value `j`, in the order of C's struct, replaced; the target's kind stays.
 pub fn with_unsigned(axis: Axis, j: usize, value: u32) -> Axis {
     match j {
         0 => Axis { speed_limit: value, ..axis },
         1 => Axis { acceleration_limit: value, ..axis },
         2 => Axis { half_period: value, ..axis },
         3 => Axis { damping: Damping::Weight(value), ..axis },
+        4 => Axis { second: Some(value), ..axis },
         _ => axis,
     }
 }
@@ -170,7 +171,7 @@ pub fn damaged_job(random: &mut Random, job: &Job) -> Job {
             5 => accelerating(random, damaged.axes[i]),
             6 => Axis { damping: strange_damping(random), ..damaged.axes[i] },
             _ => {
-                let (j, value) = (random.below(5), random.pick(&UNSIGNED_ENDS));
+                let (j, value) = (random.below(6), random.pick(&UNSIGNED_ENDS));
                 with_unsigned(damaged.axes[i], j, value)
             }
         };

@@ -20,22 +20,33 @@ fn half_period(random: &mut Random, most: i64) -> i64 {
     }
 }
 
+/// A second half period, once in four times.
+pub fn second(random: &mut Random, most: i64) -> Option<u32> {
+    match random.below(8) {
+        0 => Some(random.between(1, most.clamp(1, 256)) as u32),
+        1 => Some(random.between(1, most.clamp(1, 4)) as u32),
+        _ => None,
+    }
+}
+
 /// An axis that passes the checks of its values and that may well arrive after about `ticks` ticks.
 fn fitting_axis(random: &mut Random, speed: i64, acceleration: i64, ticks: i64) -> Axis {
     let h = half_period(random, 256.min(ticks));
     let damping = damping(random);
+    let second = second(random, ticks - h);
+    let delay = h + i64::from(second.unwrap_or(0));
     let start = place(random);
     let start_velocity = if random.once_in(2) { 0 } else { random.between(-speed, speed) };
     let velocity = if random.once_in(2) { 0 } else { random.between(-speed, speed) };
     // What a motion from rest to rest can cover in the ticks, and a little more.
-    let moved = (ticks - h).max(1);
+    let moved = (ticks - delay).max(1);
     let most = (speed * moved).min(acceleration * (moved * moved / 4)).max(1);
     let drift = if random.once_in(2) { (start_velocity + velocity) * moved / 2 } else { 0 };
     let distance = random.between(-most - most / 16, most + most / 16) + drift;
     let position = on_rail(start + distance);
     let target = if random.once_in(3) {
         // A moving target: where it meets the head about `ticks`, reckoned back to its own tick.
-        let a = if random.once_in(2) {
+        let a = if second.is_some() || random.once_in(2) {
             0
         } else {
             let most = (speed / ticks.max(1)).clamp(1, acceleration);
@@ -53,6 +64,7 @@ fn fitting_axis(random: &mut Random, speed: i64, acceleration: i64, ticks: i64) 
         acceleration_limit: acceleration as u32,
         half_period: h as u32,
         damping,
+        second,
         target,
     }
 }
@@ -114,7 +126,7 @@ pub fn job(random: &mut Random, reach: Reach) -> Job {
 fn late_axis(random: &mut Random, tick: i64) -> Axis {
     let (speed, acceleration) = (some_size(random, 1 << 14), some_size(random, 1 << 10));
     let axis = fitting_axis(random, speed, acceleration, 256);
-    let moved = (tick - i64::from(axis.half_period)).max(2);
+    let moved = (tick - axis.delay()).max(2);
     let ramp = (speed / acceleration).min(moved / 2);
     let most = (speed * (moved - ramp)).min(acceleration * (moved * moved / 4));
     let distance = most + random.between(-2, 2) * speed.min(acceleration) / 2;
@@ -134,7 +146,8 @@ fn gap_axis(random: &mut Random) -> Axis {
     let velocity = random.between(100, 900) * if random.once_in(2) { 1 } else { -1 };
     let acceleration = random.between(1, 3);
     let h = random.pick(&[0, 0, 3, 100]);
-    let tick = h + random.between(1, 5);
+    let second = second(random, 100);
+    let tick = h + i64::from(second.unwrap_or(0)) + random.between(1, 5);
     let start_position = place(random);
     Axis {
         start_position,
@@ -143,6 +156,7 @@ fn gap_axis(random: &mut Random) -> Axis {
         acceleration_limit: acceleration as u32,
         half_period: h as u32,
         damping: damping(random),
+        second,
         target: Target::Fixed { position: on_rail(start_position + velocity * tick), velocity },
     }
 }
@@ -159,6 +173,7 @@ fn fleeing_axis(random: &mut Random, tick: i64) -> Axis {
         acceleration_limit: random.between(9, 50) as u32,
         half_period: random.pick(&[0, 1, 40]),
         damping: damping(random),
+        second: None,
         target,
     }
 }
@@ -178,6 +193,7 @@ fn chasing_axis(random: &mut Random, asked: i64) -> Axis {
         acceleration_limit: random.between(most, 1 << 16) as u32,
         half_period: h as u32,
         damping: damping(random),
+        second: None,
         target,
     }
 }

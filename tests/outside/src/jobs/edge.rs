@@ -2,6 +2,7 @@
 //! the first ones out of it, where ramps meet the limit, where they meet each other first, and where a ramp is missing.
 
 use super::dampings::damping;
+use super::drawn::second;
 use super::on_rail;
 use super::rail::place;
 use crate::random::Random;
@@ -36,16 +37,16 @@ fn limits(random: &mut Random, ticks: i64) -> (i64, i64) {
 /// A position that the axis reaches, if there is one near the motion that goes from one velocity to the other and back
 /// toward rest between them as far as it can.
 fn within_reach(axis: &Axis, asked: i64) -> Option<i64> {
-    let (h, limit) = (i64::from(axis.half_period), i64::from(axis.acceleration_limit));
-    let ticks = asked - h;
+    let limit = i64::from(axis.acceleration_limit);
+    let ticks = asked - axis.delay();
     let (first, last) = (axis.start_velocity, axis.target.velocity());
     let at = |k: i64| {
         let (rise, fall) = (limit * k, limit * (ticks - k));
         0.clamp((first - rise).max(last - fall), (first + rise).min(last + fall).max((first - rise).max(last - fall)))
     };
     let twice: i64 = (0..ticks).map(|k| at(k) + at(k + 1)).sum();
-    let shift = axis.weight() * h * (first - last);
-    let middle = axis.start_position + (128 * twice + shift) / 256 + h * last;
+    let shift = axis.weight() * i64::from(axis.half_period) + 128 * axis.second_delay();
+    let middle = axis.start_position + (128 * twice + shift * (first - last)) / 256 + axis.delay() * last;
     (middle - 2..=middle + 2).find(|&p| Planned::reaching(&at_position(axis, p), asked).is_some())
 }
 
@@ -72,7 +73,8 @@ fn last_within_reach(axis: &Axis, asked: i64, from: i64, side: i64) -> i64 {
 /// An axis at the edge of its reach, or one of any position where it has none.
 fn edge_axis(random: &mut Random, asked: i64) -> Axis {
     let h = if random.once_in(2) { 0 } else { random.between(0, (asked - 1).min(256)) };
-    let (speed, acceleration) = limits(random, asked - h);
+    let second = if asked - h > 1 { second(random, asked - h - 1) } else { None };
+    let (speed, acceleration) = limits(random, asked - h - i64::from(second.unwrap_or(0)));
     let start_position = place(random);
     let velocities = (velocity(random, speed), velocity(random, speed));
     let target = Target::Moving { position: start_position, velocity: velocities.1, acceleration: 0, tick: asked };
@@ -83,6 +85,7 @@ fn edge_axis(random: &mut Random, asked: i64) -> Axis {
         acceleration_limit: acceleration as u32,
         half_period: h as u32,
         damping: damping(random),
+        second,
         target,
     };
     let Some(from) = within_reach(&axis.by_hand(), asked) else { return axis };

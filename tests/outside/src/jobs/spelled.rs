@@ -39,6 +39,7 @@ pub fn words(job: &Job) -> Vec<u32> {
         list.push(word(6, i64::from(axis.acceleration_limit)));
         list.push(word(7, i64::from(axis.half_period)));
         list.push(word(8, axis.weight()));
+        list.extend(axis.second.map(|second| word(13, i64::from(second))));
         list.extend(position(9, axis.target.position()));
         list.push(word(10, axis.target.velocity()));
         if let Target::Moving { acceleration, tick, .. } = axis.target {
@@ -53,9 +54,9 @@ pub fn words(job: &Job) -> Vec<u32> {
 /// The kinds of the words of an axis, in an order that is allowed.
 fn kinds(random: &mut Random) -> Vec<u32> {
     let mut kinds: Vec<u32> = (3..=if random.once_in(2) { 10 } else { 12 }).collect();
-    for kind in [9, 3] {
+    for (before, kind) in [(9, 14), (9, 13), (3, 14)] {
         if random.once_in(5) {
-            kinds.insert(kind - 3, 14);
+            kinds.insert(before - 3, kind);
         }
     }
     kinds

@@ -54,7 +54,7 @@ pub fn damaged_tour(random: &mut Random, tour: &Tour, stops: &[Stop]) -> (Tour, 
         match random.below(7) {
             0 => tour.mask = random.pick(&[0, 64, 65, 1 << 31, u32::MAX, tour.mask | 1 << i, tour.mask ^ 1 << i]),
             1 => tour.axes[i].start_position = random.pick(&SIGNED_ENDS),
-            2 => tour.axes[i] = with_unsigned(tour.axes[i], random.below(4), random.pick(&UNSIGNED_ENDS)),
+            2 => tour.axes[i] = with_unsigned(tour.axes[i], random.below(5), random.pick(&UNSIGNED_ENDS)),
             3 => tour.axes[i].damping = strange_damping(random),
             4 if at < stops.len() => stops[at].dwell = random.pick(&[4_096, 4_097, 65_536, 1 << 31, u32::MAX]),
             5 if at < stops.len() => stops[at].positions[i] = random.pick(&SIGNED_ENDS),

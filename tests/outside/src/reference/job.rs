@@ -32,6 +32,8 @@ pub struct Axis {
     pub acceleration_limit: u32,
     pub half_period: u32,
     pub damping: Damping,
+    /// The second half period, where the pole swings at two rates (request 2.9).
+    pub second: Option<u32>,
     pub target: Target,
 }
 
@@ -43,6 +45,7 @@ pub const UNSET: Axis = Axis {
     acceleration_limit: 0,
     half_period: 0,
     damping: Damping::Weight(0),
+    second: None,
     target: Target::Fixed { position: 0, velocity: 0 },
 };
 
@@ -63,6 +66,16 @@ impl Axis {
     /// The second weight B.
     pub fn weight(&self) -> i64 {
         i64::from(self.damping.weight())
+    }
+
+    /// The second half period, 0 where there is none.
+    pub fn second_delay(&self) -> i64 {
+        i64::from(self.second.unwrap_or(0))
+    }
+
+    /// The ticks from landing to arrival: those of both blends.
+    pub fn delay(&self) -> i64 {
+        i64::from(self.half_period) + self.second_delay()
     }
 
     /// The axis with its weight entered by hand.

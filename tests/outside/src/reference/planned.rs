@@ -1,4 +1,4 @@
-//! The planned motion of one axis, its blend and its cells: rules 1 to 3 of paper 01, and rules 4 and 5 by the areas of
+//! The planned motion of one axis, its blends and its cells: rules 1 to 3 of paper 01, and rules 4 and 5 by the areas of
 //! module `leg`.
 
 use super::Axis;
@@ -15,7 +15,8 @@ pub struct Planned {
     chosen: Option<Chosen>,
 }
 
-/// A blend before it is divided: A times the planned motion at one tick and B times that at another.
+/// The blends before they are divided: A times the planned motion at one tick and B times that at another; and of these,
+/// where there is a second half period, the sum at two ticks.
 #[derive(Clone, Copy, Debug, PartialEq, Eq)]
 pub struct Exact {
     /// A fine step of velocity or acceleration is this much; one of position is twice as much.
@@ -31,9 +32,12 @@ fn gain(axis: &Axis) -> i64 {
     2 * b * h * h * (b - 128) * axis.target.acceleration()
 }
 
-/// An axis after an accelerating target on a damped pole is planned on a grid of 1/65,536 unit, any other on fine steps.
+/// An axis with a second half period is planned on a grid of 1/512 unit, one after an accelerating target on a damped pole
+/// on 1/65,536 unit, any other on fine steps.
 fn grid(axis: &Axis) -> i64 {
-    if axis.target.acceleration() != 0 && axis.half_period != 0 && axis.weight() != 128 {
+    if axis.second.is_some() {
+        512
+    } else if axis.target.acceleration() != 0 && axis.half_period != 0 && axis.weight() != 128 {
         65_536
     } else {
         256
@@ -44,21 +48,23 @@ impl Planned {
     /// None where the arrival is not reachable (rule 4).
     pub fn reaching(axis: &Axis, arrival: i64) -> Option<Planned> {
         let (h, b) = (i64::from(axis.half_period), axis.weight());
-        if arrival <= h {
+        let ticks = arrival - axis.delay();
+        if ticks <= 0 {
             return None;
         }
-        let ticks = arrival - h;
         let a = axis.target.acceleration();
         let (twice_target, target_velocity) = axis.target.at(ticks, arrival);
-        // Rules 2 and 3 in fine steps of 1/256 unit, each of which is this many steps of the grid.
+        // Rules 2 and 3 in fine steps of 1/256 unit, each of which is this many steps of the grid. Start and target are
+        // shifted by their velocity times Bh / 256, and half of a second half period, here in half steps.
         let grid = grid(axis);
         let scale = grid / 256;
-        let first_position = scale * (512 * axis.start_position + 2 * b * h * axis.start_velocity);
+        let shift = scale * 2 * b * h + grid * axis.second_delay();
+        let first_position = scale * 512 * axis.start_position + shift * axis.start_velocity;
         let first = grid * axis.start_velocity;
-        let last_position = scale * (256 * twice_target + 2 * b * h * target_velocity) + gain(axis);
+        let last_position = scale * 256 * twice_target + shift * target_velocity + gain(axis);
         let last = scale * (256 * target_velocity + b * h * a);
         let limit = grid * i64::from(axis.speed_limit);
-        if (last + grid * a * h).abs() > limit {
+        if (last + grid * a * axis.delay()).abs() > limit {
             return None;
         }
         // A tick adds its velocity and the next one's to the position: the ends once, those between twice.
@@ -110,8 +116,8 @@ impl Planned {
         }
     }
 
-    /// The blend of `axis` at a tick.
-    pub fn exact(&self, axis: &Axis, tick: i64) -> Exact {
+    /// The blend of `axis` at a tick, by its first half period alone.
+    fn blended(&self, axis: &Axis, tick: i64) -> Exact {
         let (h, b) = (i64::from(axis.half_period), axis.weight());
         let blend = |early: i64, late: i64| (256 - b) * early + b * late;
         Exact {
@@ -119,6 +125,15 @@ impl Planned {
             position: blend(self.position(tick), self.position(tick - h)),
             velocity: blend(self.velocity(tick), self.velocity(tick - h)),
             acceleration: blend(self.acceleration(tick), self.acceleration(tick - h)),
+        }
+    }
+
+    /// The blend of `axis` at a tick, applied once more with equal weights where there is a second half period.
+    pub fn exact(&self, axis: &Axis, tick: i64) -> Exact {
+        let once = self.blended(axis, tick);
+        match axis.second {
+            None => once,
+            Some(delay) => once.and(self.blended(axis, tick - i64::from(delay))),
         }
     }
 }
@@ -129,6 +144,16 @@ fn nearest(x: i64, by: i64) -> i64 {
 }
 
 impl Exact {
+    /// The blend with another of equal weight.
+    fn and(self, other: Exact) -> Exact {
+        Exact {
+            fine: self.fine + other.fine,
+            position: self.position + other.position,
+            velocity: self.velocity + other.velocity,
+            acceleration: self.acceleration + other.acceleration,
+        }
+    }
+
     /// The negated motion's blend.
     pub fn negated(&self) -> Exact {
         let Exact { fine, position, velocity, acceleration } = *self;
@@ -213,6 +238,48 @@ mod tests {
             let (twice_position, velocity) = axis.target.at(arrival, arrival);
             let last = planned.with_list().exact(&axis, arrival);
             let want = [256 * last.fine * twice_position, 256 * last.fine * velocity, 256 * last.fine * a];
+            assert_eq!([last.position, last.velocity, last.acceleration], want, "{axis:?}");
+            landed += 1;
+        }
+    }
+
+    #[test]
+    fn poles_with_a_second_sway() {
+        let mut table = [0; 18];
+        let axis = Axis { half_period: 1, damping: Damping::Weight(100), second: Some(2), ..to(1) };
+        assert_eq!(one(axis).plan(&mut table).arrival, 5);
+        let rows = [[0, 0, 78], [39, 78, -28], [103, 50, 28], [167, 78, -28], [231, 50, -50], [256, 0, 0]];
+        assert_eq!(table[..], rows.concat());
+        asked(one(Axis { second: Some(1), ..to(1) }), 5).plan(&mut table);
+        assert_eq!(table[3..6], [21, 43, 43]);
+        // Arrival exceeds h + h₂, also where nothing moves.
+        let still = Axis { half_period: 3, second: Some(4), ..to(0) };
+        assert_eq!(one(still).plan(&mut [0; 30]).arrival, 8);
+    }
+
+    /// With a second half period the first and the last row are exact before rounding, also of moving heads and targets.
+    #[test]
+    fn two_blends_start_and_land_exactly() {
+        let mut random = Random::new(46);
+        let mut landed = 0;
+        while landed < 300 {
+            let target = moving(random.between(-99, 99), random.between(-9, 9), 0, random.between(-900, 900));
+            let axis = Axis {
+                start_position: random.between(-999, 999),
+                start_velocity: random.between(-9, 9),
+                half_period: random.between(0, 256) as u32,
+                second: Some(random.between(1, 256) as u32),
+                ..damped(1 << 20, 65_536, random.between(1, 128) as u32, target)
+            };
+            let arrival = random.between(300, 900);
+            let Some(planned) = Planned::reaching(&axis, arrival).map(Planned::with_list) else { continue };
+            let unit = 256 * 1_024;
+            let first = planned.exact(&axis, 0);
+            assert_eq!((first.fine, first.position), (1_024, 2 * unit * axis.start_position), "{axis:?}");
+            assert_eq!(first.velocity, unit * axis.start_velocity, "{axis:?}");
+            let (twice_position, velocity) = axis.target.at(arrival, arrival);
+            let last = planned.exact(&axis, arrival);
+            let want = [unit * twice_position, unit * velocity, 0];
             assert_eq!([last.position, last.velocity, last.acceleration], want, "{axis:?}");
             landed += 1;
         }

@@ -4,7 +4,7 @@ use super::job::refusal;
 use super::{Answer, Axis, Job, Planned, Target, LATEST, RAIL};
 
 /// The numbers that look at one axis, in checking order.
-const OF_AN_AXIS: [u32; 4] = [4, 12, 5, 6];
+const OF_AN_AXIS: [u32; 6] = [4, 12, 5, 15, 6, 16];
 
 /// Whether an axis is refused by one of them.
 fn breaks(number: u32, axis: &Axis) -> bool {
@@ -15,6 +15,7 @@ fn breaks(number: u32, axis: &Axis) -> bool {
         4 => !(1..=1_048_576).contains(&axis.speed_limit) || !(1..=65_536).contains(&axis.acceleration_limit),
         12 => axis.damping.is_refused(),
         5 => h > 256 || !(1..=128).contains(&axis.weight()),
+        15 => axis.second.is_some_and(|second| !(1..=256).contains(&second)),
         6 => {
             let moving_bad = match axis.target {
                 Target::Fixed { .. } => false,
@@ -28,6 +29,7 @@ fn breaks(number: u32, axis: &Axis) -> bool {
                 || position_bad(axis.start_position)
                 || position_bad(axis.target.position())
         }
+        16 => axis.second.is_some() && axis.target.acceleration() != 0,
         _ => unreachable!(),
     }
 }
@@ -68,7 +70,7 @@ impl Job {
         !(1..=tick).any(|n| self.fits(n) && self.all_reach(n))
     }
 
-    /// The arrival, or the first of refusals 3, 4, 12, 5, 6, 13, 8 and 9.
+    /// The arrival, or the first of refusals 3, 4, 12, 5, 15, 6, 16, 13, 8 and 9.
     fn arrival(&self) -> Result<i64, Answer> {
         if let Some(refused) = self.refused() {
             return Err(refused);

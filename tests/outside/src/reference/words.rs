@@ -56,22 +56,34 @@ impl Reader<'_> {
         Ok(position)
     }
 
-    fn axis(&mut self) -> Result<Axis, Answer> {
-        let start_position = self.position(3)?;
-        let start_velocity = self.signed(4)?;
-        let speed_limit = self.unsigned(5)?;
-        let acceleration_limit = self.unsigned(6)?;
-        let half_period = self.unsigned(7)?;
-        let damping = Damping::Weight(self.unsigned(8)?);
+    /// A word that may be left out.
+    fn optional(&mut self, kind: u32) -> Result<Option<u32>, Answer> {
+        self.next_is(kind).then(|| self.unsigned(kind)).transpose()
+    }
+
+    fn target(&mut self) -> Result<Target, Answer> {
         let position = self.position(9)?;
         let velocity = self.signed(10)?;
-        let target = if self.next_is(11) {
+        if self.next_is(11) {
             let acceleration = self.signed(11)?;
-            Target::Moving { position, velocity, acceleration, tick: self.signed(12)? }
+            Ok(Target::Moving { position, velocity, acceleration, tick: self.signed(12)? })
         } else {
-            Target::Fixed { position, velocity }
-        };
-        Ok(Axis { start_position, start_velocity, speed_limit, acceleration_limit, half_period, damping, target })
+            Ok(Target::Fixed { position, velocity })
+        }
+    }
+
+    /// An axis, its words in the order of the fields.
+    fn axis(&mut self) -> Result<Axis, Answer> {
+        Ok(Axis {
+            start_position: self.position(3)?,
+            start_velocity: self.signed(4)?,
+            speed_limit: self.unsigned(5)?,
+            acceleration_limit: self.unsigned(6)?,
+            half_period: self.unsigned(7)?,
+            damping: Damping::Weight(self.unsigned(8)?),
+            second: self.optional(13)?,
+            target: self.target()?,
+        })
     }
 
     fn end(&mut self) -> Result<(), Answer> {
@@ -172,6 +184,23 @@ mod tests {
         assert_eq!(target(&late), Err((14, 8)));
         late.splice(2..3, [word(14, 0), word(3, 0)]);
         assert_eq!(target(&late), Err((14, 2)));
+    }
+
+    #[test]
+    fn a_second_half_period_in_words() {
+        let with = |second: Option<u32>| one(Axis { second, ..to(1 << 27) });
+        let list = words(&with(Some(7)));
+        assert_eq!(list[7..11], [word(8, 128), word(13, 7), word(14, 0), word(9, 1 << 27)]);
+        assert_eq!(decode(&list).unwrap().axes[0].second, Some(7));
+        assert_eq!(decode(&words(&with(None))).unwrap().axes[0].second, None);
+        // In no other place, and once only.
+        for at in (1..=list.len() - 1).filter(|&at| at != 8) {
+            let mut stray = list.clone();
+            stray.insert(at, word(13, 7));
+            assert_eq!(target(&stray), Err((2, at as u64)), "{at}");
+        }
+        let answer = plan_words(&words(&with(Some(0))), &mut []);
+        assert_eq!((answer.number, answer.place), (15, 0));
     }
 
     /// Every position has one spelling, of one word where that is enough.

@@ -1,0 +1,196 @@
+//! Reads the case files of tests/reference/vectors: a line is a name, a call and what is expected of it.
+
+use std::str::{FromStr, SplitAsciiWhitespace};
+
+use crate::library;
+use crate::reference::{self, Answer, Axis, Damping, Job, Single, Stop, Target, Tour, Toured, Windows, UNSET};
+
+/// The tokens of a part of a line, one after the other.
+pub struct Tokens<'a>(SplitAsciiWhitespace<'a>);
+
+impl<'a> Tokens<'a> {
+    pub fn of(part: &'a str) -> Tokens<'a> {
+        Tokens(part.split_ascii_whitespace())
+    }
+
+    pub fn word(&mut self) -> &'a str {
+        self.0.next().expect("a token is lacking")
+    }
+
+    /// The next token is this one.
+    pub fn is(&mut self, want: &str) {
+        assert_eq!(self.word(), want);
+    }
+
+    pub fn end(mut self) {
+        assert_eq!(self.0.next(), None, "a token is left over");
+    }
+
+    pub fn number<T: FromStr>(&mut self) -> T {
+        let token = self.word();
+        token.parse().unwrap_or_else(|_| panic!("{token} is no number here"))
+    }
+
+    /// A number, or none where the papers leave the field free.
+    pub fn free<T: FromStr>(&mut self) -> Option<T> {
+        let token = self.word();
+        (token != "-").then(|| token.parse().unwrap_or_else(|_| panic!("{token} is no number here")))
+    }
+
+    fn hex(&mut self) -> u32 {
+        let token = self.word();
+        u32::from_str_radix(token, 16).unwrap_or_else(|_| panic!("{token} is no hexadecimal number"))
+    }
+
+    /// As many of something as a number before them says.
+    pub fn counted<T>(&mut self, mut read: impl FnMut(&mut Tokens<'a>) -> T) -> Vec<T> {
+        let count: usize = self.number();
+        (0..count).map(|_| read(self)).collect()
+    }
+
+    pub fn hexes(&mut self) -> Vec<u32> {
+        self.counted(Tokens::hex)
+    }
+
+    fn windows(&mut self) -> Option<Windows> {
+        match self.word() {
+            "none" => None,
+            "windows" => {
+                let dwell = self.number();
+                let pairs = self.counted(|tokens| (tokens.number(), tokens.number()));
+                Some(Windows::new(dwell, &pairs))
+            }
+            other => panic!("{other} says nothing of windows"),
+        }
+    }
+
+    fn damping(&mut self) -> Damping {
+        match self.word() {
+            "weight" => Damping::Weight(self.number()),
+            "ratio" => Damping::Ratio(Single(self.hex())),
+            "peaks" => Damping::Peaks(Single(self.hex()), Single(self.hex())),
+            other => panic!("{other} is no damping"),
+        }
+    }
+
+    fn second(&mut self) -> Option<u32> {
+        match self.word() {
+            "single" => None,
+            "second" => Some(self.number()),
+            other => panic!("{other} says nothing of a second half period"),
+        }
+    }
+
+    fn target(&mut self) -> Target {
+        match self.word() {
+            "fixed" => Target::Fixed { position: self.number(), velocity: self.number() },
+            "moving" => Target::Moving {
+                position: self.number(),
+                velocity: self.number(),
+                acceleration: self.number(),
+                tick: self.number(),
+            },
+            other => panic!("{other} is no target"),
+        }
+    }
+
+    /// An axis and its bit; one of a tour has neither start velocity nor target.
+    fn axis(&mut self, of_tour: bool) -> (usize, Axis) {
+        self.is("axis");
+        let bit = self.number();
+        let axis = Axis {
+            start_position: self.number(),
+            start_velocity: if of_tour { 0 } else { self.number() },
+            speed_limit: self.number(),
+            acceleration_limit: self.number(),
+            half_period: self.number(),
+            damping: self.damping(),
+            second: self.second(),
+            target: if of_tour { UNSET.target } else { self.target() },
+        };
+        (bit, axis)
+    }
+
+    fn axes(&mut self, of_tour: bool) -> [Axis; 6] {
+        let mut axes = [UNSET; 6];
+        for (bit, axis) in self.counted(|tokens| tokens.axis(of_tour)) {
+            axes[bit] = axis;
+        }
+        axes
+    }
+
+    pub fn tour(&mut self) -> (Tour, Vec<Stop>) {
+        let tour = Tour { mask: self.number(), axes: self.axes(true) };
+        let stops = self.counted(|tokens| {
+            tokens.is("stop");
+            Stop { positions: [(); 6].map(|()| tokens.number()), dwell: tokens.number() }
+        });
+        (tour, stops)
+    }
+
+    pub fn given(&mut self) -> Given {
+        match self.word() {
+            "words" => Given::Words(self.hexes()),
+            "typed" => {
+                let (mask, asked) = (self.number(), self.number());
+                let windows = self.windows();
+                Given::Typed(Box::new(Job { mask, asked, axes: self.axes(false), windows }))
+            }
+            other => panic!("{other} is no job"),
+        }
+    }
+
+    /// The answer that is expected, but for what the papers leave free.
+    pub fn answer(&mut self, got: Answer) {
+        self.is("answer");
+        let (number, place): (_, Option<u64>) = (self.number(), self.free());
+        let (mask, arrival): (Option<u32>, Option<u32>) = (self.free(), self.free());
+        let want = Answer {
+            number,
+            place: place.unwrap_or(got.place),
+            mask: mask.unwrap_or(got.mask),
+            arrival: arrival.unwrap_or(got.arrival),
+        };
+        assert_eq!(got, want);
+    }
+
+    /// What is expected of a tour: an answer whose fields the papers leave free where it is not refused, and the total.
+    pub fn toured(&mut self, got: Toured) {
+        let free = Answer { number: 0, place: 0, mask: 0, arrival: 0 };
+        self.answer(got.err().unwrap_or(free));
+        self.is("total");
+        let total = self.free();
+        assert!(got.is_err() || got.ok() == total, "{got:?} {total:?}");
+    }
+}
+
+/// A job as it is given to a call.
+pub enum Given {
+    Words(Vec<u32>),
+    Typed(Box<Job>),
+}
+
+/// Who is asked.
+#[derive(Clone, Copy, Debug)]
+pub enum Side {
+    Library,
+    Reference,
+}
+
+impl Given {
+    /// The call for a table.
+    pub fn plan(&self, side: Side, table: &mut [i64]) -> Answer {
+        match (self, side) {
+            (Given::Words(words), Side::Library) => library::plan_words(words, table),
+            (Given::Words(words), Side::Reference) => reference::plan_words(words, table),
+            (Given::Typed(job), Side::Library) => library::plan_typed(job, table),
+            (Given::Typed(job), Side::Reference) => job.plan(table),
+        }
+    }
+}
+
+/// The sum that stands for the cells of a table.
+pub fn sum(cells: &[i64]) -> u64 {
+    const P: u64 = 2_147_483_647;
+    cells.iter().fold(0, |sum, &x| (31 * sum + 2 * (x.unsigned_abs() % P) + u64::from(x < 0)) % P)
+}

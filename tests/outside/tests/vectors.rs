@@ -1,0 +1,81 @@
+//! The case files of tests/reference/vectors, which another reference wrote: the library and the reference of this crate
+//! both give what they expect.
+
+use outside::library;
+use outside::vectors::{sum, Side, Tokens};
+
+/// Says which case failed.
+struct Named<'a>(&'a str, &'a str, Side);
+
+impl Drop for Named<'_> {
+    fn drop(&mut self) {
+        if std::thread::panicking() {
+            eprintln!("{}, case '{}', by the {:?}", self.0, self.1, self.2);
+        }
+    }
+}
+
+/// Runs every case of a file.
+fn every_case(file: &str, run: impl Fn(Side, &mut Tokens, &mut Tokens)) {
+    let path = format!("{}/../reference/vectors/{file}", env!("CARGO_MANIFEST_DIR"));
+    let text = std::fs::read_to_string(&path).unwrap_or_else(|error| panic!("{path}: {error}"));
+    let mut count = 0;
+    for line in text.lines().filter(|line| !line.is_empty() && !line.starts_with('#')) {
+        let [name, call, expected] = line.split(" | ").collect::<Vec<_>>()[..] else { panic!("three parts: {line}") };
+        for side in [Side::Library, Side::Reference] {
+            let _named = Named(file, name, side);
+            let (mut call, mut expected) = (Tokens::of(call), Tokens::of(expected));
+            run(side, &mut call, &mut expected);
+            call.end();
+            expected.end();
+        }
+        count += 1;
+    }
+    assert!(count > 0, "{file} has no case");
+    eprintln!("{file}: {count} cases");
+}
+
+/// What stands in lent memory before a call.
+const CELL: i64 = -1_234_567_890_123;
+const ENTRY: u32 = 987_654_321;
+
+/// The table that is expected: how many cells are written, their sum, and some of them; the rest is as it was.
+fn table(expected: &mut Tokens, cells: &[i64]) {
+    expected.is("table");
+    let (written, wanted): (usize, u64) = (expected.number(), expected.number());
+    assert_eq!(sum(&cells[..written]), wanted);
+    assert!(cells[written..].iter().all(|&cell| cell == CELL));
+    for (index, value) in expected.counted(|tokens| (tokens.number::<usize>(), tokens.number::<i64>())) {
+        assert_eq!(cells[index], value, "cell {index}");
+    }
+}
+
+fn plan(side: Side, call: &mut Tokens, expected: &mut Tokens) {
+    let mut cells = vec![CELL; call.number()];
+    let answer = call.given().plan(side, &mut cells);
+    expected.answer(answer);
+    table(expected, &cells);
+}
+
+fn tour(side: Side, call: &mut Tokens, expected: &mut Tokens) {
+    let mut list = vec![ENTRY; call.number()];
+    let (tour, stops) = call.tour();
+    let toured = match side {
+        Side::Library => library::plan_tour(&tour, &stops, &mut list),
+        Side::Reference => tour.plan(&stops, &mut list),
+    };
+    expected.toured(toured);
+    expected.is("list");
+    let wanted: Vec<u32> = expected.counted(Tokens::number);
+    assert_eq!(list[..wanted.len()], wanted);
+    assert!(list[wanted.len()..].iter().all(|&entry| entry == ENTRY));
+}
+
+#[test]
+fn second_sways() {
+    every_case("sway.txt", |side, call, expected| match call.word() {
+        "plan" => plan(side, call, expected),
+        "tour" => tour(side, call, expected),
+        other => panic!("{other} is no call"),
+    });
+}

@@ -1,0 +1,143 @@
+#!/usr/bin/env python3
+"""Writes cases with what the reference expects of each as files of lines, for
+tests that call the library from outside. README.md describes a line.
+
+    python3 tests/reference/make_vectors.py            # writes tests/reference/vectors/*.txt
+    python3 tests/reference/make_vectors.py --check    # whether they are what it would write
+"""
+
+import os
+import sys
+from typing import List, Optional
+
+import swaycases
+from builders import UNSET, Case, outcome
+from damping import Peaks, Ratio
+from make_fieldcases import UNTOUCHED, rows_listed, sum_of
+from reference import Answer, Axis, State, Windows
+from tourcases import UNSET as UNSET_IN_TOUR, TourCase
+
+FOLDER = os.path.join(os.path.dirname(os.path.abspath(__file__)), 'vectors')
+
+
+def text(*parts) -> str:
+    """Tokens with a space between them; None is a field that the papers leave free."""
+    return ' '.join('-' if part is None else str(part) for part in parts if part != '')
+
+
+# --- Calls -----------------------------------------------------------------
+
+def weight_text(weight) -> str:
+    if isinstance(weight, Ratio):
+        return 'ratio %08X' % weight.ratio
+    if isinstance(weight, Peaks):
+        return 'peaks %08X %08X' % weight
+    return 'weight %d' % weight
+
+
+def sway_text(second: Optional[int]) -> str:
+    return 'single' if second is None else 'second %d' % second
+
+
+def axis_text(bit: int, axis: Axis) -> str:
+    kind = 'moving' if isinstance(axis.target, State) else 'fixed'
+    return text('axis', bit, *axis.start, axis.speed_limit, axis.acceleration_limit, axis.half_period,
+                weight_text(axis.second_weight), sway_text(axis.second_half_period), kind, *axis.target)
+
+
+def windows_text(windows: Optional[Windows]) -> str:
+    if windows is None:
+        return 'none'
+    return text('windows', windows.dwell, len(windows.pairs), *(tick for pair in windows.pairs for tick in pair))
+
+
+def words_text(words: List[int]) -> str:
+    return text('words', len(words), *('%08X' % word for word in words))
+
+
+def listed_text(entries: List[str]) -> str:
+    """Their count, and they themselves."""
+    return text(len(entries), *entries)
+
+
+def job_text(case: Case) -> str:
+    if case.words is not None:
+        return words_text(case.words)
+    axes = [axis_text(bit, axis) for bit, axis in enumerate(case.axes) if axis != UNSET]
+    return text('typed', case.mask, case.asked, windows_text(case.windows), listed_text(axes))
+
+
+def tour_axis_text(bit: int, axis) -> str:
+    return text('axis', bit, *axis[:4], weight_text(axis.second_weight), sway_text(axis.second_half_period))
+
+
+def tour_text(case: TourCase) -> str:
+    axes = [tour_axis_text(bit, axis) for bit, axis in enumerate(case.tour.axes) if axis != UNSET_IN_TOUR]
+    stops = [text('stop', *stop.positions, stop.dwell) for stop in case.tour.stops]
+    return text('tour', len(case.lent), case.tour.mask, listed_text(axes), listed_text(stops))
+
+
+# --- What is expected ------------------------------------------------------
+
+def answer_text(answer: Answer) -> str:
+    return text('answer', *answer[:4])
+
+
+def table_text(answer: Answer, cells: List[int]) -> str:
+    """The cells written, the sum over them, and some of them."""
+    written = 3 * bin(answer.mask).count('1') * (answer.arrival + 1) if answer.number == 0 else 0
+    listed = rows_listed(answer) if written else []
+    return text(answer_text(answer), 'table', written, sum_of(cells[:written]), len(listed),
+                *('%d %d' % (i, cells[i]) for i in listed))
+
+
+def plan_line(case: Case) -> str:
+    answer, cells = outcome(case, [UNTOUCHED] * case.lent)
+    return '%s | %s | %s' % (case.name, text('plan', case.lent, job_text(case)), table_text(answer, cells))
+
+
+def tour_line(case: TourCase) -> str:
+    total, written = case.answer.total, len(case.tour.stops) if case.answer.number == 0 else 0
+    return '%s | %s | %s' % (case.name, tour_text(case), text(
+        answer_text(case.answer), 'total', total, 'list', listed_text(case.left[:written])))
+
+
+# --- Files -----------------------------------------------------------------
+
+def sway_lines() -> List[str]:
+    jobs = swaycases.sways().cases + swaycases.drawn_sways().cases
+    return [plan_line(case) for case in jobs] + [tour_line(case) for case in swaycases.tours() + swaycases.drawn_sway_tours()]
+
+
+FILES = {
+    'sway.txt': ('Poles with a second sway (request 2.9).', sway_lines),
+}
+
+
+def contents(name: str) -> str:
+    about, lines = FILES[name]
+    return '\n'.join(['# %s Made by tests/reference/make_vectors.py.' % about] + lines()) + '\n'
+
+
+def is_stored(name: str) -> bool:
+    with open(os.path.join(FOLDER, name)) as kept:
+        return kept.read() == contents(name)
+
+
+def main(words: List[str]) -> int:
+    if words == ['--check']:
+        wrong = [name for name in FILES if not is_stored(name)]
+        print('not as stored: ' + ', '.join(wrong) if wrong else 'as stored')
+        return 1 if wrong else 0
+    if words:
+        print(__doc__)
+        return 2
+    os.makedirs(FOLDER, exist_ok=True)
+    for name in FILES:
+        with open(os.path.join(FOLDER, name), 'w') as out:
+            out.write(contents(name))
+    return 0
+
+
+if __name__ == '__main__':
+    sys.exit(main(sys.argv[1:]))
