@@ -261,6 +261,42 @@ typedef struct polgamir_job {
  */
 polgamir_answer polgamir_plan_job(polgamir_job job, int64_t *table, size_t table_cells);
 
+/* A limit of an axis, or none. */
+enum polgamir_limit {
+    POLGAMIR_NO_LIMIT = 0,
+    POLGAMIR_ACCELERATION_LIMIT = 1, /* M */
+    POLGAMIR_SPEED_LIMIT = 2         /* L */
+};
+
+/* A raise of one limit, the other staying as it is; none has 0 in both fields. */
+typedef struct polgamir_raise {
+    uint32_t limit; /* a polgamir_limit */
+    uint32_t by;    /* what is added to it, at least 1 */
+} polgamir_raise;
+
+/*
+ * The raises of an axis. Each is the least raise of its limit alone, within the limit's range, for which the axis can arrive: it is
+ * enough, and one less is not. A limit of whose range no value is enough has none.
+ */
+typedef struct polgamir_axis_raises {
+    polgamir_raise first;  /* the smaller, that of M if both are equal; none where neither limit has one */
+    polgamir_raise second; /* the other limit's, or none */
+} polgamir_axis_raises;
+
+/* What a call for raises returns: the answer to the job, and the raises of axis i in entry i. */
+typedef struct polgamir_raises {
+    polgamir_answer answer;
+    polgamir_axis_raises axes[POLGAMIR_AXES];
+} polgamir_raises;
+
+/*
+ * What to raise where an asked arrival is turned down with 8. The answer is the one that polgamir_plan_job or polgamir_plan_words gives
+ * with a table that is long enough, so that 10 never comes. Where its number is 8, each axis that its mask names has its raises; no
+ * other axis has any, and with any other number none has. Raises heed no window.
+ */
+polgamir_raises polgamir_raises_job(polgamir_job job);
+polgamir_raises polgamir_raises_words(const uint32_t *words, size_t word_count);
+
 /* A tour has at most this many stops, and a dwell at most this many ticks. */
 #define POLGAMIR_MOST_STOPS 64
 #define POLGAMIR_LONGEST_DWELL 4096

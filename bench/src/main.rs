@@ -8,6 +8,7 @@
 //! cell of its table, whatever stood there.
 
 mod plain;
+mod raises;
 mod searches;
 
 use std::hint::black_box;
@@ -201,6 +202,21 @@ fn tour(name: &str) {
     println!("| {name} | total {total} | {proved:.0} | {plain:.0} | {:.2} |", proved / plain);
 }
 
+/// Prints the line of the raises for an asked arrival. Both sides must give the same.
+fn raise(name: &str, job: &Job) {
+    let laid_out = CJob::of(job, 0);
+    assert_eq!(raises::library(laid_out).axes, raises::plain(job));
+    let rounds: Vec<(f64, f64)> = (0..41)
+        .map(|_| {
+            let proved = batch(500, || raises::library(black_box(laid_out)).axes.len() as u32);
+            (proved, batch(500, || black_box(raises::plain(black_box(job))).len() as u32))
+        })
+        .collect();
+    let least = |side: fn(&(f64, f64)) -> f64| rounds.iter().map(side).min_by(f64::total_cmp).unwrap_or(f64::NAN);
+    let (proved, plain) = (least(|times| times.0), least(|times| times.1));
+    println!("| {name} | asked {} | {proved:.0} | {plain:.0} | {:.2} |", job.asked, proved / plain);
+}
+
 /// Prints the searches: of the jobs whose whole calls are timed, and of jobs that are made for a long one.
 fn search_table(short: &Job, long: &Job, wide: &Job, never: &Job) {
     println!("| least arrival, search alone | outcome | library, ns | plain Rust, ns | ratio | by ticks, ns |");
@@ -246,6 +262,12 @@ fn main() {
     println!("| a tour | outcome | library, ns | plain Rust, ns | ratio |");
     println!("|---|---|---|---|---|");
     tour("64 stops, six axes");
+    println!();
+    println!("| raises for an asked arrival | outcome | library, ns | plain Rust, ns | ratio |");
+    println!("|---|---|---|---|---|");
+    raise("one axis", &Job { asked: long_arrival - 100, ..long });
+    raise("six axes, most with both raises", &Job { asked: 3_950, ..wide });
+    raise("six axes without a raise", &Job { asked: 300, ..wide });
     println!();
     search_table(&short, &long, &wide, &never);
     println!("| velocities and rows, by row and axis | outcome | library, ns | plain Rust, ns | ratio |");

@@ -226,7 +226,7 @@ impl Leg {
     }
 }
 
-fn reaches(engine: Engine, axis: &Axis, arrival: u32) -> bool {
+pub fn reaches(engine: Engine, axis: &Axis, arrival: u32) -> bool {
     let delay = delay_of(axis);
     if arrival <= delay {
         return false;

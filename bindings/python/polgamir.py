@@ -34,9 +34,9 @@ from pathlib import Path
 from typing import Dict, Iterator, Mapping, NamedTuple, Optional, Sequence, Tuple, Union
 
 __all__ = [
-    "AXES", "FINE_STEPS", "LATEST_ARRIVAL", "LONGEST_DWELL", "MOST_CELLS", "MOST_STOPS", "MOST_WINDOWS",
-    "Axis", "Damping", "Fixed", "Job", "LibraryError", "Motion", "Moving", "Number", "Peaks", "Plan", "Ratio", "Refusal", "RestPoint",
-    "Row", "Schedule", "Stop", "Target", "Tour", "TourAxis", "Weight", "Window", "Windows", "in_units", "plan_words", "version",
+    "AXES", "FINE_STEPS", "LATEST_ARRIVAL", "LONGEST_DWELL", "MOST_CELLS", "MOST_STOPS", "MOST_WINDOWS", "Axis", "Damping", "Fixed", "Job",
+    "LibraryError", "Limit", "Motion", "Moving", "Number", "Peaks", "Plan", "Raise", "Ratio", "Refusal", "RestPoint", "Row", "Schedule",
+    "Stop", "Target", "Tour", "TourAxis", "Weight", "Window", "Windows", "in_units", "plan_words", "raises_words", "version",
 ]
 
 __version__ = "0.1.0"
@@ -266,6 +266,13 @@ class Job:
         room = _cells_needed(given.mask, min(given.asked or LATEST_ARRIVAL, LATEST_ARRIVAL))
         return _planned(room, lambda table, cells: _library().polgamir_plan_job(given, table, cells))
 
+    def raises(self) -> Dict[int, Tuple[Raise, ...]]:
+        """What to raise where the asked arrival is turned down with 8: for each axis named its raises, perhaps none, the smaller first.
+
+        A job that is accepted, and one whose asked arrival fits no window alone, has no axis named. Any other refusal is raised.
+        """
+        return _raises_of(_library().polgamir_raises_job(_job_of(self)))
+
     def arrival_found(self) -> int:
         """The arrival of the job's table, which is not written; raises a `Refusal`, never with 10."""
         answer = _library().polgamir_plan_job(_job_of(self), None, 0)
@@ -276,8 +283,28 @@ class Job:
 
 def plan_words(words: Sequence[int]) -> Plan:
     """Plans the job that 32-bit words hold, into a table of its own; raises a `Refusal`, never with 10."""
-    given = (ctypes.c_uint32 * len(words))(*(_whole(word, 0, 2**32 - 1, "a job word") for word in words))
-    return _planned(MOST_CELLS, lambda table, cells: _library().polgamir_plan_words(given, len(words), table, cells))
+    given = _words_of(words)
+    return _planned(MOST_CELLS, lambda table, cells: _library().polgamir_plan_words(given, len(given), table, cells))
+
+
+def raises_words(words: Sequence[int]) -> Dict[int, Tuple[Raise, ...]]:
+    """`Job.raises` of the job that words hold."""
+    given = _words_of(words)
+    return _raises_of(_library().polgamir_raises_words(given, len(given)))
+
+
+class Limit(enum.IntEnum):
+    """A limit of an axis."""
+
+    ACCELERATION = 1
+    SPEED = 2
+
+
+class Raise(NamedTuple):
+    """The least that one limit alone has to be raised by for an axis to arrive; one less is not enough."""
+
+    limit: Limit
+    by: int
 
 
 # --- Tables -----------------------------------------------------------------------------------------------------------------------------
@@ -535,6 +562,18 @@ class _TourAnswer(ctypes.Structure):
     ]
 
 
+class _Raise(ctypes.Structure):
+    _fields_ = [("limit", ctypes.c_uint32), ("by", ctypes.c_uint32)]
+
+
+class _AxisRaises(ctypes.Structure):
+    _fields_ = [("first", _Raise), ("second", _Raise)]
+
+
+class _Raises(ctypes.Structure):
+    _fields_ = [("answer", _Answer), ("axes", _AxisRaises * AXES)]
+
+
 _STRUCTS = {
     "polgamir_answer": _Answer,
     "polgamir_axis": _Axis,
@@ -545,6 +584,9 @@ _STRUCTS = {
     "polgamir_limits": _Limits,
     "polgamir_tour": _Tour,
     "polgamir_tour_answer": _TourAnswer,
+    "polgamir_raise": _Raise,
+    "polgamir_axis_raises": _AxisRaises,
+    "polgamir_raises": _Raises,
 }
 """Every struct of the header. A test holds their fields to it."""
 
@@ -558,6 +600,8 @@ _CALLS = {
     "polgamir_version": (ctypes.c_uint32, []),
     "polgamir_plan_words": (_Answer, [_LIST, ctypes.c_size_t, _CELLS, ctypes.c_size_t]),
     "polgamir_plan_job": (_Answer, [_Job, _CELLS, ctypes.c_size_t]),
+    "polgamir_raises_words": (_Raises, [_LIST, ctypes.c_size_t]),
+    "polgamir_raises_job": (_Raises, [_Job]),
     "polgamir_plan_tour": (_TourAnswer, [_Tour, ctypes.POINTER(_Stop), ctypes.c_size_t, _LIST, ctypes.c_size_t]),
 }
 """Every call of the header: what it returns and takes. A test holds the names to it: a call that the header gains gets its structs above, its
@@ -612,6 +656,19 @@ def _planned(room: int, call) -> Plan:
     if answer.number != Number.ACCEPTED:
         raise _refusal_of(answer)
     return Plan(answer.arrival, answer.mask, cells[: _cells_needed(answer.mask, answer.arrival)])
+
+
+def _words_of(words: Sequence[int]) -> "ctypes.Array[ctypes.c_uint32]":
+    return (ctypes.c_uint32 * len(words))(*(_whole(word, 0, 2**32 - 1, "a job word") for word in words))
+
+
+def _raises_of(found: _Raises) -> Dict[int, Tuple[Raise, ...]]:
+    if found.answer.number not in (Number.ACCEPTED, Number.REFUSED_NOT_REACHABLE):
+        raise _refusal_of(found.answer)
+    if found.answer.number == Number.ACCEPTED:
+        return {}
+    entries = {axis: (found.axes[axis].first, found.axes[axis].second) for axis in _axes_of(found.answer.mask)}
+    return {axis: tuple(Raise(Limit(one.limit), one.by) for one in entry if one.limit) for axis, entry in entries.items()}
 
 
 def _refusal_of(answer: Union[_Answer, _TourAnswer]) -> Refusal:

@@ -1,6 +1,6 @@
 /*
- * Plans a job of two axes and walks the rows of its table, then shows a refusal, an arrival in a window, one on a pole with a joint, the
- * same calls from job words, and a tour of two stops.
+ * Plans a job of two axes and walks the rows of its table, then shows a refusal and what to raise, an arrival in a window, one on a pole with
+ * a joint, the same calls from job words, and a tour of two stops.
  *
  *     make -C examples/c run
  */
@@ -80,6 +80,11 @@ int main(void)
     /* The same job asked to arrive at tick 4: the mask says that axis 0 cannot. */
     job.asked = 4;
     show(polgamir_plan_job(job, table, CELLS), table);
+
+    /* At tick 5 neither, but what to raise so that it could: of the acceleration limit 5 more, and no raise of the speed limit alone. */
+    job.asked = 5;
+    polgamir_axis_raises raises = polgamir_raises_job(job).axes[0];
+    printf("raise limit %" PRIu32 " of axis 0 by %" PRIu32 "\n", raises.first.limit, raises.first.by);
 
     /* Its least arrival in a window that also holds a dwell of 2 ticks: at 8 the first one closes too soon, the second opens at 10. */
     job.asked = 0;

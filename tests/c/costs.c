@@ -47,6 +47,11 @@ static void plan_job(void)
     answer = polgamir_plan_job(job, table, POLGAMIR_MOST_CELLS);
 }
 
+static void raises(void)
+{
+    answer = polgamir_raises_job(job).answer;
+}
+
 static void plan_tour(void)
 {
     polgamir_tour_answer toured = polgamir_plan_tour(tour, stops, POLGAMIR_MOST_STOPS, arrivals, POLGAMIR_MOST_STOPS);
@@ -200,6 +205,12 @@ static size_t run(void)
         job.axes[i] = accelerating(i, 0);
     }
     measure("a table beside targets that accelerate", 0);
+    for (unsigned i = 0; i < POLGAMIR_AXES; i++) {
+        job.axes[i] = to(2950000, 1000, 1, 40);
+    }
+    job.asked = 500;
+    on_paint("raises", raises, 8);
+    job.asked = 0;
     return most_stack;
 }
 

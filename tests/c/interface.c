@@ -73,6 +73,15 @@ AT(polgamir_tour_answer, place, 8);
 AT(polgamir_tour_answer, arrival, 16);
 AT(polgamir_tour_answer, total, 20);
 _Static_assert(sizeof(polgamir_tour_answer) == 24, "polgamir_tour_answer");
+AT(polgamir_raise, limit, 0);
+AT(polgamir_raise, by, 4);
+_Static_assert(sizeof(polgamir_raise) == 8, "polgamir_raise");
+AT(polgamir_axis_raises, first, 0);
+AT(polgamir_axis_raises, second, 8);
+_Static_assert(sizeof(polgamir_axis_raises) == 16, "polgamir_axis_raises");
+AT(polgamir_raises, answer, 0);
+AT(polgamir_raises, axes, 24);
+_Static_assert(sizeof(polgamir_raises) == 120, "polgamir_raises");
 _Static_assert(POLGAMIR_MOST_CELLS == 3 * POLGAMIR_AXES * (POLGAMIR_LATEST_ARRIVAL + 1), "POLGAMIR_MOST_CELLS");
 
 /* ---- what is asked for */
@@ -419,6 +428,38 @@ static void windows(unsigned axis)
     expect(is(polgamir_plan_job(job, table, CELLS), 13, 1, 0), "a window that opens before the one before it closes", axis);
 }
 
+static bool raised(polgamir_raise raise, uint32_t limit, uint32_t by)
+{
+    return raise.limit == limit && raise.by == by;
+}
+
+/* Raises, worked out by hand: the entries are those of one axis, every other entry is none. */
+static void raises(unsigned axis)
+{
+    polgamir_job job = {.mask = 1u << axis, .asked = 6};
+    job.axes[axis] = (polgamir_axis){.target_position = 9, .speed_limit = 2, .acceleration_limit = 1, .second_weight = 128};
+    polgamir_raises r = polgamir_raises_job(job);
+    expect(is(r.answer, 8, 0, 1u << axis) && r.answer.arrival == 0, "an arrival that is turned down", axis);
+    expect(raised(r.axes[axis].first, POLGAMIR_ACCELERATION_LIMIT, 1) && raised(r.axes[axis].second, POLGAMIR_SPEED_LIMIT, 1),
+           "equal raises, that of M first", axis);
+    for (unsigned other = 0; other < POLGAMIR_AXES; other++) {
+        bool none = raised(r.axes[other].first, POLGAMIR_NO_LIMIT, 0) && raised(r.axes[other].second, POLGAMIR_NO_LIMIT, 0);
+        expect(none == (other != axis), "an axis that is not named", other);
+    }
+    job.asked = 8;
+    job.axes[axis].start_velocity = 2;
+    job.axes[axis].target_position = 22;
+    job.axes[axis].speed_limit = 3;
+    r = polgamir_raises_job(job);
+    expect(raised(r.axes[axis].first, POLGAMIR_SPEED_LIMIT, 1) && raised(r.axes[axis].second, POLGAMIR_ACCELERATION_LIMIT, 2),
+           "the smaller raise first", axis);
+    job.axes[axis].speed_limit = 4;
+    r = polgamir_raises_job(job);
+    expect(is(r.answer, 0, 0, 1u << axis) && r.answer.arrival == 8, "an accepted job, with no table lent", axis);
+    expect(raised(r.axes[axis].first, POLGAMIR_NO_LIMIT, 0), "an accepted job has no raise", axis);
+    expect(is(polgamir_raises_words(NULL, 0).answer, 1, 0, 0), "the raises of no words", axis);
+}
+
 int main(void)
 {
     expect(polgamir_version() == POLGAMIR_VERSION, "the library's version is the header's", 0);
@@ -427,6 +468,7 @@ int main(void)
         reads_the_limits(axis);
         tours(axis);
         windows(axis);
+        raises(axis);
         reads_the_damping(axis);
         reads_the_second_sway(axis);
     }

@@ -10,10 +10,12 @@ import os
 import sys
 from typing import List, Optional
 
+import raisecases
 import swaycases
 from builders import UNSET, Case, outcome
 from damping import Peaks, Ratio
 from make_fieldcases import UNTOUCHED, rows_listed, sum_of
+from raises import AxisRaises
 from reference import Answer, Axis, State, Windows
 from tourcases import UNSET as UNSET_IN_TOUR, TourCase
 
@@ -102,6 +104,16 @@ def tour_line(case: TourCase) -> str:
         answer_text(case.answer), 'total', total, 'list', listed_text(case.left[:written])))
 
 
+def axis_raises_text(one: AxisRaises) -> str:
+    return text('axis', one.bit, listed_text([text(*x) for x in one.raises]))
+
+
+def raises_line(case: Case) -> str:
+    answer, axes = raisecases.raised(case)
+    return '%s | %s | %s' % (case.name, text('raises', job_text(case)), text(
+        answer_text(answer), 'raises', listed_text([axis_raises_text(one) for one in axes])))
+
+
 # --- Files -----------------------------------------------------------------
 
 def sway_lines() -> List[str]:
@@ -109,8 +121,13 @@ def sway_lines() -> List[str]:
     return [plan_line(case) for case in jobs] + [tour_line(case) for case in swaycases.tours() + swaycases.drawn_sway_tours()]
 
 
+def raises_lines() -> List[str]:
+    return [raises_line(case) for case in raisecases.raises_cases().cases + raisecases.drawn_raises().cases]
+
+
 FILES = {
     'sway.txt': ('Poles with a second sway (request 2.9).', sway_lines),
+    'raises.txt': ('The smallest change that makes it (request 2.10).', raises_lines),
 }
 
 

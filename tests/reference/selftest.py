@@ -14,6 +14,8 @@ from fractions import Fraction
 import damping
 import dampingcases
 import railcases
+import raisecases
+import raises
 import reference as ref
 import swaycases
 import tourcases
@@ -618,6 +620,59 @@ def second_blend_is_a_mean(rng, count=20):
                  [ref.nearest(x.numerator, x.denominator) for x in (p / 2, v, a)])
 
 
+# --- The smallest change that makes it (request 2.10) ----------------------
+
+def raises_by(axes, asked=0, windows=None):
+    """The answer and the raises by bit, each as limit and amount; by words too
+    where there are no windows."""
+    by_bit = placed(axes)
+    six = [by_bit.get(i, UNSET) for i in range(6)]
+    answer, named = raises.raises_typed(mask_of(by_bit), asked, six, windows)
+    if windows is None:
+        same('raises by words', raises.raises_words(ref.encode(ref.Job(mask_of(by_bit), asked, by_bit))), (answer, named))
+    return answer, {one.bit: [tuple(x) for x in one.raises] for one in named}
+
+
+def raises_readings():
+    e = Answer(8, mask=1)
+    same('E', raises_by([to(4)], 3), (e, {0: [('M', 1)]}))
+    same('equal', raises_by([to(9, speed_limit=2)], 6), (e, {0: [('M', 1), ('L', 1)]}))
+    same('L first', raises_by([to(22, speed_limit=3, start=(0, 2))], 8), (e, {0: [('L', 1), ('M', 2)]}))
+    same('no raise', raises_by([to(4, half_period=3)], 3), (e, {0: []}))
+    same('no window', raises_by([to(4)], 3, ref.Windows([(6, 7)], 0)), (e, {0: [('M', 1)]}))
+    same('8 with mask 0', raises_by([to(4)], 4, ref.Windows([(6, 7)], 0)), (Answer(8), {}))
+    same('accepted', raises_by([to(4)], 4), (Answer(0, mask=1, arrival=4), {}))
+    same('9', raises_by([to(100000000, speed_limit=1)]), (Answer(9, mask=1), {}))
+    same('lowest first', list(raises_by([to(4), to(1), to(9)], 3)[1]), [0, 2])
+    same('up to the end', raises_by([to(65536, speed_limit=1048576)], 2)[1], {0: [('M', 65535)]})
+    same('past the end', raises_by([to(65537, speed_limit=1048576)], 2)[1], {0: []})
+
+
+def raises_by_trial(rng, count=60):
+    """Enough, and one less is not: every raise in turn, where the numbers are small."""
+    met = 0
+    for _ in range(count):
+        one, asked = raisecases.small_axis(rng), rng.randint(2, 12)
+        if ref.reachable(one, asked):
+            continue
+        for limit, name in (('M', 'acceleration_limit'), ('L', 'speed_limit')):
+            now = getattr(one, name)
+            least = next((r for r in range(1, 200) if ref.reachable(one._replace(**{name: now + r}), asked)), None)
+            same('by trial', raises.least_raise(one, limit, asked), least)
+            met += least is not None
+    assert met > 10, 'too few raises to say anything'
+    for _ in range(count):          # of any size, and the planning answer throughout
+        axes, asked = [swaycases.random_jointed(rng)], rng.randint(1, 60)
+        answer, named = raises_by(axes, asked)
+        planned = plan(axes, asked, lent=73746)[0]
+        same('the planning answer', answer, planned)
+        for bit, found in named.items():
+            for limit, amount in found:
+                now = axes[bit].acceleration_limit if limit == 'M' else axes[bit].speed_limit
+                same('enough, and one less is not', [ref.reachable(raises.with_limit(axes[bit], limit, now + r), asked)
+                                                     for r in (amount - 1, amount)], [False, True])
+
+
 def main():
     rng = random.Random(1)
     field_cases()
@@ -642,8 +697,10 @@ def main():
     sway_readings()
     jointed_axes(rng)
     second_blend_is_a_mean(rng)
+    raises_readings()
+    raises_by_trial(rng)
     print('reference: field cases, traps, settled readings, ranges, definitions, rounding, demand 3, tours, damping,',
-          'windows, accelerating targets on damped poles, positions past 28 bits, a second sway: ok')
+          'windows, accelerating targets on damped poles, positions past 28 bits, a second sway, raises: ok')
     return 0
 
 

@@ -35,6 +35,8 @@
 //! # Ok::<(), Refusal>(())
 //! ```
 //!
+//! [`Job::raises`] says, for each of those axes, by how much to raise a limit so that it can.
+//!
 //! A [`Tour`] takes the head over a row of [`Stop`]s, one after the other, resting at each: [`Tour::plan`] gives the arrivals, and
 //! [`Tour::leg`] the job whose plan is the table of a leg.
 //!
@@ -49,6 +51,7 @@ mod job;
 #[allow(unsafe_code)]
 mod library;
 mod plan;
+mod raises;
 mod range;
 mod refusal;
 mod rows;
@@ -60,6 +63,7 @@ mod words;
 pub use damping::Damping;
 pub use job::{Arrival, Axis, Job, RestPoint, State, Target};
 pub use plan::{cells_needed, plan, plan_words, Accepted, Plan, MOST_CELLS};
+pub use raises::{raises, raises_words, AxisRaises, Limit, Raise, Raises};
 pub use range::OutOfRange;
 pub use refusal::{AxisMask, Refusal};
 pub use rows::{in_units, Motion, Row, Rows};

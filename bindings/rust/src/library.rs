@@ -2,6 +2,7 @@
 
 use crate::damping::Damping;
 use crate::job::{Axis, Job, RestPoint, State, Target};
+use crate::raises::{AxisRaises, Limit, Raise, Raises};
 use crate::refusal::Answer;
 use crate::tour::{Stop, Tour, TourAxis};
 use crate::windows::{Window, Windows, MOST_WINDOWS};
@@ -101,6 +102,29 @@ struct CTourAnswer {
     total: u32,
 }
 
+/// `polgamir_raise`, field by field.
+#[repr(C)]
+#[derive(Clone, Copy)]
+struct CRaise {
+    limit: u32,
+    by: u32,
+}
+
+/// `polgamir_axis_raises`, field by field.
+#[repr(C)]
+#[derive(Clone, Copy)]
+struct CAxisRaises {
+    first: CRaise,
+    second: CRaise,
+}
+
+/// `polgamir_raises`, field by field.
+#[repr(C)]
+struct CRaises {
+    answer: CAnswer,
+    axes: [CAxisRaises; AXES],
+}
+
 /// `POLGAMIR_FIXED`.
 const FIXED: u32 = 0;
 
@@ -116,10 +140,20 @@ const RATIO: u32 = 1;
 /// `POLGAMIR_PEAKS`.
 const PEAKS: u32 = 2;
 
+/// `POLGAMIR_ACCELERATION_LIMIT`.
+const ACCELERATION_LIMIT: u32 = 1;
+
+/// `POLGAMIR_SPEED_LIMIT`.
+const SPEED_LIMIT: u32 = 2;
+
 extern "C" {
     fn polgamir_plan_words(words: *const u32, word_count: usize, table: *mut i64, table_cells: usize) -> CAnswer;
 
     fn polgamir_plan_job(job: CJob, table: *mut i64, table_cells: usize) -> CAnswer;
+
+    fn polgamir_raises_words(words: *const u32, word_count: usize) -> CRaises;
+
+    fn polgamir_raises_job(job: CJob) -> CRaises;
 
     fn polgamir_plan_tour(
         tour: CTour,
@@ -134,6 +168,24 @@ impl From<CAnswer> for Answer {
     fn from(answer: CAnswer) -> Answer {
         let CAnswer { number, mask, place, arrival } = answer;
         Answer { number, place, mask, arrival }
+    }
+}
+
+impl From<CRaise> for Option<Raise> {
+    fn from(raise: CRaise) -> Option<Raise> {
+        let limit = match raise.limit {
+            ACCELERATION_LIMIT => Limit::Acceleration,
+            SPEED_LIMIT => Limit::Speed,
+            _ => return None,
+        };
+        Some(Raise { limit, by: raise.by })
+    }
+}
+
+impl From<CRaises> for Raises {
+    fn from(raises: CRaises) -> Raises {
+        let axes = raises.axes.map(|axis| AxisRaises { first: axis.first.into(), second: axis.second.into() });
+        Raises::new(raises.answer.into(), axes)
     }
 }
 
@@ -238,6 +290,21 @@ pub(crate) fn plan_job(job: &Job, table: &mut [i64]) -> Answer {
     answer.into()
 }
 
+/// The raises for the job that words hold.
+pub(crate) fn raises_words(words: &[u32]) -> Raises {
+    // SAFETY: the pointer and the length are those of one slice, aligned and valid to read for the whole call. The library does
+    // not keep the pointer after it returns, has no state, and does not unwind.
+    let raises = unsafe { polgamir_raises_words(words.as_ptr(), words.len()) };
+    raises.into()
+}
+
+/// The raises for a job of typed values.
+pub(crate) fn raises_job(job: &Job) -> Raises {
+    // SAFETY: the job passes by value in the header's layout. The library has no state, and does not unwind.
+    let raises = unsafe { polgamir_raises_job(job.into()) };
+    raises.into()
+}
+
 /// Plans a tour over its stops, and gives its answer and its total.
 pub(crate) fn plan_tour(tour: &Tour, stops: &[Stop], arrivals: &mut [u32]) -> (Answer, u32) {
     // SAFETY: the tour passes by value in the header's layout, which `Stop` has too. Both pointers come from slices with these
@@ -250,7 +317,9 @@ pub(crate) fn plan_tour(tour: &Tour, stops: &[Stop], arrivals: &mut [u32]) -> (A
 
 #[cfg(test)]
 mod tests {
-    use super::{CAnswer, CAxis, CJob, CLimits, CTour, CTourAnswer, CWindows, Stop, Window};
+    use super::{
+        CAnswer, CAxis, CAxisRaises, CJob, CLimits, CRaise, CRaises, CTour, CTourAnswer, CWindows, Stop, Window,
+    };
     use std::mem::{offset_of, size_of};
 
     /// The layout that the header's structs have on x86-64; `tests/c/interface.c` holds the header to the same numbers.
@@ -303,6 +372,16 @@ mod tests {
         assert_eq!(windows, [0, 4, 8, 16, 272]);
         assert_eq!((offset_of!(Window, opening), offset_of!(Window, closing), size_of::<Window>()), (0, 4, 8));
     }
+
+    /// The same of raises.
+    #[test]
+    fn the_layout_of_raises_is_the_header_s() {
+        assert_eq!([offset_of!(CRaise, limit), offset_of!(CRaise, by), size_of::<CRaise>()], [0, 4, 8]);
+        let axis = [offset_of!(CAxisRaises, first), offset_of!(CAxisRaises, second), size_of::<CAxisRaises>()];
+        assert_eq!(axis, [0, 8, 16]);
+        assert_eq!([offset_of!(CRaises, answer), offset_of!(CRaises, axes), size_of::<CRaises>()], [0, 24, 120]);
+    }
+
     /// The same of what a tour has.
     #[test]
     fn the_layout_of_a_tour_is_the_header_s() {

@@ -18,6 +18,7 @@ refused 8 place 0 axes 1 arrival 0
 axis 0 cannot arrive at tick 3; the least arrival that would do is tick 4
 look at \"read the arrival tick before the first sighting\": ask for such a tick or for the earliest, or raise limits as \
 far as the motors allow
+axis 0: to arrive at tick 3 raise the acceleration limit by 1 to 2
 line 3: arrival 3
 line 8: axis 0: speed limit 10
 line 9: axis 0: acceleration limit 1
@@ -115,4 +116,22 @@ fn refusal_8_says_the_least_arrival_that_would_do() {
     let far = changed_case_c("target position      1", "target position 100000000");
     let told = "axis 0 cannot arrive at tick 4; no tick from 1 to 4096 would do";
     assert_eq!(second_line(&far).as_deref(), Some(told));
+}
+
+/// Refusal 8 says what to raise, of each axis that it names. The numbers are the paper's case E and those worked out by hand.
+#[test]
+fn refusal_8_says_which_limit_to_raise() {
+    let raises = |text: &str| refused(text).lines().nth(3).map(String::from);
+    let slow = changed_case_c("target position      1", "target position 9").replace("limit          10", "limit 2");
+    let told = "axis 0: to arrive at tick 6 raise the acceleration limit by 1 to 2, or the speed limit by 1 to 3";
+    assert_eq!(raises(&slow.replace("arrival 4", "arrival 6")).as_deref(), Some(told));
+
+    let moving = changed_case_c("target position      1", "target position 22").replace("limit          10", "limit 3");
+    let moving = moving.replace("start velocity       0", "start velocity 2").replace("arrival 4", "arrival 8");
+    let told = "axis 0: to arrive at tick 8 raise the speed limit by 1 to 4, or the acceleration limit by 2 to 3";
+    assert_eq!(raises(&moving).as_deref(), Some(told));
+
+    let late = changed_case_c("half period          0", "half period 4");
+    let told = "axis 0: no speed limit and no acceleration limit alone would let it arrive at tick 4";
+    assert_eq!(raises(&late).as_deref(), Some(told));
 }

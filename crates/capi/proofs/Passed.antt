@@ -1,14 +1,26 @@
 -- What the proofs of the exported calls share: a promise goes over to an equal answer and to an equal job.
-use mathlib.Core.Path.{_≡_, sym, subst}
+use mathlib.Core.Path.{_≡_, sym, ap, subst, _∙_}
 use mathlib.Core.List.{List}
 use lib.IntN.{ℤ}
 use Rattle.model.specs.declared.Answer.{Answer}
 use Rattle.model.specs.declared.Job.{Job}
-use Rattle.model.specs.Outcome.{Input, typed}
+use Rattle.model.specs.declared.RaisesAnswer.{RaisesAnswer}
+use Rattle.model.specs.Outcome.{Input, typed, inputJob}
+use Rattle.model.specs.Raises.{RaisesHold}
 use Rattle.planner.specs.Promise.{Promise}
+use Rattle.raises.specs.Promise.{RaisesPromise}
+use Rattle.capi.specs.declared.limit_raises.PolgamirRaises.{PolgamirRaises}
+use Rattle.capi.specs.Raises.{raisesInC, RaisesReturned}
 
 pub for-answer : {q : Input} {entry exit : List ℤ} {r s : Answer} → s ≡ r → Promise q entry r exit → Promise q entry s exit
 for-answer {q} {entry} {exit} same kept = subst (λ (a : Answer). Promise q entry a exit) (sym same) kept
 
 pub for-job : {entry exit : List ℤ} {r : Answer} {j k : Job} → j ≡ k → Promise (typed j) entry r exit → Promise (typed k) entry r exit
 for-job {entry} {exit} {r} same kept = subst (λ (t : Job). Promise (typed t) entry r exit) same kept
+
+-- the same of raises
+pub in-c : {q : Input} {r : RaisesAnswer} {c : PolgamirRaises} → c ≡ raisesInC r → RaisesPromise q r → RaisesReturned q c
+in-c {q} same kept = record { is = same ∙ ap raisesInC (kept .is); holds = subst (RaisesHold (inputJob q)) (kept .is) (kept .holds) }
+
+pub for-typed : {c : PolgamirRaises} {j k : Job} → j ≡ k → RaisesReturned (typed j) c → RaisesReturned (typed k) c
+for-typed {c} same kept = subst (λ (t : Job). RaisesReturned (typed t) c) same kept

@@ -13,16 +13,16 @@ use lib.ListN.{length, length-map}
 use borrow.Author.Tests.{eqb-true}
 use Rattle.model.specs.declared.Answer.{Answer}
 use Rattle.model.specs.declared.Axis.{Axis}
-use Rattle.model.specs.declared.Job as Typed
 use Rattle.model.specs.Job.{Job, jobOf, maskWhere}
 use Rattle.model.specs.Windows as W
 use Rattle.model.specs.Motion.{reachable}
-use Rattle.model.specs.Words.{goodMask}
+use Rattle.model.specs.Words.{Decoded, noMask, badWord, badLong, job, decode, goodMask}
 use Rattle.model.specs.Refusals.{lastTick}
-use Rattle.model.specs.Outcome.{Outcome, Input, typed, call, inputAxes, refuse, accept, filled, arrived, tested, axisRefusals, jobOutcome}
+use Rattle.model.specs.Outcome.{Outcome, Input, words, typed, call, jobRead, inputJob, inputAxes}
+use Rattle.model.specs.Outcome.{refuse, accept, filled, arrived, tested, axisRefusals, jobOutcome}
 use Rattle.model.specs.Outcome.{cellsNeeded, leastFrom, arrives, firstAxis, reachesNone, beforeTen, answerOf}
 use Rattle.model.specs.Verdict.{Verdict, refused3, refused4, refused12, refused5, refused15, refused6, refused16, refused13, refused8, refused9, refused10, accepted}
-use Rattle.model.specs.Verdict.{CallVerdict, typed1, typedJobs}
+use Rattle.model.specs.Verdict.{CallVerdict, words1, words2, words14, wordsJob, typed1, typedJobs}
 use Rattle.model.specs.Demand.{Demand3}
 use Rattle.model.proofs.CallVerdict.{call-verdict}
 use Rattle.model.proofs.Demand.{demand3}
@@ -92,81 +92,106 @@ module _ (j : Job) (l l' : List ℤ) where
       go true = tested-same axisRefusals
       go false = refl
 
-module _ (t : Typed.Job) (lent : List ℤ) where
-  abbrev q : Input
-  q = typed t
+pub same-answer : (q : Input) (lent : List ℤ) → beforeTen (inputJob q .mask) (call q lent) ≡ answerOf q
+unfolding answerOf
+same-answer (words ws) lent = go (decode ws)
+  where
+    read : Decoded → List ℤ → Outcome
+    read d l = elim d [ noMask ↦ refuse 1 0 0 0 l | badWord p ↦ refuse 2 p 0 0 l | badLong p ↦ refuse 14 p 0 0 l | job j ↦ jobOutcome j l ]
 
-  abbrev o : Outcome
-  o = call q lent
+    go : (d : Decoded) → beforeTen (jobRead d .mask) (read d lent) ≡ beforeTen (jobRead d .mask) (read d [])
+    go noMask = refl
+    go (badWord p) = refl
+    go (badLong p) = refl
+    go (job j) = job-same j lent []
+same-answer (typed t) lent = go (goodMask (t .mask))
+  where
+    go : (b : Bool) → beforeTen (t .mask) (elim b as (λ _. Outcome) [ true ↦ jobOutcome (jobOf t) lent | false ↦ refuse 1 0 0 0 lent ])
+        ≡ beforeTen (t .mask) (elim b as (λ _. Outcome) [ true ↦ jobOutcome (jobOf t) [] | false ↦ refuse 1 0 0 0 [] ])
+    go true = job-same (jobOf t) lent []
+    go false = refl
 
-  pub same-answer : beforeTen (t .mask) o ≡ answerOf t
-  unfolding answerOf
-  same-answer = go (goodMask (t .mask))
-    where
-      go : (b : Bool) → beforeTen (t .mask) (elim b as (λ _. Outcome) [ true ↦ jobOutcome (jobOf t) lent | false ↦ refuse 1 0 0 0 lent ])
-          ≡ beforeTen (t .mask) (elim b as (λ _. Outcome) [ true ↦ jobOutcome (jobOf t) [] | false ↦ refuse 1 0 0 0 [] ])
-      go true = job-same (jobOf t) lent []
-      go false = refl
+-- ---- with room for the table it is the call's own
 
-  -- ---- with room for the table it is the call's own
+module _ (m : ℕ) (o : Outcome) where
+  -- an outcome's answer, by whether the number is 10
+  abbrev by-ten : Bool → Answer
+  by-ten b =
+      elim b [
+        | true ↦ record { number = 0; place = 0; mask = m; arrival = o .arrival }
+        | false ↦ record { number = o .number; place = o .place; mask = o .mask; arrival = o .arrival }
+      ]
 
-  same-arrival : beforeTen (t .mask) o .arrival ≡ o .arrival
+  same-arrival : beforeTen m o .arrival ≡ o .arrival
   same-arrival = go (eqb (o .number) 10)
     where
-      go : (b : Bool) → (elim b as (λ _. Answer) [
-        | true ↦ record { number = 0; place = 0; mask = t .mask; arrival = o .arrival }
-        | false ↦ record { number = o .number; place = o .place; mask = o .mask; arrival = o .arrival }
-      ]) .arrival ≡ o .arrival
+      go : (b : Bool) → by-ten b .arrival ≡ o .arrival
       go true = refl
       go false = refl
 
-  zero-or-ten : beforeTen (t .mask) o .number ≡ 0 → (o .number ≡ 10) ⊎ (o .number ≡ 0)
+  zero-or-ten : beforeTen m o .number ≡ 0 → (o .number ≡ 10) ⊎ (o .number ≡ 0)
   zero-or-ten = go (eqb (o .number) 10) refl
     where
-      go : (b : Bool) → eqb (o .number) 10 ≡ b → (elim b as (λ _. Answer) [
-        | true ↦ record { number = 0; place = 0; mask = t .mask; arrival = o .arrival }
-        | false ↦ record { number = o .number; place = o .place; mask = o .mask; arrival = o .arrival }
-      ]) .number ≡ 0
-          → (o .number ≡ 10) ⊎ (o .number ≡ 0)
+      go : (b : Bool) → eqb (o .number) 10 ≡ b → by-ten b .number ≡ 0 → (o .number ≡ 10) ⊎ (o .number ≡ 0)
       go true s e = inl (eqb-true (o .number) 10 s)
       go false s e = inr e
 
-  -- 10 comes where the table is too short, and there alone
-  ten-short : o .number ≡ 10 → length lent < cellsNeeded (length (jobOf t .axes)) (o .arrival)
-  ten-short e = by (call-verdict q lent)
+  -- a refusal is the call's own
+  pub same-refusal : (k : ℕ) → (k ≡ 0 → ⊥) → beforeTen m o .number ≡ k → (o .number ≡ k) × (o .mask ≡ beforeTen m o .mask)
+  same-refusal k not-zero = go (eqb (o .number) 10)
     where
-      of-job : Verdict (jobOf t) lent o → length lent < cellsNeeded (length (jobOf t .axes)) (o .arrival)
-      of-job (refused3 a r) = let z = r .number in absurd (omega arith)
-      of-job (refused4 i a b r) = let z = r .number in absurd (omega arith)
-      of-job (refused12 i a b c r) = let z = r .number in absurd (omega arith)
-      of-job (refused5 i a b c d r) = let z = r .number in absurd (omega arith)
-      of-job (refused15 i a b c d f r) = let z = r .number in absurd (omega arith)
-      of-job (refused6 i a b c d f g r) = let z = r .number in absurd (omega arith)
-      of-job (refused16 i a b c d f g h r) = let z = r .number in absurd (omega arith)
-      of-job (refused13 p a b c d r) = let z = r .number in absurd (omega arith)
-      of-job (refused8 n a b c w d f r) = let z = r .number in absurd (omega arith)
-      of-job (refused9 n a b w c d r) = let z = r .number in absurd (omega arith)
-      of-job (refused10 n a w b h r) = subst (λ (k : ℕ). length lent < cellsNeeded (length (jobOf t .axes)) k) (sym (r .arrival)) h
-      of-job (accepted n a w b c r) = let z = r .number in absurd (omega arith)
+      go : (b : Bool) → by-ten b .number ≡ k → (o .number ≡ k) × (o .mask ≡ by-ten b .mask)
+      go true e = absurd (not-zero (sym e))
+      go false e = (e, refl)
 
-      by : CallVerdict lent o q → length lent < cellsNeeded (length (jobOf t .axes)) (o .arrival)
-      by (typed1 t a r) = let z = r .number in absurd (omega arith)
-      by (typedJobs t a b v) = of-job v
+-- the table is too short for a job and an outcome's arrival
+abbrev Short : List ℤ → Outcome → Job → Type 0
+Short lent o j = length lent < cellsNeeded (length (j .axes)) (o .arrival)
 
-  pub job-accepted : answerOf t .number ≡ 0
-      → cellsNeeded (length (inputAxes q)) (answerOf t .arrival) ≤ length lent
-      → (o .number ≡ 0) × ((o .arrival ≡ answerOf t .arrival) × Demand3 (inputAxes q) (answerOf t .arrival) (o .cells))
+-- 10 comes where the table is too short, and there alone
+module _ (lent : List ℤ) (o : Outcome) (e : o .number ≡ 10) where
+  of-job : (j : Job) → Verdict j lent o → Short lent o j
+  of-job j (refused3 a r) = let z = r .number in absurd (omega arith)
+  of-job j (refused4 i a b r) = let z = r .number in absurd (omega arith)
+  of-job j (refused12 i a b c r) = let z = r .number in absurd (omega arith)
+  of-job j (refused5 i a b c d r) = let z = r .number in absurd (omega arith)
+  of-job j (refused15 i a b c d f r) = let z = r .number in absurd (omega arith)
+  of-job j (refused6 i a b c d f g r) = let z = r .number in absurd (omega arith)
+  of-job j (refused16 i a b c d f g h r) = let z = r .number in absurd (omega arith)
+  of-job j (refused13 p a b c d r) = let z = r .number in absurd (omega arith)
+  of-job j (refused8 n a b c w d f r) = let z = r .number in absurd (omega arith)
+  of-job j (refused9 n a b w c d r) = let z = r .number in absurd (omega arith)
+  of-job j (refused10 n a w b h r) = subst (λ (k : ℕ). length lent < cellsNeeded (length (j .axes)) k) (sym (r .arrival)) h
+  of-job j (accepted n a w b c r) = let z = r .number in absurd (omega arith)
+
+  ten-short : (q : Input) → CallVerdict lent o q → Short lent o (inputJob q)
+  ten-short q (words1 ws a r) = let z = r .number in absurd (omega arith)
+  ten-short q (words2 ws p a r) = let z = r .number in absurd (omega arith)
+  ten-short q (words14 ws p a b r) = let z = r .number in absurd (omega arith)
+  ten-short q (wordsJob ws j d v) = subst (Short lent o) (sym (ap jobRead d)) (of-job j v)
+  ten-short q (typed1 t a r) = let z = r .number in absurd (omega arith)
+  ten-short q (typedJobs t a b v) = of-job (jobOf t) v
+
+module _ (q : Input) (lent : List ℤ) where
+  abbrev o : Outcome
+  o = call q lent
+
+  pub job-accepted : answerOf q .number ≡ 0
+      → cellsNeeded (length (inputAxes q)) (answerOf q .arrival) ≤ length lent
+      → (o .number ≡ 0) × ((o .arrival ≡ answerOf q .arrival) × Demand3 (inputAxes q) (answerOf q .arrival) (o .cells))
   job-accepted z room =
-      let n = answerOf t .arrival in
-      let arrives : o .arrival ≡ n = sym same-arrival ∙ ap (λ (a : Answer). a .arrival) same-answer in
-      let number = go arrives (zero-or-ten (ap (λ (a : Answer). a .number) same-answer ∙ z)) in
+      let n = answerOf q .arrival in
+      let same = same-answer q lent in
+      let m = inputJob q .mask in
+      let arrives : o .arrival ≡ n = sym (same-arrival m o) ∙ ap (λ (a : Answer). a .arrival) same in
+      let number = go arrives (zero-or-ten m o (ap (λ (a : Answer). a .number) same ∙ z)) in
       (number, (arrives, subst (λ (k : ℕ). Demand3 (inputAxes q) k (o .cells)) arrives (demand3 q lent number)))
     where
-      go : o .arrival ≡ answerOf t .arrival → (o .number ≡ 10) ⊎ (o .number ≡ 0) → o .number ≡ 0
+      go : o .arrival ≡ answerOf q .arrival → (o .number ≡ 10) ⊎ (o .number ≡ 0) → o .number ≡ 0
       go a (inr e) = e
       go a (inl e) =
-          let short = ten-short e in
-          let count : length (inputAxes q) ≡ length (jobOf t .axes) = length-map (jobOf t .axes) (λ x. x .axis) in
-          let enough = subst (λ (k : ℕ). cellsNeeded k (answerOf t .arrival) ≤ length lent) count room in
-          let enough' = subst (λ (k : ℕ). cellsNeeded (length (jobOf t .axes)) k ≤ length lent) (sym a) enough in
+          let short = ten-short lent o e q (call-verdict q lent) in
+          let count : length (inputAxes q) ≡ length (inputJob q .axes) = length-map (inputJob q .axes) (λ x. x .axis) in
+          let enough = subst (λ (k : ℕ). cellsNeeded k (answerOf q .arrival) ≤ length lent) count room in
+          let enough' = subst (λ (k : ℕ). cellsNeeded (length (inputJob q .axes)) k ≤ length lent) (sym a) enough in
           absurd (not-below short enough')

@@ -39,7 +39,7 @@ set-rising (suc c) i m = go (eqb (m % 2) 1) (set-rising c (suc i) (m / 2))
     go true h = (omega arith, h)
     go false h = rising-from i (suc i) (setFrom c (suc i) (m / 2)) (omega arith) h
 
-set-ascends : (i m : ℕ) (six : List Axis) → Ascends i (setAxes i m six)
+pub set-ascends : (i m : ℕ) (six : List Axis) → Ascends i (setAxes i m six)
 set-ascends i m [] = tt
 set-ascends i m (x ∷ six) = go (eqb (m % 2) 1) (set-ascends (suc i) (m / 2) six)
   where

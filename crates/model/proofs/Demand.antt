@@ -12,11 +12,11 @@ use Rattle.model.specs.declared.Axis.{Axis}
 use Rattle.whole.specs.Integers.{nearest}
 use Rattle.model.specs.Rows.{track, cells, table}
 use Rattle.model.specs.Job.{Job, JobAxis, axesOf, jobOf}
-use Rattle.model.specs.Words.{Decoded, noMask, badWord, badLong, job}
+use Rattle.model.specs.Words.{Decoded}
 use Rattle.model.specs.Motion.{reachable}
 use Rattle.model.specs.Demand.{tableIn, cellAt, positionCell, velocityCell, accelerationCell, Lands, Carries, SwayCancelled}
 use Rattle.model.specs.Demand.{sway, Demand3, Demand3Holds, CellLimits, CellLimitsHold, ExactStart, ExactStartHolds}
-use Rattle.model.specs.Outcome.{Outcome, Input, call, inputAxes, cellsNeeded}
+use Rattle.model.specs.Outcome.{Outcome, Input, call, jobRead, inputAxes, cellsNeeded}
 use Rattle.whole.proofs.Tests.{T-true}
 use Rattle.whole.proofs.Elements.{at-below, element}
 use Rattle.model.proofs.CellPlaces.{table-length, table-at}
@@ -155,10 +155,6 @@ module _ (xs : List Axis) (n : ℕ) (lent rest : List ℤ) (is : lent ≡ table 
         velocities = λ i x e. velocity-is i x e 0 (omega arith) ∙ S.start-velocity x n (ready i x e);
       }
 
--- the axes of what the words are read as
-abbrev axesRead : Decoded → List Axis
-axesRead d = elim d [ noMask ↦ [] | badWord p ↦ [] | badLong p ↦ [] | job j ↦ axesOf j ]
-
 -- an axis of a job without its number
 unnumbered : (l : List JobAxis) (i : ℕ) (x : Axis) → getElem? (map (λ y. y .axis) l) i ≡ some x → (y : JobAxis) × (Among l y × (y .axis ≡ x))
 unnumbered [] i x e = absurd (let z : _≡_ {A = ℕ} 0 1 = cc in omega arith)
@@ -203,7 +199,7 @@ module _ (Claim : List Axis → ℕ → List ℤ → Type 0)
   by-call q lent o (words2 ws p a e) z = absurd (let n = e .number in omega arith)
   by-call q lent o (words14 ws p a b e) z = absurd (let n = e .number in omega arith)
   by-call q lent o (wordsJob ws j d v) z =
-      subst (λ (xs : List Axis). Claim xs (o .arrival) (o .cells)) (sym (ap axesRead d)) (by-verdict j lent o v z)
+      subst (λ (xs : List Axis). Claim xs (o .arrival) (o .cells)) (sym (ap (λ (r : Decoded). axesOf (jobRead r)) d)) (by-verdict j lent o v z)
   by-call q lent o (typed1 t a e) z = absurd (let n = e .number in omega arith)
   by-call q lent o (typedJobs t a b v) z = by-verdict (jobOf t) lent o v z
 

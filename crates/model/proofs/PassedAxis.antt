@@ -43,8 +43,14 @@ module _ (x : Axis) (p : Passed x) where
   pub speed-limit : speedLimit x ≤ 1048576
   speed-limit = at-most 1 1048576 (speedLimit x) (limits .0)
 
+  pub some-speed : 1 ≤ speedLimit x
+  some-speed = at-least 1 1048576 (speedLimit x) (limits .0)
+
   pub some-acceleration : 0 < accelerationLimit x
   some-acceleration = at-least 1 65536 (accelerationLimit x) (limits .1)
+
+  pub acceleration-limit : accelerationLimit x ≤ 65536
+  acceleration-limit = at-most 1 65536 (accelerationLimit x) (limits .1)
 
   pub half-period : halfPeriod x ≤ 256
   half-period = at-most 0 256 (halfPeriod x) (blend .0)

@@ -1,8 +1,10 @@
--- The starred field cases A to J, cases of laser windows and cases of a second sway, by computing the definitions.
+-- The starred field cases A to J, cases of laser windows, of a second sway and of raises, by computing the definitions.
 use mathlib.Core.Path.{refl}
 use Rattle.model.specs.Quantities.{finer}
 use Rattle.model.specs.Leg.{cruise}
-use Rattle.model.specs.Cases.{Starred, WindowCasesHold, SwayCasesHold}
+use Rattle.model.specs.Outcome.{answerOf}
+use Rattle.model.specs.Raises.{raiseOf, raisesCall}
+use Rattle.model.specs.Cases.{Starred, WindowCasesHold, SwayCasesHold, RaisesCasesHold}
 
 pub starred : Starred
 unfolding cruise finer
@@ -15,3 +17,7 @@ window-cases = refl
 pub sway-cases : SwayCasesHold
 unfolding cruise finer
 sway-cases = refl
+
+pub raises-cases : RaisesCasesHold
+unfolding finer answerOf raiseOf raisesCall
+raises-cases = refl

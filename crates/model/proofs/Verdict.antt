@@ -30,10 +30,10 @@ use Rattle.model.proofs.Reaches.{reachable-is}
 
 -- ---- members
 
-first-among : (y : JobAxis) (l : List JobAxis) → Among (y ∷ l) y
+pub first-among : (y : JobAxis) (l : List JobAxis) → Among (y ∷ l) y
 first-among y l = (zero, refl)
 
-later-among : (y : JobAxis) (l : List JobAxis) (x : JobAxis) → Among l x → Among (y ∷ l) x
+pub later-among : (y : JobAxis) (l : List JobAxis) (x : JobAxis) → Among l x → Among (y ∷ l) x
 later-among y l x m = (suc (m .0), m .1)
 
 -- a fact of the first and of the later members is one of all

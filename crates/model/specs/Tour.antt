@@ -15,7 +15,7 @@ use Rattle.model.specs.declared.TourSettings.{TourSettings}
 use Rattle.model.specs.declared.TourAnswer.{TourAnswer}
 use Rattle.model.specs.declared.Job.{Job}
 use Rattle.model.specs.Windows.{noWindows}
-use Rattle.model.specs.Outcome.{answerOf}
+use Rattle.model.specs.Outcome.{typed, answerOf}
 
 -- ---- a leg
 
@@ -43,7 +43,7 @@ abbrev pub legJob : TourSettings → List ℤ → List ℤ → Job
 legJob t here there = record { mask = t .mask; asked = 0; axes = legAxes (t .limits) here there; windows = noWindows }
 
 abbrev pub legAnswer : TourSettings → List ℤ → List ℤ → Answer
-legAnswer t here there = answerOf (legJob t here there)
+legAnswer t here there = answerOf (typed (legJob t here there))
 
 -- ---- all legs
 

@@ -2,7 +2,7 @@
 -- definitions with no table lent.
 use Prim.Native.Nat.{ℕ, zero, suc, _≤_}
 use native.Mathlib.Omega.{arith}
-use mathlib.Core.Path.{_≡_, refl, sym, ap, _∙_}
+use mathlib.Core.Path.{_≡_, refl, sym, ap, ap₂, _∙_}
 use mathlib.Core.Bool.{Bool, true, false, false≢true}
 use mathlib.Core.Option.{Option, none, some}
 use mathlib.Core.List.{List, [], _∷_}
@@ -16,18 +16,20 @@ use Rattle.model.specs.declared.Job as Typed
 use Rattle.model.specs.declared.Windows.{Windows}
 use Rattle.model.specs.Windows.{refused13}
 use Rattle.model.specs.Job.{Job, JobAxis, jobOf}
-use Rattle.model.specs.Words.{goodMask}
+use Rattle.model.specs.Words.{Decoded, noMask, badWord, badLong, job, decode, goodMask}
 use Rattle.model.specs.Refusals.{lastTick, AllPassed}
 use Rattle.model.specs.Outcome.{Outcome, outcomeOf, refuse, accept, filled, jobOutcome, cellsNeeded, firstAxis}
-use Rattle.model.specs.Outcome.{axisRefusals, leastFrom, allReach, beforeTen, answerOf}
+use Rattle.model.specs.Outcome.{axisRefusals, leastFrom, allReach, words, typed, jobRead, inputJob, beforeTen, answerOf}
 use Rattle.model.proofs.BeforeTen.{before-filled}
+use Rattle.words.specs.declared.DecodedJob.{DecodedJob}
+use Rattle.words.specs.Decoding.{decodedJob, Decodes}
 use Rattle.arrival.specs.declared.Arrival.{Arrival}
 use Rattle.arrival.specs.Arrivals.{leastOr, askedOr, arrivesIn, arrivalFor}
 use Rattle.planner.specs.declared.Refusal.{Refusal}
 use Rattle.planner.specs.Stages.{windowRefusal, firstRefusal, checkedFor, Settled}
 use Rattle.planner.specs.Promise.{Answered}
 use Rattle.planner.proofs.Checks.{Lacks, lacks}
-use Rattle.planner.proofs.Calls.{mask-refused, mask-passed}
+use Rattle.planner.proofs.Calls.{mask-refused, mask-passed, words-refused, words-passed}
 
 -- ---- where the stage ends
 
@@ -100,6 +102,31 @@ module _ (t : Typed.Job) (r : Answer) where
         is = e ∙ ap (beforeTen (t .mask)) (mask-refused t [] bad);
         last = let a = ap (λ (s : Answer). s .arrival) e in omega arith;
       }
+
+-- ---- words: the answer, and the job, are those of the typed values that the words hold
+
+module _ (ws : List ℕ) (d : DecodedJob) (is : Decodes ws d) where
+  pub job-of-words : d .number ≡ 0 → jobOf (d .job) ≡ inputJob (words ws)
+  job-of-words z = sym (ap jobRead (is .typed z))
+
+  pub answer-of-words : d .number ≡ 0 → answerOf (typed (d .job)) ≡ answerOf (words ws)
+  unfolding answerOf
+  answer-of-words z = ap₂ (λ (j : Job). beforeTen (j .mask)) (job-of-words z) (words-passed ws [] d is z)
+
+  pub refusal-of-words : (d .number ≡ 0 → ⊥) → record { number = d .number; place = d .place; mask = 0; arrival = 0 } ≡ answerOf (words ws)
+  unfolding answerOf
+  refusal-of-words h =
+      sym (before-ten (inputJob (words ws) .mask) (record { number = d .number; place = d .place; mask = 0; arrival = 0 }) not-ten)
+      ∙ ap (beforeTen (inputJob (words ws) .mask)) (words-refused ws [] d is h)
+    where
+      not-ten : d .number ≡ 10 → ⊥
+      not-ten e = absurd (go (decode ws) (sym (ap (λ (r : DecodedJob). r .number) (is .decoded)) ∙ e))
+        where
+          go : (w : Decoded) → decodedJob w .number ≡ 10 → ⊥
+          go noMask e = omega arith
+          go (badWord p) e = omega arith
+          go (badLong p) e = omega arith
+          go (job j) e = omega arith
 
 -- ---- no check and no search answers 10
 

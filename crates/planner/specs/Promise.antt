@@ -9,7 +9,7 @@ use Rattle.model.specs.declared.Answer.{Answer}
 use Rattle.model.specs.declared.Job.{Job}
 use Rattle.model.specs.Job.{setBits}
 use Rattle.model.specs.Refusals.{lastTick}
-use Rattle.model.specs.Outcome.{Input, outcomeOf, call, inputAxes, cellsNeeded, answerOf}
+use Rattle.model.specs.Outcome.{Input, typed, outcomeOf, call, inputAxes, cellsNeeded, answerOf}
 use Rattle.model.specs.Demand.{Demand3}
 
 -- the rows are in the lent table: a caller may walk them by the mask and the arrival of the answer
@@ -30,5 +30,5 @@ pub record Promise (q : Input) (entry : List ℤ) (r : Answer) (exit : List ℤ)
 
 -- what `answer_of` promises: the answer to a job of typed values before refusal 10
 pub record Answered (t : Job) (r : Answer) : Type 0 where
-  pub is : r ≡ answerOf t
+  pub is : r ≡ answerOf (typed t)
   pub last : r .arrival ≤ lastTick

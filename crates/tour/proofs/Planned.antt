@@ -16,6 +16,7 @@ use Rattle.model.specs.declared.TourSettings.{TourSettings}
 use Rattle.model.specs.Tour.{Legs, TourOutcome, legJob, legAnswer, legsFrom, refusedLeg, refuseTour, arrivalsOver, afterLegs, firstLongDwell, dwellsChecked, stopsChecked, mostStops, tourOutcome}
 use Rattle.tour.specs.Rows.{noStop}
 use Rattle.tour.specs.Promise.{leavesFrom, departsAt, legTo, LegPlanned}
+use Rattle.model.specs.Outcome.{typed}
 use Rattle.model.proofs.BeforeTen.{job-accepted}
 
 -- ---- the arrivals m of the stops ss, the first leg leaving `here` at tick n, and the total
@@ -64,7 +65,7 @@ module _ (t : TourSettings) where
       record {
         ticks = legAnswer t here (s .positions) .arrival;
         arrival = ap (λ (k : List ℕ). getD (k ++ e) 0 0) q;
-        job = λ lent room. job-accepted (legJob t here (s .positions)) lent z room;
+        job = λ lent room. job-accepted (typed (legJob t here (s .positions))) lent z room;
       }
   at (s ∷ ss) n here m e total (z, (m', (q, p))) (suc i) h =
       subst (λ (k : List ℕ). LegPlanned t here n (s ∷ ss) (k ++ e) (suc i)) (sym q)

@@ -1,10 +1,10 @@
 //! The calls of the static library, as include/polgamir.h declares them.
 
-use crate::reference::{Answer, Axis, Damping, Job, Stop, Target, Tour, Toured, Window, Windows};
+use crate::reference::{Answer, Axis, Damping, Job, Raise, Raised, Stop, Target, Tour, Toured, Window, Windows};
 
 /// `polgamir_answer`.
 #[repr(C)]
-struct CAnswer {
+pub struct CAnswer {
     number: u32,
     mask: u32,
     place: u64,
@@ -263,4 +263,70 @@ pub fn plan_tour(tour: &Tour, stops: &[Stop], list: &mut [u32]) -> Toured {
         0 => Ok(total),
         _ => Err(Answer { number, place, mask, arrival }),
     }
+}
+
+/// `polgamir_raise`: a limit, and what is added to it.
+#[repr(C)]
+#[derive(Clone, Copy)]
+pub struct CRaise {
+    pub limit: u32,
+    pub by: u32,
+}
+
+/// `polgamir_axis_raises`.
+#[repr(C)]
+pub struct CAxisRaises {
+    pub first: CRaise,
+    pub second: CRaise,
+}
+
+/// `polgamir_raises`.
+#[repr(C)]
+pub struct CRaises {
+    pub answer: CAnswer,
+    pub axes: [CAxisRaises; 6],
+}
+
+extern "C" {
+    fn polgamir_raises_words(words: *const u32, word_count: usize) -> CRaises;
+    fn polgamir_raises_job(job: CJob) -> CRaises;
+}
+
+/// What a call for raises returned: the raises of the axes that its answer names. Every other place is empty.
+fn raised(of: CRaises) -> Raised {
+    let answer = answer(of.answer);
+    let named = if answer.number == 8 { answer.mask } else { 0 };
+    let mut list = Vec::new();
+    for (i, axis) in of.axes.iter().enumerate() {
+        let places = [axis.first, axis.second];
+        let raises: Vec<Raise> = places.iter().map_while(CRaise::raise).collect();
+        assert!(places[raises.len()..].iter().all(|raise| (raise.limit, raise.by) == (0, 0)), "axis {i}");
+        if named >> i & 1 == 1 {
+            list.push((i, raises));
+        } else {
+            assert!(raises.is_empty(), "axis {i} is not named");
+        }
+    }
+    (answer, list)
+}
+
+impl CRaise {
+    fn raise(&self) -> Option<Raise> {
+        match self.limit {
+            0 => None,
+            1 => Some(Raise::Acceleration(self.by)),
+            2 => Some(Raise::Speed(self.by)),
+            other => panic!("{other} is no limit"),
+        }
+    }
+}
+
+/// The raises for job words.
+pub fn raises_of_words(words: &[u32]) -> Raised {
+    raised(unsafe { polgamir_raises_words(words.as_ptr(), words.len()) })
+}
+
+/// The raises for typed values, with `fill` where nothing is looked at.
+pub fn raises(job: &Job, fill: u64) -> Raised {
+    raised(unsafe { polgamir_raises_job(CJob::of(job, fill)) })
 }

@@ -3,7 +3,9 @@
 use std::str::{FromStr, SplitAsciiWhitespace};
 
 use crate::library;
-use crate::reference::{self, Answer, Axis, Damping, Job, Single, Stop, Target, Tour, Toured, Windows, UNSET};
+use crate::reference::{
+    self, Answer, Axis, Damping, Job, Raise, Raised, Single, Stop, Target, Tour, Toured, Windows, UNSET,
+};
 
 /// The tokens of a part of a line, one after the other.
 pub struct Tokens<'a>(SplitAsciiWhitespace<'a>);
@@ -164,6 +166,23 @@ impl<'a> Tokens<'a> {
     }
 }
 
+impl Tokens<'_> {
+    /// The raises that are expected.
+    pub fn raises(&mut self) -> Vec<(usize, Vec<Raise>)> {
+        self.is("raises");
+        self.counted(|tokens| {
+            tokens.is("axis");
+            let bit = tokens.number();
+            let raises = tokens.counted(|tokens| match tokens.word() {
+                "M" => Raise::Acceleration(tokens.number()),
+                "L" => Raise::Speed(tokens.number()),
+                other => panic!("{other} is no limit"),
+            });
+            (bit, raises)
+        })
+    }
+}
+
 /// A job as it is given to a call.
 pub enum Given {
     Words(Vec<u32>),
@@ -185,6 +204,16 @@ impl Given {
             (Given::Words(words), Side::Reference) => reference::plan_words(words, table),
             (Given::Typed(job), Side::Library) => library::plan_typed(job, table),
             (Given::Typed(job), Side::Reference) => job.plan(table),
+        }
+    }
+
+    /// The call for raises.
+    pub fn raises(&self, side: Side) -> Raised {
+        match (self, side) {
+            (Given::Words(words), Side::Library) => library::raises_of_words(words),
+            (Given::Words(words), Side::Reference) => reference::raises_of_words(words),
+            (Given::Typed(job), Side::Library) => library::raises(job, 0),
+            (Given::Typed(job), Side::Reference) => job.raises(),
         }
     }
 }

@@ -3,7 +3,7 @@
 
 use std::mem::{offset_of, size_of};
 
-use outside::library::{version, CAxis, CJob, CWindow, CWindows};
+use outside::library::{version, CAxis, CAxisRaises, CJob, CRaise, CRaises, CWindow, CWindows};
 
 #[test]
 fn structs_are_laid_out_as_in_c() {
@@ -46,6 +46,20 @@ fn structs_are_laid_out_as_in_c() {
         size_of::<CJob>(),
     ];
     assert_eq!(job, [0, 4, 8, 584, 856]);
+}
+
+#[test]
+fn raises_are_laid_out_as_in_c() {
+    let raises = [
+        offset_of!(CRaises, answer),
+        offset_of!(CRaises, axes),
+        offset_of!(CAxisRaises, first),
+        offset_of!(CAxisRaises, second),
+        offset_of!(CRaise, limit),
+        offset_of!(CRaise, by),
+        size_of::<CRaises>(),
+    ];
+    assert_eq!(raises, [0, 24, 0, 8, 0, 4, 120]);
 }
 
 /// A file of the repository.

@@ -79,3 +79,13 @@ fn second_sways() {
         other => panic!("{other} is no call"),
     });
 }
+
+#[test]
+fn raises() {
+    every_case("raises.txt", |side, call, expected| {
+        call.is("raises");
+        let (answer, raises) = call.given().raises(side);
+        expected.answer(answer);
+        assert_eq!(raises, expected.raises());
+    });
+}

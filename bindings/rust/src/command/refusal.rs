@@ -2,8 +2,8 @@
 
 use polgamir::sheet::{Sheet, SheetLine, TourSheet};
 use polgamir::{
-    Arrival, AxisMask, Damping, Refusal, TourRefusal, Window, Windows, WordKind, AXES, LATEST_ARRIVAL, LONGEST_DWELL,
-    MOST_STOPS, MOST_WINDOWS,
+    Arrival, AxisMask, Damping, Raise, Refusal, TourRefusal, Window, Windows, WordKind, AXES, LATEST_ARRIVAL,
+    LONGEST_DWELL, MOST_STOPS, MOST_WINDOWS,
 };
 
 /// The refusal's line as the table program prints it, what is wrong, which line of the crew's sheet to look at and what to turn,
@@ -12,10 +12,34 @@ pub fn explained(sheet: &Sheet, refusal: &Refusal) -> String {
     let look_at = SheetLine::after(refusal).text();
     let (cause, remedy) = (cause(sheet, refusal), remedy(sheet, refusal));
     let mut text = format!("{}\n{cause}\nlook at \"{look_at}\": {remedy}\n", refusal.printed_line());
-    for line in lines(sheet, refusal) {
+    for line in raise_lines(sheet, refusal).into_iter().chain(lines(sheet, refusal)) {
         text += &(line + "\n");
     }
     text
+}
+
+/// For each axis that cannot arrive at the asked tick, which limit to raise and by how much so that it can.
+fn raise_lines(sheet: &Sheet, refusal: &Refusal) -> Vec<String> {
+    if !matches!(refusal, Refusal::NotReachable { .. }) {
+        return Vec::new();
+    }
+    let (tick, raises) = (sheet.job.arrival.number(), sheet.job.raises());
+    let told = raises.axes().filter_map(|(number, raises)| {
+        let (title, axis) = (sheet.axis_title(number), sheet.job.axes[number].as_ref()?);
+        let to = |raise: Raise| format!("by {} to {}", raise.by, raise.raised(axis));
+        Some(match (raises.first, raises.second) {
+            (Some(first), Some(second)) => format!(
+                "{title}: to arrive at tick {tick} raise the {} {}, or the {} {}",
+                first.limit,
+                to(first),
+                second.limit,
+                to(second)
+            ),
+            (Some(only), None) => format!("{title}: to arrive at tick {tick} raise the {} {}", only.limit, to(only)),
+            _ => format!("{title}: no speed limit and no acceleration limit alone would let it arrive at tick {tick}"),
+        })
+    });
+    told.collect()
 }
 
 /// The same of a tour: a leg's refusal is that of its job, whose positions are those of the stops.

@@ -92,12 +92,20 @@ impl Job {
         })
     }
 
-    /// The arrival that a typed job finds, or its refusal, with no table asked for.
-    pub fn least_arrival(&self) -> Result<u32, Answer> {
+    /// The arrival of a typed job, or its refusal, with no table asked for.
+    pub fn arrival_or_refusal(&self) -> Result<u32, Answer> {
         if !(1..=63).contains(&self.mask) {
             return Err(refusal(1, 0, 0, 0));
         }
         self.arrival().map(|arrival| arrival as u32)
+    }
+
+    /// The answer of a call with typed values that needs no table.
+    pub fn answer_before_ten(&self) -> Answer {
+        match self.arrival_or_refusal() {
+            Ok(arrival) => Answer { number: 0, place: 0, mask: self.mask, arrival },
+            Err(refused) => refused,
+        }
     }
 
     /// The planned motions of an accepted job's axes.

@@ -48,7 +48,7 @@ impl Tour {
         let mut left = 0;
         let mut arrivals = Vec::new();
         for (place, stop) in stops.iter().enumerate() {
-            let leg = self.leg(&from, &stop.positions).least_arrival();
+            let leg = self.leg(&from, &stop.positions).arrival_or_refusal();
             let ticks = leg.map_err(|refused| Answer { place: place as u64, ..refused })?;
             arrivals.push(left + ticks);
             left += ticks + stop.dwell;
