@@ -86,6 +86,7 @@ uint32_t polgamir_version(void);
  *  6  Start or target velocity exceeds L in size, target acceleration exceeds M in size, target tick exceeds 4,096 in size, or a
  *     typed position is outside -17,179,869,184 to 17,179,869,183; the place is the axis.
  * 16  The target accelerates on an axis with a second half period; the place is the axis.
+ * 17  A fixed target has a velocity that is not 0; of the converter, only where the least arrival is sought; the place is the axis.
  * 13  The window list is empty (place 0); there are more than 32 windows, or then the dwell is above 4,096 (place 32); then a
  *     window's closing is not above its opening, or it opens before the previous one closes (the place is the first such window).
  *  8  The asked arrival is not reachable for every axis, or fits no window; the mask names the axes for which it is not reachable,
@@ -93,7 +94,7 @@ uint32_t polgamir_version(void);
  *  9  No common arrival is asked for and none exists in 1 to 4,096, or none that fits a window; the mask, perhaps 0, names axes that
  *     alone reach none, whatever the windows.
  * 10  The lent table has fewer than 3 * axes * (N + 1) cells; the arrival is N. Of a tour, the lent list is shorter than the stops;
- *     the place is the number of stops.
+ *     the place is the number of stops. Of the converter, fewer words are lent than it needs; the place is the number needed.
  *
  * L is the speed limit, 1 to 1,048,576; M the acceleration limit, 1 to 65,536; h the half period, 0 to 256 ticks, 0 meaning no
  * blend; B the second weight, 1 to 128; a second half period is 1 to 256 ticks, and none is no number. A place that is an axis is the
@@ -112,6 +113,7 @@ enum polgamir_number {
     POLGAMIR_REFUSED_SECOND_HALF_PERIOD = 15,
     POLGAMIR_REFUSED_START_OR_TARGET = 6,
     POLGAMIR_REFUSED_ACCELERATION = 16,
+    POLGAMIR_REFUSED_FLYING_TARGET = 17,
     POLGAMIR_REFUSED_WINDOWS = 13,
     POLGAMIR_REFUSED_NOT_REACHABLE = 8,
     POLGAMIR_REFUSED_NO_COMMON_ARRIVAL = 9,
@@ -136,10 +138,11 @@ static inline const char *polgamir_refusal_text(uint32_t number)
         return "a velocity is above the speed limit, the target acceleration is above the acceleration limit, the target tick is "
                "more than 4096 ticks from tick 0, or a position is not -17179869184 to 17179869183";
     case POLGAMIR_REFUSED_ACCELERATION: return "the target accelerates on an axis with a second half period";
+    case POLGAMIR_REFUSED_FLYING_TARGET: return "a fixed target has a velocity that is not 0";
     case POLGAMIR_REFUSED_WINDOWS: return "windows are lacking, more than 32, out of order or closed at once, or the dwell is above 4096";
     case POLGAMIR_REFUSED_NOT_REACHABLE: return "not every axis can arrive at the asked tick, or it fits no window";
     case POLGAMIR_REFUSED_NO_COMMON_ARRIVAL: return "no tick from 1 to 4096 suits every axis and fits a window where some are given";
-    case POLGAMIR_REFUSED_TABLE_TOO_SHORT: return "the table is too short for rows 0 to the arrival, or the list for a tour's stops";
+    case POLGAMIR_REFUSED_TABLE_TOO_SHORT: return "the table is too short for rows 0 to the arrival, the list for a tour's stops, or the words for the converter";
     default: return "a number that this header does not have";
     }
 }
@@ -163,8 +166,9 @@ typedef struct polgamir_answer {
  * where each tick starts from its own row. Row 0 has the start's position and velocity exactly, row N the target's position,
  * velocity and acceleration at tick N. No velocity cell exceeds 256 * L in size and no acceleration cell 256 * M.
  *
- * After row N the head goes on with its target: uniformly where the target is fixed, with the acceleration of row N where it
- * moves. On a pole that swings as was entered, at one rate or at two, the motion then leaves no sway but that of the cells' rounding.
+ * After row N the head goes on with its target: it rests where the target is fixed, and moves on with the acceleration of row N
+ * where it moves. On a pole that swings as was entered, at one rate or at two, the motion then leaves no sway but that of the cells'
+ * rounding.
  *
  * How long it is. A call with 0 cells writes nothing and returns refusal 10 with N, or the refusal that the job gets with any
  * table; 3 * axes * (N + 1) cells are then enough, and POLGAMIR_MOST_CELLS for every job.
@@ -181,13 +185,27 @@ typedef struct polgamir_answer {
  *
  * A position that 28 bits do not hold has a word of kind 14 just before its word of kind 3 or 9: the payload of kind 14, -64 to 63,
  * times 2^28 plus the following payload read as unsigned is the position. A position that fits a single word has no word of kind 14.
- * The longest job has 81 words, 324 bytes. Refusals, in checking order: 1, 2, 14, 3, 4, 5, 15, 6, 16, 8, 9 and 10.
+ * The longest job has 81 words, 324 bytes. Refusals, in checking order: 1, 2, 14, 3, 4, 5, 15, 6, 16, 17, 8, 9 and 10.
  */
 polgamir_answer polgamir_plan_words(const uint32_t *words, size_t word_count, int64_t *table, size_t table_cells);
 
 /*
- * A fixed target is a position and a velocity, to hold at arrival and go on uniformly. A moving target has its position, velocity
- * and acceleration at the target tick.
+ * Converts an old job, from the time when a fixed target could have a velocity. A job with an asked arrival becomes one in which each
+ * such target is a moving one of acceleration 0 at that tick: right after its velocity come a word of kind 11 with payload 0 and a
+ * word of kind 12 with the asked arrival. All other words are copied, also where the least arrival is sought and no fixed target
+ * has a velocity. Whether the arrival can be reached is not looked at. polgamir_plan_words gives the converted job the answer and
+ * the table that the old one had.
+ *
+ * Writes to the first of the `lent_count` words at `lent` and returns number 0 with the number of words written as place; later words
+ * stay. Refusals, in checking order: 1, 2, 14, 3, 4, 5, 15, 6, 16, 17 (only where the least arrival is sought), and 10 with the
+ * number of words needed as place; a refused call writes nothing. Mask and arrival are 0. word_count + 12 words are always enough.
+ * `words` and `lent` do not overlap.
+ */
+polgamir_answer polgamir_convert(const uint32_t *words, size_t word_count, uint32_t *lent, size_t lent_count);
+
+/*
+ * A fixed target is a position to come to rest at: its velocity is 0. A moving target has its position, velocity and acceleration
+ * at the target tick.
  */
 enum polgamir_target_kind {
     POLGAMIR_FIXED = 0,
@@ -257,7 +275,7 @@ typedef struct polgamir_job {
 
 /*
  * Plans a job, and writes its table to the `table_cells` cells at `table`. Its refusals, in checking order, are 1, 3, 4, 12, 5, 15, 6,
- * 16, 13, 8, 9 and 10.
+ * 16, 17, 13, 8, 9 and 10.
  */
 polgamir_answer polgamir_plan_job(polgamir_job job, int64_t *table, size_t table_cells);
 

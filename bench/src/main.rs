@@ -205,11 +205,11 @@ fn tour(name: &str) {
 /// Prints the line of the raises for an asked arrival. Both sides must give the same.
 fn raise(name: &str, job: &Job) {
     let laid_out = CJob::of(job, 0);
-    assert_eq!(raises::library(laid_out).axes, raises::plain(job));
+    assert_eq!(raises::returned(library::raises_c_job(laid_out)), raises::plain(job));
     let rounds: Vec<(f64, f64)> = (0..41)
         .map(|_| {
-            let proved = batch(500, || raises::library(black_box(laid_out)).axes.len() as u32);
-            (proved, batch(500, || black_box(raises::plain(black_box(job))).len() as u32))
+            let proved = batch(500, || library::raises_c_job(black_box(laid_out)).axes[0].first.by);
+            (proved, batch(500, || black_box(raises::plain(black_box(job)))[0][0].1))
         })
         .collect();
     let least = |side: fn(&(f64, f64)) -> f64| rounds.iter().map(side).min_by(f64::total_cmp).unwrap_or(f64::NAN);

@@ -1,33 +1,17 @@
 //! The least raises of the limits that an asked arrival takes, of the library and of plain Rust.
 
-use outside::library::CJob;
+use outside::library::{CRaise, CRaises};
 use outside::reference::{Axis, Job};
 
 use crate::plain::{reaches, Engine};
 
-/// `polgamir_raise`: the limit, 1 for M and 2 for L, and what is added to it; 0 in both where there is none.
-#[repr(C)]
-#[derive(Debug, Clone, Copy, PartialEq, Default)]
-pub struct Raise {
-    limit: u32,
-    by: u32,
-}
+/// The limit, 1 for M and 2 for L, and what is added to it; 0 in both where there is none.
+type Raise = (u32, u32);
 
-/// `polgamir_raises`, its answer as words that are not looked at.
-#[repr(C)]
-pub struct Raises {
-    answer: [u64; 3],
-    pub axes: [[Raise; 2]; 6],
-}
-
-extern "C" {
-    fn polgamir_raises_job(job: CJob) -> Raises;
-}
-
-/// The library's call.
-pub fn library(job: CJob) -> Raises {
-    // The job passes by value, and the library has no state.
-    unsafe { polgamir_raises_job(job) }
+/// The raises that the library returned, as the plain side writes them.
+pub fn returned(raises: CRaises) -> [[Raise; 2]; 6] {
+    let pair = |raise: CRaise| (raise.limit, raise.by);
+    raises.axes.map(|axis| [pair(axis.first), pair(axis.second)])
 }
 
 /// The least raise of a limit that takes the axis to the tick, by halving: the limit as it is does not.
@@ -42,7 +26,7 @@ fn least(axis: &Axis, limit: u32, tick: u32) -> Raise {
     };
     let current = low;
     if !reaches(Engine::Areas, &with(high), tick) {
-        return Raise::default();
+        return (0, 0);
     }
     while low + 1 < high {
         let middle = (low + high) / 2;
@@ -51,20 +35,20 @@ fn least(axis: &Axis, limit: u32, tick: u32) -> Raise {
             false => low = middle,
         }
     }
-    Raise { limit, by: high - current }
+    (limit, high - current)
 }
 
 /// Both raises of an axis, the smaller first; one that does not exist is left out.
 fn both(axis: &Axis, tick: u32) -> [Raise; 2] {
     match [least(axis, 1, tick), least(axis, 2, tick)] {
-        [m, l] if m.by == 0 || l.by != 0 && l.by < m.by => [l, m],
+        [m, l] if m.1 == 0 || l.1 != 0 && l.1 < m.1 => [l, m],
         raises => raises,
     }
 }
 
 /// The raises in plain Rust, of a job that no refusal before 8 comes to.
 pub fn plain(job: &Job) -> [[Raise; 2]; 6] {
-    let mut raises = [[Raise::default(); 2]; 6];
+    let mut raises = [[(0, 0); 2]; 6];
     for (i, axis) in job.set() {
         if !reaches(Engine::Areas, axis, job.asked) {
             raises[i] = both(axis, job.asked);

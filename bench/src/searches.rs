@@ -9,24 +9,14 @@ pub fn out_of_reach() -> Job {
     Job { mask: 63, asked: 0, axes: [axis; 6], windows: None }
 }
 
-/// Six axes that lead each other on, in seven turns. Each starts at its speed limit and is to pass its target at that
-/// speed: it can from tick `straight` on, by going straight or with some braking, then no more, until there is time to
-/// turn back and come again. The axes are so ordered that where one can pass again, the one before it no longer can.
+/// Six axes that lead each other on, in one turn and another that moves nothing: each comes to rest some ticks later than the one
+/// before it can.
 pub fn in_turns() -> Job {
-    let passing = |speed: u32, straight: i64| {
-        let velocity = i64::from(speed);
-        let target = Target::Fixed { position: velocity * straight, velocity };
-        let limits = Axis { speed_limit: speed, acceleration_limit: 1, damping: Damping::Weight(128), ..UNSET };
-        Axis { start_velocity: velocity, target, ..limits }
+    let resting = |position: i64| {
+        let target = Target::Fixed { position, velocity: 0 };
+        Axis { speed_limit: 1_000, acceleration_limit: 1, damping: Damping::Weight(128), target, ..UNSET }
     };
-    let axes = [
-        passing(1_367, 1_097),
-        passing(762, 759),
-        passing(702, 699),
-        passing(645, 642),
-        passing(592, 589),
-        passing(535, 532),
-    ];
+    let axes = [2_450_000, 2_550_000, 2_650_000, 2_750_000, 2_850_000, 2_950_000].map(resting);
     Job { mask: 63, asked: 0, axes, windows: None }
 }
 

@@ -29,14 +29,15 @@ import enum
 import functools
 import operator
 import os
-from dataclasses import dataclass
+from dataclasses import dataclass, replace
 from pathlib import Path
 from typing import Dict, Iterator, Mapping, NamedTuple, Optional, Sequence, Tuple, Union
 
 __all__ = [
     "AXES", "FINE_STEPS", "LATEST_ARRIVAL", "LONGEST_DWELL", "MOST_CELLS", "MOST_STOPS", "MOST_WINDOWS", "Axis", "Damping", "Fixed", "Job",
-    "LibraryError", "Limit", "Motion", "Moving", "Number", "Peaks", "Plan", "Raise", "Ratio", "Refusal", "RestPoint", "Row", "Schedule",
-    "Stop", "Target", "Tour", "TourAxis", "Weight", "Window", "Windows", "in_units", "plan_words", "raises_words", "version",
+    "LibraryError", "Limit", "Motion", "Moving", "Number", "Peaks", "Plan", "Raise", "Raises", "Ratio", "Refusal", "RestPoint", "Row",
+    "Schedule", "Stop", "Target", "Tour", "TourAxis", "Weight", "Window", "Windows", "convert_words", "in_units", "plan_words",
+    "raises_words", "version",
 ]
 
 __version__ = "0.1.0"
@@ -86,6 +87,7 @@ class Number(enum.IntEnum):
     REFUSED_SECOND_HALF_PERIOD = 15
     REFUSED_START_OR_TARGET = 6
     REFUSED_ACCELERATION = 16
+    REFUSED_FLYING_TARGET = 17
     REFUSED_WINDOWS = 13
     REFUSED_NOT_REACHABLE = 8
     REFUSED_NO_COMMON_ARRIVAL = 9
@@ -108,10 +110,11 @@ _TEXTS: Dict[int, str] = {
         "more than 4096 ticks from tick 0, or a position is not -17179869184 to 17179869183"
     ),
     Number.REFUSED_ACCELERATION: "the target accelerates on an axis with a second half period",
+    Number.REFUSED_FLYING_TARGET: "a fixed target has a velocity that is not 0",
     Number.REFUSED_WINDOWS: "windows are lacking, more than 32, out of order or closed at once, or the dwell is above 4096",
     Number.REFUSED_NOT_REACHABLE: "not every axis can arrive at the asked tick, or it fits no window",
     Number.REFUSED_NO_COMMON_ARRIVAL: "no tick from 1 to 4096 suits every axis and fits a window where some are given",
-    Number.REFUSED_TABLE_TOO_SHORT: "the table is too short for rows 0 to the arrival, or the list for a tour's stops",
+    Number.REFUSED_TABLE_TOO_SHORT: "the table is too short for rows 0 to the arrival, the list for a tour's stops, or the words for the converter",
 }
 """What a number says, as `polgamir_refusal_text` of the header."""
 
@@ -266,13 +269,6 @@ class Job:
         room = _cells_needed(given.mask, min(given.asked or LATEST_ARRIVAL, LATEST_ARRIVAL))
         return _planned(room, lambda table, cells: _library().polgamir_plan_job(given, table, cells))
 
-    def raises(self) -> Dict[int, Tuple[Raise, ...]]:
-        """What to raise where the asked arrival is turned down with 8: for each axis named its raises, perhaps none, the smaller first.
-
-        A job that is accepted, and one whose asked arrival fits no window alone, has no axis named. Any other refusal is raised.
-        """
-        return _raises_of(_library().polgamir_raises_job(_job_of(self)))
-
     def arrival_found(self) -> int:
         """The arrival of the job's table, which is not written; raises a `Refusal`, never with 10."""
         answer = _library().polgamir_plan_job(_job_of(self), None, 0)
@@ -280,17 +276,18 @@ class Job:
             raise _refusal_of(answer)
         return answer.arrival
 
+    def raises(self) -> Raises:
+        """What to raise where the asked arrival is turned down with 8; no window is heeded."""
+        return _raises_of(_library().polgamir_raises_job(_job_of(self)))
+
 
 def plan_words(words: Sequence[int]) -> Plan:
     """Plans the job that 32-bit words hold, into a table of its own; raises a `Refusal`, never with 10."""
     given = _words_of(words)
-    return _planned(MOST_CELLS, lambda table, cells: _library().polgamir_plan_words(given, len(given), table, cells))
+    return _planned(MOST_CELLS, lambda table, cells: _library().polgamir_plan_words(given, len(words), table, cells))
 
 
-def raises_words(words: Sequence[int]) -> Dict[int, Tuple[Raise, ...]]:
-    """`Job.raises` of the job that words hold."""
-    given = _words_of(words)
-    return _raises_of(_library().polgamir_raises_words(given, len(given)))
+# --- Raises -----------------------------------------------------------------------------------------------------------------------------
 
 
 class Limit(enum.IntEnum):
@@ -301,10 +298,45 @@ class Limit(enum.IntEnum):
 
 
 class Raise(NamedTuple):
-    """The least that one limit alone has to be raised by for an axis to arrive; one less is not enough."""
+    """A raise of one limit, the other staying as it is: what is added to it, at least 1."""
 
     limit: Limit
     by: int
+
+    def applied(self, axis: Axis) -> Axis:
+        """The axis with its limit raised."""
+        if self.limit == Limit.ACCELERATION:
+            return replace(axis, acceleration_limit=axis.acceleration_limit + self.by)
+        return replace(axis, speed_limit=axis.speed_limit + self.by)
+
+
+class Raises(NamedTuple):
+    """The answer to a job, never 10, and where it is refusal 8 the raises of each axis that it names.
+
+    A raise is the least of its limit alone, within the limit's range, for which the axis can arrive: it is enough, and one less is not. The
+    smaller stands first, that of the acceleration limit if both are equal; a limit of whose range no value is enough has none.
+    """
+
+    arrival: Optional[int]
+    """The arrival, or none where the job is refused."""
+    refusal: Optional[Refusal]
+    axes: Mapping[int, Tuple[Raise, ...]]
+    """By the axis's number, lowest first; empty with any answer but 8."""
+
+
+def raises_words(words: Sequence[int]) -> Raises:
+    """What to raise where the arrival that 32-bit words ask for is turned down with 8."""
+    return _raises_of(_library().polgamir_raises_words(_words_of(words), len(words)))
+
+
+def convert_words(words: Sequence[int]) -> Tuple[int, ...]:
+    """The words of an old job with an asked arrival, whose fixed targets may fly, as words of a job in which they move; raises a `Refusal`."""
+    given = _words_of(words)
+    lent = (ctypes.c_uint32 * (len(given) + 2 * AXES))()
+    answer = _library().polgamir_convert(given, len(given), lent, len(lent))
+    if answer.number != Number.ACCEPTED:
+        raise _refusal_of(answer)
+    return tuple(lent[: answer.place])
 
 
 # --- Tables -----------------------------------------------------------------------------------------------------------------------------
@@ -529,6 +561,18 @@ class _Job(ctypes.Structure):
     ]
 
 
+class _Raise(ctypes.Structure):
+    _fields_ = [("limit", ctypes.c_uint32), ("by", ctypes.c_uint32)]
+
+
+class _AxisRaises(ctypes.Structure):
+    _fields_ = [("first", _Raise), ("second", _Raise)]
+
+
+class _Raises(ctypes.Structure):
+    _fields_ = [("answer", _Answer), ("axes", _AxisRaises * AXES)]
+
+
 class _Stop(ctypes.Structure):
     _fields_ = [("positions", ctypes.c_int64 * AXES), ("dwell", ctypes.c_uint32)]
 
@@ -562,31 +606,19 @@ class _TourAnswer(ctypes.Structure):
     ]
 
 
-class _Raise(ctypes.Structure):
-    _fields_ = [("limit", ctypes.c_uint32), ("by", ctypes.c_uint32)]
-
-
-class _AxisRaises(ctypes.Structure):
-    _fields_ = [("first", _Raise), ("second", _Raise)]
-
-
-class _Raises(ctypes.Structure):
-    _fields_ = [("answer", _Answer), ("axes", _AxisRaises * AXES)]
-
-
 _STRUCTS = {
     "polgamir_answer": _Answer,
     "polgamir_axis": _Axis,
     "polgamir_window": _Window,
     "polgamir_windows": _Windows,
     "polgamir_job": _Job,
+    "polgamir_raise": _Raise,
+    "polgamir_axis_raises": _AxisRaises,
+    "polgamir_raises": _Raises,
     "polgamir_stop": _Stop,
     "polgamir_limits": _Limits,
     "polgamir_tour": _Tour,
     "polgamir_tour_answer": _TourAnswer,
-    "polgamir_raise": _Raise,
-    "polgamir_axis_raises": _AxisRaises,
-    "polgamir_raises": _Raises,
 }
 """Every struct of the header. A test holds their fields to it."""
 
@@ -600,8 +632,9 @@ _CALLS = {
     "polgamir_version": (ctypes.c_uint32, []),
     "polgamir_plan_words": (_Answer, [_LIST, ctypes.c_size_t, _CELLS, ctypes.c_size_t]),
     "polgamir_plan_job": (_Answer, [_Job, _CELLS, ctypes.c_size_t]),
-    "polgamir_raises_words": (_Raises, [_LIST, ctypes.c_size_t]),
     "polgamir_raises_job": (_Raises, [_Job]),
+    "polgamir_raises_words": (_Raises, [_LIST, ctypes.c_size_t]),
+    "polgamir_convert": (_Answer, [_LIST, ctypes.c_size_t, _LIST, ctypes.c_size_t]),
     "polgamir_plan_tour": (_TourAnswer, [_Tour, ctypes.POINTER(_Stop), ctypes.c_size_t, _LIST, ctypes.c_size_t]),
 }
 """Every call of the header: what it returns and takes. A test holds the names to it: a call that the header gains gets its structs above, its
@@ -658,17 +691,17 @@ def _planned(room: int, call) -> Plan:
     return Plan(answer.arrival, answer.mask, cells[: _cells_needed(answer.mask, answer.arrival)])
 
 
-def _words_of(words: Sequence[int]) -> "ctypes.Array[ctypes.c_uint32]":
-    return (ctypes.c_uint32 * len(words))(*(_whole(word, 0, 2**32 - 1, "a job word") for word in words))
-
-
-def _raises_of(found: _Raises) -> Dict[int, Tuple[Raise, ...]]:
-    if found.answer.number not in (Number.ACCEPTED, Number.REFUSED_NOT_REACHABLE):
-        raise _refusal_of(found.answer)
-    if found.answer.number == Number.ACCEPTED:
-        return {}
-    entries = {axis: (found.axes[axis].first, found.axes[axis].second) for axis in _axes_of(found.answer.mask)}
-    return {axis: tuple(Raise(Limit(one.limit), one.by) for one in entry if one.limit) for axis, entry in entries.items()}
+def _raises_of(raises: _Raises) -> Raises:
+    """What a call for raises gave."""
+    answer = raises.answer
+    if answer.number == Number.ACCEPTED:
+        return Raises(answer.arrival, None, {})
+    named = _axes_of(answer.mask) if answer.number == Number.REFUSED_NOT_REACHABLE else ()
+    axes = {}
+    for number in named:
+        pair = (raises.axes[number].first, raises.axes[number].second)
+        axes[number] = tuple(Raise(Limit(raised.limit), raised.by) for raised in pair if raised.limit)
+    return Raises(None, _refusal_of(answer), axes)
 
 
 def _refusal_of(answer: Union[_Answer, _TourAnswer]) -> Refusal:
@@ -693,6 +726,10 @@ def _whole(value: int, least: int, greatest: int, name: str) -> int:
     if not least <= number <= greatest:
         raise ValueError(f"{name}: expected a whole number from {least} to {greatest}, found {number}")
     return number
+
+
+def _words_of(words: Sequence[int]) -> ctypes.Array[ctypes.c_uint32]:
+    return (ctypes.c_uint32 * len(words))(*(_whole(word, 0, 2**32 - 1, "a job word") for word in words))
 
 
 def _unsigned(value: int, name: str) -> int:

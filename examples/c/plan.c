@@ -1,6 +1,6 @@
 /*
- * Plans a job of two axes and walks the rows of its table, then shows a refusal and what to raise, an arrival in a window, one on a pole with
- * a joint, the same calls from job words, and a tour of two stops.
+ * Plans a job of two axes and walks the rows of its table, then shows a refusal and what to raise, an arrival in a window, one on a pole
+ * with a joint, the same calls from job words, and a tour of two stops.
  *
  *     make -C examples/c run
  */

@@ -135,7 +135,7 @@ static polgamir_job distinct(unsigned axis)
 /* The job is refused with this number, for this axis where the number names one. */
 static void refused(const char *what, unsigned axis, polgamir_job job, uint32_t number)
 {
-    bool names_axis = (number >= 4 && number <= 6) || number == 12 || number == 15 || number == 16;
+    bool names_axis = (number >= 4 && number <= 6) || number == 12 || (number >= 15 && number <= 17);
     uint32_t mask = number == 8 ? 1u << axis : 0;
     memset(table, 0x55, sizeof table);
     expect(is(polgamir_plan_job(job, table, CELLS), number, names_axis ? axis : number == 3, mask), what, axis);
@@ -171,6 +171,8 @@ static void reads_the_ends(unsigned axis)
     expect(table[3 * 300 + 2] == 0, "target acceleration", axis);
     expect(table[3 * 301] == 0x5555555555555555, "no cell after the last row", axis);
     job.axes[axis].target_kind = POLGAMIR_FIXED;
+    refused("a fixed target with a velocity", axis, job, 17);
+    job.axes[axis].target_velocity = 0;
     expect(accepted(job) && table[3 * 300] == 256 * 902, "a fixed target has no tick", axis);
     job = distinct(axis);
     job.axes[axis].target_acceleration = 3;
@@ -214,6 +216,7 @@ static void reads_the_limits(unsigned axis)
     job = distinct(axis);
     job.axes[axis].target_acceleration = 208;
     job.axes[axis].target_tick = 4097;
+    job.axes[axis].target_velocity = 0;
     job.axes[axis].target_kind = POLGAMIR_FIXED;
     expect(accepted(job), "a fixed target's acceleration and tick are not looked at", axis);
 }
@@ -303,6 +306,31 @@ static void reads_words_of_kind_13(void)
     expect(is(polgamir_plan_words(words, sizeof words / sizeof words[0], table, CELLS), 2, 7, 0), "kind 13 before kind 8", 0);
 }
 
+/* Field case F asked 39 and 2 as old words: 13 converted ones, which arrive at 39; nothing is written where they do not fit. */
+static void converts(void)
+{
+    uint32_t words[] = {
+        0x10000001, 0x20000027, 0x30000000, 0x4000000A, 0x50000014, 0x60000001,
+        0x70000000, 0x80000080, 0x9000000A, 0xA000000A, 0xF0000000,
+    };
+    const size_t count = sizeof words / sizeof words[0];
+    uint32_t lent[14] = {[13] = 7};
+    polgamir_answer answer = polgamir_convert(words, count, lent, 14);
+    expect(is(answer, 0, 13, 0) && answer.arrival == 0, "a conversion", 0);
+    expect(memcmp(lent, words, 40) == 0 && lent[10] == 0xB0000000 && lent[11] == 0xC0000027 && lent[12] == 0xF0000000,
+           "the converted words", 0);
+    expect(lent[13] == 7, "later words stay", 0);
+    answer = polgamir_plan_words(lent, 13, table, CELLS);
+    expect(is(answer, 0, 0, 1) && answer.arrival == 39 && table[117] == 2560, "a converted job is planned", 0);
+    expect(is(polgamir_plan_words(words, count, table, CELLS), 17, 0, 0), "the old job is not", 0);
+    words[1] = 0x20000002;
+    lent[0] = 7;
+    expect(is(polgamir_convert(words, count, lent, 12), 10, 13, 0) && lent[0] == 7, "too few words", 0);
+    words[1] = 0x20000000;
+    expect(is(polgamir_convert(words, count, NULL, 0), 17, 0, 0), "the least arrival has no conversion", 0);
+    expect(is(polgamir_convert(NULL, 0, NULL, 0), 1, 0, 0), "no words to convert", 0);
+}
+
 /* A null pointer with count 0: no words, no cells, and neither. */
 static void takes_null(void)
 {
@@ -353,7 +381,7 @@ static void reads_long_positions(void)
 /* Every number has a text of its own; 7 is not used, and has that of a number above the last. */
 static void has_texts(void)
 {
-    const uint32_t above = POLGAMIR_REFUSED_ACCELERATION + 1;
+    const uint32_t above = POLGAMIR_REFUSED_FLYING_TARGET + 1;
     for (uint32_t number = 0; number <= above; number++) {
         for (uint32_t other = 0; other < number; other++) {
             bool unused = other == 7 && number == above;
@@ -475,6 +503,7 @@ int main(void)
     takes_null();
     reads_long_positions();
     reads_words_of_kind_13();
+    converts();
     has_texts();
     return failures == 0 ? 0 : 1;
 }

@@ -90,12 +90,14 @@ def typed(name: str, axes, asked: int = 0, lent: int = 24, others: Axis = UNSET)
 
 
 def random_axis(rng: random.Random) -> Axis:
+    """Of any kind; some with a fixed target that flies, which is refused."""
     speed = rng.choice([rng.randint(1, 30), rng.randint(1, 4000)])
     acceleration = rng.choice([rng.randint(1, 6), rng.randint(1, 300)])
-    target = (rng.randint(-900, 900), rng.randint(-speed, speed))
+    velocity = rng.randint(-speed, speed)
     half = rng.choice([0, 0, 1, 2, 3, rng.randint(0, 40)])
     weight = rng.choice([128, rng.randint(1, 128)])
     kind = rng.randint(0, 2)
+    target = (rng.randint(-900, 900), velocity if kind or rng.randrange(9) == 0 else 0)
     if kind:
         a = rng.randint(-acceleration, acceleration) // 4 if kind == 2 else 0
         target += (a, rng.randint(-9, 40))

@@ -9,6 +9,7 @@ from typing import List
 
 from builders import (HIGHEST, LOWEST, MOST, Case, Group, axis, by_values, by_words, job, mask_of, placed,
                       random_axis, to, typed, words_of)
+from converter import converted_axis
 from dampingcases import damping, drawn_damping, drawn_weights, weights
 from railcases import HIGH, LOW, drawn_rails, rails
 from reference import Axis, RestPoint, State
@@ -22,6 +23,11 @@ F = axis(speed_limit=20, start=(0, 10), target=(10, 10))
 F_TO_30 = F._replace(target=RestPoint(30, 10))
 
 
+def met(name: str, flying: Axis, asked: int, lent: int = 24) -> Case:
+    """A flying fixed target as the converter has it (request 2.11)."""
+    return job('%s asked %d' % (name, asked), [converted_axis(flying, asked)], asked, lent)
+
+
 def field() -> Group:
     cases = [
         job('A', [to(5, start=(5, 0))]),
@@ -30,13 +36,16 @@ def field() -> Group:
         job('D', [to(1, half_period=1)]),
         job('E', [to(4)], asked=3),
         job('F', [F]),
-        job('F asked 2', [F], asked=2),
-        job('F asked 20', [F], asked=20),
-        job('F asked 37', [F], asked=37),
-        job('F asked 38', [F], asked=38),
-        job('F asked 39', [F], asked=39, lent=120),
+        job('F asked 39, not converted', [F], asked=39, lent=120),
+        met('F', F, 1),
+        met('F', F, 2),
+        met('F', F, 20),
+        met('F', F, 37),
+        met('F', F, 38),
+        met('F', F, 39, lent=120),
         job('G, axis 1 alone', {1: to(1)}),
         job('G', [F, to(1)], lent=250),
+        job('G asked 39', [converted_axis(F, 39), to(1)], asked=39, lent=250),
         job('H', [axis(target=(0, 1, 0, 0))]),
         by_words('I, no words', []),
         by_words('I, mask 64', [0x10000040]),
@@ -47,11 +56,11 @@ def field() -> Group:
         typed('K by values', [axis(second_weight=129)]),
         job('L', [to(100000000, speed_limit=1)]),
         typed('L by values', [to(100000000, speed_limit=1)]),
-        job('F to 30', [F_TO_30]),
         typed('F to 30 by values', [F_TO_30]),
-        job('F to 30, asked 4', [F_TO_30], asked=4),
-        job('F to 30, asked 36', [F_TO_30], asked=36),
-        job('F to 30, asked 37', [F_TO_30], asked=37, lent=120),
+        met('F to 30', F_TO_30, 3),
+        met('F to 30', F_TO_30, 4),
+        met('F to 30', F_TO_30, 36),
+        met('F to 30', F_TO_30, 37, lent=120),
         job('D asked 54', [to(1, half_period=1)], asked=54, lent=165),
         typed('D asked 54 by values', [to(1, half_period=1)], asked=54, lent=170),
     ]
@@ -82,10 +91,11 @@ def readings() -> Group:
               [axis(half_period=4, acceleration_limit=3, target=(0, 9, 1, 0))], asked=10),
         typed('speed at the planned landing', [CHASING], asked=10),
         typed('speed up to the arrival', [CHASING._replace(speed_limit=5)], asked=6),
-        typed('one axis fails', [F, to(1)], asked=2),
+        typed('one axis fails', [converted_axis(F, 2), to(1)], asked=2),
         typed('nothing moves, half period 1', [to(5, start=(5, 0), half_period=1)]),
         typed('nothing moves, half period 4', [to(5, start=(5, 0), half_period=4)]),
-        typed('a fixed target that flies', [axis(start=(0, 1), half_period=4, target=(8, 1))]),
+        typed('a fixed target that flies', {3: axis(start=(0, 1), half_period=4, target=(8, 1))}),
+        typed('a fixed target that flies, converted', [axis(start=(0, 1), half_period=4, target=(8, 1, 0, 7))], asked=7),
         typed('half units', [axis(target=(0, 0, 1, 0))]),
         typed('halves away from zero, below it', [to(-1)], asked=4),
         typed('4 before 5', [axis(half_period=300), axis(speed_limit=0)]),
@@ -94,7 +104,7 @@ def readings() -> Group:
         typed('refusal 9 with one of two axes', [to(5000, speed_limit=1), to(3)]),
         typed('the planned end velocity has a term of its own',
               [axis(half_period=6, acceleration_limit=4, target=(5, -2, 1, 3))], lent=90),
-        typed('one tick to land', [axis(start=(3, 2), half_period=3, target=(11, 2))]),
+        typed('one tick to land', [axis(start=(3, 2), half_period=3, target=(11, 2, 0, 4))]),
     ]
     return Group('readings', 'Places of the paper that are easily misread.', cases)
 
@@ -102,19 +112,19 @@ def readings() -> Group:
 # --- Accepted jobs ---------------------------------------------------------
 
 SIX_FIXED = [to(4), to(-7, half_period=1), to(30, half_period=5, second_weight=1),
-             axis(start=(9, 3), half_period=17, second_weight=127, target=(-20, -1)),
+             to(-20, start=(9, 3), half_period=17, second_weight=127),
              to(1000, speed_limit=200, acceleration_limit=9, half_period=64, second_weight=100),
-             axis(start=(-5, -2), target=(6, 2))]
+             to(6, start=(-5, -2))]
 
 SIX_MOVING = [axis(target=(0, 1, 0, 0)),
               axis(half_period=2, second_weight=77, target=(50, -3, 0, 10)),
               axis(speed_limit=900, acceleration_limit=20, half_period=3, target=(-8, 1, 2, 4)),
               axis(speed_limit=900, acceleration_limit=30, target=(5, 0, -3, -6)),
               axis(start=(1, 9), half_period=31, second_weight=2, target=(-1, 4, 0, -100)),
-              axis(start=(1, -9), speed_limit=9, half_period=12, target=(7, 9))]
+              axis(start=(1, -9), speed_limit=9, half_period=12, target=(7, 8, 0, 60))]
 
 LARGE = Axis(RestPoint(-134217728, -1048576), 1048576, 65536, 256, 128,
-             RestPoint(134217727, 1048576))
+             State(134217727, 1048576, 0, 600))
 
 # Accelerating targets on damped poles: the grid of 1/65,536 unit
 CORRECTED = axis(acceleration_limit=2, half_period=3, second_weight=100, target=(0, 0, 1, 0))
@@ -127,7 +137,7 @@ LONG = to(-12345, half_period=9, second_weight=51)
 def half_periods() -> List[Case]:
     cases = []
     for h, b in ((1, 128), (2, 1), (7, 64), (64, 127), (255, 128), (256, 1), (256, 128)):
-        one = axis(start=(2, 1), half_period=h, second_weight=b, target=(40, -3))
+        one = axis(start=(2, 1), half_period=h, second_weight=b, target=(40, -3, 0, h + 20))
         cases.append(typed('half period %d, weight %d' % (h, b), [one],
                            lent=3 * (h + 100)))
     return cases
@@ -156,11 +166,12 @@ def accepted() -> Group:
         job('mask 42', {1: SIX_FIXED[1], 3: SIX_MOVING[2], 5: SIX_FIXED[2]}, lent=4000),
         typed('mask 33', {0: SIX_MOVING[4], 5: SIX_MOVING[5]}, lent=4000, others=HOSTILE),
         job('mask 32', {5: to(-250, half_period=3, second_weight=90)}, lent=400),
-        typed('the largest numbers', [LARGE], lent=8192),
+        typed('the largest numbers', [LARGE], asked=600, lent=8192),
         typed('the largest numbers, the other way',
               [LARGE._replace(start=RestPoint(134217727, 1048576),
-                              target=RestPoint(-134217728, -1048576))], lent=8192),
-        typed('the largest numbers, damped', [LARGE._replace(second_weight=1)], lent=8192),
+                              target=State(-134217728, -1048576, 0, 600))], asked=600, lent=8192),
+        typed('the largest numbers, damped', [LARGE._replace(second_weight=1)], asked=600, lent=8192),
+        typed('the largest numbers, the least arrival', [LARGE], lent=8192),
         typed('a far target tick', [axis(speed_limit=1048576, acceleration_limit=65536,
                                          half_period=256, target=(134217727, 300, 250, 4096))],
               lent=8192),
@@ -273,6 +284,7 @@ def values_by_words() -> List[Case]:
         job('target tick -4096', [axis(target=(0, 0, 0, -4096))]),
         job('an accelerating target on a damped pole',
             {4: axis(half_period=1, second_weight=127, target=(0, 0, 1, 0))}),
+        job('a fixed target that flies', {1: to(4), 3: axis(target=(4, 2))}),
         job('two of three axes fail', [to(4), to(1), to(-9)], asked=3),
         job('none is reached', {0: to(1), 5: to(-134217728, speed_limit=1)}),
         job('a cell short', [to(4), to(1)], lent=29),
@@ -324,6 +336,15 @@ def refused_values() -> Group:
         typed('target position 134217728', [to(134217728)]),
         typed('target position past the upper end', [to(HIGH + 1)]),
         typed('moving target position past the lower end', {3: axis(target=(LOW - 1, 0, 0, 0))}),
+        typed('17, a fixed target that flies', {3: axis(target=(0, 1)), 4: axis(target=(0, -1))}),
+        typed('17 of the second axis, backwards', [to(4), axis(target=(0, -10))]),
+        typed('17 where it stands', [axis(start=(5, 1), target=(5, 1))], asked=1),
+        typed('6 over all axes before 17', [axis(target=(0, 1)), axis(start=(0, 11))]),
+        typed('6 of a fixed target before 17', [axis(target=(0, 11))]),
+        typed('17 before 8', [axis(target=(900, 1))], asked=1),
+        typed('17 before 9', [to(100000000, speed_limit=1), axis(target=(0, 1))]),
+        typed('17 before 10', [axis(target=(0, 1))], lent=0),
+        typed('17 off the mask is not looked at', {2: to(4)}, others=axis(target=(0, 1))),
         typed('6 beside an accelerating target, damped',
               [axis(half_period=1, second_weight=1, target=(0, 0, 1, 0)), axis(start=(0, 11))]),
         typed('an accelerating target, no half period',
@@ -423,7 +444,7 @@ def mirrors() -> Group:
 
     chosen = (('to 4', to(4), 0), ('to 1, asked 4', to(1), 4), ('half units', axis(target=(0, 0, 1, 0)), 0),
               ('half fine steps', to(1, half_period=1), 54), ('half period 7, weight 1', to(9, half_period=7, second_weight=1), 0),
-              ('half period 3, weight 64', axis(start=(2, 1), half_period=3, second_weight=64, target=(40, -3)), 0),
+              ('half period 3, weight 64', axis(start=(2, 1), half_period=3, second_weight=64, target=(40, -3, 0, 23)), 0),
               ('weight 127', axis(start=(-2, 3), half_period=2, second_weight=127, target=(5, 1, 0, 2)), 0),
               ('accelerating, half period 5', axis(acceleration_limit=2, half_period=5, speed_limit=40, target=(3, 1, 1, 4)), 0),
               ('accelerating, damped', CHASED, 6))

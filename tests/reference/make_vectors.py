@@ -10,6 +10,7 @@ import os
 import sys
 from typing import List, Optional
 
+import convertcases
 import raisecases
 import swaycases
 from builders import UNSET, Case, outcome
@@ -114,6 +115,12 @@ def raises_line(case: Case) -> str:
         answer_text(answer), 'raises', listed_text([axis_raises_text(one) for one in axes])))
 
 
+def convert_line(case: convertcases.ConvertCase) -> str:
+    written = case.answer.place if case.answer.number == 0 else 0
+    return '%s | %s | %s' % (case.name, text('convert', case.lent, words_text(case.words)),
+                             text(answer_text(case.answer), words_text(case.left[:written])))
+
+
 # --- Files -----------------------------------------------------------------
 
 def sway_lines() -> List[str]:
@@ -125,9 +132,14 @@ def raises_lines() -> List[str]:
     return [raises_line(case) for case in raisecases.raises_cases().cases + raisecases.drawn_raises().cases]
 
 
+def convert_lines() -> List[str]:
+    return [convert_line(case) for case in convertcases.conversions() + convertcases.drawn_conversions()]
+
+
 FILES = {
     'sway.txt': ('Poles with a second sway (request 2.9).', sway_lines),
     'raises.txt': ('The smallest change that makes it (request 2.10).', raises_lines),
+    'convert.txt': ('Flying fixed targets go (request 2.11).', convert_lines),
 }
 
 

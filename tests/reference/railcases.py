@@ -81,7 +81,7 @@ def six_moving() -> List[Case]:
 
 FAST = axis(speed_limit=1048576, acceleration_limit=65536)
 LANDS_FAR = FAST._replace(start=RestPoint(HIGH, -1048576), half_period=256,
-                          target=RestPoint(HIGH - 1000000000, 1048576))
+                          target=State(HIGH - 1000000000, 1048576, 0, 1200))
 CORRECTED = FAST._replace(half_period=256, second_weight=64)
 
 
@@ -102,7 +102,7 @@ def tables() -> List[Case]:
         typed('the whole rail, asked 4,096', [FAST._replace(start=RestPoint(HIGH, 0), target=RestPoint(LOW, 0))], asked=4096),
         typed('the largest numbers on the rail', [LANDS_FAR], lent=8192),
         typed('the largest numbers on the rail, the other way',
-              [LANDS_FAR._replace(start=RestPoint(LOW, 1048576), target=RestPoint(LOW + 1000000000, -1048576))], lent=8192),
+              [LANDS_FAR._replace(start=RestPoint(LOW, 1048576), target=State(LOW + 1000000000, -1048576, 0, 1200))], lent=8192),
         typed('a far target tick on the rail', [CORRECTED._replace(start=RestPoint(HIGH, 0), target=State(HIGH, 300, 250, 4096))],
               lent=8192),
         typed('a corrected target on the rail', [CORRECTED._replace(start=RestPoint(LOW, 0), target=State(LOW, 0, 4000, 300))],

@@ -102,6 +102,7 @@ def no_raise() -> List[Case]:
         typed('12', [to(4, second_weight=ratio(0))], asked=3), typed('5', [to(4, half_period=257)], asked=3),
         typed('15', [jointed(0, 4)], asked=3), typed('6', [to(4, start=(0, 11))], asked=3),
         typed('16', [axis(second_half_period=1, target=(0, 0, 1, 0))], asked=3),
+        typed('17', [axis(target=(900, 1))], asked=3), job('17 by words', [to(4), axis(target=(900, 1))], asked=3),
         windowed('13', [], asked=3),
         windowed('a raise heeds no window', [(6, 7)], asked=3),
         windowed('8 with mask 0', [(6, 7)], asked=4),

@@ -31,7 +31,8 @@ PROGRAM_CELLS = 8192            # what the table program lends
 # --- Quantities ------------------------------------------------------------
 
 class RestPoint(NamedTuple):
-    """A start, or a fixed target: a position held at a uniform velocity."""
+    """A start, or a fixed target: a position, and a velocity that goes on. That
+    of a fixed target must be 0 (request 2.11)."""
     position: int
     velocity: int
 
@@ -454,7 +455,7 @@ def words_of_bytes(data: bytes) -> List[int]:
     return words + [0] if whole < len(data) else words
 
 
-# --- Refusals 3 to 6, 12, 13, 15, 16; 7 is never given (request 2.6) -------
+# --- Refusals 3 to 6, 12, 13, 15 to 17; 7 is never given (request 2.6) -----
 
 def breaks_4(axis: Axis) -> bool:
     return not (1 <= axis.speed_limit <= 1048576
@@ -489,6 +490,11 @@ def breaks_15(axis: Axis) -> bool:
 def breaks_16(axis: Axis) -> bool:
     """Request 2.9."""
     return axis.second_half_period is not None and acceleration_of(axis.target) != 0
+
+
+def breaks_17(axis: Axis) -> bool:
+    """A fixed target that flies (request 2.11)."""
+    return isinstance(axis.target, RestPoint) and axis.target.velocity != 0
 
 
 def breaks_12(axis: Axis) -> bool:
@@ -527,14 +533,27 @@ def check_windows(windows: Windows) -> None:
         closed = closing
 
 
-def checked(job: Job) -> Job:
-    """The refusals from 3 on, save those of arrival and table: 8, 9, 10; or the
-    job with every weight entered by hand."""
+def checked_values(job: Job) -> Job:
+    """The refusals from 3 to 16 that look at single values, in checking order;
+    or the job with every weight entered by hand."""
     if job.asked > LAST_TICK:
         raise Refused(Answer(3, place=1))
     check_axes(job, ENTERED)
     job = job._replace(axes={bit: weighed(axis) for bit, axis in job.axes.items()})
     check_axes(job, WEIGHED)
+    return job
+
+
+def check_flying(job: Job) -> None:
+    """Refusal 17."""
+    check_axes(job, ((17, breaks_17),))
+
+
+def checked(job: Job) -> Job:
+    """The refusals from 3 on, save those of arrival and table: 8, 9, 10; or the
+    job with every weight entered by hand."""
+    job = checked_values(job)
+    check_flying(job)
     if job.windows is not None:
         check_windows(job.windows)
     return job

@@ -11,6 +11,7 @@ import random
 import sys
 from fractions import Fraction
 
+import convertcases
 import damping
 import dampingcases
 import railcases
@@ -21,6 +22,7 @@ import swaycases
 import tourcases
 from builders import DEFAULT, UNSET, axis, mask_of, placed, random_axis, to
 from cases import CHASING, F, F_TO_30
+from converter import convert, converted, converted_axis as met
 from reference import Answer
 from tour import Tour, TourAnswer
 from tourcases import BASE, random_tour, single, stop
@@ -98,13 +100,16 @@ def field_cases():
     refuses('E', plan([to(4)], asked=3), 8, mask=1)
     same('E text', ref.printed(*plan([to(4)], asked=3)),
          'refused 8 place 0 axes 1 arrival 0\n')
-    arrives('F', plan([F]), 1)
+    refuses('F', plan([F]), 17)
+    arrives('F asked 1', plan([met(F, 1)], asked=1), 1)
     for asked in range(2, 39):
-        refuses('F asked %d' % asked, plan([F], asked=asked), 8, mask=1)
-    arrives('F asked 39', plan([F], asked=39), 39)
-    arrives('G axis 0', plan([F]), 1)
+        refuses('F asked %d' % asked, plan([met(F, asked)], asked=asked), 8, mask=1)
+    arrives('F asked 39', plan([met(F, 39)], asked=39), 39)
     arrives('G axis 1', plan([to(1)]), 2)
-    arrives('G', plan([F, to(1)]), 39)
+    refuses('G', plan([F, to(1)]), 17)
+    for asked in range(1, 39):
+        refuses('G asked %d' % asked, plan([met(F, asked), to(1)], asked=asked), 8, mask=2 if asked == 1 else 1)
+    arrives('G asked 39', plan([met(F, 39), to(1)], asked=39), 39)
     h = arrives('H', plan([axis(target=(0, 1, 0, 0))]), 3)
     same('H velocities', column(h, 1), [0, 256, 384, 256])
     refuses('I, no words', ref.plan_words([], []), 1)
@@ -117,10 +122,9 @@ def field_cases():
 
 
 def traps():
-    same('F by halving', next(n for n in range(2, 4097) if ref.reachable(F, n)), 39)
-    arrives('F to 30', plan([F_TO_30]), 3)
-    same('F to 30 by doubling', next(n for n in range(4, 4097)
-                                     if ref.reachable(F_TO_30, n)), 37)
+    same('F by halving', next(n for n in range(2, 4097) if ref.reachable(met(F, n), n)), 39)
+    same('F to 30', next(n for n in range(1, 4097) if ref.reachable(met(F_TO_30, n), n)), 3)
+    same('F to 30 by doubling', next(n for n in range(4, 4097) if ref.reachable(met(F_TO_30, n), n)), 37)
     rounding = arrives('target 1', plan([to(1, half_period=1)], asked=54), 54)
     same('target 1, position in row 1', rounding[1][3], 1)
 
@@ -138,9 +142,10 @@ def settled_readings():
         refuses('6, left over', ref.plan_words(ref.words_of_bytes(data), []), 2, place=11)
     refuses('7', ref.plan_words(C_WORDS[:-1] + [0xF0000001, 0xF0000000], []), 2, place=10)
     refuses('14', plan([CHASING], asked=10), 8, mask=1)
-    refuses('15', plan([F, to(1)], asked=2), 8, mask=1)
+    refuses('15', plan([met(F, 2), to(1)], asked=2), 8, mask=1)
     arrives('16', plan([to(5, start=(5, 0), half_period=1)]), 2)
-    arrives('17', plan([axis(start=(0, 1), half_period=4, target=(8, 1))]), 7)
+    flying = axis(start=(0, 1), half_period=4, target=(8, 1))
+    same('17', [n for n in range(1, 8) if ref.reachable(met(flying, n), n)], [7])
     halves = arrives('18', plan([axis(target=(0, 0, 1, 0))]), 1)
     same('18 rows', halves[1][:6], [0, 0, 256, 128, 256, 256])
     below = arrives('19', plan([to(-1)], asked=4), 4)
@@ -176,7 +181,7 @@ def ranges():
             (6, axis(target=(low, 0, 0, 0)), axis(target=(low - 1, 0, 0, 0))),
             (6, axis(target=(high, 0, 0, 0)), axis(target=(high + 1, 0, 0, 0)))):
         passed = ref.plan_typed(1, 0, [inside] * 6, [])[0]
-        assert passed.number in (8, 9, 10), 'inside its range: %r' % (inside,)
+        assert passed.number in (8, 9, 10, 17), 'inside its range: %r' % (inside,)
         refuses('range', ref.plan_typed(4, 0, [outside] * 6, [7]), number, place=2)
 
 
@@ -448,7 +453,7 @@ def ticks_of(pair, dwell):
 def windows_by_trial(rng, count=60):
     """The least common arrival among those of the windows, one by one."""
     for _ in range(count):
-        axes = [random_axis(rng) for _ in range(rng.choice([1, 2]))]
+        axes = [met(random_axis(rng), 40) for _ in range(rng.choice([1, 2]))]
         ends = sorted(rng.sample(range(200), 2 * rng.randint(1, 6)))
         pairs, dwell = list(zip(ends[::2], ends[1::2])), rng.choice([0, 0, 1, 5, 20])
         held = sorted(set().union(*(ticks_of(pair, dwell) for pair in pairs)))
@@ -673,6 +678,69 @@ def raises_by_trial(rng, count=60):
                                                      for r in (amount - 1, amount)], [False, True])
 
 
+# --- Flying fixed targets go (request 2.11) --------------------------------
+
+def flying_readings():
+    fill = [7] * 20
+    f = ref.encode(ref.Job(1, 2, {0: F}))
+    answer, left = convert(f, fill[:13])
+    same('F asked 2', (answer.number, answer.place, left), (0, 13, f[:10] + [0xB0000000, 0xC0000002] + f[10:]))
+    refuses('F asked 2, 12 lent', convert(f, fill[:12]), 10, place=13)
+    same('later words stay', convert(f, fill)[1][13:], fill[13:])
+    refuses('17 in the converter', convert(ref.encode(ref.Job(3, 0, {0: to(1), 1: F})), fill), 17, place=1)
+    refuses('17 in planning', plan({2: F}), 17, place=2)
+    refuses('17 in planning, asked', plan({2: F}, asked=39), 17, place=2)
+    same('17 in raises', raises_by([to(4), axis(target=(900, 1))], 3), (Answer(17, place=1), {}))
+    refuses('6 before 17', plan([axis(target=(0, 1)), axis(start=(0, 11))]), 6, place=1)
+    refuses('16 before 17', plan([axis(target=(0, 1)), axis(second_half_period=1, target=(0, 0, 1, 0))]), 16, place=1)
+    bad = ref.Windows([], 0)
+    refuses('17 before 13', typed_plan([axis(target=(0, 1))], windows=bad), 17)
+    for words in C_WORDS, ref.encode(ref.Job(1, 0, {0: axis(target=(0, 1, 0, 0))})):
+        answer, left = convert(words, fill)
+        same('copied', (answer.number, left[:answer.place]), (0, words))
+
+
+def copied_with_two_words(words, asked):
+    """The words with two more after kind 10 of each flying fixed target."""
+    out = []
+    for word, after in zip(words, words[1:] + [0]):
+        out.append(word)
+        if word >> 28 == 10 and word % 2 ** 28 != 0 and after >> 28 != 11:
+            out += [0xB0000000, 0xC0000000 + asked]
+    return out
+
+
+def by_the_old_rules(job, lent):
+    """What planning gave when a fixed target could fly."""
+    def call():
+        values = ref.checked_values(job)
+        n = ref.arrival_of(values)
+        ref.check_cells(values, n, len(lent))
+        cells = ref.table_cells(values, n)
+        return Answer(0, mask=job.mask, arrival=n), cells + lent[len(cells):]
+    return ref.refusing(call, lent)
+
+
+def conversions_give_equal_tables(rng, count=60):
+    met_tables = 0
+    for _ in range(count):
+        axes = {bit: convertcases.random_old_axis(rng) for bit in rng.sample(range(6), rng.choice([1, 2]))}
+        asked, lent = rng.choice([0, rng.randint(10, 200)]), [7] * 1500
+        old = ref.Job(mask_of(axes), asked, dict(sorted(axes.items())))
+        words = ref.encode(old)
+        answer, left = convert(words, [7] * 90)
+        if answer.number != 0:
+            same('refused as in planning', answer, by_the_old_rules(old, lent)[0] if answer.number != 17 else plan(axes, asked)[0])
+            continue
+        new = left[:answer.place]
+        same('copied, with two words', new, copied_with_two_words(words, asked))
+        same('converted', ref.decode(new), converted(old))
+        same('twice is once', convert(new, [7] * 90), (answer, left))
+        same('equal tables', ref.plan_words(new, lent), by_the_old_rules(old, lent))
+        met_tables += new != words and ref.plan_words(new, lent)[0].number == 0
+    assert met_tables > 5, 'too few tables to say anything'
+
+
 def main():
     rng = random.Random(1)
     field_cases()
@@ -699,8 +767,10 @@ def main():
     second_blend_is_a_mean(rng)
     raises_readings()
     raises_by_trial(rng)
+    flying_readings()
+    conversions_give_equal_tables(rng)
     print('reference: field cases, traps, settled readings, ranges, definitions, rounding, demand 3, tours, damping,',
-          'windows, accelerating targets on damped poles, positions past 28 bits, a second sway, raises: ok')
+          'windows, accelerating targets on damped poles, positions past 28 bits, a second sway, raises, the converter: ok')
     return 0
 
 

@@ -91,6 +91,8 @@ def refused() -> List[Case]:
         typed('16 of the first of two', {1: turning, 4: turning}),
         typed('6 over all axes before 16', [turning, axis(start=(0, 11))]),
         typed('6 before 16 of one axis', [axis(second_half_period=1, target=(0, 0, 2, 0))]),
+        typed('16 over all axes before 17', [axis(target=(0, 1)), turning]),
+        typed('17 of a jointed axis', {4: axis(second_half_period=2, target=(0, 1))}),
         typed('16 before 8', [turning], asked=1),
         typed('16 before 9', [turning, to(100000000, speed_limit=1)]),
         typed('16 before 10', [turning], lent=0),

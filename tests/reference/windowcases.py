@@ -7,7 +7,8 @@ from builders import MOST, Case, Group, axis, random_axis, to, typed
 from dampingcases import random_damping, ratio
 from reference import Windows
 
-FLYING = axis(speed_limit=20, start=(0, 10), target=(10, 10))     # reaches 1, then nothing before 39
+# reaches 4 and 5 and nothing after them
+GONE = axis(speed_limit=12, acceleration_limit=10, half_period=2, second_weight=64, target=(3, 1, 2, 0))
 FAR = to(100000000, speed_limit=1)
 
 
@@ -47,14 +48,12 @@ def found() -> List[Case]:
         windowed('open at 0 only', [(0, 1)]),
         windowed('32 windows', row(32)),
         windowed('32 windows, only the last is wide enough', row(31) + [(70, 80)], 9, lent=300),
-        windowed('reach is not a threshold', [(2, 4), (30, 50)], axes=[FLYING], lent=120),
-        windowed('reach is not a threshold, early', [(1, 2), (30, 50)], axes=[FLYING], lent=120),
-        windowed('windows only where nothing is reached', [(2, 39)], axes=[FLYING]),
-        windowed('the least common arrival in a window', [(1, 3), (40, 45)], axes=[FLYING, to(1)], lent=250),
+        windowed('reach is not a threshold', [(2, 4), (30, 50)], axes=[GONE], lent=120),
+        windowed('reach is not a threshold, its last tick', [(2, 4), (5, 50)], axes=[GONE], lent=120),
+        windowed('the least common arrival in a window', [(1, 3), (5, 45)], axes=[GONE, to(1)], lent=250),
         windowed('a measured axis', [(0, 6), (11, 12)], axes=[to(9, half_period=2, second_weight=ratio(0.5))]),
         windowed('a moving target', [(5, 7)], 1, axes=[axis(target=(0, 1, 0, 0))]),
-        windowed('an accelerating target on a damped pole', [(0, 4), (5, 9)], lent=60,
-                 axes=[axis(speed_limit=12, acceleration_limit=10, half_period=2, second_weight=64, target=(3, 1, 2, 0))]),
+        windowed('an accelerating target on a damped pole', [(0, 4), (5, 9)], 2, lent=60, axes=[GONE]),
         windowed('10 for an arrival in a window', [(6, 9)], lent=20),
         windowed('just enough cells for it', [(6, 9)], lent=21),
     ]
@@ -81,7 +80,7 @@ def none_found() -> List[Case]:
         windowed('9 with mask 0', [(1, 2)]),
         windowed('9 names axes without the windows', [(1, 2)], axes=[to(4), FAR]),
         windowed('9 names axes, in an open window', [(0, MOST)], axes=[FAR, to(4), FAR]),
-        windowed('9 where two axes never meet in a window', [(1, 3)], axes=[FLYING, to(1)]),
+        windowed('9 where two axes never meet in a window', [(1, 5)], axes=[GONE, to(6)]),
     ]
 
 
@@ -117,6 +116,7 @@ def refused() -> List[Case]:
         windowed('12 before 13', [], axes=[axis(second_weight=ratio(0))]),
         windowed('5 before 13', [], axes=[axis(half_period=257)]),
         windowed('6 before 13', [], axes=[axis(start=(0, 11))]),
+        windowed('17 before 13', [], axes=[axis(target=(0, 1))]),
         windowed('1 before 13', [])._replace(mask=0),
     ]
 

@@ -16,7 +16,7 @@ sys.path.insert(0, str(HERE.parent))
 REPOSITORY = HERE.parents[2]
 
 import polgamir
-from polgamir import (Axis, Fixed, Job, Motion, Moving, Number, Peaks, Ratio, Refusal, RestPoint, Schedule, Stop, Tour, TourAxis, Weight,
+from polgamir import (Axis, Fixed, Job, Limit, Motion, Moving, Number, Peaks, Ratio, Refusal, RestPoint, Schedule, Stop, Tour, TourAxis, Weight,
                       Window, Windows)
 
 
@@ -99,6 +99,30 @@ class FieldCases(unittest.TestCase):
         self.assertEqual(to(4).arrival_found(), 4)
         with self.assertRaises(Refusal):
             to(4, 3).arrival_found()
+
+
+class RaisedLimits(unittest.TestCase):
+    """The least raises of limits: that of case E, and small ones worked out by hand."""
+
+    def raises(self, asked, position, **changes):
+        return Job({3: field_axis(Fixed(position), **changes)}, asked).raises()
+
+    def test_raises(self):
+        more, faster = Limit.ACCELERATION, Limit.SPEED
+        self.assertEqual(self.raises(3, 4).axes, {3: ((more, 1),)})
+        self.assertEqual(self.raises(6, 9, speed_limit=2).axes, {3: ((more, 1), (faster, 1))})
+        moving = dict(start=RestPoint(0, 2), speed_limit=3)
+        found = self.raises(8, 22, **moving)
+        self.assertEqual(found.axes, {3: ((faster, 1), (more, 2))})
+        self.assertEqual((found.arrival, found.refusal.number, found.refusal.axes), (None, 8, (3,)))
+        self.assertEqual(self.raises(3, 4, half_period=3).axes, {3: ()})
+        for raised in found.axes[3]:
+            self.assertEqual(Job({3: raised.applied(field_axis(Fixed(22), **moving))}, 8).arrival_found(), 8)
+
+    def test_other_answers(self):
+        self.assertEqual(self.raises(4, 4), (4, None, {}))
+        found = polgamir.raises_words([])
+        self.assertEqual((found.arrival, found.refusal.number, found.axes), (None, 1, {}))
 
 
 class Tours(unittest.TestCase):

@@ -11,6 +11,7 @@ sys.path[:0] = [str(HERE.parent), str(HERE.parents[2] / "tests" / "reference")]
 import builders
 import cases
 import damping
+import raisecases
 import reference
 
 import polgamir
@@ -32,7 +33,8 @@ def damping_of(weight):
 def axis_of(axis):
     moves = isinstance(axis.target, reference.State)
     return polgamir.Axis(polgamir.RestPoint(*axis.start), axis.speed_limit, axis.acceleration_limit, axis.half_period,
-                         damping_of(axis.second_weight), (polgamir.Moving if moves else polgamir.Fixed)(*axis.target))
+                         damping_of(axis.second_weight), (polgamir.Moving if moves else polgamir.Fixed)(*axis.target),
+                         axis.second_half_period)
 
 
 def job_of(case):
@@ -48,6 +50,17 @@ def found(case):
     except polgamir.Refusal as refusal:
         return (int(refusal.number), refusal.place, refusal.mask, refusal.arrival), []
     return (0, 0, plan.mask, plan.arrival), plan.cells.tolist()
+
+
+def raises_of(case):
+    """The answer and the raises of a case, as the reference gives them."""
+    found = polgamir.raises_words(case.words) if case.words is not None else job_of(case).raises()
+    letters = {polgamir.Limit.ACCELERATION: "M", polgamir.Limit.SPEED: "L"}
+    axes = [(axis, [(letters[raised.limit], raised.by) for raised in raises]) for axis, raises in found.axes.items()]
+    refusal = found.refusal
+    if refusal is None:
+        return (0, 0, found.arrival), axes
+    return (int(refusal.number), refusal.place, refusal.arrival), axes
 
 
 def tour_of(case):
@@ -75,6 +88,12 @@ class AgainstTheReference(unittest.TestCase):
 
     def test_drawn_damping(self):
         self.agree(cases.drawn_damping(seed=73, count=25))
+
+    def test_raises(self):
+        for case in raisecases.raises_cases().cases + raisecases.drawn_raises().cases:
+            answer, axes = raisecases.raised(case)
+            expected = (answer.number, answer.place, answer.arrival), [(axis, list(map(tuple, raises))) for axis, raises in axes]
+            self.assertEqual(raises_of(case), expected, case.name)
 
     def test_drawn_tours(self):
         for case in cases.drawn_tours(seed=74, count=30):

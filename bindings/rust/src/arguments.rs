@@ -17,6 +17,7 @@ Usage:
   polgamir plan  --csv | --json | --c-array [--units] [--cells COUNT] [-o FILE] JOB
   polgamir words [--bytes] [-o FILE] JOB
   polgamir show  [--bytes | --hex] [-o FILE] WORDS
+  polgamir convert [--bytes] [-o FILE] JOB
   polgamir tour  [--tables] [--plain | --units] [-o FILE] TOUR
   polgamir plot  -o FILE.svg JOB | TOUR
   polgamir report -o FILE.html JOB
@@ -39,6 +40,9 @@ words   Writes the job's words, in hexadecimal. They hold the weight of damping 
 show    Reads job words, hexadecimal text or bytes, and prints their set-up sheet.
           --bytes        take the file as bytes
           --hex          take the file as text
+convert Writes the words of an old job whose fixed targets fly, with moving targets in their place, as `words` does. Its
+        arrival is asked for; a job that seeks the earliest is refused with 17. Other jobs stay as they are.
+          --bytes        write bytes, each word little-endian
 tour    Plans a tour of stops. Prints the total and each stop's arrival, in ticks from the tour's start.
           --tables       print also the table of each leg, whose ticks count from its own start
           --units        print the tables in units
@@ -79,6 +83,8 @@ pub enum Task {
     Plan { job: PathBuf, form: PlanForm, cells: Option<usize> },
     /// Write the words of a job.
     Words { job: PathBuf, bytes: bool },
+    /// Write the words of an old job with moving targets in place of flying ones.
+    Convert { job: PathBuf, bytes: bool },
     /// Print the sheet of job words; `None` tells bytes from text by itself.
     Show { words: PathBuf, bytes: Option<bool> },
     /// Plan a tour and print its arrivals, and the tables of its legs where they are asked for.
@@ -125,7 +131,7 @@ impl Request {
     /// Reads a command line without the program's own name.
     pub fn read(arguments: &[OsString]) -> Result<Request, Usage> {
         let Some((first, rest)) = arguments.split_first() else {
-            return Err(Usage("expected plan, words, show, tour, plot or report".into()));
+            return Err(Usage("expected plan, words, show, convert, tour, plot or report".into()));
         };
         let mut rest = Rest::sort(rest)?;
         let task = match first.to_str() {
@@ -135,12 +141,13 @@ impl Request {
             Some("plan") => rest.plan()?,
             Some("words") => rest.words()?,
             Some("show") => rest.show()?,
+            Some("convert") => rest.convert()?,
             Some("tour") => rest.tour()?,
             Some("plot") => rest.plot()?,
             Some("report") => rest.report()?,
             _ => {
                 return Err(Usage(format!(
-                    "expected plan, words, show, tour, plot or report, found `{}`",
+                    "expected plan, words, show, convert, tour, plot or report, found `{}`",
                     first.to_string_lossy()
                 )))
             }
@@ -263,6 +270,11 @@ impl Rest {
     fn words(&mut self) -> Result<Task, Usage> {
         let bytes = self.flag("--bytes");
         Ok(Task::Words { job: self.file("sheet")?, bytes })
+    }
+
+    fn convert(&mut self) -> Result<Task, Usage> {
+        let bytes = self.flag("--bytes");
+        Ok(Task::Convert { job: self.file("sheet")?, bytes })
     }
 
     fn show(&mut self) -> Result<Task, Usage> {

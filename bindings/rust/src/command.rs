@@ -100,6 +100,7 @@ fn done(task: &Task) -> Result<Done, FileError> {
         Task::Version => Ok(Done::well(concat!("polgamir ", env!("CARGO_PKG_VERSION"), "\n"))),
         Task::Plan { job, form, cells } => Ok(plan(&title_of(job), &read_job(job)?, *form, *cells)),
         Task::Words { job, bytes } => words_of(job, *bytes),
+        Task::Convert { job, bytes } => converted(job, *bytes),
         Task::Show { words, bytes } => show(words, *bytes),
         Task::Tour { sheet, form, tables } => {
             let sheet = content::tour_of(&files::read(sheet)?).map_err(|cause| about(sheet, cause))?;
@@ -136,6 +137,30 @@ fn words_of(file: &Path, bytes: bool) -> Result<Done, FileError> {
         false => Done::well(words::hexadecimal_of(&job_words)),
     };
     Ok(Done { notes: weights_taken(&sheet), ..done })
+}
+
+/// Writes the converted words of an old job.
+fn converted(file: &Path, bytes: bool) -> Result<Done, FileError> {
+    let sheet = read_job(file)?;
+    let old = sheet.job.to_words().map_err(|error| about(file, no_words(&sheet, &error)))?;
+    let done = match polgamir::convert(&old) {
+        Ok(converted) if bytes => Done::well(words::bytes_of(&converted)),
+        Ok(converted) => Done::well(words::hexadecimal_of(&converted)),
+        Err(refusal) => return Ok(Done::refused(refusal::explained(&sheet, &refusal))),
+    };
+    let notes = weights_taken(&sheet).into_iter().chain(targets_converted(&sheet));
+    Ok(Done { notes: notes.collect(), ..done })
+}
+
+/// What is said of axes whose target was converted: what it is in the words.
+fn targets_converted(sheet: &Sheet) -> Vec<String> {
+    let tick = sheet.job.arrival.number();
+    let flying = sheet.job.entered().filter(|(_, axis)| axis.target.flies());
+    let told = flying.map(|(number, _)| {
+        let title = sheet.axis_title(number);
+        format!("{title}: the words have a moving target, of acceleration 0 at tick {tick}")
+    });
+    told.collect()
 }
 
 /// What is said of axes whose damping was measured: which weight their words have.

@@ -31,13 +31,19 @@ pub struct State {
 /// What an axis is to land on.
 #[derive(Debug, Clone, Copy, PartialEq, Eq, Hash)]
 pub enum Target {
-    /// A position and velocity to hold at arrival, whenever that is, and to go on from uniformly.
+    /// A position to come to rest at, whenever that is. Its velocity is 0: the planner refuses any other with 17.
     Fixed(RestPoint),
     /// A target that moves by itself; the head joins it at arrival.
     Moving(State),
 }
 
 impl Target {
+    /// Whether the target is fixed and has a velocity. The planner refuses it with 17; [`convert`](crate::convert()) takes words of such
+    /// jobs from the time when it did not.
+    pub const fn flies(&self) -> bool {
+        matches!(self, Target::Fixed(RestPoint { velocity, .. }) if *velocity != 0)
+    }
+
     /// A target that stands still at a position in units.
     pub const fn still(position: i64) -> Target {
         Target::Fixed(RestPoint { position, velocity: 0 })

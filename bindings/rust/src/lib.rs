@@ -41,11 +41,12 @@
 //! [`Tour::leg`] the job whose plan is the table of a leg.
 //!
 //! Jobs can also be read from set-up sheets ([`sheet::Sheet`]), and written to and read from job words ([`Job::to_words`],
-//! [`Job::from_words`]).
+//! [`Job::from_words`]). Words of old jobs whose fixed targets have a velocity go through [`convert()`].
 
 #![warn(missing_docs)]
 #![deny(unsafe_code)]
 
+mod converter;
 mod damping;
 mod job;
 #[allow(unsafe_code)]
@@ -60,6 +61,7 @@ mod tour;
 mod windows;
 mod words;
 
+pub use converter::{convert, convert_into};
 pub use damping::Damping;
 pub use job::{Arrival, Axis, Job, RestPoint, State, Target};
 pub use plan::{cells_needed, plan, plan_words, Accepted, Plan, MOST_CELLS};

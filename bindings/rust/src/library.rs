@@ -155,6 +155,8 @@ extern "C" {
 
     fn polgamir_raises_job(job: CJob) -> CRaises;
 
+    fn polgamir_convert(words: *const u32, word_count: usize, lent: *mut u32, lent_count: usize) -> CAnswer;
+
     fn polgamir_plan_tour(
         tour: CTour,
         stops: *const Stop,
@@ -303,6 +305,15 @@ pub(crate) fn raises_job(job: &Job) -> Raises {
     // SAFETY: the job passes by value in the header's layout. The library has no state, and does not unwind.
     let raises = unsafe { polgamir_raises_job(job.into()) };
     raises.into()
+}
+
+/// Converts the words of an old job to lent words.
+pub(crate) fn convert(words: &[u32], lent: &mut [u32]) -> Answer {
+    // SAFETY: both pointers come from slices with these lengths, so they are aligned and valid for the whole call, to read for
+    // `words` and to write for `lent`; the borrows keep them from overlapping. The library keeps neither pointer after it
+    // returns, has no state, and does not unwind.
+    let answer = unsafe { polgamir_convert(words.as_ptr(), words.len(), lent.as_mut_ptr(), lent.len()) };
+    answer.into()
 }
 
 /// Plans a tour over its stops, and gives its answer and its total.

@@ -111,6 +111,12 @@ pub enum Refusal {
         /// The first such axis.
         axis: usize,
     },
+    /// 17: a fixed target has a velocity that is not 0; the converter ([`convert`](crate::convert())) refuses it only in a job that
+    /// seeks the least arrival.
+    FlyingTarget {
+        /// The first such axis.
+        axis: usize,
+    },
     /// 13: the window list is empty; there are more than 32 windows, or then the dwell is above 4,096; then a window's closing is
     /// not above its opening, or it opens before the previous one closes.
     Windows {
@@ -131,6 +137,11 @@ pub enum Refusal {
     TableTooShort {
         /// The arrival that the table would have had.
         arrival: u32,
+    },
+    /// 10 of the converter: fewer words are lent than the converted job has.
+    WordsTooFew {
+        /// How many it has.
+        needed: usize,
     },
     /// A number that this crate has no name for, from a library that knows more refusals.
     Other {
@@ -167,6 +178,7 @@ impl Refusal {
             14 => Refusal::LongPosition { index },
             15 => Refusal::SecondHalfPeriod { axis: index },
             16 => Refusal::Acceleration { axis: index },
+            17 => Refusal::FlyingTarget { axis: index },
             _ => Refusal::Other { number, place, axes, arrival },
         }
     }
@@ -182,22 +194,24 @@ impl Refusal {
             Refusal::StartOrTarget { .. } => 6,
             Refusal::NotReachable { .. } => 8,
             Refusal::NoCommonArrival { .. } => 9,
-            Refusal::TableTooShort { .. } => 10,
+            Refusal::TableTooShort { .. } | Refusal::WordsTooFew { .. } => 10,
             Refusal::Damping { .. } => 12,
             Refusal::Windows { .. } => 13,
             Refusal::LongPosition { .. } => 14,
             Refusal::SecondHalfPeriod { .. } => 15,
             Refusal::Acceleration { .. } => 16,
+            Refusal::FlyingTarget { .. } => 17,
             Refusal::Other { number, .. } => number,
         }
     }
 
-    /// The place: a word's index for 2 and 14, 1 for 3, the axis for 4 to 6, 12, 15 and 16, the window or 32 for 13, and 0 where no place
+    /// The place: a word's index for 2 and 14, 1 for 3, the axis for 4 to 6, 12 and 15 to 17, the window or 32 for 13, and 0 where no place
     /// is named.
     pub const fn place(&self) -> u64 {
         match *self {
             Refusal::Words { index } | Refusal::LongPosition { index } => index as u64,
             Refusal::Windows { place } => place as u64,
+            Refusal::WordsTooFew { needed } => needed as u64,
             Refusal::AskedArrival => 1,
             Refusal::Other { place, .. } => place,
             _ => match self.axis() {
@@ -207,7 +221,7 @@ impl Refusal {
         }
     }
 
-    /// The axis that refusals 4 to 6, 12, 15 and 16 name.
+    /// The axis that refusals 4 to 6, 12 and 15 to 17 name.
     pub const fn axis(&self) -> Option<usize> {
         match *self {
             Refusal::Limits { axis }
@@ -215,7 +229,8 @@ impl Refusal {
             | Refusal::Blend { axis }
             | Refusal::SecondHalfPeriod { axis }
             | Refusal::StartOrTarget { axis }
-            | Refusal::Acceleration { axis } => Some(axis),
+            | Refusal::Acceleration { axis }
+            | Refusal::FlyingTarget { axis } => Some(axis),
             _ => None,
         }
     }
@@ -277,6 +292,11 @@ impl Refusal {
             Refusal::Acceleration { axis } => {
                 write!(f, "on axis {axis} the target has an `acceleration`, and the axis a `second_half_period`")
             }
+            Refusal::FlyingTarget { axis } => write!(
+                f,
+                "on axis {axis} `target` is fixed and its `velocity` is not 0: a fixed target is at rest, and one that moves \
+                 uniformly is a moving one with `acceleration` 0"
+            ),
             Refusal::Windows { place: MOST_WINDOWS } => write!(
                 f,
                 "`windows` has more than {MOST_WINDOWS} windows, or its dwell is above {LONGEST_DWELL}"
@@ -300,6 +320,7 @@ impl Refusal {
             Refusal::TableTooShort { arrival } => {
                 write!(f, "the arrival is {arrival}, and the lent table has fewer than 3 cells for each axis and row")
             }
+            Refusal::WordsTooFew { needed } => write!(f, "the converted job has {needed} words, and fewer are lent"),
             Refusal::Other { number, .. } => write!(f, "the library refuses by a number, {number}, that has no name here"),
         }
     }

@@ -100,18 +100,37 @@ line 15: axis 0: target acceleration -1
     assert_eq!(refused(&jointed.replace("target               still\n  target position      1", moving)), expected);
 }
 
-/// Refusal 8 says which arrivals would do. The numbers are those of cases F and L.
+/// A target that flies is refused with 17, and the command says what to write.
+#[test]
+fn refusal_17_says_what_to_write() {
+    let flying = "target flying\n  target velocity 10\n  target position 10";
+    let sheet = changed_case_c("target               still\n  target position      1", flying);
+    assert_eq!(
+        refused(&sheet),
+        "refused 17 place 0 axes 0 arrival 0\n\
+         the fixed target of axis 0 has a velocity, and a fixed target is at rest\n\
+         look at \"enter start and target, still or moving\": write `target moving` with the same position and velocity, \
+         `target acceleration 0` and `target tick 4`\n\
+         line 14: axis 0: target position 10\n\
+         line 13: axis 0: target velocity 10\n"
+    );
+    let third_line = refused(&sheet.replace("arrival 4", "arrival earliest")).lines().nth(2).map(String::from);
+    let told = "look at \"enter start and target, still or moving\": write `target moving` with the same position and velocity, \
+                `target acceleration 0` and as `target tick` the tick at which the target is at its position";
+    assert_eq!(third_line.as_deref(), Some(told));
+}
+
+/// Refusal 8 says which arrivals would do. The numbers are those of a target that is met at ticks 9 to 11 only, and of case L.
 #[test]
 fn refusal_8_says_the_least_arrival_that_would_do() {
-    let flying = "target flying\ntarget velocity 10\ntarget position 10";
-    let case_f = changed_case_c("target               still\n  target position      1", flying);
-    let case_f = case_f.replace("start velocity       0", "start velocity 10").replace("limit          10", "limit 20");
+    let moving = "target moving\ntarget position 8\ntarget velocity -1\ntarget acceleration 1\ntarget tick 0";
+    let passing = changed_case_c("target               still\n  target position      1", moving);
     let second_line = |text: &str| refused(text).lines().nth(1).map(String::from);
     for (asked, told) in [
-        ("2", "axis 0 cannot arrive at tick 2; the least arrival that would do is tick 1, and the next after 2 is tick 39"),
-        ("38", "axis 0 cannot arrive at tick 38; the least arrival that would do is tick 1, and the next after 38 is tick 39"),
+        ("2", "axis 0 cannot arrive at tick 2; the least arrival that would do is tick 9"),
+        ("38", "axis 0 cannot arrive at tick 38; the least arrival that would do is tick 9, and none after 38"),
     ] {
-        assert_eq!(second_line(&case_f.replace("arrival 4", &format!("arrival {asked}"))).as_deref(), Some(told));
+        assert_eq!(second_line(&passing.replace("arrival 4", &format!("arrival {asked}"))).as_deref(), Some(told));
     }
     let far = changed_case_c("target position      1", "target position 100000000");
     let told = "axis 0 cannot arrive at tick 4; no tick from 1 to 4096 would do";

@@ -112,7 +112,7 @@ fn arrivals_are_the_planner_s() {
 #[test]
 fn what_sets_the_arrival_is_told() {
     for (name, text) in [
-        ("common-arrival", "No axis alone sets the arrival."),
+        ("common-arrival", "The sheet asks for tick 39; the least that suits all axes is tick 39."),
         (
             "laser-windows",
             "Every axis can arrive at tick 110; tick 150 is the least after it that suits all axes and fits a window",

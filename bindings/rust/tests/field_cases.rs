@@ -32,11 +32,11 @@ fn printed(accepted: &Accepted) -> String {
     text
 }
 
-/// Axis 0 of case F: it flies on at 10 units per tick.
-fn flying_axis() -> Axis {
-    let point = RestPoint { position: 10, velocity: 10 };
+/// Axis 0 of case F as a converted job has it: the target is at 10, at 10 units per tick, at the asked arrival.
+fn axis_of_f(asked: u32) -> Axis {
+    let target = State { position: 10, velocity: 10, acceleration: 0, tick: asked.into() };
     let start = RestPoint { position: 0, velocity: 10 };
-    Axis { start, speed_limit: 20, ..field_axis(Target::Fixed(point)) }
+    Axis { start, speed_limit: 20, ..field_axis(Target::Moving(target)) }
 }
 
 #[test]
@@ -96,19 +96,34 @@ fn e_is_refused_with_8() {
 
 #[test]
 fn f_reaches_1_and_then_nothing_before_39() {
-    assert_eq!(arrival(&Job::earliest().with_axis(0, flying_axis())), 1);
     for asked in [2, 38] {
-        let job = Job::arriving_at(asked).with_axis(0, flying_axis());
+        let job = Job::arriving_at(asked).with_axis(0, axis_of_f(asked));
         assert_eq!(refusal(&job), Refusal::NotReachable { axes: AxisMask(1) });
     }
-    assert_eq!(arrival(&Job::arriving_at(39).with_axis(0, flying_axis())), 39);
+    for asked in [1, 39] {
+        assert_eq!(arrival(&Job::arriving_at(asked).with_axis(0, axis_of_f(asked))), asked);
+    }
+    let flying = Axis { target: Target::Fixed(RestPoint { position: 10, velocity: 10 }), ..axis_of_f(39) };
+    for job in [Job::earliest(), Job::arriving_at(39)] {
+        assert_eq!(refusal(&job.with_axis(2, flying)), Refusal::FlyingTarget { axis: 2 });
+    }
+}
+
+/// Reach is no threshold: an accelerating target is met at ticks 9 to 11 only.
+#[test]
+fn a_run_of_arrivals_ends() {
+    let target = Target::Moving(State { position: 8, velocity: -1, acceleration: 1, tick: 0 });
+    assert_eq!(arrival(&Job::earliest().with_axis(0, field_axis(target))), 9);
+    let reached: Vec<u32> =
+        (1..60).filter(|&n| Job::arriving_at(n).with_axis(0, field_axis(target)).plan().is_ok()).collect();
+    assert_eq!(reached, [9, 10, 11]);
 }
 
 #[test]
 fn g_arrives_together() {
     let tilt = field_axis(Target::still(1));
     assert_eq!(arrival(&Job::earliest().with_axis(1, tilt)), 2);
-    assert_eq!(arrival(&Job::earliest().with_axis(0, flying_axis()).with_axis(1, tilt)), 39);
+    assert_eq!(arrival(&Job::arriving_at(39).with_axis(0, axis_of_f(39)).with_axis(1, tilt)), 39);
 }
 
 #[test]

@@ -18,6 +18,7 @@ ghost use mathlib.Core.Path.{_≡_};
 ghost use mathlib.Core.List.{map};
 ghost use Rattle.model.specs.Outcome as Input;
 ghost use Rattle.planner.specs.Promise.{Promise};
+ghost use Rattle.converter.specs.Promise.{Converts};
 ghost use Rattle.capi.specs.Jobs.{startOf, fixedOf, movingOf, targetOf, weightOf, swayOf, axisOf, windowsOf, jobOf, answerOf};
 
 // What a call gives back, laid out as the header's `polgamir_answer`.
@@ -240,11 +241,21 @@ pub extern "C" fn polgamir_plan_words(words: &[u32], table: &mut [i64]) -> Polga
 
 // Plans the axes of a job that its mask names and writes their rows into the table. The asked arrival is a tick from 1 to 4,096, or 0 for
 // the least that every axis reaches and that fits a window where windows are given. The other axes are not looked at.
-// Gives back what the call for words gives; its refusals are 1, 3 to 6, 8 to 10, 12, 13, 15 and 16.
+// Gives back what the call for words gives; its refusals are 1, 3 to 6, 8 to 10, 12, 13, 15, 16 and 17.
 #[no_mangle]
 pub extern "C" fn polgamir_plan_job(job: PolgamirJob, table: &mut [i64]) -> PolgamirAnswer
     ensures { λ r. ⌜ Promise (Input.typed (jobOf job)) (now (table .entry)) (answerOf r) (now (table .exit)) ⌝ }
 {
     let typed = job_of(job);
     returned(planner::plan_job(typed, table))
+}
+
+// Writes the converted words of an old job at the start of the lent words: each fixed target that flies becomes a moving one at the asked arrival.
+// Gives back number 0 with the number of words written as place; or the first of refusals 1, 2, 14, 3, 4, 5, 15, 6, 16, 17 and 10 with its place, and
+// then no word is written. Mask and arrival are 0.
+#[no_mangle]
+pub extern "C" fn polgamir_convert(words: &[u32], lent: &mut [u32]) -> PolgamirAnswer
+    ensures { λ r. ⌜ Converts (now (words .entry)) (now (lent .entry)) (answerOf r) (now (lent .exit)) ⌝ }
+{
+    returned(converter::convert(words, lent))
 }

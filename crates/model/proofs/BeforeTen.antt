@@ -21,7 +21,8 @@ use Rattle.model.specs.Refusals.{lastTick}
 use Rattle.model.specs.Outcome.{Outcome, Input, words, typed, call, jobRead, inputJob, inputAxes}
 use Rattle.model.specs.Outcome.{refuse, accept, filled, arrived, tested, axisRefusals, jobOutcome}
 use Rattle.model.specs.Outcome.{cellsNeeded, leastFrom, arrives, firstAxis, reachesNone, beforeTen, answerOf}
-use Rattle.model.specs.Verdict.{Verdict, refused3, refused4, refused12, refused5, refused15, refused6, refused16, refused13, refused8, refused9, refused10, accepted}
+use Rattle.model.specs.Verdict.{Verdict, refused3, refused4, refused12, refused5, refused15, refused6}
+use Rattle.model.specs.Verdict.{refused16, refused17, refused13, refused8, refused9, refused10, accepted}
 use Rattle.model.specs.Verdict.{CallVerdict, words1, words2, words14, wordsJob, typed1, typedJobs}
 use Rattle.model.specs.Demand.{Demand3}
 use Rattle.model.proofs.CallVerdict.{call-verdict}
@@ -158,6 +159,7 @@ module _ (lent : List ℤ) (o : Outcome) (e : o .number ≡ 10) where
   of-job j (refused15 i a b c d f r) = let z = r .number in absurd (omega arith)
   of-job j (refused6 i a b c d f g r) = let z = r .number in absurd (omega arith)
   of-job j (refused16 i a b c d f g h r) = let z = r .number in absurd (omega arith)
+  of-job j (refused17 i a b c d f g h k r) = let z = r .number in absurd (omega arith)
   of-job j (refused13 p a b c d r) = let z = r .number in absurd (omega arith)
   of-job j (refused8 n a b c w d f r) = let z = r .number in absurd (omega arith)
   of-job j (refused9 n a b w c d r) = let z = r .number in absurd (omega arith)

@@ -1,42 +1,39 @@
 -- A job with damping as measured has the outcome of the same job with each B entered by hand: `measured-is-by-hand`. Of one axis every
 -- definition but refusal 12 reads the weight as a number only, so that both sides compute to the same.
-use Prim.Native.Nat.{ℕ, zero, suc, _+_, _*_, _/_, _%_, _^_}
-use mathlib.Core.Path.{_≡_, refl, ap, ap₂, _∙_}
+use Prim.Native.Nat.{ℕ, zero, suc, _/_, _%_}
+use native.Mathlib.Omega.{arith}
+use mathlib.Core.Path.{_≡_, refl, ap, _∙_}
 use mathlib.Core.Bool.{Bool, true, false, not, _&&_}
 use mathlib.Core.Option.{Option, none, some}
-use mathlib.Core.List.{List, [], _∷_, _++_, map}
+use mathlib.Core.List.{List, [], _∷_, map}
 use lib.IntN.{ℤ}
-use lib.Dec.{eqb, leb, ltb}
-use lib.ListN.{length, drop}
-use Rattle.whole.specs.Integers.{nearest}
+use lib.Dec.{eqb, leb}
 use Rattle.model.specs.declared.Axis.{Axis}
-use Rattle.model.specs.declared.SecondSway.{SecondSway}
-use Rattle.model.specs.declared.SecondSway.the-variants.{Absent, HalfPeriod}
 use Rattle.model.specs.declared.Target.{Target}
 use Rattle.model.specs.declared.Target.the-variants.{Fixed, Moving}
+use Rattle.model.specs.declared.SecondSway.{SecondSway}
+use Rattle.model.specs.declared.SecondSway.the-variants.{Absent, HalfPeriod}
 use Rattle.model.specs.declared.Job as Typed
-use Rattle.model.specs.Windows.{noWindows, inWindows, refused13}
-use Rattle.model.specs.Motion.{Tick, reachable}
-use Rattle.model.specs.Rows.{track, blend, blendBy, divisor, row, table, cells, concat, tabulate}
-use Rattle.model.specs.Job.{Job, JobAxis, axesOf, jobOf, maskWhere, setAxes, byHand, axesByHand, jobByHand}
+use Rattle.model.specs.Windows.{noWindows}
+use Rattle.model.specs.Motion.{Tick}
+use Rattle.model.specs.Rows.{track, blend, blendBy, cells}
+use Rattle.model.specs.Job.{Job, JobAxis, jobOf, setAxes, byHand, axesByHand, jobByHand}
 use Rattle.model.specs.Words.{goodMask}
 use Rattle.model.specs.Quantities.{finer}
-use Rattle.model.specs.Refusals.{lastTick, limitsRefused, dampingRefused, blendRefused, swayRefused, valuesRefused, accelerationRefused}
+use Rattle.model.specs.Refusals.{lastTick, limitsRefused, dampingRefused, blendRefused, swayRefused, valuesRefused, accelerationRefused, flyingRefused}
 use Rattle.model.specs.Refusals.{restAllowed, targetAllowed, AllPassed}
-use Rattle.model.specs.Outcome.{Outcome, typed, call, refuse, allReach, leastFrom, arrives, reachesNone, cellsNeeded, tableOver}
+use Rattle.model.specs.Outcome.{Outcome, typed, call, refuse, allReach, leastFrom, arrives, reachesNone}
 use Rattle.model.specs.Outcome.{filled, arrived, firstAxis, axisRefusals, tested, jobOutcome}
+use Rattle.model.proofs.MappedAxes.{Tests, cells-alike, Blind, AllBlind, first-mapped}
+use Rattle.model.proofs.MappedAxes.{mask-mapped, reach-mapped, arrives-mapped, filled-mapped, asked-mapped, tested-mapped}
 
 -- ---- the axes
-
--- a test that reads the weight as a number only
-abbrev Blind : (Axis → Bool) → Type 0
-Blind f = (x : Axis) → f (byHand x) ≡ f x
 
 target-by-hand : (x : Axis) (t : Target) → targetAllowed (byHand x) t ≡ targetAllowed x t
 target-by-hand x (Fixed r) = refl
 target-by-hand x (Moving m) = refl
 
-values-by-hand : Blind valuesRefused
+values-by-hand : Blind byHand valuesRefused
 values-by-hand x = ap (λ (b : Bool). not (restAllowed x (x .start) && b)) (target-by-hand x (x .target))
 
 pub passed-by-hand : (l : List JobAxis) → AllPassed l → AllPassed (axesByHand l)
@@ -49,6 +46,7 @@ passed-by-hand (x ∷ l) (p, ps) = (
     sway = p .sway;
     values = values-by-hand (x .axis) ∙ p .values;
     acceleration = p .acceleration;
+    resting = p .resting;
   },
   passed-by-hand l ps,
 )
@@ -65,34 +63,21 @@ set-by-hand i m (x ∷ xs) = go (eqb (m % 2) 1) (set-by-hand (suc i) (m / 2) xs)
     go true h = ap (λ (l : List JobAxis). record { number = i; axis = byHand x } ∷ l) h
     go false h = h
 
-length-by-hand : (l : List JobAxis) → length (axesByHand l) ≡ length l
-length-by-hand [] = refl
-length-by-hand (x ∷ l) = ap suc (length-by-hand l)
-
-first-by-hand : (f : Axis → Bool) → Blind f → (l : List JobAxis) → firstAxis f (axesByHand l) ≡ firstAxis f l
-first-by-hand f h [] = refl
-first-by-hand f h (x ∷ l) =
-    ap₂ (λ (b : Bool) (o : Option ℕ). elim b as (λ _. Option ℕ) [ true ↦ some (x .number) | false ↦ o ]) (h (x .axis)) (first-by-hand f h l)
-
-mask-by-hand : (f : Axis → Bool) → Blind f → (l : List JobAxis) → maskWhere f (axesByHand l) ≡ maskWhere f l
-mask-by-hand f h [] = refl
-mask-by-hand f h (x ∷ l) =
-    ap₂ (λ (b : Bool) (m : ℕ). elim b as (λ _. ℕ) [ true ↦ 2 ^ (x .number) + m | false ↦ m ]) (h (x .axis)) (mask-by-hand f h l)
-
 -- ---- arrivals
 
+-- of one axis both sides compute to the same
 pub reach-by-hand : (l : List JobAxis) (n : ℕ) → allReach (axesByHand l) n ≡ allReach l n
 unfolding finer
-reach-by-hand [] n = refl
-reach-by-hand (x ∷ l) n = ap (λ (b : Bool). elim (reachable (x .axis) n) as (λ _. Bool) [ true ↦ b | false ↦ false ]) (reach-by-hand l n)
+reach-by-hand l n = reach-mapped byHand n (λ x. refl) l
 
 arrives-by-hand : (j : Job) (n : ℕ) → arrives (jobByHand j) n ≡ arrives j n
-arrives-by-hand j n = ap (λ (b : Bool). inWindows (j .windows) n && b) (reach-by-hand (j .axes) n)
+unfolding finer
+arrives-by-hand j n = arrives-mapped byHand n (λ x. refl) j
 
 least-by-hand : (j : Job) → leastFrom (arrives (jobByHand j)) 1 lastTick ≡ leastFrom (arrives j) 1 lastTick
 least-by-hand j = ap (λ (t : ℕ → Bool). leastFrom t 1 lastTick) (λ i n. arrives-by-hand j n i)
 
-none-by-hand : Blind (λ x. reachesNone x)
+none-by-hand : Blind byHand (λ x. reachesNone x)
 none-by-hand x =
     ap (λ (o : Option ℕ). elim o as (λ _. Bool) [ some n ↦ false | none ↦ true ])
     (least-by-hand (record { mask = 0; asked = 0; axes = record { number = 0; axis = x } ∷ []; windows = noWindows }))
@@ -109,48 +94,22 @@ blend-by-hand n k x f = go (x .«second_sway»)
 
 cells-by-hand : (n k : ℕ) (x : Axis) → cells k (track n (byHand x)) ≡ cells k (track n x)
 unfolding finer
-cells-by-hand n k x =
-    λ i.
-    nearest (blend-by-hand n k x (λ s. s .position) i) (2 * divisor x)
-    ∷ nearest (blend-by-hand n k x (λ s. s .velocity) i) (divisor x)
-    ∷ nearest (blend-by-hand n k x (λ s. s .acceleration) i) (divisor x)
-    ∷ []
-
-row-by-hand : (l : List JobAxis) (n k : ℕ)
-    → row (map (track n) (map (λ x. x .axis) (axesByHand l))) k ≡ row (map (track n) (map (λ x. x .axis) l)) k
-row-by-hand [] n k = refl
-row-by-hand (x ∷ l) n k = ap₂ (λ (c r : List ℤ). c ++ r) (cells-by-hand n k (x .axis)) (row-by-hand l n k)
-
-table-by-hand : (j : Job) (n : ℕ) → table (axesOf (jobByHand j)) n ≡ table (axesOf j) n
-table-by-hand j n = ap (λ (f : ℕ → List ℤ). concat (tabulate f 0 (suc n))) (λ i k. row-by-hand (j .axes) n k i)
-
-axes-length : (l : List JobAxis) → length (map (λ x. x .axis) (axesByHand l)) ≡ length (map (λ x. x .axis) l)
-axes-length [] = refl
-axes-length (x ∷ l) = ap suc (axes-length l)
-
-over-by-hand : (j : Job) (n : ℕ) (lent : List ℤ) → tableOver (axesOf (jobByHand j)) n lent ≡ tableOver (axesOf j) n lent
-over-by-hand j n lent = ap₂ (λ (t : List ℤ) (k : ℕ). t ++ drop (cellsNeeded k n) lent) (table-by-hand j n) (axes-length (j .axes))
+cells-by-hand n k x = cells-alike n k (byHand x) x (blend-by-hand n k x) refl
 
 -- ---- the outcome
 
-abbrev Tests : Type 0
-Tests = List (ℕ × (Axis → Bool))
-
 abbrev afterDamping : Tests
-afterDamping = (5, blendRefused) ∷ (15, swayRefused) ∷ (6, valuesRefused) ∷ (16, accelerationRefused) ∷ []
+afterDamping = (5, blendRefused) ∷ (15, swayRefused) ∷ (6, valuesRefused) ∷ (16, accelerationRefused) ∷ (17, flyingRefused) ∷ []
 
 abbrev fromDamping : Tests
 fromDamping = (12, dampingRefused) ∷ afterDamping
 
+afterDamping-blind : AllBlind byHand afterDamping
+afterDamping-blind = ((λ x. refl), ((λ x. refl), (values-by-hand, ((λ x. refl), ((λ x. refl), tt)))))
+
 pub filled-by-hand : (j : Job) (n : ℕ) (lent : List ℤ) → filled (jobByHand j) n lent ≡ filled j n lent
-filled-by-hand j n lent = λ i. by-room (ltb (length lent) (cellsNeeded (length-by-hand (j .axes) i) n)) (over-by-hand j n lent i)
-  where
-    by-room : Bool → List ℤ → Outcome
-    by-room b cs =
-        elim b as (λ _. Outcome) [
-          | true ↦ refuse 10 0 0 n lent
-          | false ↦ record { number = 0; place = 0; mask = j .mask; arrival = n; cells = cs }
-        ]
+unfolding finer
+filled-by-hand j n lent = filled-mapped byHand n (cells-by-hand n) j lent
 
 pub arrived-by-hand : (j : Job) (asked : ℕ) (lent : List ℤ) → arrived (jobByHand j) asked lent ≡ arrived j asked lent
 unfolding finer
@@ -158,30 +117,13 @@ arrived-by-hand j zero lent =
     λ i.
     elim (least-by-hand j i) as (λ _. Outcome) [
       | some n ↦ filled-by-hand j n lent i
-      | none ↦ refuse 9 0 (mask-by-hand (λ x. reachesNone x) none-by-hand (j .axes) i) 0 lent
+      | none ↦ refuse 9 0 (mask-mapped byHand (λ x. reachesNone x) none-by-hand (j .axes) i) 0 lent
     ]
-arrived-by-hand j (suc n) lent =
-    λ i.
-    elim (arrives-by-hand j (suc n) i) as (λ _. Outcome) [
-      | true ↦ filled-by-hand j (suc n) lent i
-      | false ↦ refuse 8 0 (mask-by-hand (λ x. not (reachable x (suc n))) (λ x. refl) (j .axes) i) 0 lent
-    ]
-
--- tests that read the weights as numbers only
-abbrev AllBlind : Tests → Type 0
-AllBlind [] = Unit
-AllBlind (t ∷ ts) = Blind (t .1) × AllBlind ts
-
-tested-by-hand : (ts : Tests) → AllBlind ts → (j : Job) (lent : List ℤ) → tested ts (jobByHand j) lent ≡ tested ts j lent
-tested-by-hand [] h j lent =
-    ap (λ (o : Outcome). elim (refused13 (j .windows)) as (λ _. Outcome) [ some p ↦ refuse 13 p 0 0 lent | none ↦ o ]) (arrived-by-hand j (j .asked) lent)
-tested-by-hand (t ∷ ts) (h, hs) j lent =
-    ap₂ (λ (o : Option ℕ) (r : Outcome). elim o as (λ _. Outcome) [ some k ↦ refuse (t .0) k 0 0 lent | none ↦ r ])
-    (first-by-hand (t .1) h (j .axes)) (tested-by-hand ts hs j lent)
+arrived-by-hand j (suc n) lent = asked-mapped byHand (suc n) (omega arith) (λ x. refl) (cells-by-hand (suc n)) j lent
 
 -- after refusal 12
 rest-by-hand : (j : Job) (lent : List ℤ) → tested afterDamping (jobByHand j) lent ≡ tested afterDamping j lent
-rest-by-hand = tested-by-hand afterDamping ((λ x. refl), ((λ x. refl), (values-by-hand, ((λ x. refl), tt))))
+rest-by-hand j lent = tested-mapped byHand afterDamping afterDamping-blind j lent (arrived-by-hand j (j .asked) lent)
 
 none-refused : (l : List JobAxis) → firstAxis dampingRefused (axesByHand l) ≡ none
 none-refused [] = refl
@@ -211,7 +153,7 @@ module _ (j : Job) (lent : List ℤ) where
 
   asked : (b : Bool) → (byAsked j lent b .number ≡ 12 → ⊥) → byAsked (jobByHand j) lent b ≡ byAsked j lent b
   asked true h =
-      ap (byLimits (jobByHand j) lent) (first-by-hand limitsRefused (λ x. refl) (j .axes)) ∙ limits (firstAxis limitsRefused (j .axes)) h
+      ap (byLimits (jobByHand j) lent) (first-mapped byHand limitsRefused (λ x. refl) (j .axes)) ∙ limits (firstAxis limitsRefused (j .axes)) h
   asked false h = refl
 
   masked : (b : Bool) → (byMask j lent b .number ≡ 12 → ⊥) → byMask (jobByHand j) lent b ≡ byMask j lent b

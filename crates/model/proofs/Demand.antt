@@ -22,7 +22,7 @@ use Rattle.whole.proofs.Elements.{at-below, element}
 use Rattle.model.proofs.CellPlaces.{table-length, table-at}
 use Rattle.model.specs.Refusals.{Ready, AllPassed}
 use Rattle.model.specs.Verdict.{Among, IsArrival, Verdict, CallVerdict, words1, words2, words14, wordsJob, typed1, typedJobs}
-use Rattle.model.specs.Verdict.{accepted, refused3, refused4, refused12, refused5, refused15, refused6, refused16}
+use Rattle.model.specs.Verdict.{accepted, refused3, refused4, refused12, refused5, refused15, refused6, refused16, refused17}
 use Rattle.model.specs.Verdict.{refused13, refused8, refused9, refused10}
 use Rattle.model.specs.Quantities.{speedLimit, accelerationLimit}
 use Rattle.model.proofs.CellLimits as L
@@ -189,6 +189,7 @@ module _ (Claim : List Axis → ℕ → List ℤ → Type 0)
   by-verdict j lent o (refused15 i a b c d f e) z = absurd (let n = e .number in omega arith)
   by-verdict j lent o (refused6 i a b c d f g e) z = absurd (let n = e .number in omega arith)
   by-verdict j lent o (refused16 i a b c d f g k e) z = absurd (let n = e .number in omega arith)
+  by-verdict j lent o (refused17 i a b c d f g k l e) z = absurd (let n = e .number in omega arith)
   by-verdict j lent o (refused13 p a b c d e) z = absurd (let n = e .number in omega arith)
   by-verdict j lent o (refused8 m a b c w d f e) z = absurd (let n = e .number in omega arith)
   by-verdict j lent o (refused9 m a b w c d e) z = absurd (let n = e .number in omega arith)

@@ -16,7 +16,8 @@ use Rattle.model.specs.declared.Windows.{Windows}
 use Rattle.model.specs.Motion.{reachable}
 use Rattle.model.specs.Windows.{inWindows, refused13, WindowsWrong, empty, tooMany, longDwell, wrongWindow, WindowsRight}
 use Rattle.model.specs.Job.{Job, JobAxis, maskWhere}
-use Rattle.model.specs.Refusals.{lastTick, limitsRefused, dampingRefused, blendRefused, swayRefused, valuesRefused, accelerationRefused, Passed, AllPassed}
+use Rattle.model.specs.Refusals.{lastTick, limitsRefused, dampingRefused, blendRefused, swayRefused}
+use Rattle.model.specs.Refusals.{valuesRefused, accelerationRefused, flyingRefused, Passed, AllPassed}
 use Rattle.model.specs.Outcome.{Outcome, refuse, accept, allReach, leastFrom, arrives, cellsNeeded, reachesNone}
 use Rattle.model.specs.Outcome.{firstAxis, axisRefusals, filled, arrived, admitted, tested, jobOutcome}
 use Rattle.model.specs.Verdict.{Arrives, Passing, OutsideWindows, EightOutside, NineNowhere}
@@ -66,10 +67,10 @@ module _ (j : Job) (lent : List ℤ) (p : Passing j) where
 
   all-clear : Clear axisRefusals
   all-clear =
-      let last : Clear ((6, valuesRefused) ∷ (16, accelerationRefused) ∷ []) =
-      (clear valuesRefused (λ x q. q .values), (clear accelerationRefused (λ x q. q .acceleration), tt)) in
-      let blends : Clear ((5, blendRefused) ∷ (15, swayRefused) ∷ (6, valuesRefused) ∷ (16, accelerationRefused) ∷ []) =
-      (clear blendRefused (λ x q. q .blend), (clear swayRefused (λ x q. q .sway), last)) in
+      let last : Clear ((16, accelerationRefused) ∷ (17, flyingRefused) ∷ []) =
+      (clear accelerationRefused (λ x q. q .acceleration), (clear flyingRefused (λ x q. q .resting), tt)) in
+      let blends : Clear ((5, blendRefused) ∷ (15, swayRefused) ∷ (6, valuesRefused) ∷ (16, accelerationRefused) ∷ (17, flyingRefused) ∷ []) =
+      (clear blendRefused (λ x q. q .blend), (clear swayRefused (λ x q. q .sway), (clear valuesRefused (λ x q. q .values), last))) in
       (clear limitsRefused (λ x q. q .limits), (clear dampingRefused (λ x q. q .damping), blends))
 
   no-thirteen : refused13 (j .windows) ≡ none

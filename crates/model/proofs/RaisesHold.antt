@@ -26,7 +26,8 @@ use Rattle.model.specs.Job.{Job, JobAxis, setAxes, jobOf, bit}
 use Rattle.model.specs.Refusals.{AllPassed, Passed}
 use Rattle.model.specs.Outcome.{Outcome, typed, call, answerOf}
 use Rattle.model.specs.Verdict.{Among, Names, Verdict, CallVerdict, typed1, typedJobs}
-use Rattle.model.specs.Verdict.{refused3, refused4, refused12, refused5, refused15, refused6, refused16, refused13, refused8, refused9, refused10, accepted}
+use Rattle.model.specs.Verdict.{refused3, refused4, refused12, refused5, refused15, refused6, refused16, refused17}
+use Rattle.model.specs.Verdict.{refused13, refused8, refused9, refused10, accepted}
 use Rattle.model.specs.Raises.{limitOf, highest, withLimit, raiseOf, noRaises, inOrder, raisesOf, raisesFrom, noneRaised, raisesCall}
 use Rattle.model.specs.Raises.{RaiseIs, reported, Ordered, neither, acceleration, speed, acceleration-first, speed-first}
 use Rattle.model.specs.Raises.{RaisesSay, Named, RaisesHold}
@@ -192,6 +193,7 @@ module _ (j : Job) (o : Outcome) (e : o .number ≡ 8) where
   by-verdict (refused15 i a b c d f r) = let z = r .number in absurd (omega arith)
   by-verdict (refused6 i a b c d f g r) = let z = r .number in absurd (omega arith)
   by-verdict (refused16 i a b c d f g h r) = let z = r .number in absurd (omega arith)
+  by-verdict (refused17 i a b c d f g h k r) = let z = r .number in absurd (omega arith)
   by-verdict (refused13 p a b c d r) = let z = r .number in absurd (omega arith)
   by-verdict (refused9 n a b w c d r) = let z = r .number in absurd (omega arith)
   by-verdict (refused10 n a w b h r) = let z = r .number in absurd (omega arith)

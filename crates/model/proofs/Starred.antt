@@ -1,10 +1,10 @@
--- The starred field cases A to J, cases of laser windows, of a second sway and of raises, by computing the definitions.
+-- The starred field cases A to J, cases of laser windows, of a second sway, of raises and of the converter, by computing the definitions.
 use mathlib.Core.Path.{refl}
 use Rattle.model.specs.Quantities.{finer}
 use Rattle.model.specs.Leg.{cruise}
 use Rattle.model.specs.Outcome.{answerOf}
 use Rattle.model.specs.Raises.{raiseOf, raisesCall}
-use Rattle.model.specs.Cases.{Starred, WindowCasesHold, SwayCasesHold, RaisesCasesHold}
+use Rattle.model.specs.Cases.{Starred, WindowCasesHold, SwayCasesHold, RaisesCasesHold, ConversionsHold, RunCasesHold}
 
 pub starred : Starred
 unfolding cruise finer
@@ -21,3 +21,11 @@ sway-cases = refl
 pub raises-cases : RaisesCasesHold
 unfolding finer answerOf raiseOf raisesCall
 raises-cases = refl
+
+pub conversions : ConversionsHold
+conversions = refl
+
+-- reach is not a threshold
+pub no-threshold : RunCasesHold
+unfolding cruise finer
+no-threshold = refl

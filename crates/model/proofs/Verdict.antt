@@ -18,11 +18,14 @@ use Rattle.model.specs.Windows as W
 use Rattle.model.specs.Windows.{inWindows}
 use Rattle.model.proofs.WindowsInWords.{in-windows, windows-in, windows-wrong, windows-right}
 use Rattle.model.specs.Job.{Job, JobAxis, maskWhere}
-use Rattle.model.specs.Refusals.{lastTick, limitsRefused, dampingRefused, blendRefused, swayRefused, valuesRefused, accelerationRefused, Passed, AllPassed}
+use Rattle.model.specs.Refusals.{lastTick, limitsRefused, dampingRefused, blendRefused, swayRefused}
+use Rattle.model.specs.Refusals.{valuesRefused, accelerationRefused, flyingRefused, Passed, AllPassed}
 use Rattle.model.specs.Outcome.{Outcome, refuse, accept, allReach, leastFrom, leastArrival, arrives}
 use Rattle.model.specs.Outcome.{reachesNone, firstAxis, cellsNeeded, filled, arrived, jobOutcome}
-use Rattle.model.specs.Verdict.{Refuses, Accepts, Among, NoneRefused, FirstRefused, Names, AllReachable, ReachesNone, Arrives, IsArrival, WindowsPass, Verdict}
-use Rattle.model.specs.Verdict.{refused3, refused4, refused12, refused5, refused15, refused6, refused16, refused13, refused8, refused9, refused10, accepted}
+use Rattle.model.specs.Verdict.{Refuses, Accepts, Among, NoneRefused, FirstRefused, Names}
+use Rattle.model.specs.Verdict.{AllReachable, ReachesNone, Arrives, IsArrival, WindowsPass, Verdict}
+use Rattle.model.specs.Verdict.{refused3, refused4, refused12, refused5, refused15, refused6}
+use Rattle.model.specs.Verdict.{refused16, refused17, refused13, refused8, refused9, refused10, accepted}
 use Rattle.model.proofs.LeastTick.{Least, least-is, none-is}
 use Rattle.model.proofs.Masks.{Ascends, names}
 use Rattle.model.proofs.PassedAxis.{speed-limit, some-acceleration}
@@ -46,13 +49,21 @@ passed-among [] p x m = absurd (none-some (m .1))
 passed-among (y ∷ l) p x m = all-among (λ x. Passed (x .axis)) y l (p .0) (λ z q. passed-among l (p .1) z q) x m
 
 all-passed : (l : List JobAxis) → NoneRefused limitsRefused l → NoneRefused dampingRefused l → NoneRefused blendRefused l → NoneRefused swayRefused l
-    → NoneRefused valuesRefused l → NoneRefused accelerationRefused l → AllPassed l
-all-passed [] a b c d e f = tt
-all-passed (y ∷ l) a b c d e f =
+    → NoneRefused valuesRefused l → NoneRefused accelerationRefused l → NoneRefused flyingRefused l → AllPassed l
+all-passed [] a b c d e f g = tt
+all-passed (y ∷ l) a b c d e f g =
     let here = first-among y l in (
-      record { limits = a y here; damping = b y here; blend = c y here; sway = d y here; values = e y here; acceleration = f y here },
+      record {
+        limits = a y here;
+        damping = b y here;
+        blend = c y here;
+        sway = d y here;
+        values = e y here;
+        acceleration = f y here;
+        resting = g y here;
+      },
       all-passed l (λ x m. a x (later-among y l x m)) (λ x m. b x (later-among y l x m)) (λ x m. c x (later-among y l x m))
-          (λ x m. d x (later-among y l x m)) (λ x m. e x (later-among y l x m)) (λ x m. f x (later-among y l x m)),
+          (λ x m. d x (later-among y l x m)) (λ x m. e x (later-among y l x m)) (λ x m. f x (later-among y l x m)) (λ x m. g x (later-among y l x m)),
     )
 
 -- ---- the first axis that a test refuses
@@ -215,8 +226,11 @@ module _ (j : Job) (lent : List ℤ) (numbered : Ascends 0 (j .axes)) where
       let n₆ = none-refused valuesRefused (j .axes) e₆ in
       by-option Q (firstAxis accelerationRefused (j .axes)) _ _
       (λ i e. refused16 i h n₄ n₁₂ n₅ n₁₅ n₆ (first-refused accelerationRefused (j .axes) i e) is-refusal) (λ e₁₆.
-      let passed = all-passed (j .axes) n₄ n₁₂ n₅ n₁₅ n₆ (none-refused accelerationRefused (j .axes) e₁₆) in
+      let n₁₆ = none-refused accelerationRefused (j .axes) e₁₆ in
+      by-option Q (firstAxis flyingRefused (j .axes)) _ _
+      (λ i e. refused17 i h n₄ n₁₂ n₅ n₁₅ n₆ n₁₆ (first-refused flyingRefused (j .axes) i e) is-refusal) (λ e₁₇.
+      let passed = all-passed (j .axes) n₄ n₁₂ n₅ n₁₅ n₆ n₁₆ (none-refused flyingRefused (j .axes) e₁₇) in
       by-option Q (W.refused13 (j .windows)) _ _
       (λ p e. let x = windows-wrong (j .windows) p e in refused13 p h passed (x .0) (x .1) is-refusal)
-      (λ e. arrived-is (j .asked) refl h passed (windows-right (j .windows) e)))))))))
+      (λ e. arrived-is (j .asked) refl h passed (windows-right (j .windows) e))))))))))
       (λ t. refused3 (nleb→lt (j .asked) lastTick t) is-refusal)

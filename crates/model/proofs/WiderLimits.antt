@@ -110,4 +110,5 @@ module _ (x : Axis) (l a : ℕ) (faster : speedLimit x ≤ l) (stronger : accele
             (rest-follows (x .start)) (target-follows (x .target))
             (not-false-T (restAllowed x (x .start) && targetAllowed x (x .target)) (p .values)));
         acceleration = p .acceleration;
+        resting = p .resting;
       }

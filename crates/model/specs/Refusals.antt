@@ -1,4 +1,4 @@
--- The refusals that one axis meets by itself (paper 01, "Refusal list", numbers 4 to 6, and paper 02, numbers 12, 15 and 16), in checking order, and
+-- The refusals that one axis meets by itself (paper 01, "Refusal list", numbers 4 to 6, and paper 02, numbers 12, 15, 16 and 17), in checking order, and
 -- what an axis has that none of them refuses.
 use Prim.Native.Nat.{ℕ, _≤_}
 use mathlib.Core.Path.{_≡_}
@@ -6,7 +6,7 @@ use mathlib.Core.Bool.{Bool, true, false, not, _&&_}
 use mathlib.Core.List.{List, [], _∷_}
 use lib.IntN.{ℤ, pos, negsuc, natAbs}
 use lib.Signed.{leZ}
-use lib.Dec.{leb}
+use lib.Dec.{eqb, leb}
 use Rattle.model.specs.declared.Axis.{Axis}
 use Rattle.model.specs.declared.RestPoint.{RestPoint}
 use Rattle.model.specs.declared.SecondSway.{SecondSway}
@@ -83,6 +83,15 @@ accelerationRefusedBy (HalfPeriod d) g = accelerates g
 abbrev pub accelerationRefused : Axis → Bool
 accelerationRefused x = accelerationRefusedBy (x .«second_sway») (x .target)
 
+-- ---- 17: a fixed target has a velocity that is not 0
+
+abbrev pub flies : Target → Bool
+flies (Fixed r) = not (eqb (natAbs (r .velocity)) 0)
+flies (Moving m) = false
+
+abbrev pub flyingRefused : Axis → Bool
+flyingRefused x = flies (x .target)
+
 -- ---- what an axis has that none of them refuses
 
 pub record Passed (x : Axis) : Type 0 where
@@ -92,6 +101,7 @@ pub record Passed (x : Axis) : Type 0 where
   pub sway : swayRefused x ≡ false
   pub values : valuesRefused x ≡ false
   pub acceleration : accelerationRefused x ≡ false
+  pub resting : flyingRefused x ≡ false
 
 abbrev pub AllPassed : List JobAxis → Type 0
 AllPassed [] = Unit

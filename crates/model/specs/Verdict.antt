@@ -15,7 +15,7 @@ use Rattle.model.specs.Windows.{brought, FitsOne, WindowsWrong, WindowsR
 use Rattle.model.specs.Rows.{table}
 use Rattle.model.specs.Job.{Job, JobAxis, axesOf, jobOf, bit}
 use Rattle.model.specs.Words.{kind, payload, twos, longPosition, between, fitsWord, decode, badWord, badLong, job}
-use Rattle.model.specs.Refusals.{limitsRefused, dampingRefused, blendRefused, swayRefused, valuesRefused, accelerationRefused, AllPassed}
+use Rattle.model.specs.Refusals.{limitsRefused, dampingRefused, blendRefused, swayRefused, valuesRefused, accelerationRefused, flyingRefused, AllPassed}
 use Rattle.model.specs.Outcome.{Outcome, Input, words, typed, cellsNeeded, jobOutcome}
 
 -- ---- the two kinds of answer
@@ -102,6 +102,9 @@ pub data Verdict (j : Job) (lent : List ℤ) (o : Outcome) : Type 0 where
   refused16 : (i : ℕ) → j .asked ≤ 4096 → NoneRefused limitsRefused (j .axes) → NoneRefused dampingRefused (j .axes)
       → NoneRefused blendRefused (j .axes) → NoneRefused swayRefused (j .axes) → NoneRefused valuesRefused (j .axes)
       → FirstRefused accelerationRefused (j .axes) i → Refuses o 16 i 0 0 lent → Verdict j lent o
+  refused17 : (i : ℕ) → j .asked ≤ 4096 → NoneRefused limitsRefused (j .axes) → NoneRefused dampingRefused (j .axes)
+      → NoneRefused blendRefused (j .axes) → NoneRefused swayRefused (j .axes) → NoneRefused valuesRefused (j .axes)
+      → NoneRefused accelerationRefused (j .axes) → FirstRefused flyingRefused (j .axes) i → Refuses o 17 i 0 0 lent → Verdict j lent o
   -- windows are brought, and they are not right
   refused13 : (p : ℕ) → j .asked ≤ 4096 → AllPassed (j .axes) → j .windows .given ≡ true → WindowsWrong (j .windows) p
       → Refuses o 13 p 0 0 lent → Verdict j lent o

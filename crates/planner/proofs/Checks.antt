@@ -1,4 +1,4 @@
--- Refusals 3, 4, 12, 5, 15, 6, 16 and 13, in checking order.
+-- Refusals 3, 4, 12, 5, 15, 6, 16, 17 and 13, in checking order.
 use Prim.Native.Nat.{ℕ, zero, suc, _+_, _<_, _≤_}
 use native.Mathlib.Omega.{arith}
 use mathlib.Core.Path.{_≡_, refl, sym, ap, _∙_}
@@ -6,18 +6,19 @@ use mathlib.Core.Bool.{Bool, true, false, cond, not, _&&_, false≢true}
 use mathlib.Core.Option.{Option, none, some}
 use mathlib.Core.List.{List, [], _∷_, map}
 use lib.IntN.{ℤ}
-use lib.ListN.{drop, getD}
+use lib.ListN.{length, drop, getD}
 use lib.Dec.{eqb, leb}
 use borrow.Author.Tests.{le-leb, lt-leb, leb-true, ne-eqb, eqb-false}
 use Rattle.model.specs.declared.Axis.{Axis}
 use Rattle.model.specs.declared.Windows.{Windows}
 use Rattle.model.specs.Windows.{refused13}
 use Rattle.model.specs.Job.{Job, JobAxis}
-use Rattle.model.specs.Refusals.{AllPassed, lastTick, limitsRefused, dampingRefused, blendRefused, swayRefused, valuesRefused, accelerationRefused}
+use Rattle.model.specs.Refusals.{AllPassed, lastTick, limitsRefused, dampingRefused}
+use Rattle.model.specs.Refusals.{blendRefused, swayRefused, valuesRefused, accelerationRefused, flyingRefused}
 use Rattle.model.specs.Outcome.{Outcome, refuse, firstAxis, axisRefusals, tested, arrived, jobOutcome}
 use Rattle.motion.specs.Motions.{refusalTest}
 use Rattle.planner.specs.declared.Refusal.{Refusal}
-use Rattle.planner.specs.Stages.{windowRefusal, firstRefusal, checkedFor, Checked}
+use Rattle.planner.specs.Stages.{windowRefusal, testsFor, firstRefusal, checkedFor, Checked}
 
 abbrev Tests : Type 0
 Tests = List (ℕ × (Axis → Bool))
@@ -31,33 +32,50 @@ numbers = map (λ t. t .0) axisRefusals
 abbrev pub numberAt : ℕ → ℕ
 numberAt i = getD numbers i 0
 
--- the tests from test i on
-abbrev rulesFrom : ℕ → Tests
-rulesFrom i = drop i axisRefusals
+module _ (resting : Bool) where
+  abbrev pub count : ℕ
+  count = length (testsFor resting)
 
-rules-more : (i : ℕ) → i < 6 → rulesFrom i ≡ (numberAt i, refusalTest (numberAt i)) ∷ rulesFrom (i + 1)
-rules-more zero h = refl
-rules-more (suc zero) h = refl
-rules-more (suc (suc zero)) h = refl
-rules-more (suc (suc (suc zero))) h = refl
-rules-more (suc (suc (suc (suc zero)))) h = refl
-rules-more (suc (suc (suc (suc (suc zero))))) h = refl
-rules-more (suc (suc (suc (suc (suc (suc i)))))) h = absurd (omega arith)
+  -- the tests from test i on
+  abbrev rulesFrom : ℕ → Tests
+  rulesFrom i = drop i (testsFor resting)
 
-module _ (xs : List JobAxis) (w : Windows) where
+pub count-few : (resting : Bool) → count resting ≤ 7
+count-few true = omega arith
+count-few false = omega arith
+
+rules-more : (resting : Bool) (i : ℕ) → i < count resting
+    → rulesFrom resting i ≡ (numberAt i, refusalTest (numberAt i)) ∷ rulesFrom resting (i + 1)
+rules-more true zero h = refl
+rules-more true (suc zero) h = refl
+rules-more true (suc (suc zero)) h = refl
+rules-more true (suc (suc (suc zero))) h = refl
+rules-more true (suc (suc (suc (suc zero)))) h = refl
+rules-more true (suc (suc (suc (suc (suc zero))))) h = refl
+rules-more true (suc (suc (suc (suc (suc (suc zero)))))) h = refl
+rules-more true (suc (suc (suc (suc (suc (suc (suc i))))))) h = absurd (omega arith)
+rules-more false zero h = refl
+rules-more false (suc zero) h = refl
+rules-more false (suc (suc zero)) h = refl
+rules-more false (suc (suc (suc zero))) h = refl
+rules-more false (suc (suc (suc (suc zero)))) h = refl
+rules-more false (suc (suc (suc (suc (suc zero))))) h = refl
+rules-more false (suc (suc (suc (suc (suc (suc i)))))) h = absurd (omega arith)
+
+module _ (resting : Bool) (xs : List JobAxis) (w : Windows) where
   -- the first refusal of the tests from test i on
   pub from : ℕ → Refusal
-  from i = firstRefusal (rulesFrom i) xs w
+  from i = firstRefusal (rulesFrom resting i) xs w
 
   by : ℕ → Option ℕ → Refusal
-  by i o = elim o [ some k ↦ record { number = numberAt i; place = k } | none ↦ firstRefusal (rulesFrom (i + 1)) xs w ]
+  by i o = elim o [ some k ↦ record { number = numberAt i; place = k } | none ↦ firstRefusal (rulesFrom resting (i + 1)) xs w ]
 
-  opened : (i : ℕ) → i < 6 → from i ≡ by i (firstAxis (refusalTest (numberAt i)) xs)
+  opened : (i : ℕ) → i < count resting → from i ≡ by i (firstAxis (refusalTest (numberAt i)) xs)
   unfolding from by
-  opened i h = ap (λ (ts : Tests). firstRefusal ts xs w) (rules-more i h)
+  opened i h = ap (λ (ts : Tests). firstRefusal ts xs w) (rules-more resting i h)
 
   -- n is the number of test i
-  module _ (i n : ℕ) (h : i < 6) (is : n ≡ numberAt i) where
+  module _ (i n : ℕ) (h : i < count resting) (is : n ≡ numberAt i) where
     answered : from i ≡ by i (firstAxis (refusalTest n) xs)
     answered = opened i h ∙ ap (λ (k : ℕ). by i (firstAxis (refusalTest k) xs)) (sym is)
 
@@ -69,11 +87,15 @@ module _ (xs : List JobAxis) (w : Windows) where
     unfolding from by
     refused-later e = answered ∙ ap (by i) e
 
-  pub none-refused : (i : ℕ) → i ≡ 6 → from i ≡ windowRefusal w
+  pub none-refused : (i : ℕ) → i ≡ count resting → from i ≡ windowRefusal w
   unfolding from
-  none-refused i e = ap (λ (k : ℕ). firstRefusal (rulesFrom k) xs w) e
+  none-refused i e = ap (λ (k : ℕ). firstRefusal (rulesFrom resting k) xs w) e ∙ ended resting
+    where
+      ended : (b : Bool) → firstRefusal (rulesFrom b (count b)) xs w ≡ windowRefusal w
+      ended true = refl
+      ended false = refl
 
-  pub begun : from 0 ≡ firstRefusal axisRefusals xs w
+  pub begun : from 0 ≡ firstRefusal (testsFor resting) xs w
   unfolding from
   begun = refl
 
@@ -129,15 +151,16 @@ split f x xs e = go (f (x .axis)) e
 
 all-passed : (xs : List JobAxis) (w : Windows) → Clear axisRefusals xs w → AllPassed xs
 all-passed [] w c = tt
-all-passed (x ∷ xs) w (l, (d, (b, (s, (v, (a, r)))))) =
+all-passed (x ∷ xs) w (l, (d, (b, (s, (v, (a, (f, r))))))) =
     let l' = split limitsRefused x xs l in
     let d' = split dampingRefused x xs d in
     let b' = split blendRefused x xs b in
     let s' = split swayRefused x xs s in
     let v' = split valuesRefused x xs v in
-    let a' = split accelerationRefused x xs a in (
-      record { limits = l' .0; damping = d' .0; blend = b' .0; sway = s' .0; values = v' .0; acceleration = a' .0 },
-      all-passed xs w (l' .1, (d' .1, (b' .1, (s' .1, (v' .1, (a' .1, r)))))),
+    let a' = split accelerationRefused x xs a in
+    let f' = split flyingRefused x xs f in (
+      record { limits = l' .0; damping = d' .0; blend = b' .0; sway = s' .0; values = v' .0; acceleration = a' .0; resting = f' .0 },
+      all-passed xs w (l' .1, (d' .1, (b' .1, (s' .1, (v' .1, (a' .1, (f' .1, r))))))),
     )
 
 -- ---- what `check` gives back
@@ -157,7 +180,7 @@ checked j r e = go (leb (j .asked) lastTick) refl
           is = e;
           asked = λ z. leb-true (j .asked) lastTick t;
           passed = λ z. all-passed (j .axes) (j .windows) (clear axisRefusals (j .axes) (j .windows) all-numbered (sym number ∙ z));
-          windows = λ z. clear axisRefusals (j .axes) (j .windows) all-numbered (sym number ∙ z) .1 .1 .1 .1 .1 .1;
+          windows = λ z. clear axisRefusals (j .axes) (j .windows) all-numbered (sym number ∙ z) .1 .1 .1 .1 .1 .1 .1;
         }
     go false t =
         let number = ap (λ (q : Refusal). q .number) (e ∙ ap (by-asked j) t) in

@@ -13,6 +13,7 @@ use Rattle.model.specs.Windows.{refused13}
 use Rattle.model.specs.Job.{Job, JobAxis}
 use Rattle.model.specs.Refusals.{AllPassed, lastTick}
 use Rattle.model.specs.Outcome.{Outcome, outcomeOf, firstAxis, axisRefusals, allReach, filled, jobOutcome}
+use Rattle.model.specs.Converter.{oldRefusals}
 use Rattle.motion.specs.Motions.{refusalTest}
 use Rattle.planner.specs.declared.Refusal.{Refusal}
 use Rattle.planner.specs.declared.FirstAxis.{FirstAxis}
@@ -36,11 +37,16 @@ pub record Settled (j : Job) (r : Answer) : Type 0 where
   pub passed : r .number ≡ 0 → AllPassed (j .axes)
   pub reached : r .number ≡ 0 → allReach (j .axes) (r .arrival) ≡ true
 
--- ---- refusals 3, 4, 12, 5, 6 and 13
+-- ---- refusals 3, 4, 12, 5, 6, 17 and 13
 
 -- refusal 13, or number 0
 abbrev pub windowRefusal : Windows → Refusal
 windowRefusal w = elim (refused13 w) [ some p ↦ record { number = 13; place = p } | none ↦ record { number = 0; place = 0 } ]
+
+-- the tests of the axes, where fixed targets must be at rest and where they may fly
+abbrev pub testsFor : Bool → List (ℕ × (Axis → Bool))
+testsFor true = axisRefusals
+testsFor false = oldRefusals
 
 -- the first refusal of a list of numbered tests, or then 13, or number 0
 abbrev pub firstRefusal : List (ℕ × (Axis → Bool)) → List JobAxis → Windows → Refusal

@@ -9,13 +9,14 @@ mod spelled;
 mod tours;
 mod windows;
 
+pub use crate::reference::word;
 use crate::reference::RAIL;
 
 pub use damaged::{damaged_job, with_signed, with_unsigned, SIGNED_ENDS, SINGLE_ENDS, UNSIGNED_ENDS};
 pub use dampings::ratio_ends;
-pub use drawn::{chasing_job, job, late_job};
+pub use drawn::{chasing_job, job, late_job, old_job};
 pub use edge::edge_job;
-pub use spelled::{damaged_words, stray_words, word, words, CASE_C};
+pub use spelled::{damaged_words, stray_words, words, CASE_C};
 pub use tours::{damaged_tour, tour};
 pub use windows::{badly_windowed, late_windowed, windowed};
 

@@ -330,3 +330,16 @@ pub fn raises_of_words(words: &[u32]) -> Raised {
 pub fn raises(job: &Job, fill: u64) -> Raised {
     raised(unsafe { polgamir_raises_job(CJob::of(job, fill)) })
 }
+
+extern "C" {
+    fn polgamir_convert(words: *const u32, word_count: usize, lent: *mut u32, lent_count: usize) -> CAnswer;
+}
+
+/// Converts old job words to lent words: how many were written, or a refusal.
+pub fn convert(words: &[u32], lent: &mut [u32]) -> Result<usize, Answer> {
+    let answer = answer(unsafe { polgamir_convert(words.as_ptr(), words.len(), lent.as_mut_ptr(), lent.len()) });
+    match answer.number {
+        0 => Ok(answer.place as usize),
+        _ => Err(answer),
+    }
+}

@@ -41,7 +41,13 @@ pub fn asked(job: Job, asked: u32) -> Job {
     Job { asked, ..job }
 }
 
-/// Case F's axis.
+/// Case F's axis with a moving target that is at the position at the tick.
+pub fn passing(position: i64, tick: i64) -> Axis {
+    let target = Target::Moving { position, velocity: 10, acceleration: 0, tick };
+    Axis { target, ..flying(position) }
+}
+
+/// Case F's axis, whose fixed target flies.
 pub fn flying(position: i64) -> Axis {
     Axis { speed_limit: 20, start_velocity: 10, target: Target::Fixed { position, velocity: 10 }, ..PLAIN }
 }

@@ -1,6 +1,7 @@
 //! Papers 01 and 02 written out in Rust, without the library: what a call must return and what it must leave. Velocities
 //! and positions come from closed sums (module `leg`), so a row is found without the rows before it.
 
+mod converter;
 mod damping;
 mod job;
 mod planned;
@@ -12,6 +13,7 @@ mod tour;
 mod windows;
 mod words;
 
+pub use converter::convert;
 pub use damping::Damping;
 pub use job::{Answer, Axis, Job, Target, LATEST, RAIL, UNSET};
 pub use planned::{Exact, Planned};
@@ -20,4 +22,4 @@ pub use raises::{raises_of_words, Raise, Raised};
 pub use single::Single;
 pub use tour::{Stop, Tour, Toured, MOST_STOPS};
 pub use windows::{Window, Windows, MOST_WINDOWS};
-pub use words::{decode, fits_a_word, plan_words};
+pub use words::{decode, fits_a_word, plan_words, word};

@@ -20,7 +20,7 @@ struct Comparison {
 }
 
 /// The numbers that planning can give.
-const NUMBERS: [usize; 15] = [0, 1, 2, 14, 3, 4, 12, 5, 15, 6, 16, 13, 8, 9, 10];
+const NUMBERS: [usize; 16] = [0, 1, 2, 14, 3, 4, 12, 5, 15, 6, 16, 17, 13, 8, 9, 10];
 
 /// A search that ends later than this, or nowhere, is a long one.
 const LONG: i64 = 200;

@@ -3,8 +3,8 @@
 
 use outside::jobs;
 use outside::library;
-use outside::plain::{after, asked, flying, job, one, to, PLAIN};
-use outside::reference::{self, Answer, Axis, Damping, Job, Target, UNSET};
+use outside::plain::{after, asked, flying, job, one, passing, to, PLAIN};
+use outside::reference::{self, Answer, Axis, Damping, Job, Windows, UNSET};
 
 /// The answer of all four calls, which agree, and the first axis's rows where it is accepted.
 fn outcome(job: Job, cells: usize) -> (Answer, Vec<[i64; 3]>) {
@@ -67,13 +67,13 @@ fn field_cases() {
     assert_eq!(velocities(d), [0, 128, 128, 0]);
     assert_eq!(accelerations(d), [128, 0, -128, 0]);
     assert_eq!(refused(asked(b, 3)), (8, 0, 1, 0));
-    let f = one(flying(10));
-    assert_eq!(arrival(f), 1);
-    assert_eq!(refused(asked(f, 2)), (8, 0, 1, 0));
-    assert_eq!(refused(asked(f, 38)), (8, 0, 1, 0));
-    assert_eq!(arrival(asked(f, 39)), 39);
+    let f = |tick: u32| asked(one(passing(10, i64::from(tick))), tick);
+    assert_eq!(arrival(f(1)), 1);
+    assert_eq!(refused(f(2)), (8, 0, 1, 0));
+    assert_eq!(refused(f(38)), (8, 0, 1, 0));
+    assert_eq!(arrival(f(39)), 39);
     assert_eq!(arrival(one(to(1))), 2);
-    assert_eq!(arrival(job(&[flying(10), to(1)])), 39);
+    assert_eq!(arrival(asked(job(&[passing(10, 39), to(1)]), 39)), 39);
     let h = one(after(0, 1, 0, 0));
     assert_eq!(velocities(h), [0, 256, 384, 256]);
     assert_eq!(library::plan_words(&[], &mut []).number, 1);
@@ -94,7 +94,10 @@ fn the_words_of_case_c() {
 
 #[test]
 fn traps_of_this_trade() {
-    assert_eq!(arrival(one(flying(30))), 3);
+    let f = |tick: u32| asked(one(passing(30, i64::from(tick))), tick);
+    assert_eq!(arrival(f(3)), 3);
+    assert_eq!(refused(f(36)), (8, 0, 1, 0));
+    assert_eq!(arrival(f(37)), 37);
     assert_eq!(positions(asked(one(Axis { half_period: 1, ..to(1) }), 54))[1], 1);
 }
 
@@ -104,13 +107,14 @@ fn easily_misread() {
     let wide = Axis { acceleration_limit: 2, half_period: 1, ..after(0, 0, 1, 0) };
     assert_eq!(refused(asked(one(wide), 10)), (8, 0, 1, 0));
     // One axis that fails is enough.
-    assert_eq!(refused(asked(job(&[flying(10), to(1)]), 2)), (8, 0, 1, 0));
+    assert_eq!(refused(asked(job(&[passing(10, 2), to(1)]), 2)), (8, 0, 1, 0));
     // N > h even when nothing moves.
     assert_eq!(arrival(one(Axis { start_position: 5, half_period: 1, ..to(5) })), 2);
-    // A fixed target that flies has its tick at the arrival.
+    // A fixed target that flies becomes a moving one with its tick at the asked arrival.
     let passing =
-        Axis { start_velocity: 1, half_period: 4, target: Target::Fixed { position: 8, velocity: 1 }, ..PLAIN };
-    assert_eq!(arrival(one(passing)), 7);
+        |tick: u32| asked(one(Axis { start_velocity: 1, half_period: 4, ..after(8, 1, 0, tick.into()) }), tick);
+    assert_eq!(refused(passing(6)), (8, 0, 1, 0));
+    assert_eq!(arrival(passing(7)), 7);
     // Half units of a moving target are kept.
     assert_eq!(outcome(one(after(0, 0, 1, 0)), 6).1, [[0, 0, 256], [128, 256, 256]]);
     // Halves go away from zero, and rule 5 is not mirrored.
@@ -195,6 +199,24 @@ fn poles_with_a_second_sway() {
     assert_eq!(refused(one(Axis { half_period: 1, ..chasing })), (16, 0, 0, 0));
     assert_eq!(refused(job(&[chasing, Axis { start_velocity: 11, ..to(1) }])), (6, 1, 0, 0));
     assert_eq!(refused(asked(job(&[to(1), chasing]), 1)), (16, 1, 0, 0));
+}
+
+/// Request 2.11.
+#[test]
+fn flying_fixed_targets_go() {
+    let f = one(flying(10));
+    assert_eq!(refused(f), (17, 0, 0, 0));
+    for tick in [1, 2, 38, 39] {
+        assert_eq!(refused(asked(f, tick)), (17, 0, 0, 0));
+    }
+    assert_eq!(refused(job(&[to(1), flying(10), flying(30)])), (17, 1, 0, 0));
+    // After 6 and 16, before 13 and 8.
+    assert_eq!(refused(job(&[flying(10), Axis { start_velocity: 11, ..to(1) }])), (6, 1, 0, 0));
+    assert_eq!(refused(job(&[flying(10), Axis { second: Some(1), ..after(0, 0, 1, 0) }])), (16, 1, 0, 0));
+    let windowed = Job { windows: Some(Windows::new(0, &[])), ..f };
+    assert_eq!(library::plan_typed(&windowed, &mut []).number, 17);
+    // A fixed target at rest and a moving one are as they were, also where the latter goes on uniformly.
+    assert_eq!(arrival(one(after(10, 0, 0, 7))), arrival(one(to(10))));
 }
 
 /// Case C's words, asked for tick 1, with other words for the start and the target position.

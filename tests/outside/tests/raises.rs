@@ -135,7 +135,7 @@ fn random_raises_agree() {
         }
     }
     eprintln!("{seen:?}");
-    for number in [0, 1, 2, 14, 3, 4, 12, 5, 15, 6, 16, 13, 8] {
+    for number in [0, 1, 2, 14, 3, 4, 12, 5, 15, 6, 16, 17, 13, 8] {
         assert!(seen.numbers[number] > 0, "{number}: {seen:?}");
     }
     assert_eq!(seen.numbers[10], 0);

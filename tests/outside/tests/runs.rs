@@ -1,10 +1,9 @@
-//! The arrivals that an axis reaches are one run of ticks; two where its target is fixed and has a velocity. This is what
-//! bounds the turns of a search for a common arrival.
+//! The arrivals that an axis reaches are one run of ticks. This is what bounds the turns of a search for a common arrival.
 
 use outside::jobs::{self, Reach};
 use outside::library;
 use outside::random::Random;
-use outside::reference::{Axis, Job, Target};
+use outside::reference::{Axis, Job};
 
 /// How many runs of ticks up to the last one are reached. No cell is lent: a reached arrival is refused by 10.
 fn runs(job: &Job, axis: &Axis, last: u32) -> usize {
@@ -19,15 +18,14 @@ fn runs(job: &Job, axis: &Axis, last: u32) -> usize {
     ticks.windows(2).filter(|pair| !pair[0] && pair[1]).count()
 }
 
-/// How many axes of some jobs have no run, one run and two. Two are allowed where a fixed target has a velocity.
-fn counted(random: &mut Random, reach: Reach, jobs: usize, last: u32) -> [usize; 3] {
-    let mut counts = [0; 3];
+/// How many axes of some jobs have no run and one run.
+fn counted(random: &mut Random, reach: Reach, jobs: usize, last: u32) -> [usize; 2] {
+    let mut counts = [0; 2];
     for _ in 0..jobs {
         let job = jobs::job(random, reach);
         for (_, axis) in job.set() {
             let found = runs(&job, axis, last);
-            let passed = matches!(axis.target, Target::Fixed { velocity, .. } if velocity != 0);
-            assert!(found <= 1 + usize::from(passed), "{found} runs: {axis:?}");
+            assert!(found <= 1, "{found} runs: {axis:?}");
             counts[found] += 1;
         }
     }

@@ -2,6 +2,7 @@
 //! both give what they expect.
 
 use outside::library;
+use outside::reference::{self, Answer};
 use outside::vectors::{sum, Side, Tokens};
 
 /// Says which case failed.
@@ -38,6 +39,7 @@ fn every_case(file: &str, run: impl Fn(Side, &mut Tokens, &mut Tokens)) {
 /// What stands in lent memory before a call.
 const CELL: i64 = -1_234_567_890_123;
 const ENTRY: u32 = 987_654_321;
+const WORD: u32 = 0xDEAD_BEEF;
 
 /// The table that is expected: how many cells are written, their sum, and some of them; the rest is as it was.
 fn table(expected: &mut Tokens, cells: &[i64]) {
@@ -87,5 +89,29 @@ fn raises() {
         let (answer, raises) = call.given().raises(side);
         expected.answer(answer);
         assert_eq!(raises, expected.raises());
+    });
+}
+
+fn convert(side: Side, call: &mut Tokens, expected: &mut Tokens) {
+    let mut lent = vec![WORD; call.number()];
+    call.is("words");
+    let words = call.hexes();
+    let converted = match side {
+        Side::Library => library::convert(&words, &mut lent),
+        Side::Reference => reference::convert(&words, &mut lent),
+    };
+    let place = |count: usize| Answer { number: 0, place: count as u64, mask: 0, arrival: 0 };
+    expected.answer(converted.map_or_else(|refused| refused, place));
+    expected.is("words");
+    let wanted = expected.hexes();
+    assert_eq!(lent[..wanted.len()], wanted);
+    assert!(lent[wanted.len()..].iter().all(|&word| word == WORD));
+}
+
+#[test]
+fn conversions() {
+    every_case("convert.txt", |side, call, expected| {
+        call.is("convert");
+        convert(side, call, expected);
     });
 }

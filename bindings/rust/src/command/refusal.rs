@@ -98,6 +98,9 @@ fn cause(sheet: &Sheet, refusal: &Refusal) -> String {
         Refusal::Acceleration { .. } => {
             format!("the target of {title} accelerates, and its pole has a second half period")
         }
+        Refusal::FlyingTarget { .. } => {
+            format!("the fixed target of {title} has a velocity, and a fixed target is at rest")
+        }
         Refusal::Windows { .. } => "the windows cannot be used as they stand".into(),
         Refusal::NotReachable { axes } if axes.is_empty() => {
             let asked = sheet.job.arrival.number();
@@ -138,6 +141,7 @@ fn remedy(sheet: &Sheet, refusal: &Refusal) -> String {
         Refusal::Acceleration { .. } => {
             "enter a target without acceleration, or leave the second half period out and let the pole sway at that rate".into()
         }
+        Refusal::FlyingTarget { .. } => flying_remedy(sheet.job.arrival),
         Refusal::Windows { .. } => {
             format!(
                 "enter 1 to {MOST_WINDOWS} windows in the order of their ticks, and a dwell from 0 to {LONGEST_DWELL}"
@@ -156,6 +160,15 @@ fn remedy(sheet: &Sheet, refusal: &Refusal) -> String {
         }
         Refusal::TableTooShort { .. } => "give `--cells` that many, or leave it out".into(),
         _ => "nothing was planned".into(),
+    }
+}
+
+/// What to write in place of a flying target.
+fn flying_remedy(arrival: Arrival) -> String {
+    let written = "write `target moving` with the same position and velocity, `target acceleration 0`";
+    match arrival {
+        Arrival::Earliest => format!("{written} and as `target tick` the tick at which the target is at its position"),
+        Arrival::At(tick) => format!("{written} and `target tick {tick}`"),
     }
 }
 
@@ -299,6 +312,7 @@ fn concerns(refusal: &Refusal) -> &'static [WordKind] {
         Refusal::Acceleration { .. } => &[SecondHalfPeriod, TargetAcceleration],
         Refusal::NotReachable { .. } => &[SpeedLimit, AccelerationLimit],
         Refusal::NoCommonArrival { .. } => &[SpeedLimit, AccelerationLimit, StartPosition, TargetPosition],
+        Refusal::FlyingTarget { .. } => &[TargetPosition, TargetVelocity],
         _ => &[],
     }
 }

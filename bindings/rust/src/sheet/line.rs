@@ -54,14 +54,18 @@ impl SheetLine {
         match refusal {
             Refusal::Damping { .. } | Refusal::Blend { .. } | Refusal::SecondHalfPeriod { .. } => SheetLine::TapThePole,
             Refusal::Mask | Refusal::Limits { .. } => SheetLine::EnterLimits,
-            Refusal::StartOrTarget { .. } | Refusal::Acceleration { .. } | Refusal::NoCommonArrival { .. } => {
-                SheetLine::EnterStartAndTarget
-            }
+            Refusal::StartOrTarget { .. }
+            | Refusal::Acceleration { .. }
+            | Refusal::FlyingTarget { .. }
+            | Refusal::NoCommonArrival { .. } => SheetLine::EnterStartAndTarget,
             Refusal::AskedArrival
             | Refusal::Windows { .. }
             | Refusal::NotReachable { .. }
             | Refusal::TableTooShort { .. } => SheetLine::ReadTheArrival,
-            Refusal::Words { .. } | Refusal::LongPosition { .. } | Refusal::Other { .. } => SheetLine::ReadTheRefusal,
+            Refusal::Words { .. }
+            | Refusal::LongPosition { .. }
+            | Refusal::WordsTooFew { .. }
+            | Refusal::Other { .. } => SheetLine::ReadTheRefusal,
         }
     }
 }

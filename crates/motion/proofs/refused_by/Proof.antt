@@ -25,6 +25,9 @@ values-refused-requires c κs = search needs
 acceleration-refused-requires : tie.Need-acceleration-refused-requires
 acceleration-refused-requires c κs = search needs
 
+flying-refused-requires : tie.Need-flying-refused-requires
+flying-refused-requires c κs = search needs
+
 returns : tie.Need-returns
 returns c = c .limits-refused .ensures ∙ sym (ap (λ (k : ℕ). refusalTest k (c .before .before .args .x)) (c .before .match .keys1))
 
@@ -44,11 +47,14 @@ returns-6 : tie.Need-returns-6
 returns-6 c = c .acceleration-refused .ensures ∙ sym (ap (λ (k : ℕ). refusalTest k (c .before .before .args .x)) (c .before .match .keys6))
 
 returns-7 : tie.Need-returns-7
-returns-7 c =
+returns-7 c = c .flying-refused .ensures ∙ sym (ap (λ (k : ℕ). refusalTest k (c .before .before .args .x)) (c .before .match .keys7))
+
+returns-8 : tie.Need-returns-8
+returns-8 c =
     let r = c .match .rest in
-    let b = r .0 .0 in
+    let b = r .0 .0 .0 in
     absent-passes axisRefusals (c .before .args .number) (c .before .args .x)
-    (b .0 .0 .0 .1, (b .0 .0 .1, (b .0 .1, (b .1, (r .0 .1, (r .1, tt))))))
+    (b .0 .0 .0 .1, (b .0 .0 .1, (b .0 .1, (b .1, (r .0 .0 .1, (r .0 .1, (r .1, tt)))))))
 
 pub refused-by-spec : {M : Type 1} → statement M
 refused-by-spec =
@@ -60,10 +66,12 @@ refused-by-spec =
     sway-refused-requires
     values-refused-requires
     acceleration-refused-requires
+    flying-refused-requires
     returns
     returns-2
     returns-3
     returns-4
     returns-5
     returns-6
-    returns-7)
+    returns-7
+    returns-8)

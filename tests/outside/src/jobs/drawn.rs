@@ -44,7 +44,7 @@ fn fitting_axis(random: &mut Random, speed: i64, acceleration: i64, ticks: i64) 
     let drift = if random.once_in(2) { (start_velocity + velocity) * moved / 2 } else { 0 };
     let distance = random.between(-most - most / 16, most + most / 16) + drift;
     let position = on_rail(start + distance);
-    let target = if random.once_in(3) {
+    let target = if velocity != 0 || random.once_in(3) {
         // A moving target: where it meets the head about `ticks`, reckoned back to its own tick.
         let a = if second.is_some() || random.once_in(2) {
             0
@@ -55,7 +55,7 @@ fn fitting_axis(random: &mut Random, speed: i64, acceleration: i64, ticks: i64) 
         let tick = random.between((ticks - 40).max(-LATEST), (ticks + 20).min(LATEST));
         Target::Moving { position, velocity, acceleration: a, tick }
     } else {
-        Target::Fixed { position, velocity }
+        Target::Fixed { position, velocity: 0 }
     };
     Axis {
         start_position: start,
@@ -74,7 +74,7 @@ fn far_axis(random: &mut Random) -> Axis {
     let acceleration = some_size(random, 1 << 16);
     let axis = fitting_axis(random, speed, acceleration, 100);
     let (position, start_position) = (anywhere(random), anywhere(random));
-    Axis { start_position, target: Target::Fixed { position, velocity: axis.target.velocity() }, ..axis }
+    Axis { start_position, target: Target::Fixed { position, velocity: 0 }, ..axis }
 }
 
 /// An axis of small limits that may well arrive after about `ticks` ticks.
@@ -122,6 +122,23 @@ pub fn job(random: &mut Random, reach: Reach) -> Job {
     Job { mask, asked: asked as u32, axes, windows: None }
 }
 
+/// A job of the old rules: fixed targets may fly. Mostly it asks for its least arrival or for one soon after.
+pub fn old_job(random: &mut Random, reach: Reach) -> Job {
+    let mut old = job(random, reach);
+    for axis in &mut old.axes {
+        if let Target::Moving { position, velocity, acceleration: 0, .. } = axis.target {
+            if !random.once_in(4) {
+                axis.target = Target::Fixed { position, velocity };
+            }
+        }
+    }
+    if !random.once_in(4) {
+        let least = (1..=60).find(|&tick| old.all_arrive(tick));
+        old.asked = least.map_or(old.asked, |tick| (tick + random.pick(&[0, 0, 0, 1, 9])) as u32);
+    }
+    old
+}
+
 /// An axis from rest to rest that arrives about the tick, not before it, or not long after.
 fn late_axis(random: &mut Random, tick: i64) -> Axis {
     let (speed, acceleration) = (some_size(random, 1 << 14), some_size(random, 1 << 10));
@@ -138,27 +155,6 @@ fn late_axis(random: &mut Random, tick: i64) -> Axis {
         _ => Target::Fixed { position, velocity: 0 },
     };
     Axis { start_position, start_velocity: 0, target, ..axis }
-}
-
-/// A moving head that makes one early tick and then none for long: a detour takes about four times its velocity over
-/// its acceleration limit.
-fn gap_axis(random: &mut Random) -> Axis {
-    let velocity = random.between(100, 900) * if random.once_in(2) { 1 } else { -1 };
-    let acceleration = random.between(1, 3);
-    let h = random.pick(&[0, 0, 3, 100]);
-    let second = second(random, 100);
-    let tick = h + i64::from(second.unwrap_or(0)) + random.between(1, 5);
-    let start_position = place(random);
-    Axis {
-        start_position,
-        start_velocity: velocity,
-        speed_limit: 2 * velocity.unsigned_abs() as u32,
-        acceleration_limit: acceleration as u32,
-        half_period: h as u32,
-        damping: damping(random),
-        second,
-        target: Target::Fixed { position: on_rail(start_position + velocity * tick), velocity },
-    }
 }
 
 /// An axis after a target that accelerates away: within its speed limit only for some ticks about the target's own.
@@ -220,8 +216,7 @@ pub fn late_job(random: &mut Random) -> Job {
     for (i, slot) in axes.iter_mut().enumerate() {
         if mask >> i & 1 == 1 {
             *slot = match random.below(6) {
-                0 => gap_axis(random),
-                1 => fleeing_axis(random, tick),
+                0 => fleeing_axis(random, tick),
                 _ => late_axis(random, tick),
             };
         }

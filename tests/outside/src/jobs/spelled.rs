@@ -1,7 +1,7 @@
 //! Jobs as words, whole and damaged.
 
 use crate::random::Random;
-use crate::reference::{fits_a_word, Job, Target};
+use crate::reference::{fits_a_word, word, Job, Target};
 
 /// The words of the paper's case C, as it prints them. The asked arrival is in word 1.
 pub const CASE_C: [u32; 11] = [
@@ -17,11 +17,6 @@ pub const CASE_C: [u32; 11] = [
     0xA000_0000,
     0xF000_0000,
 ];
-
-/// The word of a kind with a payload, of which 28 bits are kept.
-pub fn word(kind: u32, payload: i64) -> u32 {
-    kind << 28 | (payload as u32 & 0x0FFF_FFFF)
-}
 
 /// A position's words: one of the kind, after one of kind 14 where it does not fit a single word.
 fn position(kind: u32, position: i64) -> Vec<u32> {

@@ -104,6 +104,11 @@ impl Target {
         }
     }
 
+    /// Whether the target is fixed and not at rest.
+    pub fn flies(&self) -> bool {
+        matches!(*self, Target::Fixed { velocity, .. } if velocity != 0)
+    }
+
     /// Twice the position, and the velocity, at a tick of a motion that arrives at `arrival`.
     pub fn at(&self, tick: i64, arrival: i64) -> (i64, i64) {
         let (p, v, a, t) = match *self {

@@ -4,7 +4,10 @@ use super::job::refusal;
 use super::{Answer, Axis, Job, Planned, Target, LATEST, RAIL};
 
 /// The numbers that look at one axis, in checking order.
-const OF_AN_AXIS: [u32; 6] = [4, 12, 5, 15, 6, 16];
+const OF_AN_AXIS: [u32; 7] = [4, 12, 5, 15, 6, 16, 17];
+
+/// Those of the old rules, by which a fixed target may fly.
+const OLD_RULES: [u32; 6] = [4, 12, 5, 15, 6, 16];
 
 /// Whether an axis is refused by one of them.
 fn breaks(number: u32, axis: &Axis) -> bool {
@@ -30,6 +33,7 @@ fn breaks(number: u32, axis: &Axis) -> bool {
                 || position_bad(axis.target.position())
         }
         16 => axis.second.is_some() && axis.target.acceleration() != 0,
+        17 => axis.target.flies(),
         _ => unreachable!(),
     }
 }
@@ -44,16 +48,30 @@ impl Job {
         self.set().all(|(_, axis)| Planned::reaching(axis, arrival).is_some())
     }
 
+    /// Whether every axis reaches an arrival.
+    pub fn all_arrive(&self, arrival: i64) -> bool {
+        self.by_hand().all_reach(arrival)
+    }
+
     fn mask_of(&self, fails: impl Fn(&Axis) -> bool) -> u32 {
         self.set().filter(|(_, axis)| fails(axis)).map(|(i, _)| 1 << i).sum()
     }
 
     /// The refusal by 3, by a number of an axis or by 13, if there is one.
-    fn refused(&self) -> Option<Answer> {
+    pub(super) fn refused(&self) -> Option<Answer> {
+        self.refused_by(&OF_AN_AXIS)
+    }
+
+    /// The same by the old rules.
+    pub(super) fn refused_by_old_rules(&self) -> Option<Answer> {
+        self.refused_by(&OLD_RULES)
+    }
+
+    fn refused_by(&self, numbers: &[u32]) -> Option<Answer> {
         if i64::from(self.asked) > LATEST {
             return Some(refusal(3, 1, 0, 0));
         }
-        let of_an_axis = OF_AN_AXIS.into_iter().find_map(|number| {
+        let of_an_axis = numbers.iter().find_map(|&number| {
             let (i, _) = self.set().find(|(_, axis)| breaks(number, axis))?;
             Some(refusal(number, i as u64, 0, 0))
         });
@@ -70,7 +88,7 @@ impl Job {
         !(1..=tick).any(|n| self.fits(n) && self.all_reach(n))
     }
 
-    /// The arrival, or the first of refusals 3, 4, 12, 5, 15, 6, 16, 13, 8 and 9.
+    /// The arrival, or the first of refusals 3, 4, 12, 5, 15, 6, 16, 17, 13, 8 and 9.
     fn arrival(&self) -> Result<i64, Answer> {
         if let Some(refused) = self.refused() {
             return Err(refused);
@@ -115,10 +133,14 @@ impl Job {
 
     /// From refusal 3 on: the answer, with the cells of an accepted job written to the front of the table.
     pub(super) fn plan_checked(&self, table: &mut [i64]) -> Answer {
-        let arrival = match self.arrival() {
-            Ok(arrival) => arrival,
-            Err(refused) => return refused,
-        };
+        match self.arrival() {
+            Ok(arrival) => self.write(arrival, table),
+            Err(refused) => refused,
+        }
+    }
+
+    /// The answer of a job whose arrival is known: its cells, or refusal 10.
+    fn write(&self, arrival: i64, table: &mut [i64]) -> Answer {
         let axes = self.count();
         if table.len() < 3 * axes * (arrival as usize + 1) {
             return refusal(10, 0, 0, arrival as u32);
@@ -138,5 +160,13 @@ impl Job {
             return refusal(1, 0, 0, 0);
         }
         self.plan_checked(table)
+    }
+    /// The call of a job that passes the mask's check, by the old rules.
+    pub fn plan_by_old_rules(&self, table: &mut [i64]) -> Answer {
+        let arrival = match self.refused_by_old_rules() {
+            Some(refused) => Err(refused),
+            None => self.by_hand().reached_arrival(),
+        };
+        arrival.map_or_else(|refused| refused, |arrival| self.write(arrival, table))
     }
 }

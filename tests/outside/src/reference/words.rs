@@ -3,6 +3,11 @@
 use super::job::refusal;
 use super::{Answer, Axis, Damping, Job, Target, UNSET};
 
+/// The word of a kind with a payload, of which 28 bits are kept.
+pub fn word(kind: u32, payload: i64) -> u32 {
+    kind << 28 | (payload as u32 & 0x0FFF_FFFF)
+}
+
 /// A payload read as two's complement of 28 bits.
 fn signed(payload: u32) -> i64 {
     i64::from((payload << 4) as i32 >> 4)
@@ -131,7 +136,7 @@ pub fn plan_words(words: &[u32], table: &mut [i64]) -> Answer {
 #[cfg(test)]
 mod tests {
     use super::*;
-    use crate::jobs::{word, words};
+    use crate::jobs::words;
     use crate::plain::{one, to};
 
     /// Case C's words with the target position in two words.

@@ -1,0 +1,43 @@
+-- What the converter promises of any words and any lent words.
+use Prim.Native.Nat.{ℕ}
+use mathlib.Core.Path.{_≡_}
+use mathlib.Core.Bool.{true, false}
+use mathlib.Core.List.{List}
+use lib.IntN.{ℤ}
+use lib.Dec.{eqb, leb}
+use lib.ListN.{take}
+use Rattle.model.specs.declared.Answer.{Answer}
+use Rattle.model.specs.declared.Job.{Job}
+use Rattle.model.specs.Job.{setAxes}
+use Rattle.model.specs.Refusals.{lastTick}
+use Rattle.model.specs.Outcome.{outcomeOfWords}
+use Rattle.model.specs.Converter.{oldOutcome, Conversion, conversion}
+use Rattle.planner.specs.declared.Refusal.{Refusal}
+use Rattle.planner.specs.Stages.{testsFor, firstRefusal}
+
+-- ws are the words of the job, entry and exit the lent words before and after the call, r is the answer
+pub record Converts (ws entry : List ℕ) (r : Answer) (exit : List ℕ) : Type 0 where
+  -- number, place and every lent word are those of the definition, refused or not
+  pub conversion : record { number = r .number; place = r .place; words = exit } ≡ conversion ws entry
+  -- left free by the paper
+  pub mask : r .mask ≡ 0
+  pub arrival : r .arrival ≡ 0
+  -- number 0: for every lent table the written words have, by the old rules and in planning, the outcome that the old rules give the old words
+  pub kept : r .number ≡ 0 → (cells : List ℤ) → oldOutcome (take (r .place) exit) cells ≡ oldOutcome ws cells
+  pub plans : r .number ≡ 0 → (cells : List ℤ) → outcomeOfWords (take (r .place) exit) cells ≡ oldOutcome ws cells
+
+-- ---- the stages
+
+-- the first refusal from 3 to 17 of a job of words, or number 0; 17 where it seeks the least arrival
+abbrev pub refusalOf : Job → Refusal
+refusalOf t =
+    elim (leb (t .asked) lastTick) [
+      | true ↦ firstRefusal (testsFor (eqb (t .asked) 0)) (setAxes 0 (t .mask) (t .axes)) (t .windows)
+      | false ↦ record { number = 3; place = 1 }
+    ]
+
+-- a stage that ends the call: the answer and the lent words are a conversion of the definitions
+pub record Gives (c : Conversion) (r : Answer) (exit : List ℕ) : Type 0 where
+  pub conversion : record { number = r .number; place = r .place; words = exit } ≡ c
+  pub mask : r .mask ≡ 0
+  pub arrival : r .arrival ≡ 0
