@@ -19,9 +19,10 @@
  * Threads. The library has no state, takes no lock, allocates no memory and makes no system call. Any number of threads may call
  * it at the same time, each with a table of its own.
  *
- * Stack and time. A call for a table takes up to 12,000 bytes of stack, its job among them, and a tour up to 20,000. The longest
- * search, over six axes to refusal 9, takes 50 microseconds of a 2.5 GHz core, 1 ms where targets accelerate, and a tour has one
- * search a leg; with an arrival asked for the longest call takes 0.2 ms.
+ * Stack and time. A call for a table or a search takes up to 12,000 bytes of stack, its job among them, and a tour up to 20,000.
+ * The longest search, over six axes to refusal 9, takes 50 microseconds of a 2.5 GHz core, 1 ms where targets accelerate, and a tour
+ * has one search a leg; with an arrival asked for the longest call takes 0.2 ms. Where a controller has less time than that in a
+ * turn, polgamir_search_job looks for the arrival over as many turns as it takes, with a budget of candidates in each.
  */
 #ifndef POLGAMIR_H
 #define POLGAMIR_H
@@ -89,6 +90,7 @@ uint32_t polgamir_version(void);
  * 17  A fixed target has a velocity that is not 0; of the converter, only where the least arrival is sought; the place is the axis.
  * 13  The window list is empty (place 0); there are more than 32 windows, or then the dwell is above 4,096 (place 32); then a
  *     window's closing is not above its opening, or it opens before the previous one closes (the place is the first such window).
+ * 18  The first candidate of a search is 0 or above 4,097; only a search gets it, and 3, 8, 9 and 10 it does not.
  *  8  The asked arrival is not reachable for every axis, or fits no window; the mask names the axes for which it is not reachable,
  *     and is 0 where it is for all.
  *  9  No common arrival is asked for and none exists in 1 to 4,096, or none that fits a window; the mask, perhaps 0, names axes that
@@ -115,6 +117,7 @@ enum polgamir_number {
     POLGAMIR_REFUSED_ACCELERATION = 16,
     POLGAMIR_REFUSED_FLYING_TARGET = 17,
     POLGAMIR_REFUSED_WINDOWS = 13,
+    POLGAMIR_REFUSED_FIRST_CANDIDATE = 18,
     POLGAMIR_REFUSED_NOT_REACHABLE = 8,
     POLGAMIR_REFUSED_NO_COMMON_ARRIVAL = 9,
     POLGAMIR_REFUSED_TABLE_TOO_SHORT = 10
@@ -140,6 +143,7 @@ static inline const char *polgamir_refusal_text(uint32_t number)
     case POLGAMIR_REFUSED_ACCELERATION: return "the target accelerates on an axis with a second half period";
     case POLGAMIR_REFUSED_FLYING_TARGET: return "a fixed target has a velocity that is not 0";
     case POLGAMIR_REFUSED_WINDOWS: return "windows are lacking, more than 32, out of order or closed at once, or the dwell is above 4096";
+    case POLGAMIR_REFUSED_FIRST_CANDIDATE: return "the first candidate of a search is 0 or above 4097";
     case POLGAMIR_REFUSED_NOT_REACHABLE: return "not every axis can arrive at the asked tick, or it fits no window";
     case POLGAMIR_REFUSED_NO_COMMON_ARRIVAL: return "no tick from 1 to 4096 suits every axis and fits a window where some are given";
     case POLGAMIR_REFUSED_TABLE_TOO_SHORT: return "the table is too short for rows 0 to the arrival, the list for a tour's stops, or the words for the converter";
@@ -372,6 +376,53 @@ typedef struct polgamir_tour_answer {
  */
 polgamir_tour_answer polgamir_plan_tour(polgamir_tour tour, const polgamir_stop *stops, size_t stop_count, uint32_t *arrivals,
                                         size_t list_entries);
+
+/*
+ * Planning between servo turns: the search for a job's arrival, with a budget for each call.
+ *
+ * What a search reports. FOUND: `arrival` is the least tick from `first` on, up to 4,096 and within the budget, that every axis of the
+ * mask reaches and that fits a window where windows are given; where there is one it is always found. SPENT: there is none, the budget
+ * is used up, and `next` is the candidate to go on with. NONE: there is none, and no candidate is left.
+ */
+enum polgamir_report {
+    POLGAMIR_NONE = 0,
+    POLGAMIR_FOUND = 1,
+    POLGAMIR_SPENT = 2
+};
+
+/*
+ * What a search returns: number 0 with the job's mask, the report and the number of candidates tried; or a refusal's number with its
+ * place, and then nothing is tried. Fields that are not named are 0.
+ */
+typedef struct polgamir_search_answer {
+    uint32_t number;  /* a polgamir_number */
+    uint32_t mask;    /* bit i stands for axis i */
+    uint64_t place;   /* a word's index, an axis's number or a window's index */
+    uint32_t arrival; /* where it is FOUND, the tick */
+    uint32_t report;  /* a polgamir_report */
+    uint32_t next;    /* where it is SPENT, the next candidate */
+    uint32_t tried;   /* arrival - first + 1; or budget; or all that were left, 4,097 - first */
+} polgamir_search_answer;
+
+/*
+ * Tries the ticks from `first` on, at most `budget` of them. Ticks outside the windows are tried too. `job.asked` is not looked at.
+ *
+ * Begin with first = 1, and as long as the report is SPENT call again with first = next and any budget, of the same job. This ends in
+ * the tick, or the NONE, of one undivided search, its numbers tried adding up to that search's; with budgets of at least 1 it ends
+ * within 4,096 calls. Then set `asked` to the tick found: polgamir_plan_job accepts the job with a table that has room. Nothing is
+ * kept between the calls, so that a job may change at any time; then begin anew.
+ *
+ * Budget 0 tries nothing and is SPENT with next = first while a candidate is left. first = 4,097 is NONE. No call looks at a candidate
+ * past its budget: its time is bounded by a constant and the budget (docs/PERFORMANCE.md). Its refusals, in checking order, are those of
+ * polgamir_plan_job up to 13, but for 3, and then 18.
+ */
+polgamir_search_answer polgamir_search_job(polgamir_job job, uint32_t first, uint32_t budget);
+
+/*
+ * The same for the job that `word_count` words hold. Its refusals, in checking order, are those of polgamir_plan_words before 8, but for
+ * 3, and then 18.
+ */
+polgamir_search_answer polgamir_search_words(const uint32_t *words, size_t word_count, uint32_t first, uint32_t budget);
 
 #ifdef __cplusplus
 }

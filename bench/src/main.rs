@@ -7,6 +7,7 @@
 //! all sides alternate. One table is lent to all calls and is not cleared between them: an accepted call writes every
 //! cell of its table, whatever stood there.
 
+mod budgets;
 mod plain;
 mod raises;
 mod searches;
@@ -270,6 +271,7 @@ fn main() {
     raise("six axes without a raise", &Job { asked: 300, ..wide });
     println!();
     search_table(&short, &long, &wide, &never);
+    budgets::table();
     println!("| velocities and rows, by row and axis | outcome | library, ns | plain Rust, ns | ratio |");
     println!("|---|---|---|---|---|");
     by_row("one axis, short", &short, short_arrival);

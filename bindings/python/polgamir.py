@@ -36,8 +36,8 @@ from typing import Dict, Iterator, Mapping, NamedTuple, Optional, Sequence, Tupl
 __all__ = [
     "AXES", "FINE_STEPS", "LATEST_ARRIVAL", "LONGEST_DWELL", "MOST_CELLS", "MOST_STOPS", "MOST_WINDOWS", "Axis", "Damping", "Fixed", "Job",
     "LibraryError", "Limit", "Motion", "Moving", "Number", "Peaks", "Plan", "Raise", "Raises", "Ratio", "Refusal", "RestPoint", "Row",
-    "Schedule", "Stop", "Target", "Tour", "TourAxis", "Weight", "Window", "Windows", "convert_words", "in_units", "plan_words",
-    "raises_words", "version",
+    "Schedule", "Searched", "Stop", "Target", "Tour", "TourAxis", "Weight", "Window", "Windows", "convert_words", "in_units", "plan_words",
+    "raises_words", "search_words", "version",
 ]
 
 __version__ = "0.1.0"
@@ -89,6 +89,7 @@ class Number(enum.IntEnum):
     REFUSED_ACCELERATION = 16
     REFUSED_FLYING_TARGET = 17
     REFUSED_WINDOWS = 13
+    REFUSED_FIRST_CANDIDATE = 18
     REFUSED_NOT_REACHABLE = 8
     REFUSED_NO_COMMON_ARRIVAL = 9
     REFUSED_TABLE_TOO_SHORT = 10
@@ -112,6 +113,7 @@ _TEXTS: Dict[int, str] = {
     Number.REFUSED_ACCELERATION: "the target accelerates on an axis with a second half period",
     Number.REFUSED_FLYING_TARGET: "a fixed target has a velocity that is not 0",
     Number.REFUSED_WINDOWS: "windows are lacking, more than 32, out of order or closed at once, or the dwell is above 4096",
+    Number.REFUSED_FIRST_CANDIDATE: "the first candidate of a search is 0 or above 4097",
     Number.REFUSED_NOT_REACHABLE: "not every axis can arrive at the asked tick, or it fits no window",
     Number.REFUSED_NO_COMMON_ARRIVAL: "no tick from 1 to 4096 suits every axis and fits a window where some are given",
     Number.REFUSED_TABLE_TOO_SHORT: "the table is too short for rows 0 to the arrival, the list for a tour's stops, or the words for the converter",
@@ -280,6 +282,25 @@ class Job:
         """What to raise where the asked arrival is turned down with 8; no window is heeded."""
         return _raises_of(_library().polgamir_raises_job(_job_of(self)))
 
+    def search(self, first: int, budget: int) -> Searched:
+        """Tries the ticks from a first candidate on, at most as many as the budget says; the job's arrival is not looked at.
+
+        Begin at 1 and, as long as there is a next candidate, go on with it: this ends in the tick, or in none, of one undivided search. A
+        job that asks for the tick found is accepted. Raises a `Refusal`, never with 3, 8, 9 or 10.
+        """
+        return _searched(_library().polgamir_search_job(_job_of(self), *_candidates(first, budget)))
+
+
+class Searched(NamedTuple):
+    """What a search gives: the tick found, or the next candidate where the budget is spent, or neither where no candidate is left."""
+
+    arrival: Optional[int]
+    """The least tick from the first candidate on and within the budget that suits every axis and fits a window where there are some."""
+    next: Optional[int]
+    """The candidate to go on with."""
+    tried: int
+    """How many candidates were tried."""
+
 
 def plan_words(words: Sequence[int]) -> Plan:
     """Plans the job that 32-bit words hold, into a table of its own; raises a `Refusal`, never with 10."""
@@ -337,6 +358,11 @@ def convert_words(words: Sequence[int]) -> Tuple[int, ...]:
     if answer.number != Number.ACCEPTED:
         raise _refusal_of(answer)
     return tuple(lent[: answer.place])
+
+
+def search_words(words: Sequence[int], first: int, budget: int) -> Searched:
+    """A search as `Job.search`, for the job that 32-bit words hold."""
+    return _searched(_library().polgamir_search_words(_words_of(words), len(words), *_candidates(first, budget)))
 
 
 # --- Tables -----------------------------------------------------------------------------------------------------------------------------
@@ -606,6 +632,18 @@ class _TourAnswer(ctypes.Structure):
     ]
 
 
+class _SearchAnswer(ctypes.Structure):
+    _fields_ = [
+        ("number", ctypes.c_uint32),
+        ("mask", ctypes.c_uint32),
+        ("place", ctypes.c_uint64),
+        ("arrival", ctypes.c_uint32),
+        ("report", ctypes.c_uint32),
+        ("next", ctypes.c_uint32),
+        ("tried", ctypes.c_uint32),
+    ]
+
+
 _STRUCTS = {
     "polgamir_answer": _Answer,
     "polgamir_axis": _Axis,
@@ -619,12 +657,14 @@ _STRUCTS = {
     "polgamir_limits": _Limits,
     "polgamir_tour": _Tour,
     "polgamir_tour_answer": _TourAnswer,
+    "polgamir_search_answer": _SearchAnswer,
 }
 """Every struct of the header. A test holds their fields to it."""
 
 
 # --- The library ------------------------------------------------------------------------------------------------------------------------
 
+_FOUND, _SPENT = 1, 2  # of `polgamir_report`
 _CELLS = ctypes.POINTER(ctypes.c_int64)
 _LIST = ctypes.POINTER(ctypes.c_uint32)
 
@@ -636,6 +676,8 @@ _CALLS = {
     "polgamir_raises_words": (_Raises, [_LIST, ctypes.c_size_t]),
     "polgamir_convert": (_Answer, [_LIST, ctypes.c_size_t, _LIST, ctypes.c_size_t]),
     "polgamir_plan_tour": (_TourAnswer, [_Tour, ctypes.POINTER(_Stop), ctypes.c_size_t, _LIST, ctypes.c_size_t]),
+    "polgamir_search_job": (_SearchAnswer, [_Job, ctypes.c_uint32, ctypes.c_uint32]),
+    "polgamir_search_words": (_SearchAnswer, [_LIST, ctypes.c_size_t, ctypes.c_uint32, ctypes.c_uint32]),
 }
 """Every call of the header: what it returns and takes. A test holds the names to it: a call that the header gains gets its structs above, its
 line here, and its function with the others of its subject."""
@@ -704,7 +746,19 @@ def _raises_of(raises: _Raises) -> Raises:
     return Raises(None, _refusal_of(answer), axes)
 
 
-def _refusal_of(answer: Union[_Answer, _TourAnswer]) -> Refusal:
+def _searched(answer: _SearchAnswer) -> Searched:
+    """What a search gives, of an answer that is no refusal."""
+    if answer.number != Number.ACCEPTED:
+        raise _refusal_of(answer)
+    found, spent = answer.report == _FOUND, answer.report == _SPENT
+    return Searched(answer.arrival if found else None, answer.next if spent else None, answer.tried)
+
+
+def _candidates(first: int, budget: int) -> Tuple[int, int]:
+    return _whole(first, 0, 2**32 - 1, "the first candidate"), _whole(budget, 0, 2**32 - 1, "the budget")
+
+
+def _refusal_of(answer: Union[_Answer, _TourAnswer, _SearchAnswer]) -> Refusal:
     return Refusal(answer.number, answer.place, answer.mask, answer.arrival)
 
 

@@ -58,6 +58,18 @@ static void plan_tour(void)
     answer = (polgamir_answer){.number = toured.number, .mask = toured.mask, .place = toured.place, .arrival = toured.arrival};
 }
 
+static void search_job(void)
+{
+    polgamir_search_answer searched = polgamir_search_job(job, 1, POLGAMIR_LATEST_ARRIVAL);
+    answer = (polgamir_answer){.number = searched.number, .mask = searched.mask, .place = searched.place, .arrival = searched.arrival};
+}
+
+static void search_words(void)
+{
+    polgamir_search_answer searched = polgamir_search_words(words, word_count, 1, POLGAMIR_LATEST_ARRIVAL);
+    answer = (polgamir_answer){.number = searched.number, .mask = searched.mask, .place = searched.place, .arrival = searched.arrival};
+}
+
 static double seconds(void)
 {
     struct timespec now;
@@ -168,6 +180,7 @@ static void both(const char *what, uint32_t asked, polgamir_axis axis, uint32_t 
     measure(what, number);
     as_words();
     measure(what, number);
+    on_paint("a search from words", search_words, number == 4 ? 4 : 0);
     word_count = 0;
 }
 
@@ -196,6 +209,7 @@ static size_t run(void)
     job.windows.given = 1;
     job.windows.count = POLGAMIR_WINDOWS;
     measure("out of reach for the last axis, in windows", 9);
+    on_paint("a search in windows", search_job, 0);
     job.windows.given = 0;
     for (unsigned i = 0; i < POLGAMIR_AXES; i++) {
         job.axes[i] = accelerating(i, 130000000);

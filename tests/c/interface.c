@@ -82,6 +82,14 @@ _Static_assert(sizeof(polgamir_axis_raises) == 16, "polgamir_axis_raises");
 AT(polgamir_raises, answer, 0);
 AT(polgamir_raises, axes, 24);
 _Static_assert(sizeof(polgamir_raises) == 120, "polgamir_raises");
+AT(polgamir_search_answer, number, 0);
+AT(polgamir_search_answer, mask, 4);
+AT(polgamir_search_answer, place, 8);
+AT(polgamir_search_answer, arrival, 16);
+AT(polgamir_search_answer, report, 20);
+AT(polgamir_search_answer, next, 24);
+AT(polgamir_search_answer, tried, 28);
+_Static_assert(sizeof(polgamir_search_answer) == 32, "polgamir_search_answer");
 _Static_assert(POLGAMIR_MOST_CELLS == 3 * POLGAMIR_AXES * (POLGAMIR_LATEST_ARRIVAL + 1), "POLGAMIR_MOST_CELLS");
 
 /* ---- what is asked for */
@@ -381,7 +389,7 @@ static void reads_long_positions(void)
 /* Every number has a text of its own; 7 is not used, and has that of a number above the last. */
 static void has_texts(void)
 {
-    const uint32_t above = POLGAMIR_REFUSED_FLYING_TARGET + 1;
+    const uint32_t above = POLGAMIR_REFUSED_FIRST_CANDIDATE + 1;
     for (uint32_t number = 0; number <= above; number++) {
         for (uint32_t other = 0; other < number; other++) {
             bool unused = other == 7 && number == above;
@@ -488,6 +496,56 @@ static void raises(unsigned axis)
     expect(is(polgamir_raises_words(NULL, 0).answer, 1, 0, 0), "the raises of no words", axis);
 }
 
+/* A search that is not refused has this report, tick and number tried; a tick that is not the report's own is 0. */
+static bool reports(polgamir_search_answer answer, unsigned axis, uint32_t report, uint32_t tick, uint32_t tried)
+{
+    uint32_t found = report == POLGAMIR_FOUND ? tick : 0;
+    uint32_t next = report == POLGAMIR_SPENT ? tick : 0;
+    return answer.number == 0 && answer.place == 0 && answer.mask == 1u << axis && answer.report == report && answer.arrival == found
+           && answer.next == next && answer.tried == tried;
+}
+
+/* A refused search has nothing but its number and its place. */
+static bool turned_down(polgamir_search_answer answer, uint32_t number, uint64_t place)
+{
+    return answer.number == number && answer.place == place && answer.mask == 0 && answer.arrival == 0 && answer.report == POLGAMIR_NONE
+           && answer.next == 0 && answer.tried == 0;
+}
+
+/* Searches of one axis from 0 to 4 with L = 10, M = 1 and no blend, which reaches tick 4 and every later one. */
+static void searches(unsigned axis)
+{
+    polgamir_job job;
+    memset(&job, 0x81, sizeof job);
+    job.mask = 1u << axis;
+    job.windows.given = 0;
+    job.axes[axis] = (polgamir_axis){.target_position = 4, .speed_limit = 10, .acceleration_limit = 1, .second_weight = 128};
+    expect(reports(polgamir_search_job(job, 1, 4096), axis, POLGAMIR_FOUND, 4, 4), "found, whatever is asked for", axis);
+    expect(reports(polgamir_search_job(job, 1, 3), axis, POLGAMIR_SPENT, 4, 3), "spent", axis);
+    expect(reports(polgamir_search_job(job, 4, 1), axis, POLGAMIR_FOUND, 4, 1), "gone on with", axis);
+    expect(reports(polgamir_search_job(job, 4, 0), axis, POLGAMIR_SPENT, 4, 0), "budget 0", axis);
+    expect(reports(polgamir_search_job(job, 4096, UINT32_MAX), axis, POLGAMIR_FOUND, 4096, 1), "the greatest budget", axis);
+    expect(reports(polgamir_search_job(job, 4097, UINT32_MAX), axis, POLGAMIR_NONE, 0, 0), "no candidate", axis);
+    expect(turned_down(polgamir_search_job(job, 0, 9), 18, 0), "first candidate 0", axis);
+    expect(turned_down(polgamir_search_job(job, 4098, 9), 18, 0), "first candidate 4,098", axis);
+    job.windows = (polgamir_windows){.given = 1, .dwell = 0, .count = 1, .list = {{7, 9}}};
+    expect(reports(polgamir_search_job(job, 1, 6), axis, POLGAMIR_SPENT, 7, 6), "ticks outside windows are tried", axis);
+    expect(reports(polgamir_search_job(job, 1, 7), axis, POLGAMIR_FOUND, 7, 7), "found in a window", axis);
+    expect(reports(polgamir_search_job(job, 4096, 1), axis, POLGAMIR_NONE, 0, 1), "a budget that just covers the rest", axis);
+    job.windows.count = 0;
+    expect(turned_down(polgamir_search_job(job, 0, 9), 13, 0), "13 before 18", axis);
+    job.axes[axis].half_period = 257;
+    expect(turned_down(polgamir_search_job(job, 0, 9), 5, axis), "5 before 13", axis);
+    static const uint32_t words[] = {
+        0x10000001, 0x20000004, 0x30000000, 0x40000000, 0x5000000A, 0x60000001,
+        0x70000000, 0x80000080, 0x90000001, 0xA0000000, 0xF0000000,
+    };
+    size_t count = sizeof words / sizeof words[0];
+    expect(reports(polgamir_search_words(words, count, 1, 9), 0, POLGAMIR_FOUND, 2, 2), "a search from words", axis);
+    expect(turned_down(polgamir_search_words(words, count - 1, 0, 9), 2, count - 1), "2 before 18", axis);
+    expect(turned_down(polgamir_search_words(NULL, 0, 0, 9), 1, 0), "no words to search for", axis);
+}
+
 int main(void)
 {
     expect(polgamir_version() == POLGAMIR_VERSION, "the library's version is the header's", 0);
@@ -497,6 +555,7 @@ int main(void)
         tours(axis);
         windows(axis);
         raises(axis);
+        searches(axis);
         reads_the_damping(axis);
         reads_the_second_sway(axis);
     }

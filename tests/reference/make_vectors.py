@@ -12,12 +12,14 @@ from typing import List, Optional
 
 import convertcases
 import raisecases
+import searchcases
 import swaycases
 from builders import UNSET, Case, outcome
 from damping import Peaks, Ratio
 from make_fieldcases import UNTOUCHED, rows_listed, sum_of
 from raises import AxisRaises
 from reference import Answer, Axis, State, Windows
+from search import Found, Nothing, Report
 from tourcases import UNSET as UNSET_IN_TOUR, TourCase
 
 FOLDER = os.path.join(os.path.dirname(os.path.abspath(__file__)), 'vectors')
@@ -121,6 +123,17 @@ def convert_line(case: convertcases.ConvertCase) -> str:
                              text(answer_text(case.answer), words_text(case.left[:written])))
 
 
+def report_text(report: Report) -> str:
+    if isinstance(report, Answer):
+        return answer_text(report)
+    return text('found' if isinstance(report, Found) else 'none' if isinstance(report, Nothing) else 'spent', *report)
+
+
+def search_line(case: searchcases.SearchCase) -> str:
+    return '%s | %s | %s' % (case.job.name, text('search', case.first, case.budget, job_text(case.job)),
+                             report_text(searchcases.searched(case)))
+
+
 # --- Files -----------------------------------------------------------------
 
 def sway_lines() -> List[str]:
@@ -136,10 +149,15 @@ def convert_lines() -> List[str]:
     return [convert_line(case) for case in convertcases.conversions() + convertcases.drawn_conversions()]
 
 
+def search_lines() -> List[str]:
+    return [search_line(case) for case in searchcases.searches() + searchcases.drawn_searches()]
+
+
 FILES = {
     'sway.txt': ('Poles with a second sway (request 2.9).', sway_lines),
     'raises.txt': ('The smallest change that makes it (request 2.10).', raises_lines),
     'convert.txt': ('Flying fixed targets go (request 2.11).', convert_lines),
+    'search.txt': ('Planning between servo turns (request 2.12).', search_lines),
 }
 
 

@@ -24,6 +24,7 @@ from builders import DEFAULT, UNSET, axis, mask_of, placed, random_axis, to
 from cases import CHASING, F, F_TO_30
 from converter import convert, converted, converted_axis as met
 from reference import Answer
+from search import Found, Nothing, Spent, search_typed, search_words
 from tour import Tour, TourAnswer
 from tourcases import BASE, random_tour, single, stop
 
@@ -741,6 +742,73 @@ def conversions_give_equal_tables(rng, count=60):
     assert met_tables > 5, 'too few tables to say anything'
 
 
+# --- Planning between servo turns (request 2.12) ---------------------------
+
+def search_by(axes, first, budget, windows=None, asked=0):
+    """The report; by words too where there are no windows."""
+    by_bit = placed(axes)
+    report = search_typed(mask_of(by_bit), asked, [by_bit.get(i, UNSET) for i in range(6)], first, budget, windows)
+    if windows is None:
+        words = ref.encode(ref.Job(mask_of(by_bit), asked, by_bit))
+        same('a search by words', search_words(words, first, budget), report)
+    return report
+
+
+def search_readings():
+    never = [to(100000000, speed_limit=1)]
+    same('the budget just covers the rest', search_by(never, 4096, 1), Nothing(1))
+    same('budget 0', search_by(never, 4096, 0), Spent(4096, 0))
+    same('no candidate', search_by(never, 4097, 5), Nothing(0))
+    same('no candidate, budget 0', search_by(never, 4097, 0), Nothing(0))
+    same('one is left', search_by(never, 1, 4095), Spent(4096, 4095))
+    same('all', search_by(never, 1, 4096), Nothing(4096))
+    same('33 bits', search_by(never, 4096, 2 ** 32 - 1), Nothing(1))
+    for first in (0, 4098, 2 ** 32 - 1):
+        same('18', search_by(never, first, 0), Answer(18))
+    same('B', search_by([to(4)], 1, 4), Found(4, 4))
+    same('B from 3', search_by([to(4)], 3, 9), Found(4, 2))
+    same('B from 9', search_by([to(4)], 9, 1), Found(9, 1))
+    same('B spent', search_by([to(4)], 1, 3), Spent(4, 3))
+    same('asked is read as 0', search_by([to(4)], 1, 9, asked=4097), Found(4, 4))
+    late, empty = ref.Windows([(6, 9)], 0), ref.Windows([], 0)
+    same('outside windows counts', search_by([to(4)], 1, 9, late), Found(6, 6))
+    same('after the windows', search_by([to(4)], 9, 3, late), Spent(12, 3))
+    same('13 before 18', search_by([to(4)], 0, 1, empty), Answer(13))
+    same('17 before 18', search_by([axis(target=(0, 1))], 0, 1), Answer(17))
+
+
+def continued(axes, first, budget, windows):
+    """Turn after turn until the search ends: its tick or None, all candidates
+    tried, and the turns."""
+    tried, turns = 0, 0
+    while True:
+        report = search_by(axes, first, budget, windows)
+        tried, turns = tried + report.tried, turns + 1
+        if not isinstance(report, Spent):
+            return getattr(report, 'tick', None), tried, turns
+        first = report.following
+
+
+def searches_go_on(rng, count=40):
+    """The undivided search against planning, and divided ones against it."""
+    for k in range(count):
+        axes = [met(random_axis(rng), 40) for _ in range(rng.choice([1, 2]))]
+        ends = sorted(rng.sample(range(900), 2 * rng.randint(1, 6)))
+        windows = ref.Windows(list(zip(ends[::2], ends[1::2])), rng.choice([0, 5])) if k % 3 == 0 else None
+        whole, planned = search_by(axes, 1, 4096, windows), typed_plan(axes, lent=73746, windows=windows)[0]
+        if isinstance(whole, Found):
+            same('planned', planned, Answer(0, mask=planned.mask, arrival=whole.tick))
+        else:
+            same('planned', (whole, planned.number), (Nothing(4096), 9))
+        first = rng.choice([1, 1, rng.randint(1, 4097)])
+        undivided = continued(axes, first, 2 ** 32 - 1, windows)
+        budget = rng.choice([rng.randint(50, 900), 4096, max(1, undivided[1] // 7)])
+        divided = continued(axes, first, budget, windows)
+        same('the same end', divided[:2], undivided[:2])
+        assert divided[2] <= 4096, 'it ends within 4,096 calls'
+    same('in turns of one', continued([to(100)], 1, 1, None), (20, 20, 20))
+
+
 def main():
     rng = random.Random(1)
     field_cases()
@@ -769,8 +837,10 @@ def main():
     raises_by_trial(rng)
     flying_readings()
     conversions_give_equal_tables(rng)
+    search_readings()
+    searches_go_on(rng)
     print('reference: field cases, traps, settled readings, ranges, definitions, rounding, demand 3, tours, damping,',
-          'windows, accelerating targets on damped poles, positions past 28 bits, a second sway, raises, the converter: ok')
+          'windows, accelerating targets on damped poles, positions past 28 bits, a second sway, raises, the converter, the search: ok')
     return 0
 
 

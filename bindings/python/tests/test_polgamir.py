@@ -16,8 +16,8 @@ sys.path.insert(0, str(HERE.parent))
 REPOSITORY = HERE.parents[2]
 
 import polgamir
-from polgamir import (Axis, Fixed, Job, Limit, Motion, Moving, Number, Peaks, Ratio, Refusal, RestPoint, Schedule, Stop, Tour, TourAxis, Weight,
-                      Window, Windows)
+from polgamir import (Axis, Fixed, Job, Limit, Motion, Moving, Number, Peaks, Ratio, Refusal, RestPoint, Schedule, Searched, Stop, Tour, TourAxis,
+                      Weight, Window, Windows)
 
 
 def field_axis(target, **changes):
@@ -123,6 +123,38 @@ class RaisedLimits(unittest.TestCase):
         self.assertEqual(self.raises(4, 4), (4, None, {}))
         found = polgamir.raises_words([])
         self.assertEqual((found.arrival, found.refusal.number, found.axes), (None, 1, {}))
+
+
+class Searches(unittest.TestCase):
+    """Reports, numbers tried and refusals of request 2.12; the axis reaches tick 4 and every later one."""
+
+    def test_reports(self):
+        self.assertEqual(to(4).search(1, 4096), Searched(4, None, 4))
+        self.assertEqual(to(4, 4097).search(1, 3), Searched(None, 4, 3))
+        self.assertEqual(to(4).search(4, 0), Searched(None, 4, 0))
+        self.assertEqual(to(4).search(4097, 2**32 - 1), Searched(None, None, 0))
+        self.assertEqual(to(100_000_000, speed_limit=1).search(4096, 1), Searched(None, None, 1))
+        fitting = Job({0: field_axis(Fixed(4))}, windows=Windows(0, [Window(7, 9)]))
+        self.assertEqual((fitting.search(1, 6), fitting.search(7, 1)), (Searched(None, 7, 6), Searched(7, None, 1)))
+
+    def test_in_parts(self):
+        job, first, tried = to(2050, half_period=30), 1, 0
+        while first is not None:
+            part = job.search(first, 25)
+            first, tried = part.next, tried + part.tried
+        self.assertEqual((part.arrival, tried), (job.arrival_found(), job.arrival_found()))
+
+    def test_refusals(self):
+        words = [0x10000001, 0x20000004, 0x30000000, 0x40000000, 0x5000000A, 0x60000001, 0x70000000, 0x80000080, 0x90000001, 0xA0000000,
+                 0xF0000000]
+        self.assertEqual(polgamir.search_words(words, 1, 9), Searched(2, None, 2))
+        for first in (0, 4098):
+            for search in (lambda: to(4).search(first, 9), lambda: polgamir.search_words(words, first, 9)):
+                with self.assertRaises(Refusal) as caught:
+                    search()
+                self.assertEqual((caught.exception.number, caught.exception.place), (Number.REFUSED_FIRST_CANDIDATE, 0))
+        self.assertRaises(ValueError, to(4).search, -1, 9)
+        self.assertRaises(ValueError, to(4).search, 1, 2**32)
 
 
 class Tours(unittest.TestCase):

@@ -40,6 +40,8 @@
 //! A [`Tour`] takes the head over a row of [`Stop`]s, one after the other, resting at each: [`Tour::plan`] gives the arrivals, and
 //! [`Tour::leg`] the job whose plan is the table of a leg.
 //!
+//! A controller that has little time in each turn of its servo looks for the arrival in parts: [`Job::search`].
+//!
 //! Jobs can also be read from set-up sheets ([`sheet::Sheet`]), and written to and read from job words ([`Job::to_words`],
 //! [`Job::from_words`]). Words of old jobs whose fixed targets have a velocity go through [`convert()`].
 
@@ -56,6 +58,7 @@ mod raises;
 mod range;
 mod refusal;
 mod rows;
+mod search;
 pub mod sheet;
 mod tour;
 mod windows;
@@ -69,6 +72,7 @@ pub use raises::{raises, raises_words, AxisRaises, Limit, Raise, Raises};
 pub use range::OutOfRange;
 pub use refusal::{AxisMask, Refusal};
 pub use rows::{in_units, Motion, Row, Rows};
+pub use search::{search_words, Report, Searched};
 pub use tour::{Schedule, Stop, Tour, TourAxis, TourRefusal, LONGEST_DWELL, MOST_STOPS};
 pub use windows::{Window, Windows, MOST_WINDOWS};
 pub use words::{NoWords, PayloadError, WordError, WordFault, WordKind};

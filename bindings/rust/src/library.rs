@@ -4,6 +4,7 @@ use crate::damping::Damping;
 use crate::job::{Axis, Job, RestPoint, State, Target};
 use crate::raises::{AxisRaises, Limit, Raise, Raises};
 use crate::refusal::Answer;
+use crate::search::{Report, Searched};
 use crate::tour::{Stop, Tour, TourAxis};
 use crate::windows::{Window, Windows, MOST_WINDOWS};
 use crate::AXES;
@@ -125,6 +126,24 @@ struct CRaises {
     axes: [CAxisRaises; AXES],
 }
 
+/// `polgamir_search_answer`, field by field.
+#[repr(C)]
+struct CSearchAnswer {
+    number: u32,
+    mask: u32,
+    place: u64,
+    arrival: u32,
+    report: u32,
+    next: u32,
+    tried: u32,
+}
+
+/// `POLGAMIR_FOUND`.
+const FOUND: u32 = 1;
+
+/// `POLGAMIR_SPENT`.
+const SPENT: u32 = 2;
+
 /// `POLGAMIR_FIXED`.
 const FIXED: u32 = 0;
 
@@ -164,6 +183,10 @@ extern "C" {
         arrivals: *mut u32,
         arrival_count: usize,
     ) -> CTourAnswer;
+
+    fn polgamir_search_words(words: *const u32, word_count: usize, first: u32, budget: u32) -> CSearchAnswer;
+
+    fn polgamir_search_job(job: CJob, first: u32, budget: u32) -> CSearchAnswer;
 }
 
 impl From<CAnswer> for Answer {
@@ -188,6 +211,21 @@ impl From<CRaises> for Raises {
     fn from(raises: CRaises) -> Raises {
         let axes = raises.axes.map(|axis| AxisRaises { first: axis.first.into(), second: axis.second.into() });
         Raises::new(raises.answer.into(), axes)
+    }
+}
+
+impl From<CSearchAnswer> for Result<Searched, Answer> {
+    fn from(answer: CSearchAnswer) -> Result<Searched, Answer> {
+        let CSearchAnswer { number, mask, place, arrival, report, next, tried } = answer;
+        if number != 0 {
+            return Err(Answer { number, place, mask, arrival });
+        }
+        let report = match report {
+            FOUND => Report::Found { arrival },
+            SPENT => Report::Spent { next },
+            _ => Report::None,
+        };
+        Ok(Searched { report, tried })
     }
 }
 
@@ -326,10 +364,25 @@ pub(crate) fn plan_tour(tour: &Tour, stops: &[Stop], arrivals: &mut [u32]) -> (A
     (Answer { number, place, mask, arrival }, total)
 }
 
+/// Searches for the arrival of a job from its words, or gives the answer with the refusal.
+pub(crate) fn search_words(words: &[u32], first: u32, budget: u32) -> Result<Searched, Answer> {
+    // SAFETY: pointer and length are those of one slice, valid to read for the whole call. The library keeps no pointer after it
+    // returns, has no state, and does not unwind.
+    let answer = unsafe { polgamir_search_words(words.as_ptr(), words.len(), first, budget) };
+    answer.into()
+}
+
+/// Searches for the arrival of a job from typed values, or gives the answer with the refusal.
+pub(crate) fn search_job(job: &Job, first: u32, budget: u32) -> Result<Searched, Answer> {
+    // SAFETY: the job passes by value in the header's layout. The library takes no pointer, has no state, and does not unwind.
+    let answer = unsafe { polgamir_search_job(job.into(), first, budget) };
+    answer.into()
+}
+
 #[cfg(test)]
 mod tests {
     use super::{
-        CAnswer, CAxis, CAxisRaises, CJob, CLimits, CRaise, CRaises, CTour, CTourAnswer, CWindows, Stop, Window,
+        CAnswer, CAxis, CAxisRaises, CJob, CLimits, CRaise, CRaises, CSearchAnswer, CTour, CTourAnswer, CWindows, Stop, Window,
     };
     use std::mem::{offset_of, size_of};
 
@@ -423,5 +476,21 @@ mod tests {
             size_of::<CTourAnswer>(),
         ];
         assert_eq!(answer, [0, 4, 8, 16, 20, 24]);
+    }
+
+    /// The same of what a search gives.
+    #[test]
+    fn the_layout_of_a_search_is_the_header_s() {
+        let answer = [
+            offset_of!(CSearchAnswer, number),
+            offset_of!(CSearchAnswer, mask),
+            offset_of!(CSearchAnswer, place),
+            offset_of!(CSearchAnswer, arrival),
+            offset_of!(CSearchAnswer, report),
+            offset_of!(CSearchAnswer, next),
+            offset_of!(CSearchAnswer, tried),
+            size_of::<CSearchAnswer>(),
+        ];
+        assert_eq!(answer, [0, 4, 8, 16, 20, 24, 28, 32]);
     }
 }

@@ -123,6 +123,9 @@ pub enum Refusal {
         /// 0 for an empty list, 32 for too many windows or too long a dwell, else the first such window.
         place: usize,
     },
+    /// 18: the first candidate of a search is 0 or above 4,097; only [`Job::search`](crate::Job::search) and
+    /// [`search_words`](crate::search_words) get it.
+    FirstCandidate,
     /// 8: the asked arrival is not reachable for every axis, or fits no window.
     NotReachable {
         /// The axes for which it is not reachable; none where it is for all.
@@ -179,6 +182,7 @@ impl Refusal {
             15 => Refusal::SecondHalfPeriod { axis: index },
             16 => Refusal::Acceleration { axis: index },
             17 => Refusal::FlyingTarget { axis: index },
+            18 => Refusal::FirstCandidate,
             _ => Refusal::Other { number, place, axes, arrival },
         }
     }
@@ -201,6 +205,7 @@ impl Refusal {
             Refusal::SecondHalfPeriod { .. } => 15,
             Refusal::Acceleration { .. } => 16,
             Refusal::FlyingTarget { .. } => 17,
+            Refusal::FirstCandidate => 18,
             Refusal::Other { number, .. } => number,
         }
     }
@@ -305,6 +310,9 @@ impl Refusal {
             Refusal::Windows { place } => {
                 let before = place - 1;
                 write!(f, "window {place} does not close after it opens, or opens before window {before} closes")
+            }
+            Refusal::FirstCandidate => {
+                write!(f, "the first candidate of the search is 0 or above {}", LATEST_ARRIVAL + 1)
             }
             Refusal::NotReachable { axes } if axes.is_empty() => {
                 write!(f, "every axis can arrive at the tick that `arrival` asks for, but it fits no window")

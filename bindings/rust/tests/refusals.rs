@@ -93,6 +93,12 @@ fn all() -> Vec<(Refusal, &'static str, SheetLine, &'static str)> {
             "refused with 13: `windows` has more than 32 windows, or its dwell is above 4096",
         ),
         (
+            Refusal::FirstCandidate,
+            "refused 18 place 0 axes 0 arrival 0",
+            ReadTheRefusal,
+            "refused with 18: the first candidate of the search is 0 or above 4097",
+        ),
+        (
             Refusal::NotReachable { axes: AxisMask(0) },
             "refused 8 place 0 axes 0 arrival 0",
             ReadTheArrival,
@@ -138,7 +144,7 @@ fn sentences_speak_of_fields() {
 fn every_number_of_a_job_has_its_case() {
     let mut numbers: Vec<u32> = all().iter().map(|(refusal, ..)| refusal.number()).collect();
     numbers.dedup();
-    assert_eq!(numbers, [1, 2, 14, 3, 4, 12, 5, 15, 6, 16, 13, 8, 9, 10]);
+    assert_eq!(numbers, [1, 2, 14, 3, 4, 12, 5, 15, 6, 16, 13, 18, 8, 9, 10]);
 }
 
 #[test]

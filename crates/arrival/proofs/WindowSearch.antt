@@ -1,7 +1,8 @@
--- Searching the ticks of each window in turn finds the least tick that fits a window and passes: `searched-is`. Windows in order do not
--- overlap, so that a tick of a later window is later.
+-- Searching the ticks of each window in turn, from a first one on and before another, finds the least of these that fits a window and passes: `searched-is`.
+-- Windows in order do not overlap, so that a tick of a later window is later.
 use Prim.Native.Nat.{ℕ, suc, _+_, _-_, _<_, _≤_}
 use native.Mathlib.Omega.{arith}
+use native.Mathlib.Nat.{le-trans}
 use mathlib.Core.Path.{_≡_, refl, sym, ap, ap₂, subst, _∙_}
 use mathlib.Core.Bool.{Bool, true, false, _&&_, false≢true}
 use mathlib.Core.Option.{Option, none, some}
@@ -39,7 +40,7 @@ ordered i c w l e =
     go true e = e
     go false e = absurd (none-some (sym e))
 
-module _ (test : ℕ → Bool) (dwell : ℕ) where
+module _ (test : ℕ → Bool) (first end dwell : ℕ) where
   -- a tick that fits one of them is at c or later
   after : (i c : ℕ) (l : List Window) → firstWrong i c l ≡ none → (n : ℕ) → fitsOne n dwell l ≡ true → c ≤ n
   after i c [] e n f = absurd (false≢true f)
@@ -85,56 +86,62 @@ module _ (test : ℕ → Bool) (dwell : ℕ) where
         go false e = absurd (false≢true e)
 
     abbrev count : ℕ
-    count = afterLast dwell w - firstTick w
+    count = afterLast dwell end w - firstTick first w
 
     -- found in the first window
-    found : (n : ℕ) → ((k : ℕ) → both l k ≡ true → w .closing ≤ k) → Least test (firstTick w) count n → Least (both (w ∷ l)) 1 4096 n
+    found : (n : ℕ) → ((k : ℕ) → both l k ≡ true → w .closing ≤ k) → Least test (firstTick first w) count n → Least (both (w ∷ l)) first (end - first) n
     found n far r =
-        let t = ticks-fit n dwell w (r .first) (omega (arith, r .last, r .first)) in
+        let t = ticks-fit first end n dwell w (r .first) (omega (arith, r .last, r .first)) in
         let f = fit-is n dwell w (t .2) in
         record {
           first = t .0;
-          last = omega (arith, t .1);
+          last = omega (arith, t .0, t .1);
           passes = in-first n (t .2) (r .passes);
           least = λ k a b e.
               of-first ⊥ k e
-              (λ p q. let s = fit-ticks k dwell w a (omega (arith, t .1)) p in r .least k (s .0) b q)
+              (λ p q. let s = fit-ticks first end k dwell w a (omega (arith, t .1)) p in r .least k (s .0) b q)
               (λ p q. let s = far k q in omega (arith, f .within));
         }
 
-    missed : Result test (firstTick w) count none → (k : ℕ) → 1 ≤ k → k ≤ 4096 → fits k dwell w ≡ true → test k ≡ true → ⊥
-    missed r k a b p q = let s = fit-ticks k dwell w a b p in r k (s .0) (omega (arith, s .1, s .0)) q
+    missed : Result test (firstTick first w) count none → (k : ℕ) → first ≤ k → k < end → fits k dwell w ≡ true → test k ≡ true → ⊥
+    missed r k a b p q = let s = fit-ticks first end k dwell w a b p in r k (s .0) (omega (arith, s .1, s .0)) q
 
     -- not found there
-    onward : (o : Option ℕ) → Result test (firstTick w) count none → Result (both l) 1 4096 o → Result (both (w ∷ l)) 1 4096 o
+    onward : (o : Option ℕ) → Result test (firstTick first w) count none → Result (both l) first (end - first) o → Result (both (w ∷ l)) first (end - first) o
     onward none none-here h = λ k a b e. of-first ⊥ k e (missed none-here k a (omega arith)) (λ p q. h k a b q)
     onward (some n) none-here h =
         record {
           first = h .first;
           last = h .last;
           passes = in-later n (h .passes);
-          least = λ k a b e. of-first ⊥ k e (missed none-here k a (omega (arith, h .last))) (λ p q. h .least k a b q);
+          least = λ k a b e. of-first ⊥ k e (missed none-here k a (omega (arith, h .first, h .last))) (λ p q. h .least k a b q);
         }
 
   -- ---- all windows
 
-  searched-least : (i c : ℕ) (l : List Window) → firstWrong i c l ≡ none → Result (both l) 1 4096 (searched test dwell l)
+  searched-least : (i c : ℕ) (l : List Window) → firstWrong i c l ≡ none → Result (both l) first (end - first) (searched test first end dwell l)
   searched-least i c [] e = λ k a b f. absurd (false≢true f)
   searched-least i c (w ∷ l) e =
       let o = ordered i c w l e in
-      go (leastFrom test (firstTick w) (count w l)) (result test (firstTick w) (count w l)) (o .later) (searched-least (suc i) (w .closing) l (o .later))
+      go (leastFrom test (firstTick first w) (count w l)) (result test (firstTick first w) (count w l)) (o .later)
+      (searched-least (suc i) (w .closing) l (o .later))
     where
-      go : (o : Option ℕ) → Result test (firstTick w) (count w l) o → firstWrong (suc i) (w .closing) l ≡ none → Result (both l) 1 4096 (searched test dwell l)
-          → Result (both (w ∷ l)) 1 4096 (elim o as (λ _. Option ℕ) [ some n ↦ some n | none ↦ searched test dwell l ])
-      go none r s h = onward w l (searched test dwell l) r h
+      go : (o : Option ℕ) → Result test (firstTick first w) (count w l) o → firstWrong (suc i) (w .closing) l ≡ none
+          → Result (both l) first (end - first) (searched test first end dwell l)
+          → Result (both (w ∷ l)) first (end - first) (elim o as (λ _. Option ℕ) [ some n ↦ some n | none ↦ searched test first end dwell l ])
+      go none r s h = onward w l (searched test first end dwell l) r h
       go (some n) r s h = found w l n (λ k q. after (suc i) (w .closing) l s k (fits-of w l k q)) r
 
-  pub searched-is : (l : List Window) → firstWrong 0 0 l ≡ none → searched test dwell l ≡ leastFrom (λ n. fitsOne n dwell l && test n) 1 4096
-  searched-is l e = one-result (both l) 1 4096 (searched test dwell l) (leastFrom (both l) 1 4096) (searched-least 0 0 l e) (result (both l) 1 4096)
+  pub searched-is : (l : List Window) → firstWrong 0 0 l ≡ none
+      → searched test first end dwell l ≡ leastFrom (λ n. fitsOne n dwell l && test n) first (end - first)
+  searched-is l e =
+      let c = end - first in
+      one-result (both l) first c (searched test first end dwell l) (leastFrom (both l) first c) (searched-least 0 0 l e) (result (both l) first c)
 
 -- ---- what a loop over the first `count` windows of a list has before it
 
-module _ (test : ℕ → Bool) (dwell : ℕ) (list : List Window) (count i : ℕ) (inside : i < length (take count list)) (below : i < count) where
+module _ (test : ℕ → Bool) (first end dwell : ℕ) (low : 1 ≤ first) (list : List Window) (count i : ℕ) (inside : i < length (take count list))
+    (below : i < count) where
   abbrev others : List Window
   others = drop (i + 1) (take count list)
 
@@ -142,26 +149,26 @@ module _ (test : ℕ → Bool) (dwell : ℕ) (list : List Window) (count i : ℕ
   window = getD list i noWindow
 
   by-window : Option ℕ → Option ℕ
-  by-window o = elim o [ some n ↦ some n | none ↦ searched test dwell others ]
+  by-window o = elim o [ some n ↦ some n | none ↦ searched test first end dwell others ]
 
   -- the least tick n of window i, its first tick being a and the one after its last b
-  module _ (a b n : ℕ) (first : a ≡ firstTick window) (last : b ≡ afterLast dwell window) (is : n ≡ orZero (leastFrom test a (b - a))) where
-    opened : searched test dwell (drop i (take count list)) ≡ by-window (leastFrom test a (b - a))
+  module _ (a b n : ℕ) (from : a ≡ firstTick first window) (last : b ≡ afterLast dwell end window) (is : n ≡ orZero (leastFrom test a (b - a))) where
+    opened : searched test first end dwell (drop i (take count list)) ≡ by-window (leastFrom test a (b - a))
     unfolding by-window
     opened =
-        ap (searched test dwell) (split list count i inside below)
-        ∙ ap₂ (λ (k m : ℕ). by-window (leastFrom test k (m - k))) (sym first) (sym last)
+        ap (searched test first end dwell) (split list count i inside below)
+        ∙ ap₂ (λ (k m : ℕ). by-window (leastFrom test k (m - k))) (sym from) (sym last)
 
-    pub in-window : (n ≡ 0 → ⊥) → searched test dwell (drop i (take count list)) ≡ some n
+    pub in-window : (n ≡ 0 → ⊥) → searched test first end dwell (drop i (take count list)) ≡ some n
     unfolding by-window
     in-window h = opened ∙ ap by-window (is-some (leastFrom test a (b - a)) (λ z. h (is ∙ z))) ∙ ap some (sym is)
 
-    pub past-window : n ≡ 0 → searched test dwell (drop i (take count list)) ≡ searched test dwell others
+    pub past-window : n ≡ 0 → searched test first end dwell (drop i (take count list)) ≡ searched test first end dwell others
     unfolding by-window
     past-window z =
         opened
         ∙ ap by-window
-        (is-none test a (b - a) (leastFrom test a (b - a)) (subst (λ (k : ℕ). 1 ≤ k) (sym first) (first-above 0 dwell window))
+        (is-none test a (b - a) (leastFrom test a (b - a)) (subst (λ (k : ℕ). 1 ≤ k) (sym from) (le-trans low (first-above first window)))
         (result test a (b - a)) (sym is ∙ z))
 
 -- ---- with windows and without
@@ -181,14 +188,15 @@ in-order w e t = by-given (w .given) t e
     by-given true t e = by-count (eqb (w .count) 0) (leb (w .count) 32 && leb (w .dwell) 4096) e
     by-given false t e = absurd (false≢true t)
 
-module _ (w : Windows) (xs : List JobAxis) where
+module _ (w : Windows) (xs : List JobAxis) (first end : ℕ) where
   tried : Bool → Option ℕ
-  tried b = leastFrom (λ n. (elim b as (λ _. Bool) [ true ↦ fitsOne n (w .dwell) (brought w) | false ↦ true ]) && allReach xs n) 1 4096
+  tried b = leastFrom (λ n. (elim b as (λ _. Bool) [ true ↦ fitsOne n (w .dwell) (brought w) | false ↦ true ]) && allReach xs n) first (end - first)
 
-  pub with-windows : refused13 w ≡ none → w .given ≡ true → searched (allReach xs) (w .dwell) (brought w) ≡ leastFrom (arrivesIn w xs) 1 4096
+  pub with-windows : refused13 w ≡ none → w .given ≡ true
+      → searched (allReach xs) first end (w .dwell) (brought w) ≡ leastFrom (arrivesIn w xs) first (end - first)
   unfolding tried
-  with-windows e t = searched-is (allReach xs) (w .dwell) (brought w) (in-order w e t) ∙ ap tried (sym t)
+  with-windows e t = searched-is (allReach xs) first end (w .dwell) (brought w) (in-order w e t) ∙ ap tried (sym t)
 
-  pub without-windows : w .given ≡ false → leastFrom (allReach xs) 1 4096 ≡ leastFrom (arrivesIn w xs) 1 4096
+  pub without-windows : w .given ≡ false → leastFrom (allReach xs) first (end - first) ≡ leastFrom (arrivesIn w xs) first (end - first)
   unfolding tried
   without-windows t = ap tried (sym t)

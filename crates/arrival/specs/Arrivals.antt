@@ -52,11 +52,14 @@ pub record ArrivalIs (w : Windows) (xs : List JobAxis) (asked : ℕ) (r : Arriva
 
 -- ---- its parts
 
--- the least that passes a test, of the ticks of each window in turn
-abbrev pub searched : (ℕ → Bool) → ℕ → List Window → Option ℕ
-searched test dwell [] = none
-searched test dwell (w ∷ ws) =
-    elim (leastFrom test (firstTick w) (afterLast dwell w - firstTick w)) [ some n ↦ some n | none ↦ searched test dwell ws ]
+-- the least that passes a test, of the ticks of each window in turn, from a first one on and before another
+abbrev pub searched : (ℕ → Bool) → ℕ → ℕ → ℕ → List Window → Option ℕ
+searched test first after dwell [] = none
+searched test first after dwell (w ∷ ws) =
+    elim (leastFrom test (firstTick first w) (afterLast dwell after w - firstTick first w)) [
+      | some n ↦ some n
+      | none ↦ searched test first after dwell ws
+    ]
 
 abbrev pub orZero : Option ℕ → ℕ
 orZero none = 0

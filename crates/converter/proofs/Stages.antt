@@ -24,7 +24,7 @@ use Rattle.words.specs.declared.DecodedJob.{DecodedJob}
 use Rattle.words.specs.Decoding.{decodedJob, Decodes}
 use Rattle.planner.specs.declared.Refusal.{Refusal}
 use Rattle.planner.specs.Stages.{testsFor, firstRefusal}
-use Rattle.planner.proofs.Checks.{Lacks, lacks}
+use Rattle.model.proofs.CheckingOrder.{Lacks, lacks}
 use Rattle.converter.specs.Promise.{Converts, refusalOf, Gives}
 
 abbrev Tests : Type 0

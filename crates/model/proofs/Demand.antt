@@ -128,7 +128,7 @@ module _ (xs : List Axis) (n : ℕ) (lent rest : List ℤ) (is : lent ≡ table 
   whole : cellsNeeded (length xs) n ≤ length lent
   whole = omega (arith, table-length xs n, ap length is ∙ length-append (table xs n) rest)
 
-  demanded : Demand3 xs n lent
+  pub demanded : Demand3 xs n lent
   demanded =
       record {
         whole = whole;
@@ -162,7 +162,7 @@ unnumbered (y ∷ l) zero x e = (y, ((zero, refl), cc))
 unnumbered (y ∷ l) (suc i) x e = let r = unnumbered l i x e in (r .0, ((suc (r .1 .0 .0), r .1 .0 .1), r .1 .1))
 
 -- an accepted job's axes can all be planned
-all-ready : (j : Job) (n : ℕ) → AllPassed (j .axes) → IsArrival j n → (i : ℕ) (x : Axis) → getElem? (axesOf j) i ≡ some x → Ready x n
+pub all-ready : (j : Job) (n : ℕ) → AllPassed (j .axes) → IsArrival j n → (i : ℕ) (x : Axis) → getElem? (axesOf j) i ≡ some x → Ready x n
 all-ready j n p a i x q =
     let y = unnumbered (j .axes) i x q in
     let g = passed-among (j .axes) p (y .0) (y .1 .0) in

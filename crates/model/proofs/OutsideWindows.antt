@@ -51,12 +51,13 @@ wrong-or-right w p (wrongWindow i a b c f) r =
     go (inl h) k l = not-below k h
     go (inr h) k l = not-below h l
 
-module _ (j : Job) (lent : List ℤ) (p : Passing j) where
-  abbrev Clear : List (ℕ × (Axis → Bool)) → Type 0
-  Clear [] = Unit
-  Clear (t ∷ ts) = (firstAxis (t .1) (j .axes) ≡ none) × Clear ts
+-- no test of a list holds of an axis
+abbrev pub Clear : List (ℕ × (Axis → Bool)) → List JobAxis → Type 0
+Clear [] xs = Unit
+Clear (t ∷ ts) xs = (firstAxis (t .1) xs ≡ none) × Clear ts xs
 
-  tests-clear : (ts : List (ℕ × (Axis → Bool))) → Clear ts → tested ts j lent ≡ admitted j lent
+module _ (j : Job) (lent : List ℤ) (p : Passing j) where
+  tests-clear : (ts : List (ℕ × (Axis → Bool))) → Clear ts (j .axes) → tested ts j lent ≡ admitted j lent
   tests-clear [] c = refl
   tests-clear (t ∷ ts) (e, c) =
       ap (λ (o : Option ℕ). elim o as (λ _. Outcome) [ some i ↦ refuse (t .0) i 0 0 lent | none ↦ tested ts j lent ]) e ∙ tests-clear ts c
@@ -65,11 +66,11 @@ module _ (j : Job) (lent : List ℤ) (p : Passing j) where
   clear : (f : Axis → Bool) → ((x : Axis) → Passed x → f x ≡ false) → firstAxis f (j .axes) ≡ none
   clear f h = first-none f h (j .axes) (p .axes)
 
-  all-clear : Clear axisRefusals
+  all-clear : Clear axisRefusals (j .axes)
   all-clear =
-      let last : Clear ((16, accelerationRefused) ∷ (17, flyingRefused) ∷ []) =
+      let last : Clear ((16, accelerationRefused) ∷ (17, flyingRefused) ∷ []) (j .axes) =
       (clear accelerationRefused (λ x q. q .acceleration), (clear flyingRefused (λ x q. q .resting), tt)) in
-      let blends : Clear ((5, blendRefused) ∷ (15, swayRefused) ∷ (6, valuesRefused) ∷ (16, accelerationRefused) ∷ (17, flyingRefused) ∷ []) =
+      let blends : Clear ((5, blendRefused) ∷ (15, swayRefused) ∷ (6, valuesRefused) ∷ (16, accelerationRefused) ∷ (17, flyingRefused) ∷ []) (j .axes) =
       (clear blendRefused (λ x q. q .blend), (clear swayRefused (λ x q. q .sway), (clear valuesRefused (λ x q. q .values), last))) in
       (clear limitsRefused (λ x q. q .limits), (clear dampingRefused (λ x q. q .damping), blends))
 
@@ -80,7 +81,7 @@ module _ (j : Job) (lent : List ℤ) (p : Passing j) where
       go none e = refl
       go (some k) e = let x = windows-wrong (j .windows) k e in absurd (wrong-or-right (j .windows) k (x .1) (p .windows (x .0)))
 
-  goes-on : jobOutcome j lent ≡ arrived j (j .asked) lent
+  pub goes-on : jobOutcome j lent ≡ arrived j (j .asked) lent
   goes-on =
       ap (λ (b : Bool). elim b as (λ _. Outcome) [ true ↦ tested axisRefusals j lent | false ↦ refuse 3 1 0 0 lent ]) (leb-yes (p .asked))
       ∙ tests-clear axisRefusals all-clear

@@ -48,7 +48,7 @@ pub passed-among : (l : List JobAxis) → AllPassed l → (x : JobAxis) → Amon
 passed-among [] p x m = absurd (none-some (m .1))
 passed-among (y ∷ l) p x m = all-among (λ x. Passed (x .axis)) y l (p .0) (λ z q. passed-among l (p .1) z q) x m
 
-all-passed : (l : List JobAxis) → NoneRefused limitsRefused l → NoneRefused dampingRefused l → NoneRefused blendRefused l → NoneRefused swayRefused l
+pub all-passed : (l : List JobAxis) → NoneRefused limitsRefused l → NoneRefused dampingRefused l → NoneRefused blendRefused l → NoneRefused swayRefused l
     → NoneRefused valuesRefused l → NoneRefused accelerationRefused l → NoneRefused flyingRefused l → AllPassed l
 all-passed [] a b c d e f g = tt
 all-passed (y ∷ l) a b c d e f g =
@@ -68,7 +68,7 @@ all-passed (y ∷ l) a b c d e f g =
 
 -- ---- the first axis that a test refuses
 
-none-refused : (f : Axis → Bool) (l : List JobAxis) → firstAxis f l ≡ none → NoneRefused f l
+pub none-refused : (f : Axis → Bool) (l : List JobAxis) → firstAxis f l ≡ none → NoneRefused f l
 none-refused f [] e = λ x m. absurd (none-some (m .1))
 none-refused f (y ∷ l) e = go (f (y .axis)) refl e (none-refused f l)
   where

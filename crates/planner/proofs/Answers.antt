@@ -22,12 +22,12 @@ use Rattle.model.specs.Outcome.{axisRefusals, leastFrom, allReach, words, typed
 use Rattle.model.proofs.BeforeTen.{before-filled}
 use Rattle.words.specs.declared.DecodedJob.{DecodedJob}
 use Rattle.words.specs.Decoding.{decodedJob, Decodes}
+use Rattle.model.proofs.CheckingOrder.{Lacks, lacks}
 use Rattle.arrival.specs.declared.Arrival.{Arrival}
 use Rattle.arrival.specs.Arrivals.{leastOr, askedOr, arrivesIn, arrivalFor}
 use Rattle.planner.specs.declared.Refusal.{Refusal}
 use Rattle.planner.specs.Stages.{windowRefusal, firstRefusal, checkedFor, Settled}
 use Rattle.planner.specs.Promise.{Answered}
-use Rattle.planner.proofs.Checks.{Lacks, lacks}
 use Rattle.planner.proofs.Calls.{mask-refused, mask-passed, words-refused, words-passed}
 
 -- ---- where the stage ends

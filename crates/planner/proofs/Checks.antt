@@ -2,13 +2,13 @@
 use Prim.Native.Nat.{ℕ, zero, suc, _+_, _<_, _≤_}
 use native.Mathlib.Omega.{arith}
 use mathlib.Core.Path.{_≡_, refl, sym, ap, _∙_}
-use mathlib.Core.Bool.{Bool, true, false, cond, not, _&&_, false≢true}
+use mathlib.Core.Bool.{Bool, true, false, cond}
 use mathlib.Core.Option.{Option, none, some}
 use mathlib.Core.List.{List, [], _∷_, map}
 use lib.IntN.{ℤ}
 use lib.ListN.{length, drop, getD}
 use lib.Dec.{eqb, leb}
-use borrow.Author.Tests.{le-leb, lt-leb, leb-true, ne-eqb, eqb-false}
+use borrow.Author.Tests.{le-leb, lt-leb, leb-true, ne-eqb}
 use Rattle.model.specs.declared.Axis.{Axis}
 use Rattle.model.specs.declared.Windows.{Windows}
 use Rattle.model.specs.Windows.{refused13}
@@ -16,12 +16,10 @@ use Rattle.model.specs.Job.{Job, JobAxis}
 use Rattle.model.specs.Refusals.{AllPassed, lastTick, limitsRefused, dampingRefused}
 use Rattle.model.specs.Refusals.{blendRefused, swayRefused, valuesRefused, accelerationRefused, flyingRefused}
 use Rattle.model.specs.Outcome.{Outcome, refuse, firstAxis, axisRefusals, tested, arrived, jobOutcome}
+use Rattle.model.proofs.CheckingOrder.{Tests, Lacks, lacks}
 use Rattle.motion.specs.Motions.{refusalTest}
 use Rattle.planner.specs.declared.Refusal.{Refusal}
 use Rattle.planner.specs.Stages.{windowRefusal, testsFor, firstRefusal, checkedFor, Checked}
-
-abbrev Tests : Type 0
-Tests = List (ℕ × (Axis → Bool))
 
 -- ---- the loop over the numbers in checking order
 
@@ -106,24 +104,6 @@ abbrev Clear : Tests → List JobAxis → Windows → Type 0
 Clear [] xs w = refused13 w ≡ none
 Clear (t ∷ ts) xs w = (firstAxis (t .1) xs ≡ none) × Clear ts xs w
 
--- no test of a list has number k
-abbrev pub Lacks : ℕ → Tests → Type 0
-Lacks k [] = Unit
-Lacks k (t ∷ ts) = (t .0 ≡ k → ⊥) × Lacks k ts
-
--- by looking at each
-abbrev pub none-is : ℕ → Tests → Bool
-none-is k [] = true
-none-is k (t ∷ ts) = not (eqb (t .0) k) && none-is k ts
-
-pub lacks : (k : ℕ) (ts : Tests) → none-is k ts ≡ true → Lacks k ts
-lacks k [] e = tt
-lacks k (t ∷ ts) e = go (eqb (t .0) k) refl e (lacks k ts)
-  where
-    go : (b : Bool) → eqb (t .0) k ≡ b → not b && none-is k ts ≡ true → (none-is k ts ≡ true → Lacks k ts) → Lacks k (t ∷ ts)
-    go true q e h = absurd (false≢true e)
-    go false q e h = (eqb-false (t .0) k q, h e)
-
 all-numbered : Lacks 0 axisRefusals
 all-numbered = lacks 0 axisRefusals refl
 
@@ -197,33 +177,45 @@ module _ (j : Job) (r : Refusal) where
   unfolding by-asked
   asked-in-time h e = checked j r (e ∙ sym (ap (by-asked j) (le-leb (j .asked) lastTick h)))
 
--- ---- the outcome after the checks
+-- ---- what comes after the checks
+
+-- What comes of the first refusal of a list of tests, or of none, is what comes of asking one test after the other.
+module _ {X : Type 0} (stop : ℕ → ℕ → X) (on : X) (xs : List JobAxis) (w : Windows) where
+  abbrev pub after : Refusal → X
+  after r = cond (eqb (r .number) 0) on (stop (r .number) (r .place))
+
+  abbrev pub in-turn : Tests → X
+  in-turn [] = elim (refused13 w) as (λ _. X) [ some p ↦ stop 13 p | none ↦ on ]
+  in-turn (t ∷ ts) = elim (firstAxis (t .1) xs) as (λ _. X) [ some i ↦ stop (t .0) i | none ↦ in-turn ts ]
+
+  tests-are : (ts : Tests) → Lacks 0 ts → after (firstRefusal ts xs w) ≡ in-turn ts
+  tests-are [] n = go (refused13 w)
+    where
+      go : (o : Option ℕ)
+          → after (elim o [ some p ↦ record { number = 13; place = p } | none ↦ record { number = 0; place = 0 } ])
+          ≡ (elim o as (λ _. X) [ some p ↦ stop 13 p | none ↦ on ])
+      go (some p) = refl
+      go none = refl
+  tests-are (t ∷ ts) (n, ns) = go (firstAxis (t .1) xs) (tests-are ts ns)
+    where
+      go : (o : Option ℕ) → after (firstRefusal ts xs w) ≡ in-turn ts
+          → after (elim o [ some i ↦ record { number = t .0; place = i } | none ↦ firstRefusal ts xs w ])
+          ≡ (elim o as (λ _. X) [ some i ↦ stop (t .0) i | none ↦ in-turn ts ])
+      go (some i) h = ap (λ (b : Bool). cond b on (stop (t .0) i)) (ne-eqb (t .0) 0 n)
+      go none h = h
+
+  pub after-tests : after (firstRefusal axisRefusals xs w) ≡ in-turn axisRefusals
+  after-tests = tests-are axisRefusals all-numbered
 
 abbrev pub afterChecks : Job → List ℤ → Refusal → Outcome
-afterChecks j lent r = cond (eqb (r .number) 0) (arrived j (j .asked) lent) (refuse (r .number) (r .place) 0 0 lent)
-
-tests-are : (ts : Tests) (j : Job) (lent : List ℤ) → Lacks 0 ts → afterChecks j lent (firstRefusal ts (j .axes) (j .windows)) ≡ tested ts j lent
-tests-are [] j lent n = go (refused13 (j .windows))
-  where
-    go : (o : Option ℕ)
-        → afterChecks j lent (elim o [ some p ↦ record { number = 13; place = p } | none ↦ record { number = 0; place = 0 } ])
-        ≡ (elim o as (λ _. Outcome) [ some p ↦ refuse 13 p 0 0 lent | none ↦ arrived j (j .asked) lent ])
-    go (some p) = refl
-    go none = refl
-tests-are (t ∷ ts) j lent (n, ns) = go (firstAxis (t .1) (j .axes)) (tests-are ts j lent ns)
-  where
-    go : (o : Option ℕ) → afterChecks j lent (firstRefusal ts (j .axes) (j .windows)) ≡ tested ts j lent
-        → afterChecks j lent (elim o [ some i ↦ record { number = t .0; place = i } | none ↦ firstRefusal ts (j .axes) (j .windows) ])
-        ≡ (elim o as (λ _. Outcome) [ some i ↦ refuse (t .0) i 0 0 lent | none ↦ tested ts j lent ])
-    go (some i) h = ap (λ (b : Bool). cond b (arrived j (j .asked) lent) (refuse (t .0) i 0 0 lent)) (ne-eqb (t .0) 0 n)
-    go none h = h
+afterChecks j lent r = after (λ n p. refuse n p 0 0 lent) (arrived j (j .asked) lent) (j .axes) (j .windows) r
 
 pub checks-are : (j : Job) (lent : List ℤ) → afterChecks j lent (checkedFor j) ≡ jobOutcome j lent
 checks-are j lent = go (leb (j .asked) lastTick)
   where
     go : (b : Bool) → afterChecks j lent (elim b [ true ↦ firstRefusal axisRefusals (j .axes) (j .windows) | false ↦ record { number = 3; place = 1 } ])
         ≡ (elim b as (λ _. Outcome) [ true ↦ tested axisRefusals j lent | false ↦ refuse 3 1 0 0 lent ])
-    go true = tests-are axisRefusals j lent all-numbered
+    go true = after-tests (λ n p. refuse n p 0 0 lent) (arrived j (j .asked) lent) (j .axes) (j .windows)
     go false = refl
 
 -- ---- refusal 13, or number 0

@@ -77,8 +77,11 @@ module _ (m asked : ℕ) (axes given : List Axis) (w : Windows) (is : given ≡ 
       ap (λ (l : List JobAxis). filled (record { mask = m; asked = asked; axes = l; windows = w }) n lent) axes-given
       ∙ filled-by-hand (jobWith m asked axes w) n lent
 
+  pub given-reaches : (n : ℕ) → allReach (setAxes 0 m given) n ≡ allReach (setAxes 0 m axes) n
+  given-reaches n = ap (λ (l : List JobAxis). allReach l n) axes-given ∙ reach-by-hand (setAxes 0 m axes) n
+
   pub given-reached : (n : ℕ) → allReach (setAxes 0 m given) n ≡ true → allReach (setAxes 0 m axes) n ≡ true
-  given-reached n e = sym (ap (λ (l : List JobAxis). allReach l n) axes-given ∙ reach-by-hand (setAxes 0 m axes) n) ∙ e
+  given-reached n e = sym (given-reaches n) ∙ e
 
 -- ---- after the arrival
 

@@ -8,7 +8,7 @@ ghost use mathlib.Core.Bool.{true};
 ghost use mathlib.Core.Option.{none};
 ghost use Rattle.model.specs.Windows.{noWindows, fits, fitsOne, inWindows, fine, firstWrong, windowsRefused, refused13};
 ghost use Rattle.windows.specs.Places.{placeOf};
-ghost use Rattle.windows.specs.Ticks.{firstTick, upToLast, afterLast};
+ghost use Rattle.windows.specs.Ticks.{firstTick, upTo, afterLast};
 
 // Whether an arrival fits a window: at its opening or later, below its closing, and its dwell ends at the closing or before.
 fn fits(tick: u32, dwell: u32, window: Window) -> bool
@@ -133,37 +133,37 @@ pub fn no_windows() -> Windows
 
 // ---- the ticks of a window
 
-// The first tick from 1 on that is not before the opening.
-pub fn first_tick(window: Window) -> u32
-    ensures { λ r. ⌜ r ≡ firstTick window ⌝ }
+// The first tick, from `first` on, that is not before the opening.
+pub fn first_tick(window: Window, first: u32) -> u32
+    ensures { λ r. ⌜ r ≡ firstTick first window ⌝ }
 {
-    if window.opening == 0 {
-        return 1;
+    if window.opening < first {
+        return first;
     }
     window.opening
 }
 
-// The tick after the last one, up to 4,096, that fits the window; where none does, a tick that is not after the window's first.
-pub fn after_last(window: Window, dwell: u32) -> u32
+// The tick after the last one, before `after`, that fits the window; where none does, a tick that is not after the window's first.
+pub fn after_last(window: Window, dwell: u32, after: u32) -> u32
     requires { ⌜ dwell ≤ 4096 ⌝ }
-    ensures { λ r. ⌜ r ≡ afterLast dwell window ⌝ }
+    ensures { λ r. ⌜ r ≡ afterLast dwell after window ⌝ }
 {
     let closing = window.closing;
     if dwell == 0 {
-        return up_to_last(closing);
+        return up_to(closing, after);
     }
     if closing < dwell {
         return 0;
     }
-    up_to_last(closing - dwell + 1)
+    up_to(closing - dwell + 1, after)
 }
 
-// A tick, or 4,097 where it is later.
-fn up_to_last(tick: u32) -> u32
-    ensures { λ r. ⌜ r ≡ upToLast tick ⌝ }
+// A tick, or `after` where it is later.
+fn up_to(tick: u32, after: u32) -> u32
+    ensures { λ r. ⌜ r ≡ upTo after tick ⌝ }
 {
-    if 4097 < tick {
-        return 4097;
+    if after < tick {
+        return after;
     }
     tick
 }

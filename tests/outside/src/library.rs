@@ -1,6 +1,8 @@
 //! The calls of the static library, as include/polgamir.h declares them.
 
-use crate::reference::{Answer, Axis, Damping, Job, Raise, Raised, Stop, Target, Tour, Toured, Window, Windows};
+use crate::reference::{
+    Answer, Axis, Damping, Job, Raise, Raised, Report, Search, Searched, Stop, Target, Tour, Toured, Window, Windows,
+};
 
 /// `polgamir_answer`.
 #[repr(C)]
@@ -342,4 +344,45 @@ pub fn convert(words: &[u32], lent: &mut [u32]) -> Result<usize, Answer> {
         0 => Ok(answer.place as usize),
         _ => Err(answer),
     }
+}
+
+/// `polgamir_search_answer`.
+#[repr(C)]
+pub struct CSearchAnswer {
+    pub number: u32,
+    pub mask: u32,
+    pub place: u64,
+    pub arrival: u32,
+    pub report: u32,
+    pub next: u32,
+    pub tried: u32,
+}
+
+extern "C" {
+    fn polgamir_search_words(words: *const u32, word_count: usize, first: u32, budget: u32) -> CSearchAnswer;
+    fn polgamir_search_job(job: CJob, first: u32, budget: u32) -> CSearchAnswer;
+}
+
+fn searched(of: CSearchAnswer) -> Search {
+    let CSearchAnswer { number, mask, place, arrival, report, next, tried } = of;
+    if number != 0 {
+        return Err(Answer { number, place, mask, arrival });
+    }
+    let report = match report {
+        0 => Report::None,
+        1 => Report::Found(arrival),
+        2 => Report::Spent(next),
+        other => panic!("{other} is no report"),
+    };
+    Ok(Searched { report, tried })
+}
+
+/// Searches for job words.
+pub fn search_words(words: &[u32], first: u32, budget: u32) -> Search {
+    searched(unsafe { polgamir_search_words(words.as_ptr(), words.len(), first, budget) })
+}
+
+/// Searches for typed values, with `fill` where nothing is looked at.
+pub fn search(job: &Job, fill: u64, first: u32, budget: u32) -> Search {
+    searched(unsafe { polgamir_search_job(CJob::of(job, fill), first, budget) })
 }

@@ -4,7 +4,8 @@ use std::str::{FromStr, SplitAsciiWhitespace};
 
 use crate::library;
 use crate::reference::{
-    self, Answer, Axis, Damping, Job, Raise, Raised, Single, Stop, Target, Tour, Toured, Windows, UNSET,
+    self, Answer, Axis, Damping, Job, Raise, Raised, Report, Search, Searched, Single, Stop, Target, Tour, Toured,
+    Windows, UNSET,
 };
 
 /// The tokens of a part of a line, one after the other.
@@ -183,6 +184,23 @@ impl Tokens<'_> {
     }
 }
 
+impl Tokens<'_> {
+    /// What is expected of a search: a report, or a refusal.
+    pub fn searched(&mut self, got: Search) {
+        let report = match got {
+            Err(refused) => return self.answer(refused),
+            Ok(_) => self.word(),
+        };
+        let report = match report {
+            "found" => Report::Found(self.number()),
+            "none" => Report::None,
+            "spent" => Report::Spent(self.number()),
+            other => panic!("{other} is no report: {got:?}"),
+        };
+        assert_eq!(got, Ok(Searched { report, tried: self.number() }));
+    }
+}
+
 /// A job as it is given to a call.
 pub enum Given {
     Words(Vec<u32>),
@@ -214,6 +232,16 @@ impl Given {
             (Given::Words(words), Side::Reference) => reference::raises_of_words(words),
             (Given::Typed(job), Side::Library) => library::raises(job, 0),
             (Given::Typed(job), Side::Reference) => job.raises(),
+        }
+    }
+
+    /// The search from a first candidate within a budget.
+    pub fn search(&self, side: Side, first: u32, budget: u32) -> Search {
+        match (self, side) {
+            (Given::Words(words), Side::Library) => library::search_words(words, first, budget),
+            (Given::Words(words), Side::Reference) => reference::search_words(words, first, budget),
+            (Given::Typed(job), Side::Library) => library::search(job, 0, first, budget),
+            (Given::Typed(job), Side::Reference) => job.search(first, budget),
         }
     }
 }

@@ -115,3 +115,13 @@ fn conversions() {
         convert(side, call, expected);
     });
 }
+
+#[test]
+fn searches() {
+    every_case("search.txt", |side, call, expected| {
+        call.is("search");
+        let (first, budget) = (call.number(), call.number());
+        let got = call.given().search(side, first, budget);
+        expected.searched(got);
+    });
+}

@@ -65,6 +65,7 @@ impl SheetLine {
             Refusal::Words { .. }
             | Refusal::LongPosition { .. }
             | Refusal::WordsTooFew { .. }
+            | Refusal::FirstCandidate
             | Refusal::Other { .. } => SheetLine::ReadTheRefusal,
         }
     }

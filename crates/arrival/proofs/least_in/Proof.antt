@@ -1,5 +1,6 @@
 use Prim.Native.Nat.{ℕ, _-_, _≤_}
 use native.Mathlib.Omega.{arith}
+use native.Mathlib.Nat.{le-trans}
 use mathlib.Core.Path.{_≡_, refl, sym, ap, subst, _∙_}
 use mathlib.Core.List.{List}
 use lib.ListN.{length, getD, take, drop}
@@ -16,15 +17,16 @@ use Rattle.arrival.proofs.least_in.Statement.{statement}
 use Rattle.arrival.proofs.least_in.Tie as tie
 
 abbrev Inv-loop : tie.InvT-loop
-Inv-loop mask axes count dwell list i₀ i =
+Inv-loop mask axes count dwell first after list i₀ i =
     record {
-      least : searched (allReach (setAxes 0 mask axes)) dwell (drop i (take count list)) ≡ searched (allReach (setAxes 0 mask axes)) dwell (take count list);
+      least : searched (allReach (setAxes 0 mask axes)) first after dwell (drop i (take count list))
+          ≡ searched (allReach (setAxes 0 mask axes)) first after dwell (take count list);
       low : i ≤ count;
       long : length (take count list) ≡ count;
     }
 
 abbrev μ-loop : tie.MeasureT-loop
-μ-loop mask axes count dwell list i₀ i = count - i
+μ-loop mask axes count dwell first after list i₀ i = count - i
 
 loop-holds : tie.Need-loop-holds Inv-loop μ-loop
 loop-holds c = record { least = refl; low = omega arith; long = length-take-le (c .args .count) (c .args .t3) (omega arith) }
@@ -46,17 +48,19 @@ least-between-requires c κs =
     let l = c .before .before .before .before .loop in
     let a = c .before .before .before .before .before in
     let window = getD (a .args .t3) (l .i) noWindow in
-    (a .pre .0, subst (λ (k : ℕ). k ≤ 4097) (sym (c .after-last .ensures)) (last-ticks 0 (a .args .dwell) window))
+    let early = last-ticks (a .args .after) (a .args .dwell) window in
+    (a .pre .0, subst (λ (k : ℕ). k ≤ 4097) (sym (c .after-last .ensures)) (le-trans early (a .pre .1 .1 .1 .1)))
 
 returns : tie.Need-returns Inv-loop μ-loop
 returns c =
     let l = c .before .before .before .before .before .before .loop in
     let a = c .before .before .before .before .before .before .before .args in
+    let low = c .before .before .before .before .before .before .before .pre .1 .1 .1 .0 in
     let k = c .before .least-between in
     let f = c .before .before .before .first-tick in
     let g = c .before .before .after-last in
     let test = allReach (setAxes 0 (a .mask) (a .axes)) in
-    let is = in-window test (a .dwell) (a .t3) (a .count) (l .i) (omega (arith, l .inv .long)) (omega arith)
+    let is = in-window test (a .first) (a .after) (a .dwell) low (a .t3) (a .count) (l .i) (omega (arith, l .inv .long)) (omega arith)
     (f .result) (g .result) (k .result) (f .ensures) (g .ensures) (k .ensures) (c .if1 .taken) in
     ap orZero (sym is ∙ l .inv .least)
 
@@ -70,11 +74,12 @@ loop-again : tie.Need-loop-again Inv-loop μ-loop
 loop-again c =
     let l = c .before .before .before .before .before .before .loop in
     let a = c .before .before .before .before .before .before .before .args in
+    let low = c .before .before .before .before .before .before .before .pre .1 .1 .1 .0 in
     let k = c .before .least-between in
     let f = c .before .before .before .first-tick in
     let g = c .before .before .after-last in
     let test = allReach (setAxes 0 (a .mask) (a .axes)) in
-    let is = past-window test (a .dwell) (a .t3) (a .count) (l .i) (omega (arith, l .inv .long)) (omega arith)
+    let is = past-window test (a .first) (a .after) (a .dwell) low (a .t3) (a .count) (l .i) (omega (arith, l .inv .long)) (omega arith)
     (f .result) (g .result) (k .result) (f .ensures) (g .ensures) (k .ensures) (c .if1 .left) in
     record { least = sym is ∙ l .inv .least; low = omega arith; long = l .inv .long }
 
@@ -84,7 +89,7 @@ returns-2 c =
     let a = c .before .before .args in
     let test = allReach (setAxes 0 (a .mask) (a .axes)) in
     let over = ended (take (a .count) (a .t3)) (l .i) (omega (arith, l .inv .long)) in
-    ap orZero (sym (ap (λ (r : List Window). searched test (a .dwell) r) over) ∙ l .inv .least)
+    ap orZero (sym (ap (λ (r : List Window). searched test (a .first) (a .after) (a .dwell) r) over) ∙ l .inv .least)
 
 pub least-in-spec : {M : Type 1} → statement M
 least-in-spec =

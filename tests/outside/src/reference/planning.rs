@@ -48,6 +48,11 @@ impl Job {
         self.set().all(|(_, axis)| Planned::reaching(axis, arrival).is_some())
     }
 
+    /// Whether every axis reaches an arrival that fits a window where there are some.
+    pub(super) fn suits(&self, arrival: i64) -> bool {
+        self.fits(arrival) && self.all_reach(arrival)
+    }
+
     /// Whether every axis reaches an arrival.
     pub fn all_arrive(&self, arrival: i64) -> bool {
         self.by_hand().all_reach(arrival)
@@ -85,7 +90,7 @@ impl Job {
     }
 
     fn reaches_none_up_to(&self, tick: i64) -> bool {
-        !(1..=tick).any(|n| self.fits(n) && self.all_reach(n))
+        !(1..=tick).any(|n| self.suits(n))
     }
 
     /// The arrival, or the first of refusals 3, 4, 12, 5, 15, 6, 16, 17, 13, 8 and 9.
@@ -104,7 +109,7 @@ impl Job {
             // The mask is 0 where every axis reaches an arrival that fits no window.
             return if late == 0 && self.fits(asked) { Ok(asked) } else { Err(refusal(8, 0, late, 0)) };
         }
-        (1..=LATEST).find(|&n| self.fits(n) && self.all_reach(n)).ok_or_else(|| {
+        (1..=LATEST).find(|&n| self.suits(n)).ok_or_else(|| {
             let never = self.mask_of(|axis| (1..=LATEST).all(|n| Planned::reaching(axis, n).is_none()));
             refusal(9, 0, never, 0)
         })
