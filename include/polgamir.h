@@ -283,6 +283,15 @@ typedef struct polgamir_job {
  */
 polgamir_answer polgamir_plan_job(polgamir_job job, int64_t *table, size_t table_cells);
 
+/*
+ * The same two calls with the rows from arrival backwards: row N first and row 0 last, each laid out as before. Answers and refusals
+ * are those of the calls above, and each row equals theirs for that tick: row k of the axis that is the j-th of the set bits is
+ * table[3 * (axes * (N - k) + j)] and the two cells after it, also in a table with more cells than the rows need.
+ */
+polgamir_answer polgamir_plan_words_backwards(const uint32_t *words, size_t word_count, int64_t *table, size_t table_cells);
+
+polgamir_answer polgamir_plan_job_backwards(polgamir_job job, int64_t *table, size_t table_cells);
+
 /* A limit of an axis, or none. */
 enum polgamir_limit {
     POLGAMIR_NO_LIMIT = 0,

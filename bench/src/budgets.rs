@@ -3,7 +3,7 @@
 use std::hint::black_box;
 
 use outside::library::CJob;
-use outside::reference::{Axis, Damping, Job, Single};
+use outside::reference::{Axis, Damping, Job, Single, Target, Windows};
 
 use crate::{batch, searches};
 
@@ -41,6 +41,17 @@ fn finer(axes: u32) -> Job {
     Job { axes: job.axes.map(|axis| Axis { damping: Damping::Weight(100), half_period: 4, ..axis }), ..job }
 }
 
+/// Five axes that reach every candidate and one that reaches none, with 32 windows of eight ticks from the first candidate on: in each window all
+/// six are asked.
+fn in_each_window() -> Job {
+    let near = Target::Fixed { position: 1_000, velocity: 0 };
+    let far = searches::out_of_reach();
+    let mut axes = far.axes.map(|axis| Axis { speed_limit: 1_000, acceleration_limit: 20, target: near, ..axis });
+    axes[5] = far.axes[5];
+    let pairs: [(u32, u32); 32] = std::array::from_fn(|i| (FIRST + 8 * i as u32, FIRST + 8 * (i as u32 + 1)));
+    Job { axes, windows: Some(Windows::new(0, &pairs)), ..far }
+}
+
 /// One axis of a job.
 fn alone(job: Job) -> Job {
     Job { mask: 1, ..job }
@@ -71,6 +82,7 @@ pub fn table() {
     row("six axes", &far);
     row("six axes, damping as measured", &measured(far));
     row("six axes, 32 windows", &searches::in_windows(far));
+    row("six axes, all asked in each of 32 windows", &in_each_window());
     row("one target that accelerates", &searches::accelerating(1));
     row("six targets that accelerate", &searches::accelerating(6));
     row("six targets that accelerate, finer grid", &finer(6));

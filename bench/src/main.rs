@@ -15,7 +15,7 @@ mod searches;
 use std::hint::black_box;
 
 use outside::library::{self, CJob};
-use outside::reference::{Answer, Axis, Damping, Job, Stop, Target, Tour, UNSET};
+use outside::reference::{Answer, Axis, Damping, Job, Order, Stop, Target, Tour, UNSET};
 use plain::Engine;
 
 /// An axis from rest to rest.
@@ -167,6 +167,32 @@ fn by_row(name: &str, job: &Job, arrival: u32) {
     println!("| {name} | {} rows | {proved:.1} | {plain:.1} | {:.2} |", arrival + 1, proved / plain);
 }
 
+/// Prints the same of the library with the rows from tick 0 on and from arrival backwards, after the rows of both were compared.
+fn in_either_order(name: &str, job: &Job, arrival: u32) {
+    let asked = Job { asked: arrival, ..*job };
+    let cells = cells_of(job, arrival);
+    let mut table = vec![0; cells];
+    let mut rows = |order| {
+        library::plan_filled_in(order, &asked, 0, &mut table);
+        table.chunks_exact(3 * job.count()).map(<[i64]>::to_vec).collect::<Vec<_>>()
+    };
+    assert!(
+        rows(Order::Forwards).iter().eq(rows(Order::Backwards).iter().rev()),
+        "the two orders write different rows"
+    );
+    let calls = 1_000_000 / cells + 1;
+    let mut timed = |order, cells| {
+        batch(calls, || library::plan_filled_in(order, &asked, 0, black_box(&mut table[..cells])).arrival)
+    };
+    let mut round =
+        || [timed(Order::Forwards, cells), timed(Order::Backwards, cells), timed(Order::Forwards, cells - 1)];
+    let rounds: Vec<[f64; 3]> = (0..41).map(|_| round()).collect();
+    let written = |[accepted, refused]: [f64; 2]| 3.0 * (accepted - refused) / cells as f64;
+    let forwards = written(fastest(rounds.iter().map(|round| [round[0], round[2]])));
+    let backwards = written(fastest(rounds.iter().map(|round| [round[1], round[2]])));
+    println!("| {name} | {} rows | {forwards:.1} | {backwards:.1} | {:.2} |", arrival + 1, backwards / forwards);
+}
+
 /// A tour of 64 stops of six axes. The legs take about 60 ticks each.
 fn many_stops() -> (Tour, Vec<Stop>) {
     let axes = six().map(|axis| Axis { speed_limit: 1_000, acceleration_limit: 20, half_period: 12, ..axis });
@@ -280,4 +306,11 @@ fn main() {
     by_row("one axis, finer grid", &finer, long_arrival);
     by_row("one axis, second sway", &jointed, jointed_arrival);
     by_row("six axes, second sways", &wide_jointed, wide_jointed_arrival);
+    println!();
+    println!("| the library's rows, by row and axis | outcome | forwards, ns | backwards, ns | ratio |");
+    println!("|---|---|---|---|---|");
+    in_either_order("one axis, short", &short, short_arrival);
+    in_either_order("one axis, long", &long, long_arrival);
+    in_either_order("six axes", &wide, wide_arrival);
+    in_either_order("one axis, finer grid", &finer, long_arrival);
 }

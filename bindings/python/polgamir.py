@@ -37,7 +37,7 @@ __all__ = [
     "AXES", "FINE_STEPS", "LATEST_ARRIVAL", "LONGEST_DWELL", "MOST_CELLS", "MOST_STOPS", "MOST_WINDOWS", "Axis", "Damping", "Fixed", "Job",
     "LibraryError", "Limit", "Motion", "Moving", "Number", "Peaks", "Plan", "Raise", "Raises", "Ratio", "Refusal", "RestPoint", "Row",
     "Schedule", "Searched", "Stop", "Target", "Tour", "TourAxis", "Weight", "Window", "Windows", "convert_words", "in_units", "plan_words",
-    "raises_words", "search_words", "version",
+    "plan_words_backwards", "raises_words", "search_words", "version",
 ]
 
 __version__ = "0.1.0"
@@ -271,6 +271,12 @@ class Job:
         room = _cells_needed(given.mask, min(given.asked or LATEST_ARRIVAL, LATEST_ARRIVAL))
         return _planned(room, lambda table, cells: _library().polgamir_plan_job(given, table, cells))
 
+    def plan_backwards(self) -> Plan:
+        """Plans the job into a table whose rows stand from arrival backwards; raises a `Refusal`, never with 10."""
+        given = _job_of(self)
+        room = _cells_needed(given.mask, min(given.asked or LATEST_ARRIVAL, LATEST_ARRIVAL))
+        return _planned(room, lambda table, cells: _library().polgamir_plan_job_backwards(given, table, cells), backwards=True)
+
     def arrival_found(self) -> int:
         """The arrival of the job's table, which is not written; raises a `Refusal`, never with 10."""
         answer = _library().polgamir_plan_job(_job_of(self), None, 0)
@@ -365,6 +371,13 @@ def search_words(words: Sequence[int], first: int, budget: int) -> Searched:
     return _searched(_library().polgamir_search_words(_words_of(words), len(words), *_candidates(first, budget)))
 
 
+def plan_words_backwards(words: Sequence[int]) -> Plan:
+    """Plans the job that words hold into a table whose rows stand from arrival backwards; raises a `Refusal`, never with 10."""
+    given = _words_of(words)
+    call = _library().polgamir_plan_words_backwards
+    return _planned(MOST_CELLS, lambda table, cells: call(given, len(given), table, cells), backwards=True)
+
+
 # --- Tables -----------------------------------------------------------------------------------------------------------------------------
 
 
@@ -387,15 +400,22 @@ class Row(NamedTuple):
 class Plan:
     """An accepted job: its arrival, and its table of rows 0 to arrival.
 
-    `for row in plan` walks the rows, `plan[tick]` is one, `len(plan)` their count.
+    `for row in plan` walks the rows, `plan[tick]` is one, `len(plan)` their count. Where the plan is `backwards`, its cells begin with
+    the row of the arrival; what is asked by tick stays by tick.
     """
 
-    __slots__ = ("_arrival", "_mask", "_cells")
+    __slots__ = ("_arrival", "_mask", "_cells", "_backwards")
 
-    def __init__(self, arrival: int, mask: int, cells: "array.array[int]") -> None:
+    def __init__(self, arrival: int, mask: int, cells: "array.array[int]", backwards: bool = False) -> None:
         self._arrival = arrival
         self._mask = mask
         self._cells = cells
+        self._backwards = backwards
+
+    @property
+    def backwards(self) -> bool:
+        """Whether the row of the arrival stands first in `cells` and `table`, and row 0 last."""
+        return self._backwards
 
     @property
     def arrival(self) -> int:
@@ -441,7 +461,8 @@ class Plan:
     def _column(self, axis: int, quantity: int) -> memoryview:
         if axis not in self.axes:
             raise KeyError(axis)
-        return self.cells[3 * self.axes.index(axis) + quantity :: 3 * len(self.axes)]
+        column = self.cells[3 * self.axes.index(axis) + quantity :: 3 * len(self.axes)]
+        return column[::-1] if self._backwards else column
 
     def __len__(self) -> int:
         return self._arrival + 1
@@ -449,7 +470,8 @@ class Plan:
     def __getitem__(self, tick: int) -> Row:
         tick = range(len(self))[operator.index(tick)]
         width = 3 * len(self.axes)
-        cells = self._cells[width * tick : width * (tick + 1)]
+        place = self._arrival - tick if self._backwards else tick
+        cells = self._cells[width * place : width * (place + 1)]
         return Row(tick, {axis: Motion(*cells[3 * rank : 3 * rank + 3]) for rank, axis in enumerate(self.axes)})
 
     def __iter__(self) -> Iterator[Row]:
@@ -458,7 +480,7 @@ class Plan:
     def __eq__(self, other: object) -> bool:
         if not isinstance(other, Plan):
             return NotImplemented
-        return (self._mask, self._cells) == (other._mask, other._cells)
+        return (self._mask, self._cells, self._backwards) == (other._mask, other._cells, other._backwards)
 
     __hash__ = None  # type: ignore[assignment]
 
@@ -675,6 +697,8 @@ _CALLS = {
     "polgamir_raises_job": (_Raises, [_Job]),
     "polgamir_raises_words": (_Raises, [_LIST, ctypes.c_size_t]),
     "polgamir_convert": (_Answer, [_LIST, ctypes.c_size_t, _LIST, ctypes.c_size_t]),
+    "polgamir_plan_words_backwards": (_Answer, [_LIST, ctypes.c_size_t, _CELLS, ctypes.c_size_t]),
+    "polgamir_plan_job_backwards": (_Answer, [_Job, _CELLS, ctypes.c_size_t]),
     "polgamir_plan_tour": (_TourAnswer, [_Tour, ctypes.POINTER(_Stop), ctypes.c_size_t, _LIST, ctypes.c_size_t]),
     "polgamir_search_job": (_SearchAnswer, [_Job, ctypes.c_uint32, ctypes.c_uint32]),
     "polgamir_search_words": (_SearchAnswer, [_LIST, ctypes.c_size_t, ctypes.c_uint32, ctypes.c_uint32]),
@@ -724,13 +748,13 @@ def version() -> int:
     return _library().polgamir_version()
 
 
-def _planned(room: int, call) -> Plan:
+def _planned(room: int, call, backwards: bool = False) -> Plan:
     """The plan of a call with lent cells, of which those that it wrote are kept."""
     cells = array.array("q", bytes(8 * room))
     answer = call((ctypes.c_int64 * room).from_buffer(cells), room)
     if answer.number != Number.ACCEPTED:
         raise _refusal_of(answer)
-    return Plan(answer.arrival, answer.mask, cells[: _cells_needed(answer.mask, answer.arrival)])
+    return Plan(answer.arrival, answer.mask, cells[: _cells_needed(answer.mask, answer.arrival)], backwards)
 
 
 def _raises_of(raises: _Raises) -> Raises:

@@ -1,6 +1,6 @@
 /*
  * Plans a job of two axes and walks the rows of its table, then shows a refusal and what to raise, an arrival in a window, one on a pole
- * with a joint, the same calls from job words, and a tour of two stops.
+ * with a joint, the same calls from job words, rows from arrival backwards, and a tour of two stops.
  *
  *     make -C examples/c run
  */
@@ -109,6 +109,14 @@ int main(void)
 
     /* Its table needs 15 cells. */
     show(polgamir_plan_words(words, word_count, table, 14), table);
+
+    /* The same rows from arrival backwards, as a display takes them that draws the approach to the target first: positions. */
+    answer = polgamir_plan_words_backwards(words, word_count, table, CELLS);
+    printf("backwards:");
+    for (uint32_t place = 0; place <= answer.arrival; place++) {
+        printf(" %" PRId64, table[3 * place]);
+    }
+    printf("\n");
 
     /* Axis 0 on its pole over two stops, from 0 to 6, where it stays for 5 ticks, and to -2: arrivals count from the tour's start. */
     polgamir_tour tour = {.mask = 1u << 0};

@@ -52,6 +52,11 @@ static void raises(void)
     answer = polgamir_raises_job(job).answer;
 }
 
+static void plan_backwards(void)
+{
+    answer = polgamir_plan_job_backwards(job, table, POLGAMIR_MOST_CELLS);
+}
+
 static void plan_tour(void)
 {
     polgamir_tour_answer toured = polgamir_plan_tour(tour, stops, POLGAMIR_MOST_STOPS, arrivals, POLGAMIR_MOST_STOPS);
@@ -107,12 +112,18 @@ static double on_paint(const char *what, void (*call)(void), uint32_t number)
     return took;
 }
 
+/* The same of a call for a table. */
+static void measure_call(const char *what, void (*call)(void), uint32_t number)
+{
+    double took = on_paint(what, call, number);
+    double *longest = job.asked == 0 ? &longest_search : &longest_asked;
+    *longest = took > *longest ? took : *longest;
+}
+
 /* The same for the job, or for the words where there are some. */
 static void measure(const char *what, uint32_t number)
 {
-    double took = on_paint(what, word_count != 0 ? plan_words : plan_job, number);
-    double *longest = job.asked == 0 ? &longest_search : &longest_asked;
-    *longest = took > *longest ? took : *longest;
+    measure_call(what, word_count != 0 ? plan_words : plan_job, number);
 }
 
 /* An axis from rest at 0 to rest at a position. */
@@ -193,6 +204,7 @@ static size_t run(void)
     both("a late arrival", 0, to(2950000, 1000, 1, 40), 0);
     both("the largest table", 4096, to(70, 1048576, 1, 256), 0);
     both("the largest table on poles with a joint", 4096, jointed(to(70, 1048576, 1, 256), 256), 0);
+    measure_call("the largest table backwards", plan_backwards, 0);
     both("an arrival too soon", 9, to(2950000, 1000, 1, 40), 8);
     both("an asked arrival out of reach", 4096, to(134217000, 32768, 1, 0), 8);
     both("a bad limit", 0, to(56, 0, 1, 4), 4);

@@ -339,6 +339,24 @@ static void converts(void)
     expect(is(polgamir_convert(NULL, 0, NULL, 0), 1, 0, 0), "no words to convert", 0);
 }
 
+/* From arrival backwards: the forward call's rows, the last one first, and the cells after them as they were. */
+static void rows_backwards(unsigned axis)
+{
+    static int64_t forwards[CELLS];
+    polgamir_job job = distinct(axis);
+    memset(table, 0x55, sizeof table);
+    expect(accepted(job), "forwards", axis);
+    memcpy(forwards, table, sizeof table);
+    memset(table, 0x55, sizeof table);
+    polgamir_answer answer = polgamir_plan_job_backwards(job, table, CELLS);
+    expect(is(answer, 0, 0, 1u << axis) && answer.arrival == 300, "the same answer backwards", axis);
+    for (size_t tick = 0; tick <= 300; tick++) {
+        expect(memcmp(table + 3 * (300 - tick), forwards + 3 * tick, 3 * sizeof *table) == 0, "a row backwards", axis);
+    }
+    expect(memcmp(table + 3 * 301, forwards + 3 * 301, sizeof table - 3 * 301 * sizeof *table) == 0, "no cell after row 0", axis);
+    expect(is(polgamir_plan_job_backwards(job, table, 3 * 301 - 1), 10, 0, 0), "a table that is too short backwards", axis);
+}
+
 /* A null pointer with count 0: no words, no cells, and neither. */
 static void takes_null(void)
 {
@@ -350,6 +368,9 @@ static void takes_null(void)
     };
     polgamir_answer answer = polgamir_plan_words(words, sizeof words / sizeof words[0], NULL, 0);
     expect(is(answer, 10, 0, 0) && answer.arrival == 4, "words and no cells", 0);
+    answer = polgamir_plan_words_backwards(words, sizeof words / sizeof words[0], NULL, 0);
+    expect(is(answer, 10, 0, 0) && answer.arrival == 4, "words and no cells backwards", 0);
+    expect(is(polgamir_plan_words_backwards(NULL, 0, NULL, 0), 1, 0, 0), "no words and no cells backwards", 0);
     for (unsigned axis = 0; axis < POLGAMIR_AXES; axis++) {
         answer = polgamir_plan_job(distinct(axis), NULL, 0);
         expect(is(answer, 10, 0, 0) && answer.arrival == 300, "a job and no cells", axis);
@@ -558,6 +579,7 @@ int main(void)
         searches(axis);
         reads_the_damping(axis);
         reads_the_second_sway(axis);
+        rows_backwards(axis);
     }
     takes_null();
     reads_long_positions();

@@ -10,6 +10,7 @@ import os
 import sys
 from typing import List, Optional
 
+import backwardcases
 import convertcases
 import raisecases
 import searchcases
@@ -96,9 +97,9 @@ def table_text(answer: Answer, cells: List[int]) -> str:
                 *('%d %d' % (i, cells[i]) for i in listed))
 
 
-def plan_line(case: Case) -> str:
-    answer, cells = outcome(case, [UNTOUCHED] * case.lent)
-    return '%s | %s | %s' % (case.name, text('plan', case.lent, job_text(case)), table_text(answer, cells))
+def plan_line(case: Case, call: str = 'plan', planned=outcome) -> str:
+    answer, cells = planned(case, [UNTOUCHED] * case.lent)
+    return '%s | %s | %s' % (case.name, text(call, case.lent, job_text(case)), table_text(answer, cells))
 
 
 def tour_line(case: TourCase) -> str:
@@ -153,11 +154,17 @@ def search_lines() -> List[str]:
     return [search_line(case) for case in searchcases.searches() + searchcases.drawn_searches()]
 
 
+def backward_lines() -> List[str]:
+    jobs = backwardcases.backward_cases().cases + backwardcases.drawn_backwards().cases
+    return [plan_line(case, 'backwards', backwardcases.turned) for case in jobs]
+
+
 FILES = {
     'sway.txt': ('Poles with a second sway (request 2.9).', sway_lines),
     'raises.txt': ('The smallest change that makes it (request 2.10).', raises_lines),
     'convert.txt': ('Flying fixed targets go (request 2.11).', convert_lines),
     'search.txt': ('Planning between servo turns (request 2.12).', search_lines),
+    'backwards.txt': ('Rows from arrival backwards (request 2.13).', backward_lines),
 }
 
 

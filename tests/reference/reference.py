@@ -3,7 +3,9 @@
 
 It is written from the papers alone and shares nothing with the Rattle code.
 Every section names the rule of paper 01, or the request of paper 02, that it
-follows. Damping as measured is in `damping.py`, a tour of stops in `tour.py`.
+follows. Beside it: damping as measured in `damping.py`, a tour of stops in
+`tour.py`, raises in `raises.py`, the converter in `converter.py`, the search in
+`search.py`, rows from arrival backwards in `backwards.py`.
 
     python3 reference.py < job       the table program: job words in, text out
     python3 reference.py --selftest  the paper's cases, and checks by definition
@@ -610,13 +612,13 @@ def check_cells(job: Job, arrival: int, lent: int) -> None:
 Outcome = Tuple[Answer, List[int]]
 
 
-def plan_job(job: Job, lent: List[int]) -> Outcome:
-    """A job that passed 1 and 2: its answer, and the lent cells as the call
+def plan_job(job: Job, lent: List[int], table=table_cells) -> Outcome:
+    """A job that passed 1, 2 and 14: its answer, and the lent cells as the call
     leaves them."""
     job = checked(job)
     arrival = arrival_of(job)
     check_cells(job, arrival, len(lent))
-    cells = table_cells(job, arrival)
+    cells = table(job, arrival)
     return Answer(0, mask=job.mask, arrival=arrival), cells + lent[len(cells):]
 
 

@@ -11,6 +11,8 @@ import random
 import sys
 from fractions import Fraction
 
+import backwardcases
+import backwards
 import convertcases
 import damping
 import dampingcases
@@ -20,7 +22,7 @@ import raises
 import reference as ref
 import swaycases
 import tourcases
-from builders import DEFAULT, UNSET, axis, mask_of, placed, random_axis, to
+from builders import DEFAULT, UNSET, axis, mask_of, outcome, placed, random_axis, to
 from cases import CHASING, F, F_TO_30
 from converter import convert, converted, converted_axis as met
 from reference import Answer
@@ -809,6 +811,40 @@ def searches_go_on(rng, count=40):
     same('in turns of one', continued([to(100)], 1, 1, None), (20, 20, 20))
 
 
+# --- Rows from arrival backwards (request 2.13) ----------------------------
+
+def backward_readings():
+    def turned(words, lent):
+        return backwards.backwards_words(words, [7] * lent)
+
+    rows = [[256, 0, 0], [214, 85, -85], [129, 85, 0], [43, 86, -1], [0, 0, 86]]
+    for lent in (15, 40):
+        answer, cells = turned(C_WORDS, lent)
+        same('C backwards', (answer, cells), (Answer(0, mask=1, arrival=4), sum(rows, []) + [7] * (lent - 15)))
+    refuses('J backwards', turned(C_WORDS, 14), 10, arrival=4)
+    refuses('I backwards', turned([], 14), 1)
+
+
+def rows_are_turned(rng, count=60):
+    """The same answer as forwards, and its rows in turned order; demand 3 by tick."""
+    cases = backwardcases.backward_cases().cases + backwardcases.drawn_backwards(rng.randrange(1000), count).cases
+    for case in cases:
+        lent = [7] * case.lent
+        answer, cells = backwardcases.turned(case, lent)
+        forward, ahead = outcome(case, lent)
+        same('the same answer', answer, forward)
+        written = 3 * bin(answer.mask).count('1') * (answer.arrival + 1) if answer.number == 0 else 0
+        same('cells after the last row', cells[written:], lent[written:])
+        if written:
+            width = written // (answer.arrival + 1)
+            rows = [cells[i:i + width] for i in range(0, written, width)]
+            same('turned', rows[::-1], [ahead[i:i + width] for i in range(0, written, width)])
+            if width == 3 and answer.arrival < 200:
+                one = ref.weighed(case.axes[answer.mask.bit_length() - 1]) if case.words is None else next(
+                    iter(ref.decode(case.words).axes.values()))
+                demand_3(rng, one, answer.arrival, rows[::-1])
+
+
 def main():
     rng = random.Random(1)
     field_cases()
@@ -839,8 +875,11 @@ def main():
     conversions_give_equal_tables(rng)
     search_readings()
     searches_go_on(rng)
+    backward_readings()
+    rows_are_turned(rng)
     print('reference: field cases, traps, settled readings, ranges, definitions, rounding, demand 3, tours, damping,',
-          'windows, accelerating targets on damped poles, positions past 28 bits, a second sway, raises, the converter, the search: ok')
+          'windows, accelerating targets on damped poles, positions past 28 bits, a second sway, raises, the converter,',
+          'the search, rows backwards: ok')
     return 0
 
 

@@ -4,6 +4,7 @@ use crate::damping::Damping;
 use crate::job::{Axis, Job, RestPoint, State, Target};
 use crate::raises::{AxisRaises, Limit, Raise, Raises};
 use crate::refusal::Answer;
+use crate::rows::Order;
 use crate::search::{Report, Searched};
 use crate::tour::{Stop, Tour, TourAxis};
 use crate::windows::{Window, Windows, MOST_WINDOWS};
@@ -176,6 +177,15 @@ extern "C" {
 
     fn polgamir_convert(words: *const u32, word_count: usize, lent: *mut u32, lent_count: usize) -> CAnswer;
 
+    fn polgamir_plan_words_backwards(
+        words: *const u32,
+        word_count: usize,
+        table: *mut i64,
+        table_cells: usize,
+    ) -> CAnswer;
+
+    fn polgamir_plan_job_backwards(job: CJob, table: *mut i64, table_cells: usize) -> CAnswer;
+
     fn polgamir_plan_tour(
         tour: CTour,
         stops: *const Stop,
@@ -313,20 +323,28 @@ impl From<&Tour> for CTour {
     }
 }
 
-/// Plans a job from its words.
-pub(crate) fn plan_words(words: &[u32], table: &mut [i64]) -> Answer {
+/// Plans a job from its words, with the rows in an order.
+pub(crate) fn plan_words(words: &[u32], order: Order, table: &mut [i64]) -> Answer {
+    let call = match order {
+        Order::Forwards => polgamir_plan_words,
+        Order::Backwards => polgamir_plan_words_backwards,
+    };
     // SAFETY: both pointers come from slices with these lengths, so they are aligned and valid for the whole call, to
     // read for `words` and to write for `table`; the borrows keep them from overlapping. The library keeps neither
     // pointer after it returns, has no state, and does not unwind.
-    let answer = unsafe { polgamir_plan_words(words.as_ptr(), words.len(), table.as_mut_ptr(), table.len()) };
+    let answer = unsafe { call(words.as_ptr(), words.len(), table.as_mut_ptr(), table.len()) };
     answer.into()
 }
 
-/// Plans a job from typed values.
-pub(crate) fn plan_job(job: &Job, table: &mut [i64]) -> Answer {
+/// Plans a job from typed values, with the rows in an order.
+pub(crate) fn plan_job(job: &Job, order: Order, table: &mut [i64]) -> Answer {
+    let call = match order {
+        Order::Forwards => polgamir_plan_job,
+        Order::Backwards => polgamir_plan_job_backwards,
+    };
     // SAFETY: the job passes by value in the header's layout, and the table's pointer and length are those of one slice,
     // valid to write for the whole call. The library keeps no pointer after it returns, has no state, and does not unwind.
-    let answer = unsafe { polgamir_plan_job(job.into(), table.as_mut_ptr(), table.len()) };
+    let answer = unsafe { call(job.into(), table.as_mut_ptr(), table.len()) };
     answer.into()
 }
 

@@ -3,7 +3,7 @@
 use crate::job::Job;
 use crate::library;
 use crate::refusal::{Answer, AxisMask, Refusal};
-use crate::rows::{Row, Rows};
+use crate::rows::{Order, Row, Rows};
 use crate::{AXES, LATEST_ARRIVAL};
 
 /// The cells of a table with a number of axes and an arrival: 3 × axes × (arrival + 1), or the greatest `usize` where that is
@@ -25,8 +25,23 @@ pub const MOST_CELLS: usize = cells_needed(AXES as u32, LATEST_ARRIVAL);
 ///
 /// The first refusal in checking order, of those in [`Refusal`] except 2 and 14, which only words can get.
 pub fn plan<'t>(job: &Job, table: &'t mut [i64]) -> Result<Accepted<'t>, Refusal> {
-    let answer = library::plan_job(job, table);
-    Accepted::from_answer(answer, table)
+    plan_in(job, Order::Forwards, table)
+}
+
+/// Plans a job as [`plan()`] does, and writes its rows from the arrival backwards: the arrival's row first and row 0 last. Each
+/// row is the one that [`plan()`] writes for its tick.
+///
+/// # Errors
+///
+/// Those of [`plan()`].
+pub fn plan_backwards<'t>(job: &Job, table: &'t mut [i64]) -> Result<Accepted<'t>, Refusal> {
+    plan_in(job, Order::Backwards, table)
+}
+
+/// Plans a job with its rows in an order.
+fn plan_in<'t>(job: &Job, order: Order, table: &'t mut [i64]) -> Result<Accepted<'t>, Refusal> {
+    let answer = library::plan_job(job, order, table);
+    Accepted::from_answer(answer, order, table)
 }
 
 /// Plans the job that words hold, and writes its table to the lent cells, as [`plan()`] does.
@@ -35,8 +50,18 @@ pub fn plan<'t>(job: &Job, table: &'t mut [i64]) -> Result<Accepted<'t>, Refusal
 ///
 /// The first refusal in checking order, of those in [`Refusal`] except 12 and 13: words have a weight, and no windows.
 pub fn plan_words<'t>(words: &[u32], table: &'t mut [i64]) -> Result<Accepted<'t>, Refusal> {
-    let answer = library::plan_words(words, table);
-    Accepted::from_answer(answer, table)
+    let answer = library::plan_words(words, Order::Forwards, table);
+    Accepted::from_answer(answer, Order::Forwards, table)
+}
+
+/// Plans the job that words hold as [`plan_words`] does, and writes its rows from the arrival backwards.
+///
+/// # Errors
+///
+/// Those of [`plan_words`].
+pub fn plan_words_backwards<'t>(words: &[u32], table: &'t mut [i64]) -> Result<Accepted<'t>, Refusal> {
+    let answer = library::plan_words(words, Order::Backwards, table);
+    Accepted::from_answer(answer, Order::Backwards, table)
 }
 
 /// An accepted job: its arrival, and its table in the lent cells.
@@ -44,17 +69,18 @@ pub fn plan_words<'t>(words: &[u32], table: &'t mut [i64]) -> Result<Accepted<'t
 pub struct Accepted<'t> {
     arrival: u32,
     mask: AxisMask,
+    order: Order,
     cells: &'t [i64],
 }
 
 impl<'t> Accepted<'t> {
     /// The accepted job of an answer with number 0, or the refusal.
-    fn from_answer(answer: Answer, table: &'t mut [i64]) -> Result<Accepted<'t>, Refusal> {
+    fn from_answer(answer: Answer, order: Order, table: &'t mut [i64]) -> Result<Accepted<'t>, Refusal> {
         if answer.number != 0 {
             return Err(Refusal::from_answer(answer));
         }
         let cells = cells_needed(answer.mask.count_ones(), answer.arrival);
-        Ok(Accepted { arrival: answer.arrival, mask: AxisMask(answer.mask), cells: &table[..cells] })
+        Ok(Accepted { arrival: answer.arrival, mask: AxisMask(answer.mask), order, cells: &table[..cells] })
     }
 
     /// The tick at which every axis is on its target.
@@ -67,21 +93,27 @@ impl<'t> Accepted<'t> {
         self.mask
     }
 
-    /// The table: row after row, in each row the axes from the lowest up, for each its position, velocity and acceleration in
-    /// fine steps.
+    /// The order in which the rows stand in the table.
+    pub const fn order(&self) -> Order {
+        self.order
+    }
+
+    /// The table: row after row in its [`order`](Accepted::order), in each row the axes from the lowest up, for each its
+    /// position, velocity and acceleration in fine steps.
     pub const fn cells(&self) -> &'t [i64] {
         self.cells
     }
 
-    /// The row of a tick, or `None` past the arrival.
+    /// The row of a tick, in whichever order the rows stand, or `None` past the arrival.
     pub fn row(&self, tick: u32) -> Option<Row<'t>> {
         let mask = self.mask;
         let width = 3 * mask.0.count_ones() as usize;
-        let cells = self.cells.chunks_exact(width).nth(tick as usize)?;
+        let place = self.order.place(tick, self.arrival)?;
+        let cells = self.cells.chunks_exact(width).nth(place)?;
         Some(Row { tick, mask, cells })
     }
 
-    /// The rows of ticks 0 to arrival.
+    /// The rows of ticks 0 to arrival, by tick in whichever order they stand; `rows().rev()` goes from the arrival back.
     pub fn rows(&self) -> Rows<'t> {
         Rows::of(*self)
     }
@@ -107,18 +139,19 @@ impl<'t> IntoIterator for &Accepted<'t> {
     }
 }
 
-/// An accepted job with a table of its own: what [`Job::plan`] gives.
+/// An accepted job with a table of its own: what [`Job::plan`] and [`Job::plan_backwards`] give.
 #[derive(Debug, Clone, PartialEq, Eq)]
 pub struct Plan {
     arrival: u32,
     mask: AxisMask,
+    order: Order,
     cells: Vec<i64>,
 }
 
 impl Plan {
     /// The plan as one that borrows its table.
     pub fn accepted(&self) -> Accepted<'_> {
-        Accepted { arrival: self.arrival, mask: self.mask, cells: &self.cells }
+        Accepted { arrival: self.arrival, mask: self.mask, order: self.order, cells: &self.cells }
     }
 
     /// The tick at which every axis is on its target.
@@ -131,18 +164,23 @@ impl Plan {
         self.mask
     }
 
-    /// The table: row after row, in each row the axes from the lowest up, for each its position, velocity and acceleration in
-    /// fine steps.
+    /// The order in which the rows stand in the table.
+    pub const fn order(&self) -> Order {
+        self.order
+    }
+
+    /// The table: row after row in its [`order`](Plan::order), in each row the axes from the lowest up, for each its position,
+    /// velocity and acceleration in fine steps.
     pub fn cells(&self) -> &[i64] {
         &self.cells
     }
 
-    /// The row of a tick, or `None` past the arrival.
+    /// The row of a tick, in whichever order the rows stand, or `None` past the arrival.
     pub fn row(&self, tick: u32) -> Option<Row<'_>> {
         self.accepted().row(tick)
     }
 
-    /// The rows of ticks 0 to arrival.
+    /// The rows of ticks 0 to arrival, by tick in whichever order they stand; `rows().rev()` goes from the arrival back.
     pub fn rows(&self) -> Rows<'_> {
         self.accepted().rows()
     }
@@ -184,12 +222,26 @@ impl Job {
     ///
     /// As [`plan()`], except 10: the table is as long as it needs to be.
     pub fn plan(&self) -> Result<Plan, Refusal> {
+        self.plan_in(Order::Forwards)
+    }
+
+    /// Plans this job into a table of its own whose rows stand from the arrival backwards: what a display takes that draws the
+    /// approach to the target first. [`plan_backwards`] is the call for lent memory.
+    ///
+    /// # Errors
+    ///
+    /// As [`Job::plan`].
+    pub fn plan_backwards(&self) -> Result<Plan, Refusal> {
+        self.plan_in(Order::Backwards)
+    }
+
+    fn plan_in(&self, order: Order) -> Result<Plan, Refusal> {
         let mut cells = vec![0; self.enough_cells()];
-        let Accepted { arrival, mask, cells: written } = plan(self, &mut cells)?;
+        let Accepted { arrival, mask, cells: written, .. } = plan_in(self, order, &mut cells)?;
         let written = written.len();
         cells.truncate(written);
         cells.shrink_to_fit();
-        Ok(Plan { arrival, mask, cells })
+        Ok(Plan { arrival, mask, order, cells })
     }
 
     /// The arrival that this job's table would have; no table is written.

@@ -7,7 +7,27 @@ use crate::plan::Accepted;
 use crate::refusal::AxisMask;
 use crate::FINE_STEPS;
 
-/// The rows of a table by their ticks, to be walked from either end.
+/// The order in which the rows of a table stand.
+#[derive(Debug, Clone, Copy, PartialEq, Eq, Hash)]
+pub enum Order {
+    /// Row 0 first, the arrival's row last.
+    Forwards,
+    /// The arrival's row first, row 0 last.
+    Backwards,
+}
+
+impl Order {
+    /// The place of the row of a tick among rows 0 to arrival, or `None` past the arrival.
+    pub(crate) fn place(self, tick: u32, arrival: u32) -> Option<usize> {
+        let left = arrival.checked_sub(tick)?;
+        Some(match self {
+            Order::Forwards => tick,
+            Order::Backwards => left,
+        } as usize)
+    }
+}
+
+/// The rows of a table by their ticks, to be walked from either end, in whichever order they stand.
 #[derive(Debug, Clone)]
 pub struct Rows<'t> {
     table: Accepted<'t>,

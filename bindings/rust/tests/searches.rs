@@ -93,13 +93,7 @@ fn refusals_come_in_checking_order() {
 
 /// A job of any kind that is mostly accepted, every other time with some windows in the first few hundred ticks.
 fn drawn(random: &mut Random) -> Job {
-    let mut job = asking(random.plannable_job(), 0);
-    for axis in job.axes.iter_mut().flatten() {
-        // A fixed target that flies is refused.
-        if let Target::Fixed(point) = &mut axis.target {
-            point.velocity = 0;
-        }
-    }
+    let job = asking(random.plannable_job(), 0);
     if random.once_in(2) {
         return job;
     }

@@ -4,6 +4,7 @@ use mathlib.Core.List.{List}
 use lib.IntN.{ℤ}
 use Rattle.model.specs.declared.Answer.{Answer}
 use Rattle.model.specs.declared.Job.{Job}
+use Rattle.model.specs.declared.Order.{Order}
 use Rattle.model.specs.declared.RaisesAnswer.{RaisesAnswer}
 use Rattle.model.specs.Outcome.{Input, typed, inputJob}
 use Rattle.model.specs.Raises.{RaisesHold}
@@ -12,11 +13,11 @@ use Rattle.raises.specs.Promise.{RaisesPromise}
 use Rattle.capi.specs.declared.limit_raises.PolgamirRaises.{PolgamirRaises}
 use Rattle.capi.specs.Raises.{raisesInC, RaisesReturned}
 
-pub for-answer : {q : Input} {entry exit : List ℤ} {r s : Answer} → s ≡ r → Promise q entry r exit → Promise q entry s exit
-for-answer {q} {entry} {exit} same kept = subst (λ (a : Answer). Promise q entry a exit) (sym same) kept
+pub for-answer : {o : Order} {q : Input} {entry exit : List ℤ} {r s : Answer} → s ≡ r → Promise o q entry r exit → Promise o q entry s exit
+for-answer {o} {q} {entry} {exit} same kept = subst (λ (a : Answer). Promise o q entry a exit) (sym same) kept
 
-pub for-job : {entry exit : List ℤ} {r : Answer} {j k : Job} → j ≡ k → Promise (typed j) entry r exit → Promise (typed k) entry r exit
-for-job {entry} {exit} {r} same kept = subst (λ (t : Job). Promise (typed t) entry r exit) same kept
+pub for-job : {o : Order} {entry exit : List ℤ} {r : Answer} {j k : Job} → j ≡ k → Promise o (typed j) entry r exit → Promise o (typed k) entry r exit
+for-job {o} {entry} {exit} {r} same kept = subst (λ (t : Job). Promise o (typed t) entry r exit) same kept
 
 -- the same of raises
 pub in-c : {q : Input} {r : RaisesAnswer} {c : PolgamirRaises} → c ≡ raisesInC r → RaisesPromise q r → RaisesReturned q c

@@ -17,6 +17,7 @@ use model::Window;
 use model::Windows;
 ghost use mathlib.Core.Path.{_≡_};
 ghost use mathlib.Core.List.{map};
+ghost use Rattle.model.specs.declared.Order.the-variants.{Forwards, Backwards};
 ghost use Rattle.model.specs.Outcome as Input;
 ghost use Rattle.planner.specs.Promise.{Promise};
 ghost use Rattle.converter.specs.Promise.{Converts};
@@ -235,7 +236,7 @@ pub extern "C" fn polgamir_version() -> u32
 // names and 0 for those that it does not, and then no cell is written.
 #[no_mangle]
 pub extern "C" fn polgamir_plan_words(words: &[u32], table: &mut [i64]) -> PolgamirAnswer
-    ensures { λ r. ⌜ Promise (Input.words (now (words .entry))) (now (table .entry)) (answerOf r) (now (table .exit)) ⌝ }
+    ensures { λ r. ⌜ Promise Forwards (Input.words (now (words .entry))) (now (table .entry)) (answerOf r) (now (table .exit)) ⌝ }
 {
     returned(planner::plan_words(words, table))
 }
@@ -245,7 +246,7 @@ pub extern "C" fn polgamir_plan_words(words: &[u32], table: &mut [i64]) -> Polga
 // Gives back what the call for words gives; its refusals are 1, 3 to 6, 8 to 10, 12, 13, 15, 16 and 17.
 #[no_mangle]
 pub extern "C" fn polgamir_plan_job(job: PolgamirJob, table: &mut [i64]) -> PolgamirAnswer
-    ensures { λ r. ⌜ Promise (Input.typed (jobOf job)) (now (table .entry)) (answerOf r) (now (table .exit)) ⌝ }
+    ensures { λ r. ⌜ Promise Forwards (Input.typed (jobOf job)) (now (table .entry)) (answerOf r) (now (table .exit)) ⌝ }
 {
     let typed = job_of(job);
     returned(planner::plan_job(typed, table))
@@ -259,4 +260,23 @@ pub extern "C" fn polgamir_convert(words: &[u32], lent: &mut [u32]) -> PolgamirA
     ensures { λ r. ⌜ Converts (now (words .entry)) (now (lent .entry)) (answerOf r) (now (lent .exit)) ⌝ }
 {
     returned(converter::convert(words, lent))
+}
+
+// ---- the same calls with the rows backwards
+
+// The answer of `polgamir_plan_words`, and the same rows with the arrival's first and row 0 last.
+#[no_mangle]
+pub extern "C" fn polgamir_plan_words_backwards(words: &[u32], table: &mut [i64]) -> PolgamirAnswer
+    ensures { λ r. ⌜ Promise Backwards (Input.words (now (words .entry))) (now (table .entry)) (answerOf r) (now (table .exit)) ⌝ }
+{
+    returned(planner::plan_words_backwards(words, table))
+}
+
+// The answer of `polgamir_plan_job`, and the same rows with the arrival's first and row 0 last.
+#[no_mangle]
+pub extern "C" fn polgamir_plan_job_backwards(job: PolgamirJob, table: &mut [i64]) -> PolgamirAnswer
+    ensures { λ r. ⌜ Promise Backwards (Input.typed (jobOf job)) (now (table .entry)) (answerOf r) (now (table .exit)) ⌝ }
+{
+    let typed = job_of(job);
+    returned(planner::plan_job_backwards(typed, table))
 }

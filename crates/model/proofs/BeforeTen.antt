@@ -13,6 +13,7 @@ use lib.ListN.{length, length-map}
 use borrow.Author.Tests.{eqb-true}
 use Rattle.model.specs.declared.Answer.{Answer}
 use Rattle.model.specs.declared.Axis.{Axis}
+use Rattle.model.specs.declared.Order.the-variants.{Forwards}
 use Rattle.model.specs.Job.{Job, jobOf, maskWhere}
 use Rattle.model.specs.Windows as W
 use Rattle.model.specs.Motion.{reachable}
@@ -180,14 +181,14 @@ module _ (q : Input) (lent : List ℤ) where
 
   pub job-accepted : answerOf q .number ≡ 0
       → cellsNeeded (length (inputAxes q)) (answerOf q .arrival) ≤ length lent
-      → (o .number ≡ 0) × ((o .arrival ≡ answerOf q .arrival) × Demand3 (inputAxes q) (answerOf q .arrival) (o .cells))
+      → (o .number ≡ 0) × ((o .arrival ≡ answerOf q .arrival) × Demand3 Forwards (inputAxes q) (answerOf q .arrival) (o .cells))
   job-accepted z room =
       let n = answerOf q .arrival in
       let same = same-answer q lent in
       let m = inputJob q .mask in
       let arrives : o .arrival ≡ n = sym (same-arrival m o) ∙ ap (λ (a : Answer). a .arrival) same in
       let number = go arrives (zero-or-ten m o (ap (λ (a : Answer). a .number) same ∙ z)) in
-      (number, (arrives, subst (λ (k : ℕ). Demand3 (inputAxes q) k (o .cells)) arrives (demand3 q lent number)))
+      (number, (arrives, subst (λ (k : ℕ). Demand3 Forwards (inputAxes q) k (o .cells)) arrives (demand3 Forwards q lent number)))
     where
       go : o .arrival ≡ answerOf q .arrival → (o .number ≡ 10) ⊎ (o .number ≡ 0) → o .number ≡ 0
       go a (inr e) = e

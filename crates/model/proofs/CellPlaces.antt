@@ -10,7 +10,9 @@ use lib.Seq.{getD-append-add}
 use lib.IntN.{ℤ}
 use Rattle.whole.proofs.Elements.{none-some, at-below, map-at}
 use Rattle.model.specs.declared.Axis.{Axis}
-use Rattle.model.specs.Rows.{Track, track, cells, tabulate, concat, row, table}
+use Rattle.model.specs.declared.Order.{Order}
+use Rattle.model.specs.declared.Order.the-variants.{Forwards, Backwards}
+use Rattle.model.specs.Rows.{Track, track, cells, tabulate, concat, row, rowAt, table}
 
 -- ---- lists of blocks of one length
 
@@ -71,9 +73,20 @@ module _ {A : Type 0} (b : ℕ) (f : A → List ℤ) (even : (a : A) → length 
       next : b * suc i + r ≡ length (f x) + (b * i + r)
       next = omega (arith, mul-suc b i, even x)
 
+-- ---- the places of rows
+
+-- a row of ticks 0 to n stands among them, and at its place stands the row of its tick
+pub row-place : (o : Order) (n k : ℕ) → k ≤ n → rowAt o n k ≤ n
+row-place Forwards n k h = h
+row-place Backwards n k h = omega arith
+
+pub row-back : (o : Order) (n k : ℕ) → k ≤ n → rowAt o n (rowAt o n k) ≡ k
+row-back Forwards n k h = refl
+row-back Backwards n k h = omega arith
+
 -- ---- the table
 
-module _ (xs : List Axis) (n : ℕ) where
+module _ (o : Order) (xs : List Axis) (n : ℕ) where
   ts : List Track
   ts = map (track n) xs
 
@@ -81,18 +94,29 @@ module _ (xs : List Axis) (n : ℕ) where
   unfolding ts
   row-length k = blocks-length 3 (cells k) (λ t. refl) ts ∙ ap (λ (l : ℕ). 3 * l) (length-map xs (track n))
 
-  pub table-length : length (table xs n) ≡ 3 * length xs * suc n
-  unfolding ts
-  table-length = rows-length (3 * length xs) (row ts) row-length 0 (suc n)
+  rowFrom : ℕ → List ℤ
+  rowFrom j = row ts (rowAt o n j)
+
+  row-from-length : (j : ℕ) → length (rowFrom j) ≡ 3 * length xs
+  unfolding rowFrom
+  row-from-length j = row-length (rowAt o n j)
+
+  pub table-length : length (table o xs n) ≡ 3 * length xs * suc n
+  unfolding ts rowFrom
+  table-length = rows-length (3 * length xs) rowFrom row-from-length 0 (suc n)
 
   pub table-at : (i j k : ℕ) (x : Axis) (d : ℤ) → getElem? xs i ≡ some x → j < 3 → k ≤ n
-      → getD (table xs n) (3 * (length xs * k + i) + j) d ≡ getD (cells k (track n x)) j d
-  unfolding ts
+      → getD (table o xs n) (3 * (length xs * rowAt o n k + i) + j) d ≡ getD (cells k (track n x)) j d
+  unfolding ts rowFrom
   table-at i j k x d e hj hk =
-      ap (λ (z : ℕ). getD (table xs n) z d) place
-      ∙ rows-at (3 * length xs) (row ts) row-length 0 (suc n) k (3 * i + j) d (omega arith) (omega (arith, at-below xs i x e))
-      ∙ ap (λ (z : ℕ). getD (row ts z) (3 * i + j) d) (zero-add k)
+      ap (λ (z : ℕ). getD (table o xs n) z d) (place (rowAt o n k))
+      ∙ rows-at (3 * length xs) rowFrom row-from-length 0 (suc n) (rowAt o n k) (3 * i + j) d (within (row-place o n k hk)) (omega (arith, at-below xs i x e))
+      ∙ ap (λ (z : ℕ). getD (row ts (rowAt o n z)) (3 * i + j) d) (zero-add (rowAt o n k))
+      ∙ ap (λ (z : ℕ). getD (row ts z) (3 * i + j) d) (row-back o n k hk)
       ∙ blocks-at 3 (cells k) (λ t. refl) ts i j d (track n x) (map-at (track n) xs i x e) hj
     where
-      place : 3 * (length xs * k + i) + j ≡ 3 * length xs * k + (3 * i + j)
-      place = omega (arith, mul-assoc 3 (length xs) k)
+      place : (r : ℕ) → 3 * (length xs * r + i) + j ≡ 3 * length xs * r + (3 * i + j)
+      place r = omega (arith, mul-assoc 3 (length xs) r)
+
+      within : {r : ℕ} → r ≤ n → r < suc n
+      within h = omega arith

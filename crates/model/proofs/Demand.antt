@@ -1,4 +1,5 @@
--- Demand 3, the limits on cells and the exact start hold of every accepted call: `demand3`, `cell-limits`, `exact-start`.
+-- Demand 3, the limits on cells and the exact start hold of every accepted call, in either order of its rows: `demand3`, `cell-limits`,
+-- `exact-start`. Each row of a backward call is the forward call's row for that tick: `same-rows`.
 use Prim.Native.Nat.{ℕ, zero, suc, _+_, _*_, _≤_, _<_}
 use mathlib.Core.Path.{_≡_, refl, sym, ap, ap₂, _∙_, subst}
 use mathlib.Core.List.{List, [], _∷_, _++_, map}
@@ -9,17 +10,20 @@ use lib.ListN.{getD, length, drop, getElem?, length-append, List·getD-append}
 use lib.Seq.{getD-take}
 use lib.IntN.{ℤ, pos, natAbs, _+ℤ_, _-ℤ_, _*ℤ_}
 use Rattle.model.specs.declared.Axis.{Axis}
+use Rattle.model.specs.declared.Answer.{Answer}
+use Rattle.model.specs.declared.Order.{Order}
+use Rattle.model.specs.declared.Order.the-variants.{Forwards, Backwards}
 use Rattle.whole.specs.Integers.{nearest}
-use Rattle.model.specs.Rows.{track, cells, table}
+use Rattle.model.specs.Rows.{track, cells, rowAt, table}
 use Rattle.model.specs.Job.{Job, JobAxis, axesOf, jobOf}
 use Rattle.model.specs.Words.{Decoded}
 use Rattle.model.specs.Motion.{reachable}
 use Rattle.model.specs.Demand.{tableIn, cellAt, positionCell, velocityCell, accelerationCell, Lands, Carries, SwayCancelled}
-use Rattle.model.specs.Demand.{sway, Demand3, Demand3Holds, CellLimits, CellLimitsHold, ExactStart, ExactStartHolds}
-use Rattle.model.specs.Outcome.{Outcome, Input, call, jobRead, inputAxes, cellsNeeded}
+use Rattle.model.specs.Demand.{sway, Demand3, Demand3Holds, CellLimits, CellLimitsHold, ExactStart, ExactStartHolds, SameRows}
+use Rattle.model.specs.Outcome.{Outcome, Input, call, callIn, jobRead, inputAxes, cellsNeeded}
 use Rattle.whole.proofs.Tests.{T-true}
 use Rattle.whole.proofs.Elements.{at-below, element}
-use Rattle.model.proofs.CellPlaces.{table-length, table-at}
+use Rattle.model.proofs.CellPlaces.{row-place, table-length, table-at}
 use Rattle.model.specs.Refusals.{Ready, AllPassed}
 use Rattle.model.specs.Verdict.{Among, IsArrival, Verdict, CallVerdict, words1, words2, words14, wordsJob, typed1, typedJobs}
 use Rattle.model.specs.Verdict.{accepted, refused3, refused4, refused12, refused5, refused15, refused6, refused16, refused17}
@@ -33,21 +37,28 @@ use Rattle.model.proofs.TwoBlends.{both, bothDivisor, cell-both, positi
 use Rattle.model.proofs.Landing.{lands-position, lands-velocity, lands-acceleration}
 use Rattle.model.proofs.Carry.{carries-position, carries-velocity}
 use Rattle.model.proofs.SwayExact.{sway-same}
+use Rattle.model.proofs.Ordered.{same-answer, rows-turn}
 use Rattle.model.proofs.SwayCancelled.{cancelled-exact, cancelled-rounded}
 
-module _ (xs : List Axis) (n : ℕ) (lent rest : List ℤ) (is : lent ≡ table xs n ++ rest)
+module _ (o : Order) (xs : List Axis) (n : ℕ) (lent rest : List ℤ) (is : lent ≡ table o xs n ++ rest)
     (ready : (i : ℕ) (x : Axis) → getElem? xs i ≡ some x → Ready x n) where
-  -- a cell of the table
-  cell-is : (i j k : ℕ) (x : Axis) → getElem? xs i ≡ some x → j < 3 → k ≤ n → cellAt (tableIn xs n lent) i j k ≡ getD (cells k (track n x)) j (pos 0)
+  -- the place of cell j of axis i in the row at place r
+  abbrev placeOf : ℕ → ℕ → ℕ → ℕ
+  placeOf i j r = 3 * (length xs * r + i) + j
+
+  place-inside : (i j r : ℕ) (x : Axis) → getElem? xs i ≡ some x → j < 3 → r ≤ n → placeOf i j r < cellsNeeded (length xs) n
+  place-inside i j r x e hj h =
+      omega (arith, at-below xs i x e, N.mul-assoc 3 (length xs) (suc n), N.mul-suc (length xs) n, N.mul-le-mul-left (length xs) h)
+
+  -- a cell of the row of tick k
+  cell-is : (i j k : ℕ) (x : Axis) → getElem? xs i ≡ some x → j < 3 → k ≤ n → cellAt (tableIn o xs n lent) i j k ≡ getD (cells k (track n x)) j (pos 0)
   cell-is i j k x e hj hk =
-      getD-take (cellsNeeded (length xs) n) lent (3 * (length xs * k + i) + j) (pos 0) inside
-      ∙ ap (λ (l : List ℤ). getD l (3 * (length xs * k + i) + j) (pos 0)) is
-      ∙ List·getD-append (table xs n) rest (pos 0) (3 * (length xs * k + i) + j)
-      (subst (λ (m : ℕ). 3 * (length xs * k + i) + j < m) (sym (table-length xs n)) inside)
-      ∙ table-at xs n i j k x (pos 0) e hj hk
-    where
-      inside : 3 * (length xs * k + i) + j < cellsNeeded (length xs) n
-      inside = omega (arith, at-below xs i x e, N.mul-assoc 3 (length xs) (suc n), N.mul-suc (length xs) n, N.mul-le-mul-left (length xs) hk)
+      let at : ℕ = placeOf i j (rowAt o n k) in
+      let inside : at < cellsNeeded (length xs) n = place-inside i j (rowAt o n k) x e hj (row-place o n k hk) in
+      getD-take (cellsNeeded (length xs) n) lent at (pos 0) inside
+      ∙ ap (λ (l : List ℤ). getD l at (pos 0)) is
+      ∙ List·getD-append (table o xs n) rest (pos 0) at (subst (λ (m : ℕ). at < m) (sym (table-length o xs n)) inside)
+      ∙ table-at o xs n i j k x (pos 0) e hj hk
 
   module _ (i : ℕ) (x : Axis) (e : getElem? xs i ≡ some x) where
     g : Ready x n
@@ -63,28 +74,28 @@ module _ (xs : List Axis) (n : ℕ) (lent rest : List ℤ) (is : lent ≡ table 
     a : ℕ → ℤ
     a k = nearest (both (track n x) k (λ s. s .acceleration)) (bothDivisor x)
 
-    position-is : (k : ℕ) → k ≤ n → positionCell (tableIn xs n lent) i k ≡ p k
+    position-is : (k : ℕ) → k ≤ n → positionCell (tableIn o xs n lent) i k ≡ p k
     unfolding p
     position-is k h = cell-is i 0 k x e (omega arith) h ∙ position-both (track n x) k (λ s. s .position)
 
-    velocity-is : (k : ℕ) → k ≤ n → velocityCell (tableIn xs n lent) i k ≡ v k
+    velocity-is : (k : ℕ) → k ≤ n → velocityCell (tableIn o xs n lent) i k ≡ v k
     unfolding v
     velocity-is k h = cell-is i 1 k x e (omega arith) h ∙ cell-both (track n x) k (λ s. s .velocity)
 
-    acceleration-is : (k : ℕ) → k ≤ n → accelerationCell (tableIn xs n lent) i k ≡ a k
+    acceleration-is : (k : ℕ) → k ≤ n → accelerationCell (tableIn o xs n lent) i k ≡ a k
     unfolding a
     acceleration-is k h = cell-is i 2 k x e (omega arith) h ∙ cell-both (track n x) k (λ s. s .acceleration)
 
-    p-is : (k : ℕ) → k ≤ n → p k ≡ positionCell (tableIn xs n lent) i k
+    p-is : (k : ℕ) → k ≤ n → p k ≡ positionCell (tableIn o xs n lent) i k
     p-is k h = sym (position-is k h)
 
-    v-is : (k : ℕ) → k ≤ n → v k ≡ velocityCell (tableIn xs n lent) i k
+    v-is : (k : ℕ) → k ≤ n → v k ≡ velocityCell (tableIn o xs n lent) i k
     v-is k h = sym (velocity-is k h)
 
-    a-is : (k : ℕ) → k ≤ n → a k ≡ accelerationCell (tableIn xs n lent) i k
+    a-is : (k : ℕ) → k ≤ n → a k ≡ accelerationCell (tableIn o xs n lent) i k
     a-is k h = sym (acceleration-is k h)
 
-    lands : Lands x i n (tableIn xs n lent)
+    lands : Lands x i n (tableIn o xs n lent)
     unfolding p v a
     lands =
         record {
@@ -101,7 +112,7 @@ module _ (xs : List Axis) (n : ℕ) (lent rest : List ℤ) (is : lent ≡ table 
     unfolding v a
     miss-v k h = carries-velocity x n g k h
 
-    carries : (k : ℕ) → k < n → Carries i k (tableIn xs n lent)
+    carries : (k : ℕ) → k < n → Carries i k (tableIn o xs n lent)
     carries k h =
         record {
           position = subst (λ (z : ℤ). natAbs z ≤ 3)
@@ -115,20 +126,20 @@ module _ (xs : List Axis) (n : ℕ) (lent rest : List ℤ) (is : lent ≡ table 
               (miss-v k h);
         }
 
-    stills : SwayCancelled x i n (tableIn xs n lent)
+    stills : SwayCancelled x i n (tableIn o xs n lent)
     unfolding a
     stills =
         record {
           exact = λ m w h s. cancelled-exact x n g m w h s;
           rounded = λ m G w h s b.
-              subst (λ (z : ℤ). natAbs z ≤ n * G) (sway-same a (accelerationCell (tableIn xs n lent) i) w m n a-is)
+              subst (λ (z : ℤ). natAbs z ≤ n * G) (sway-same a (accelerationCell (tableIn o xs n lent) i) w m n a-is)
               (cancelled-rounded x n g m G w h s b);
         }
 
   whole : cellsNeeded (length xs) n ≤ length lent
-  whole = omega (arith, table-length xs n, ap length is ∙ length-append (table xs n) rest)
+  whole = omega (arith, table-length o xs n, ap length is ∙ length-append (table o xs n) rest)
 
-  pub demanded : Demand3 xs n lent
+  pub demanded : Demand3 o xs n lent
   demanded =
       record {
         whole = whole;
@@ -137,7 +148,7 @@ module _ (xs : List Axis) (n : ℕ) (lent rest : List ℤ) (is : lent ≡ table 
         sway = stills;
       }
 
-  limited : CellLimits xs n lent
+  limited : CellLimits o xs n lent
   unfolding v a
   limited =
       record {
@@ -147,7 +158,7 @@ module _ (xs : List Axis) (n : ℕ) (lent rest : List ℤ) (is : lent ≡ table 
             subst (λ (z : ℤ). natAbs z ≤ 256 * accelerationLimit x) (sym (acceleration-is i x e k h)) (L.acceleration-cell x n (ready i x e) k h);
       }
 
-  started : ExactStart xs n lent
+  started : ExactStart o xs n lent
   unfolding p v
   started =
       record {
@@ -173,9 +184,9 @@ all-ready j n p a i x q =
       reach = T-true (reachable (y .0 .axis) n) (reach-is (y .0 .axis) n g .0 (a .arrives .reached (y .0) (y .1 .0)));
     })
 
--- what holds of the table of every job that can be planned holds of every accepted call
+-- what holds of the forward table of every job that can be planned holds of every accepted forward call
 module _ (Claim : List Axis → ℕ → List ℤ → Type 0)
-    (holds : (xs : List Axis) (n : ℕ) (lent rest : List ℤ) → lent ≡ table xs n ++ rest
+    (holds : (xs : List Axis) (n : ℕ) (lent rest : List ℤ) → lent ≡ table Forwards xs n ++ rest
     → ((i : ℕ) (x : Axis) → getElem? xs i ≡ some x → Ready x n) → Claim xs n lent) where
   -- only an accepted job has number 0
   by-verdict : (j : Job) (lent : List ℤ) (o : Outcome) → Verdict j lent o → o .number ≡ 0 → Claim (axesOf j) (o .arrival) (o .cells)
@@ -204,8 +215,28 @@ module _ (Claim : List Axis → ℕ → List ℤ → Type 0)
   by-call q lent o (typed1 t a e) z = absurd (let n = e .number in omega arith)
   by-call q lent o (typedJobs t a b v) z = by-verdict (jobOf t) lent o v z
 
-  of-calls : (q : Input) (lent : List ℤ) → call q lent .number ≡ 0 → Claim (inputAxes q) (call q lent .arrival) (call q lent .cells)
-  of-calls q lent z = by-call q lent (call q lent) (call-verdict q lent) z
+  of-forward-calls : (q : Input) (lent : List ℤ) → call q lent .number ≡ 0 → Claim (inputAxes q) (call q lent .arrival) (call q lent .cells)
+  of-forward-calls q lent z = by-call q lent (call q lent) (call-verdict q lent) z
+
+-- an accepted call's axes can all be planned
+abbrev Planned : List Axis → ℕ → Type 0
+Planned xs n = (i : ℕ) (x : Axis) → getElem? xs i ≡ some x → Ready x n
+
+planned-axes : (q : Input) (lent : List ℤ) → call q lent .number ≡ 0 → Planned (inputAxes q) (call q lent .arrival)
+planned-axes = of-forward-calls (λ xs n cells. Planned xs n) (λ xs n lent rest is ready. ready)
+
+-- the same in either order
+module _ (Claim : Order → List Axis → ℕ → List ℤ → Type 0)
+    (holds : (o : Order) (xs : List Axis) (n : ℕ) (lent rest : List ℤ) → lent ≡ table o xs n ++ rest → Planned xs n → Claim o xs n lent) where
+  of-calls : (o : Order) (q : Input) (lent : List ℤ) → callIn o q lent .number ≡ 0
+      → Claim o (inputAxes q) (callIn o q lent .arrival) (callIn o q lent .cells)
+  of-calls Forwards q lent z = of-forward-calls (Claim Forwards) (holds Forwards) q lent z
+  of-calls Backwards q lent z =
+      let xs = inputAxes q in
+      let r = call q lent in
+      let zero : r .number ≡ 0 = sym (ap (λ (a : Answer). a .number) (same-answer xs lent r Backwards)) ∙ z in
+      subst (λ (s : Outcome). Claim Backwards xs (s .arrival) (s .cells)) (rows-turn xs lent r zero)
+      (holds Backwards xs (r .arrival) _ (drop (cellsNeeded (length xs) (r .arrival)) lent) refl (planned-axes q lent zero))
 
 pub demand3 : Demand3Holds
 demand3 = of-calls Demand3 demanded
@@ -215,3 +246,23 @@ cell-limits = of-calls CellLimits limited
 
 pub exact-start : ExactStartHolds
 exact-start = of-calls ExactStart started
+
+-- ---- each row is that of its tick, in either order
+
+abbrev CellsByTick : Order → List Axis → ℕ → List ℤ → Type 0
+CellsByTick o xs n lent =
+    (i j k : ℕ) (x : Axis) → getElem? xs i ≡ some x → j < 3 → k ≤ n → cellAt (tableIn o xs n lent) i j k ≡ getD (cells k (track n x)) j (pos 0)
+
+cells-by-tick : (o : Order) (q : Input) (lent : List ℤ) → callIn o q lent .number ≡ 0
+    → CellsByTick o (inputAxes q) (callIn o q lent .arrival) (callIn o q lent .cells)
+cells-by-tick = of-calls CellsByTick cell-is
+
+pub same-rows : SameRows
+same-rows q lent z i j k h hj hk =
+    let xs = inputAxes q in
+    let r = call q lent in
+    let answer = same-answer xs lent r Backwards in
+    let y : (x : Axis) × (getElem? xs i ≡ some x) = element xs i h in
+    let back = subst (λ (n : ℕ). CellsByTick Backwards xs n (callIn Backwards q lent .cells)) (ap (λ (a : Answer). a .arrival) answer)
+    (cells-by-tick Backwards q lent (ap (λ (a : Answer). a .number) answer ∙ z)) in
+    back i j k (y .0) (y .1) hj hk ∙ sym (cells-by-tick Forwards q lent z i j k (y .0) (y .1) hj hk)

@@ -12,10 +12,10 @@ use Rattle.model.specs.declared.Axis.{Axis}
 use Rattle.model.specs.declared.State.{State}
 use Rattle.model.specs.Quantities.{halfPeriod, secondWeight, swayDelay, secondHalfPeriod, asMoving, twicePositionAt, velocityAt, finestSteps, finer}
 use Rattle.model.specs.Motion.{Tick, landingTick}
-use Rattle.model.specs.Rows.{track, tickBack}
+use Rattle.model.specs.Rows.{track, tickBack, blend, divisor}
 use Rattle.model.specs.Refusals.{Passed, Ready}
 use Rattle.model.proofs.Grid.{Grid, twoSways, still, unblended, undamped, corrected, grid}
-use Rattle.model.proofs.TwoBlends.{both, bothDivisor, both-some}
+use Rattle.model.proofs.TwoBlends.{both, bothDivisor, both-some, blend-of-both}
 use Rattle.model.proofs.PassedAxis.{second-still}
 use Rattle.model.proofs.ReadyAxis as R
 use Rattle.model.proofs.BlendTicks.{tick-after}
@@ -168,14 +168,17 @@ module _ (x : Axis) (n : ℕ) (r : Ready x n) where
           ∙ blended-velocity F B (pos h) (pos s) (m .position) (m .velocity) (m .acceleration) (pos (landingTick x n)) (m .tick)
           ∙ ap (λ (z : ℤ). pos (bothDivisor x) *ℤ (pos 256 *ℤ velocityAt m z)) pos-N
 
+  exact-position : both (track n x) n (λ s. s .position) ≡ pos (2 * bothDivisor x) *ℤ (pos 128 *ℤ twicePositionAt m (pos n))
+  exact-position =
+      row-N (λ s. s .position)
+      ∙ blended-position F B (pos h) (pos s) (m .position) (m .velocity) (m .acceleration) (pos (landingTick x n)) (m .tick)
+      ∙ ap₂ (λ (k z : ℤ). pos (2 * bothDivisor x) *ℤ (pos 128 *ℤ twicePositionAt m k) +ℤ z) pos-N (no-leftover x n (r .passed))
+      ∙ +ℤ-idr (pos (2 * bothDivisor x) *ℤ (pos 128 *ℤ twicePositionAt m (pos n)))
+
+  pub exact-blend : blend (track n x) n (λ s. s .position) ≡ pos (2 * divisor x) *ℤ (pos 128 *ℤ twicePositionAt m (pos n))
+  exact-blend = blend-of-both (track n x) n (λ s. s .position) (pos 128 *ℤ twicePositionAt m (pos n)) exact-position
+
   pub lands-position : nearest (both (track n x) n (λ s. s .position)) (2 * bothDivisor x) ≡ pos 128 *ℤ twicePositionAt m (pos n)
   lands-position =
-      ap (λ (z : ℤ). nearest z (2 * bothDivisor x)) exact
+      ap (λ (z : ℤ). nearest z (2 * bothDivisor x)) exact-position
       ∙ nearest-whole (2 * bothDivisor x) (pos 128 *ℤ twicePositionAt m (pos n)) (omega (arith, both-some x))
-    where
-      exact : both (track n x) n (λ s. s .position) ≡ pos (2 * bothDivisor x) *ℤ (pos 128 *ℤ twicePositionAt m (pos n))
-      exact =
-          row-N (λ s. s .position)
-          ∙ blended-position F B (pos h) (pos s) (m .position) (m .velocity) (m .acceleration) (pos (landingTick x n)) (m .tick)
-          ∙ ap₂ (λ (k z : ℤ). pos (2 * bothDivisor x) *ℤ (pos 128 *ℤ twicePositionAt m k) +ℤ z) pos-N (no-leftover x n (r .passed))
-          ∙ +ℤ-idr (pos (2 * bothDivisor x) *ℤ (pos 128 *ℤ twicePositionAt m (pos n)))

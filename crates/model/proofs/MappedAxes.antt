@@ -11,6 +11,7 @@ use lib.Dec.{ltb}
 use lib.ListN.{length, drop}
 use Rattle.whole.specs.Integers.{nearest}
 use Rattle.model.specs.declared.Axis.{Axis}
+use Rattle.model.specs.declared.Order.the-variants.{Forwards}
 use Rattle.model.specs.Windows.{inWindows, refused13}
 use Rattle.model.specs.Motion.{Tick, reachable}
 use Rattle.model.specs.Rows.{track, blend, divisor, row, table, cells, concat, tabulate}
@@ -75,14 +76,14 @@ module _ (F : Axis → Axis) where
     row-mapped [] k = refl
     row-mapped (x ∷ l) k = ap₂ (λ (c r : List ℤ). c ++ r) (same k (x .axis)) (row-mapped l k)
 
-    table-mapped : (j : Job) → table (axesOf (mappedJob j)) n ≡ table (axesOf j) n
+    table-mapped : (j : Job) → table Forwards (axesOf (mappedJob j)) n ≡ table Forwards (axesOf j) n
     table-mapped j = ap (λ (f : ℕ → List ℤ). concat (tabulate f 0 (suc n))) (λ i k. row-mapped (j .axes) k i)
 
     axes-length : (l : List JobAxis) → length (map (λ x. x .axis) (mapped l)) ≡ length (map (λ x. x .axis) l)
     axes-length [] = refl
     axes-length (x ∷ l) = ap suc (axes-length l)
 
-    over-mapped : (j : Job) (lent : List ℤ) → tableOver (axesOf (mappedJob j)) n lent ≡ tableOver (axesOf j) n lent
+    over-mapped : (j : Job) (lent : List ℤ) → tableOver Forwards (axesOf (mappedJob j)) n lent ≡ tableOver Forwards (axesOf j) n lent
     over-mapped j lent = ap₂ (λ (t : List ℤ) (k : ℕ). t ++ drop (cellsNeeded k n) lent) (table-mapped j) (axes-length (j .axes))
 
     pub filled-mapped : (j : Job) (lent : List ℤ) → filled (mappedJob j) n lent ≡ filled j n lent

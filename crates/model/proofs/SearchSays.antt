@@ -12,6 +12,7 @@ use lib.ListN.{length, length-map, drop}
 use borrow.Author.Tests.{lt-ltb, le-ltb}
 use Rattle.whole.proofs.Tests.{T-true, true-T, lt-or-le, choice-yes, le-choice}
 use Rattle.model.specs.declared.SearchReport.{SearchReport}
+use Rattle.model.specs.declared.Order.the-variants.{Forwards}
 use Rattle.model.specs.Job.{Job, axesOf, maskWhere}
 use Rattle.model.specs.Motion.{reachable}
 use Rattle.model.specs.Refusals.{AllPassed}
@@ -81,8 +82,8 @@ module _ (j : Job) (p : Passing (asking 0 j)) where
       record {
         accepted = is;
         demand3 = λ lent room.
-            subst (λ (o : Outcome). Demand3 (axesOf j) n (o .cells)) (sym (is lent room))
-            (demanded (axesOf j) n (tableOver (axesOf j) n lent) (drop (cellsNeeded (length (axesOf j)) n) lent) refl
+            subst (λ (o : Outcome). Demand3 Forwards (axesOf j) n (o .cells)) (sym (is lent room))
+            (demanded Forwards (axesOf j) n (tableOver Forwards (axesOf j) n lent) (drop (cellsNeeded (length (axesOf j)) n) lent) refl
             (all-ready (asking n j) n (p .axes) (record { first = h; last = l; arrives = record { fits = a .fits; reached = a .reached }; asked = inl refl })));
       }
     where

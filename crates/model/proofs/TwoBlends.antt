@@ -6,6 +6,7 @@ use mathlib.Core.List.{[], _∷_}
 use native.Mathlib.Omega.{arith}
 use lib.IntN.{ℤ, pos, _+ℤ_, _*ℤ_}
 use Rattle.whole.specs.Integers.{nearest}
+use Rattle.whole.proofs.Differences.{whole, all₂}
 use Rattle.whole.proofs.Ring.{pol, same}
 use Rattle.whole.proofs.Rounding.{nearest-times}
 use Rattle.model.specs.declared.Axis.{Axis}
@@ -79,3 +80,23 @@ module _ (t : Track) (k : ℕ) (f : Tick → ℤ) where
     where
       doubled : (c d : ℕ) → c * (2 * d) ≡ 2 * (c * d)
       doubled c d = omega arith
+
+-- what both are exactly, the blend is
+pub blend-of-both : (t : Track) (k : ℕ) (f : Tick → ℤ) (w : ℤ)
+    → both t k f ≡ pos (2 * bothDivisor (t .axis)) *ℤ w → blend t k f ≡ pos (2 * divisor (t .axis)) *ℤ w
+blend-of-both t k f w e = go (t .axis .«second_sway») (blend t k f) (finer (t .axis)) (sym (both-is t k f) ∙ e)
+  where
+    halves : (z y : ℤ) → pos 2 *ℤ z ≡ pos 2 *ℤ y → z ≡ y
+    halves = all₂ _ (λ a b. simp whole (omega arith))
+
+    doubled : (d y : ℤ) → pos 2 *ℤ d *ℤ y ≡ pos 2 *ℤ (d *ℤ y)
+    doubled d y = same (d ∷ y ∷ []) (search pol depth 20 fits 9000) tt
+
+    once : (z : ℤ) → z ≡ pos 1 *ℤ z
+    once z = same (z ∷ []) (search pol depth 20 fits 9000) tt
+
+    go : (s : SecondSway) (z : ℤ) (g : ℕ) → pos (timesBy s) *ℤ z ≡ pos (2 * (512 * g)) *ℤ w → z ≡ pos (2 * (weightsBy s * g)) *ℤ w
+    go Absent z g e =
+        halves z (pos (2 * (256 * g)) *ℤ w)
+        (e ∙ ap (λ (d : ℕ). pos d *ℤ w) {x = 2 * (512 * g)} {y = 2 * (2 * (256 * g))} (omega arith) ∙ doubled (pos (2 * (256 * g))) w)
+    go (HalfPeriod d) z g e = once z ∙ e

@@ -10,6 +10,7 @@ use lib.Dec.{ltb, leb}
 use lib.IntN.{ℤ}
 use lib.ListN.{length}
 use Rattle.model.specs.declared.Axis.{Axis}
+use Rattle.model.specs.declared.Order.the-variants.{Forwards}
 use Rattle.model.specs.declared.Report.{Report}
 use Rattle.model.specs.declared.Report.the-variants.{Found, Spent, Nothing}
 use Rattle.model.specs.declared.SearchReport.{SearchReport}
@@ -152,7 +153,7 @@ pub data SearchSays (j : Job) (first budget : ℕ) : Report → ℕ → Type 0 w
 -- the job with tick n asked for is accepted with any table that has room, and its table meets demand 3
 pub record Planned (j : Job) (n : ℕ) : Type 0 where
   pub accepted : (lent : List ℤ) → cellsNeeded (length (axesOf j)) n ≤ length lent → jobOutcome (asking n j) lent ≡ accept j n lent
-  pub demand3 : (lent : List ℤ) → cellsNeeded (length (axesOf j)) n ≤ length lent → Demand3 (axesOf j) n (jobOutcome (asking n j) lent .cells)
+  pub demand3 : (lent : List ℤ) → cellsNeeded (length (axesOf j)) n ≤ length lent → Demand3 Forwards (axesOf j) n (jobOutcome (asking n j) lent .cells)
 
 -- ---- what each number says of a job whose mask and words passed
 

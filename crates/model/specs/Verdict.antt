@@ -10,6 +10,7 @@ use lib.IntN.{ℤ, pos, negsuc}
 use lib.ListN.{length, drop, getElem?}
 use Rattle.model.specs.declared.Axis.{Axis}
 use Rattle.model.specs.declared.Job as Typed
+use Rattle.model.specs.declared.Order.the-variants.{Forwards}
 use Rattle.model.specs.Motion.{Reachable}
 use Rattle.model.specs.Windows.{brought, FitsOne, WindowsWrong, WindowsRight}
 use Rattle.model.specs.Rows.{table}
@@ -34,7 +35,7 @@ pub record Accepts (o : Outcome) (j : Job) (n : ℕ) (lent : List ℤ) : Type 0 
   pub place : o .place ≡ 0
   pub mask : o .mask ≡ j .mask
   pub arrival : o .arrival ≡ n
-  pub cells : o .cells ≡ table (axesOf j) n ++ drop (cellsNeeded (length (axesOf j)) n) lent
+  pub cells : o .cells ≡ table Forwards (axesOf j) n ++ drop (cellsNeeded (length (axesOf j)) n) lent
 
 -- ---- axes of a list
 

@@ -55,6 +55,10 @@ gain x m =
     let b : ℤ = pos (secondWeight x) in
     pos 2 *ℤ (b *ℤ (h *ℤ h) *ℤ (b -ℤ pos 128) *ℤ m .acceleration)
 
+-- twice the target's position at arrival n
+abbrev pub destination : Axis → ℕ → ℤ
+destination x n = twicePositionAt (asMoving (x .target) n) (pos n)
+
 -- the landing for arrival n
 pub record LandingIs (x : Axis) (n : ℕ) (r : Landing) : Type 0 where
   pub position : Is (2 ^ 59) (r .position) (landingPosition x n)

@@ -1,8 +1,8 @@
--- The two calls: what they promise follows from the outcome of their stages.
+-- The calls: what they promise follows from the outcome of their stages.
 use Prim.Native.Nat.{ℕ, _<_}
 use Rattle.model.proofs.Demand.{demand3}
 use native.Mathlib.Omega.{arith}
-use mathlib.Core.Path.{_≡_, refl, sym, ap, subst, _∙_}
+use mathlib.Core.Path.{_≡_, refl, sym, ap, ap₂, subst, _∙_}
 use mathlib.Core.Bool.{Bool, true, false, _&&_, false≢true}
 use mathlib.Core.List.{List}
 use lib.IntN.{ℤ}
@@ -10,9 +10,10 @@ use lib.Dec.{ltb, leb}
 use borrow.Author.Tests.{leb-true}
 use Rattle.model.specs.declared.Job as Typed
 use Rattle.model.specs.declared.Answer.{Answer}
-use Rattle.model.specs.Job.{jobOf}
+use Rattle.model.specs.declared.Order.{Order}
+use Rattle.model.specs.Job.{Job, jobOf, axesOf}
 use Rattle.model.specs.Words.{goodMask, Decoded, noMask, badWord, badLong, job, decode}
-use Rattle.model.specs.Outcome.{Outcome, Input, refuse, jobOutcome, outcomeOfJob, outcomeOfWords, call, inputAxes}
+use Rattle.model.specs.Outcome.{Outcome, Input, refuse, jobOutcome, outcomeOfJob, outcomeOfWords, ordered, callIn, inputAxes, words, typed, jobRead}
 use Rattle.model.specs.Demand.{Demand3}
 use Rattle.words.specs.declared.DecodedJob.{DecodedJob}
 use Rattle.words.specs.Decoding.{decodedJob, Decodes}
@@ -20,12 +21,13 @@ use Rattle.planner.specs.Promise.{Promise}
 use Rattle.planner.specs.Stages.{Gives}
 
 -- demand 3 of the definitions, carried to what the call leaves
-pub promise : (q : Input) (entry : List ℤ) (r : Answer) (exit : List ℤ) → Gives (call q entry) r exit → Promise q entry r exit
-promise q entry r exit g =
-    let number = ap (λ (o : Outcome). o .number) (g .outcome) in
+pub promise : (o : Order) (q : Input) (entry : List ℤ) (r : Answer) (exit : List ℤ) → Gives (callIn o q entry) r exit → Promise o q entry r exit
+promise o q entry r exit g =
+    let number = ap (λ (s : Outcome). s .number) (g .outcome) in
     record {
       outcome = g .outcome;
-      demand3 = λ z. subst (λ (o : Outcome). Demand3 (inputAxes q) (o .arrival) (o .cells)) (sym (g .outcome)) (demand3 q entry (sym number ∙ z));
+      demand3 = λ z.
+          subst (λ (s : Outcome). Demand3 o (inputAxes q) (s .arrival) (s .cells)) (sym (g .outcome)) (demand3 o q entry (sym number ∙ z));
       fitted = g .fitted;
     }
 
@@ -78,6 +80,11 @@ module _ (ws : List ℕ) (lent : List ℤ) (d : DecodedJob) (is : Decodes ws d) 
   unfolding by-words
   words-passed z = sym (mask-passed (d .job) lent (is .allowed z)) ∙ sym (ap by-words (is .typed z))
 
+  -- the same with the rows in an order
+  pub words-passed-in : (o : Order) → d .number ≡ 0 → callIn o (typed (d .job)) lent ≡ callIn o (words ws) lent
+  words-passed-in o z =
+      ap₂ (λ (j : Job) (r : Outcome). ordered o (axesOf j) lent r) (sym (ap jobRead (is .typed z))) (words-passed z)
+
 -- a stage that ends in a call
-pub kept : (q : Input) (entry : List ℤ) (r : Answer) (exit : List ℤ) → Promise q entry r exit → Gives (call q entry) r exit
-kept q entry r exit p = record { outcome = p .outcome; fitted = p .fitted }
+pub kept : (o : Order) (q : Input) (entry : List ℤ) (r : Answer) (exit : List ℤ) → Promise o q entry r exit → Gives (callIn o q entry) r exit
+kept o q entry r exit p = record { outcome = p .outcome; fitted = p .fitted }

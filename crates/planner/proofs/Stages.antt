@@ -12,29 +12,23 @@ use lib.Dec.{eqb, lit<}
 use borrow.Author.Tests.{lt-ltb, le-ltb, eq-eqb, ne-eqb}
 use Rattle.model.specs.declared.Axis.{Axis}
 use Rattle.model.specs.declared.Answer.{Answer}
+use Rattle.model.specs.declared.Order.{Order}
+use Rattle.model.specs.declared.Order.the-variants.{Forwards, Backwards}
 use Rattle.model.specs.declared.Windows.{Windows}
 use Rattle.model.specs.Job.{Job, JobAxis, setBits, setAxes, axesOf, typedJob, jobWith, byHand, axesByHand}
 use Rattle.model.specs.Refusals.{lastTick, AllPassed}
-use Rattle.model.specs.Outcome.{accept, Outcome, outcomeOf, refuse, allReach, leastFrom, arrives, cellsNeeded, tableOver, filled, arrived, jobOutcome}
+use Rattle.model.specs.Outcome.{accept, Outcome, outcomeOf, refuse, allReach, leastFrom, arrives, cellsNeeded, tableOver, filled, arrived, jobOutcome, ordered}
 use Rattle.arrival.specs.declared.Arrival.{Arrival}
 use Rattle.arrival.specs.Arrivals.{leastOr, askedOr, arrivalFor}
 use Rattle.arrival.proofs.SetAxes.{six-axes-bits, six-bits}
+use Rattle.model.proofs.Ordered.{refusal-stays}
 use Rattle.model.proofs.ByHand.{set-by-hand, passed-by-hand, reach-by-hand, filled-by-hand, arrived-by-hand}
 use Rattle.planner.specs.declared.Refusal.{Refusal}
 use Rattle.planner.specs.Promise.{Fitted}
-use Rattle.planner.specs.Stages.{checkedFor, Gives}
+use Rattle.planner.specs.Stages.{checkedFor, filledIn, Gives}
 use Rattle.planner.proofs.Checks.{afterChecks, checks-are}
 
 -- ---- where a stage ends a call
-
--- a refusal: the answer is its number, and the table is as it was
-pub refused : (r : Answer) (k p m a : ℕ) (lent : List ℤ) (o : Outcome)
-    → r ≡ record { number = k; place = p; mask = m; arrival = a } → (k ≡ 0 → ⊥) → refuse k p m a lent ≡ o → Gives o r lent
-refused r k p m a lent o e h f =
-    record {
-      outcome = ap (λ (s : Answer). outcomeOf s lent) e ∙ f;
-      fitted = λ z. absurd (h (sym (ap (λ (s : Answer). s .number) e) ∙ z));
-    }
 
 -- the stage's own answer, where it is a refusal
 pub ended : (r : Answer) (lent : List ℤ) (o : Outcome) → (r .number ≡ 0 → ⊥) → outcomeOf r lent ≡ o → Gives o r lent
@@ -42,6 +36,22 @@ ended r lent o h e = record { outcome = e; fitted = λ z. absurd (h z) }
 
 pub onward : (o o' : Outcome) (r : Answer) (exit : List ℤ) → o ≡ o' → Gives o r exit → Gives o' r exit
 onward o o' r exit e g = subst (λ (q : Outcome). Gives q r exit) e g
+
+-- the same with the rows in an order w
+pub ended-in : (w : Order) (xs : List Axis) (r : Answer) (lent : List ℤ) (o : Outcome)
+    → (r .number ≡ 0 → ⊥) → outcomeOf r lent ≡ o → Gives (ordered w xs lent o) r lent
+ended-in w xs r lent o h e =
+    ended r lent _ h (refusal-stays xs lent (outcomeOf r lent) w h ∙ ap (λ (q : Outcome). ordered w xs lent q) e)
+
+-- a refusal by its numbers
+pub refused-in : (w : Order) (xs : List Axis) (r : Answer) (k p m a : ℕ) (lent : List ℤ) (o : Outcome)
+    → r ≡ record { number = k; place = p; mask = m; arrival = a } → (k ≡ 0 → ⊥) → refuse k p m a lent ≡ o → Gives (ordered w xs lent o) r lent
+refused-in w xs r k p m a lent o e h f =
+    ended-in w xs r lent o (λ z. h (sym (ap (λ (s : Answer). s .number) e) ∙ z)) (ap (λ (s : Answer). outcomeOf s lent) e ∙ f)
+
+pub onward-in : (w : Order) (xs : List Axis) (lent : List ℤ) (o o' : Outcome) (r : Answer) (exit : List ℤ) → o ≡ o'
+    → Gives (ordered w xs lent o) r exit → Gives (ordered w xs lent o') r exit
+onward-in w xs lent o o' r exit e g = onward _ _ r exit (ap (λ (q : Outcome). ordered w xs lent q) e) g
 
 -- ---- after the checks
 
@@ -137,15 +147,22 @@ module _ (m n : ℕ) (six : List Axis) (long : length six ≡ 6) (k : ℕ) (is :
     pub room : k ≤ length lent → cellsNeeded (length (setAxes 0 m six)) n ≤ length lent
     room h = subst (λ (v : ℕ). v ≤ length lent) needed h
 
-    pub written : k ≤ length lent → (r : Answer) (exit : List ℤ) → r ≡ record { number = 0; place = 0; mask = m; arrival = n }
-        → exit ≡ tableOver (axesOf j) n lent → m < 64 → n ≤ lastTick → length exit ≡ length lent → Gives (filled j n lent) r exit
+    accepted : (o : Order) → outcomeOf (record { number = 0; place = 0; mask = m; arrival = n }) (tableOver o (axesOf j) n lent)
+        ≡ ordered o (axesOf j) lent (accept j n lent)
+    accepted Forwards = refl
+    accepted Backwards = refl
+
+    pub written : (o : Order) → k ≤ length lent → (r : Answer) (exit : List ℤ) → r ≡ record { number = 0; place = 0; mask = m; arrival = n }
+        → exit ≡ tableOver o (axesOf j) n lent → m < 64 → n ≤ lastTick → length exit ≡ length lent → Gives (filledIn o j n lent) r exit
     unfolding by-room
-    written h r exit e w g l q =
+    written o h r exit e w g l q =
         record {
           outcome =
               ap (λ (s : Answer). outcomeOf s exit) e
               ∙ ap (λ (c : List ℤ). record { number = 0; place = 0; mask = m; arrival = n; cells = c }) w
-              ∙ sym (ap by-room (le-ltb (length lent) (cellsNeeded (length (setAxes 0 m six)) n) (room h)));
+              ∙ accepted o
+              ∙ ap (λ (b : Bool). ordered o (axesOf j) lent (by-room b))
+              (sym (le-ltb (length lent) (cellsNeeded (length (setAxes 0 m six)) n) (room h)));
           fitted = λ z. subst (λ (s : Answer). Fitted s exit) (sym e)
               (record { mask = g; last = l; room = subst (λ (v : ℕ). v ≤ length exit) is (omega arith) });
         }

@@ -1,5 +1,5 @@
--- What the two calls for a table promise, `plan_words` and `plan_job`. Neither asks anything of its caller: any words, any job of typed
--- values and any lent table will do.
+-- What the calls for a table promise: `plan_words` and `plan_job` with the rows forwards, `plan_words_backwards` and `plan_job_backwards` with
+-- the rows backwards. None asks anything of its caller: any words, any job of typed values and any lent table will do.
 use Prim.Native.Nat.{_<_, _≤_}
 use mathlib.Core.Path.{_≡_}
 use mathlib.Core.List.{List}
@@ -7,9 +7,10 @@ use lib.IntN.{ℤ}
 use lib.ListN.{length}
 use Rattle.model.specs.declared.Answer.{Answer}
 use Rattle.model.specs.declared.Job.{Job}
+use Rattle.model.specs.declared.Order.{Order}
 use Rattle.model.specs.Job.{setBits}
 use Rattle.model.specs.Refusals.{lastTick}
-use Rattle.model.specs.Outcome.{Input, typed, outcomeOf, call, inputAxes, cellsNeeded, answerOf}
+use Rattle.model.specs.Outcome.{Input, typed, outcomeOf, callIn, inputAxes, cellsNeeded, answerOf}
 use Rattle.model.specs.Demand.{Demand3}
 
 -- the rows are in the lent table: a caller may walk them by the mask and the arrival of the answer
@@ -19,13 +20,13 @@ pub record Fitted (r : Answer) (exit : List ℤ) : Type 0 where
   -- three cells for each one in the mask and each tick from 0 to the arrival
   pub room : cellsNeeded (length (setBits (r .mask))) (r .arrival) ≤ length exit
 
--- q is what the call was given, entry and exit are the lent table before and after it, r is the answer
-pub record Promise (q : Input) (entry : List ℤ) (r : Answer) (exit : List ℤ) : Type 0 where
+-- o is the order of the rows, q is what the call was given, entry and exit are the lent table before and after it, r is the answer
+pub record Promise (o : Order) (q : Input) (entry : List ℤ) (r : Answer) (exit : List ℤ) : Type 0 where
   -- the number, the place, the mask, the arrival and every cell of the lent table, refused or not, are those of the definitions: an accepted
   -- job's rows stand in front and the cells after them are as they were; a refused job leaves every cell as it was
-  pub outcome : outcomeOf r exit ≡ call q entry
+  pub outcome : outcomeOf r exit ≡ callIn o q entry
   -- an accepted job meets demand 3: all its axes land on their targets, its rows carry on to one another, and the sway is cancelled
-  pub demand3 : r .number ≡ 0 → Demand3 (inputAxes q) (r .arrival) exit
+  pub demand3 : r .number ≡ 0 → Demand3 o (inputAxes q) (r .arrival) exit
   pub fitted : r .number ≡ 0 → Fitted r exit
 
 -- what `answer_of` promises: the answer to a job of typed values before refusal 10

@@ -8,17 +8,25 @@ use lib.IntN.{ℤ}
 use lib.Dec.{eqb, leb}
 use Rattle.model.specs.declared.Axis.{Axis}
 use Rattle.model.specs.declared.Answer.{Answer}
+use Rattle.model.specs.declared.Order.{Order}
 use Rattle.model.specs.declared.Windows.{Windows}
 use Rattle.model.specs.Windows.{refused13}
-use Rattle.model.specs.Job.{Job, JobAxis}
+use Rattle.model.specs.Job.{Job, JobAxis, axesOf}
 use Rattle.model.specs.Refusals.{AllPassed, lastTick}
-use Rattle.model.specs.Outcome.{Outcome, outcomeOf, firstAxis, axisRefusals, allReach, filled, jobOutcome}
+use Rattle.model.specs.Outcome.{Outcome, outcomeOf, firstAxis, axisRefusals, allReach, filled, jobOutcome, ordered}
 use Rattle.model.specs.Converter.{oldRefusals}
 use Rattle.motion.specs.Motions.{refusalTest}
 use Rattle.planner.specs.declared.Refusal.{Refusal}
 use Rattle.planner.specs.declared.FirstAxis.{FirstAxis}
 use Rattle.planner.specs.declared.FirstAxis.the-variants.{At, Nowhere}
 use Rattle.planner.specs.Promise.{Fitted}
+
+-- the outcome of a job, and of one whose arrival is known, with the rows in an order
+abbrev pub jobIn : Order → Job → List ℤ → Outcome
+jobIn o j lent = ordered o (axesOf j) lent (jobOutcome j lent)
+
+abbrev pub filledIn : Order → Job → ℕ → List ℤ → Outcome
+filledIn o j n lent = ordered o (axesOf j) lent (filled j n lent)
 
 -- a stage that ends a call: the answer and the lent table are an outcome of the definitions
 pub record Gives (o : Outcome) (r : Answer) (exit : List ℤ) : Type 0 where

@@ -1,16 +1,17 @@
--- The cells of a plan's rows, as far as they are written: rows before row k, and in row k the axes before axis i.
+-- The cells of a plan's rows, as far as they are written: in the table the first k rows of an order, and in a row the axes before axis i.
 use mathlib.Core.Path.{_≡_, refl, sym, ap, _∙_}
 use Rattle.model.proofs.CellPlaces.{blocks-length}
 use Rattle.model.proofs.CellPlaces as Places
+use Rattle.model.proofs.Reversed.{tabulate-more}
 use mathlib.Core.List.{List, [], _∷_, _++_, map, append-assoc, append-nil, map-append}
-use Prim.Native.Nat.{ℕ, zero, suc, _+_, _*_, _<_, _≤_}
+use Prim.Native.Nat.{ℕ, suc, _+_, _*_, _<_, _≤_}
 use native.Mathlib.Omega.{arith}
-use native.Mathlib.Nat as N
 use native.Mathlib.Numerals.{add-one}
 use lib.IntN.{ℤ}
 use lib.ListN.{length, getD, take}
 use lib.Seq.{take-suc, take-length, length-take-le}
-use Rattle.model.specs.Rows.{concat, tabulate}
+use Rattle.model.specs.declared.Order.{Order}
+use Rattle.model.specs.Rows.{concat, tabulate, rowAt}
 use Rattle.rows.specs.declared.AxisPlan.{AxisPlan}
 use Rattle.rows.specs.Plans.{unsetPlan}
 use Rattle.rows.specs.Tracks.{axisCells}
@@ -19,12 +20,6 @@ use Rattle.rows.specs.Table.{planRow}
 concat-append : (l m : List (List ℤ)) → concat (l ++ m) ≡ concat l ++ concat m
 concat-append [] m = refl
 concat-append (x ∷ l) m = ap (λ (r : List ℤ). x ++ r) (concat-append l m) ∙ sym (append-assoc x (concat l) (concat m))
-
-tabulate-more : (f : ℕ → List ℤ) (k n : ℕ) → tabulate f k (suc n) ≡ tabulate f k n ++ (f (k + n) ∷ [])
-tabulate-more f k zero = ap (λ (j : ℕ). f j ∷ []) (sym (N.add-zero k))
-tabulate-more f k (suc n) =
-    let e : suc k + n ≡ k + suc n = omega arith in
-    ap (λ (l : List (List ℤ)). f k ∷ l) (tabulate-more f (suc k) n ∙ ap (λ (j : ℕ). tabulate f (suc k) n ++ (f j ∷ [])) e)
 
 -- the last of a list of lists
 concat-last : (l : List (List ℤ)) (m : List ℤ) → concat (l ++ (m ∷ [])) ≡ concat l ++ m
@@ -58,27 +53,32 @@ module _ (ps : List AxisPlan) (k : ℕ) where
 
 -- ---- in the table
 
-unfoldable pub rowsTo : List AxisPlan → ℕ → List ℤ
-rowsTo ps k = concat (tabulate (planRow ps) 0 k)
+-- the row at place j of the rows 0 to n, and the first k of them
+abbrev rowOf : Order → List AxisPlan → ℕ → ℕ → List ℤ
+rowOf o ps n j = planRow ps (rowAt o n j)
 
-module _ (ps : List AxisPlan) where
-  pub rows-none : rowsTo ps 0 ≡ []
+unfoldable pub rowsTo : Order → List AxisPlan → ℕ → ℕ → List ℤ
+rowsTo o ps n k = concat (tabulate (rowOf o ps n) 0 k)
+
+module _ (o : Order) (ps : List AxisPlan) (n : ℕ) where
+  pub rows-none : rowsTo o ps n 0 ≡ []
   unfolding rowsTo
   rows-none = refl
 
-  pub rows-more : (k : ℕ) → rowsTo ps k ++ planRow ps k ≡ rowsTo ps (k + 1)
+  pub rows-more : (k : ℕ) → rowsTo o ps n k ++ planRow ps (rowAt o n k) ≡ rowsTo o ps n (k + 1)
   unfolding rowsTo
   rows-more k =
-      sym (concat-last (tabulate (planRow ps) 0 k) (planRow ps k))
-      ∙ ap (λ (j : ℕ). concat (tabulate (planRow ps) 0 k ++ (planRow ps j ∷ []))) {x = k} {y = 0 + k} (omega arith)
-      ∙ ap concat (sym (tabulate-more (planRow ps) 0 k))
-      ∙ ap (λ (j : ℕ). concat (tabulate (planRow ps) 0 j)) (sym (add-one k))
+      sym (concat-last (tabulate (rowOf o ps n) 0 k) (rowOf o ps n k))
+      ∙ ap (λ (j : ℕ). concat (tabulate (rowOf o ps n) 0 k ++ (rowOf o ps n j ∷ []))) {x = k} {y = 0 + k} (omega arith)
+      ∙ ap concat (sym (tabulate-more (rowOf o ps n) 0 k))
+      ∙ ap (λ (j : ℕ). concat (tabulate (rowOf o ps n) 0 j)) (sym (add-one k))
 
-  pub rows-length : (k : ℕ) → length (rowsTo ps k) ≡ 3 * length ps * k
+  pub rows-length : (k : ℕ) → length (rowsTo o ps n k) ≡ 3 * length ps * k
   unfolding rowsTo
-  rows-length k = Places.rows-length (3 * length ps) (planRow ps) (λ j. blocks-length 3 (axisCells j) (λ p. refl) ps) 0 k
+  rows-length k =
+      Places.rows-length (3 * length ps) (rowOf o ps n) (λ j. blocks-length 3 (axisCells (rowAt o n j)) (λ p. refl) ps) 0 k
 
-  -- rows 0 to n
-  pub rows-all : (k n : ℕ) → k ≡ suc n → rowsTo ps k ≡ concat (tabulate (planRow ps) 0 (suc n))
+  -- all rows
+  pub rows-all : (k : ℕ) → k ≡ suc n → rowsTo o ps n k ≡ concat (tabulate (rowOf o ps n) 0 (suc n))
   unfolding rowsTo
-  rows-all k n e = ap (λ (j : ℕ). concat (tabulate (planRow ps) 0 j)) e
+  rows-all k e = ap (λ (j : ℕ). concat (tabulate (rowOf o ps n) 0 j)) e

@@ -7,13 +7,15 @@ use native.Mathlib.Omega.{arith}
 use native.Mathlib.Nat.{mul-le-mul-left, mul-suc, zero-add}
 use lib.IntN.{ℤ}
 use lib.ListN.{length, getD, take, drop, length-append, length-take}
+use Rattle.model.specs.declared.Order.{Order}
+use Rattle.model.specs.Rows.{rowAt}
 use Rattle.model.specs.Outcome.{cellsNeeded}
 use Rattle.rows.specs.declared.AxisPlan.{AxisPlan}
 use Rattle.rows.specs.declared.Plan.{Plan}
 use Rattle.rows.specs.declared.Track.{Track}
 use Rattle.rows.specs.declared.SetPlans.{SetPlans}
 use Rattle.rows.specs.Plans.{unsetPlan, plansOf, arrivalOf, PlanRanges, Each}
-use Rattle.rows.specs.Tracks.{trackAt, cellsOf, axisCells}
+use Rattle.rows.specs.Tracks.{trackAt, cellsOf, axisCells, Lands}
 use Rattle.rows.specs.Table.{planRow, rowsOver}
 use Rattle.rows.specs.Steps.{SetPlansIs}
 use Rattle.whole.specs.Lists.{over}
@@ -32,12 +34,13 @@ pub record Front (plan : Plan) (r : SetPlans) (t₀ : List ℤ) : Type 0 where
   pub here : r .count ≤ length (r .axes)
   pub ranged : Each PlanRanges (frontPlans r)
   pub arrive : Each (λ p. plan .arrival ≤ arrivalOf p) (frontPlans r)
+  pub land : Each (Lands (plan .arrival)) (frontPlans r)
   pub fits : 3 * length (frontPlans r) * suc (plan .arrival) ≤ length t₀
 
 module _ {plan : Plan} {r : SetPlans} {t₀ : List ℤ} where
   pub front : SetPlansIs (plansOf plan) r → Each PlanRanges (plansOf plan) → Each (λ p. plan .arrival ≤ arrivalOf p) (plansOf plan)
-      → cellsNeeded (length (plansOf plan)) (plan .arrival) ≤ length t₀ → Front plan r t₀
-  front s a b f =
+      → Each (Lands (plan .arrival)) (plansOf plan) → cellsNeeded (length (plansOf plan)) (plan .arrival) ≤ length t₀ → Front plan r t₀
+  front s a b g f =
       let long : length (frontPlans r) ≡ r .count = ap length (s .axes) ∙ sym (s .count) in
       record {
         plans = s .axes;
@@ -46,12 +49,14 @@ module _ {plan : Plan} {r : SetPlans} {t₀ : List ℤ} where
         here = omega (arith, length-take (r .count) (r .axes));
         ranged = subst (Each PlanRanges) (sym (s .axes)) a;
         arrive = subst (Each (λ p. plan .arrival ≤ arrivalOf p)) (sym (s .axes)) b;
+        land = subst (Each (Lands (plan .arrival))) (sym (s .axes)) g;
         fits = subst (λ (l : List AxisPlan). 3 * length l * suc (plan .arrival) ≤ length t₀) (sym (s .axes)) f;
       }
 
-  -- the cells of row k have their place in the table, and in them those of axis i
-  pub row-fits : Front plan r t₀ → (k : ℕ) → k ≤ plan .arrival → length (rowsTo (frontPlans r) k) + 3 * length (frontPlans r) ≤ length t₀
-  row-fits f k h = omega (arith, rows-length (frontPlans r) k, mul-suc row k, mul-le-mul-left row later, f .fits)
+  -- the cells of the row at place k have their place in the table, and in them those of axis i
+  pub row-fits : Front plan r t₀ → (o : Order) (k : ℕ) → k ≤ plan .arrival
+      → length (rowsTo o (frontPlans r) (plan .arrival) k) + 3 * length (frontPlans r) ≤ length t₀
+  row-fits f o k h = omega (arith, rows-length o (frontPlans r) (plan .arrival) k, mul-suc row k, mul-le-mul-left row later, f .fits)
     where
       row : ℕ
       row = 3 * length (frontPlans r)
@@ -59,8 +64,9 @@ module _ {plan : Plan} {r : SetPlans} {t₀ : List ℤ} where
       later : suc k ≤ suc (plan .arrival)
       later = omega arith
 
-  pub axis-fits : Front plan r t₀ → (k i : ℕ) → k ≤ plan .arrival → i < r .count → length (rowsTo (frontPlans r) k) + 3 * i + 3 ≤ length t₀
-  axis-fits f k i h l = omega (arith, row-fits f k h, f .long)
+  pub axis-fits : Front plan r t₀ → (o : Order) (k i : ℕ) → k ≤ plan .arrival → i < r .count
+      → length (rowsTo o (frontPlans r) (plan .arrival) k) + 3 * i + 3 ≤ length t₀
+  axis-fits f o k i h l = omega (arith, row-fits f o k h, f .long)
 
 -- ---- in row k, from the place at₁ of the list t₁ on
 module _ (ps : List AxisPlan) (k : ℕ) (t₁ : List ℤ) (at₁ : ℕ) where
@@ -82,38 +88,45 @@ module _ (ps : List AxisPlan) (k : ℕ) (t₁ : List ℤ) (at₁ : ℕ) where
       place = omega (arith, row-long ps k i (omega arith))
 
 -- ---- the rows, from the front of the list t₀ on
-module _ (ps : List AxisPlan) (t₀ : List ℤ) where
-  pub rows-start : t₀ ≡ over t₀ 0 (rowsTo ps 0)
-  rows-start = sym (ap (over t₀ 0) (rows-none ps) ∙ over-nil t₀ 0 (omega arith))
+module _ (o : Order) (ps : List AxisPlan) (n : ℕ) (t₀ : List ℤ) where
+  pub rows-start : t₀ ≡ over t₀ 0 (rowsTo o ps n 0)
+  rows-start = sym (ap (over t₀ 0) (rows-none o ps n) ∙ over-nil t₀ 0 (omega arith))
 
-  module _ (k i at₁ at : ℕ) (t₁ t : List ℤ) (all : i ≡ length ps) (p₁ : at₁ ≡ length (rowsTo ps k)) where
-    pub place-goes-on : at ≡ at₁ + 3 * i → at ≡ length (rowsTo ps (k + 1))
+  -- the row at place k, of tick l
+  module _ (k l i at₁ at : ℕ) (t₁ t : List ℤ) (tick : l ≡ rowAt o n k) (all : i ≡ length ps) (p₁ : at₁ ≡ length (rowsTo o ps n k)) where
+    more : rowsTo o ps n k ++ planRow ps l ≡ rowsTo o ps n (k + 1)
+    more = ap (λ (j : ℕ). rowsTo o ps n k ++ planRow ps j) tick ∙ rows-more o ps n k
+
+    pub place-goes-on : at ≡ at₁ + 3 * i → at ≡ length (rowsTo o ps n (k + 1))
     place-goes-on p =
         p
-        ∙ ap₂ _+_ p₁ (sym (row-long ps k i (omega arith)) ∙ ap length (row-all ps k i all))
-        ∙ sym (length-append (rowsTo ps k) (planRow ps k))
-        ∙ ap length (rows-more ps k)
+        ∙ ap₂ _+_ p₁ (sym (row-long ps l i (omega arith)) ∙ ap length (row-all ps l i all))
+        ∙ sym (length-append (rowsTo o ps n k) (planRow ps l))
+        ∙ ap length more
 
-    pub rows-go-on : length (rowsTo ps k) + 3 * length ps ≤ length t₀
-        → t₁ ≡ over t₀ 0 (rowsTo ps k) → t ≡ over t₁ at₁ (rowTo ps k i) → t ≡ over t₀ 0 (rowsTo ps (k + 1))
+    pub rows-go-on : length (rowsTo o ps n k) + 3 * length ps ≤ length t₀
+        → t₁ ≡ over t₀ 0 (rowsTo o ps n k) → t ≡ over t₁ at₁ (rowTo ps l i) → t ≡ over t₀ 0 (rowsTo o ps n (k + 1))
     rows-go-on h c w =
         w
-        ∙ (λ j. over (c j) ((p₁ ∙ sym (zero-add (length (rowsTo ps k)))) j) (row-all ps k i all j))
-        ∙ over-over t₀ 0 (rowsTo ps k) (planRow ps k)
-        (omega (arith, long, length-append (rowsTo ps k) (planRow ps k)))
-        ∙ ap (over t₀ 0) (rows-more ps k)
+        ∙ (λ j. over (c j) ((p₁ ∙ sym (zero-add (length (rowsTo o ps n k)))) j) (row-all ps l i all j))
+        ∙ over-over t₀ 0 (rowsTo o ps n k) (planRow ps l)
+        (omega (arith, long, length-append (rowsTo o ps n k) (planRow ps l)))
+        ∙ ap (over t₀ 0) more
       where
-        long : length (planRow ps k) ≡ 3 * i
-        long = ap length (sym (row-all ps k i all)) ∙ row-long ps k i (omega arith)
+        long : length (planRow ps l) ≡ 3 * i
+        long = ap length (sym (row-all ps l i all)) ∙ row-long ps l i (omega arith)
 
 -- all rows of a plan
-pub rows-end : (plan : Plan) (ps : List AxisPlan) (t₀ t : List ℤ) (k : ℕ) → ps ≡ plansOf plan → k ≡ suc (plan .arrival)
-    → t ≡ over t₀ 0 (rowsTo ps k) → t ≡ rowsOver plan t₀
-rows-end plan ps t₀ t k e q c =
+pub rows-end : (o : Order) (plan : Plan) (ps : List AxisPlan) (t₀ t : List ℤ) (k : ℕ) → ps ≡ plansOf plan → k ≡ suc (plan .arrival)
+    → t ≡ over t₀ 0 (rowsTo o ps (plan .arrival) k) → t ≡ rowsOver o plan t₀
+rows-end o plan ps t₀ t k e q c =
     c
-    ∙ ap (λ (l : List AxisPlan). over t₀ 0 (rowsTo l k)) e
-    ∙ over-front t₀ (rowsTo (plansOf plan) k)
-    ∙ ap₂ (λ (l : List ℤ) (m : ℕ). l ++ drop m t₀) (rows-all (plansOf plan) k (plan .arrival) q) long
+    ∙ ap (λ (l : List AxisPlan). over t₀ 0 (rowsTo o l n k)) e
+    ∙ over-front t₀ (rowsTo o (plansOf plan) n k)
+    ∙ ap₂ (λ (l : List ℤ) (m : ℕ). l ++ drop m t₀) (rows-all o (plansOf plan) n k q) long
   where
-    long : length (rowsTo (plansOf plan) k) ≡ cellsNeeded (length (plansOf plan)) (plan .arrival)
-    long = rows-length (plansOf plan) k ∙ ap (λ (j : ℕ). 3 * length (plansOf plan) * j) q
+    n : ℕ
+    n = plan .arrival
+
+    long : length (rowsTo o (plansOf plan) n k) ≡ cellsNeeded (length (plansOf plan)) n
+    long = rows-length o (plansOf plan) n k ∙ ap (λ (j : ℕ). 3 * length (plansOf plan) * j) q

@@ -11,7 +11,8 @@ use Rattle.profile.specs.Regions.{velocityIn}
 use Rattle.profile.proofs.ChosenRegions.{in-first}
 use Rattle.rows.specs.declared.AxisPlan.{AxisPlan}
 use Rattle.rows.specs.declared.Track.{Track}
-use Rattle.rows.specs.Tracks.{plannedAt, velocityBack, mix, blendedBack, added, blendedVelocity, weightOf, lagOf, blendedPosition, trackAt}
+use Rattle.rows.specs.Tracks.{plannedAt, velocityBack, mix, blendedBack, added, blendedVelocity, weightOf}
+use Rattle.rows.specs.Tracks.{lagOf, blendedPosition, trackAt, halfUnit, Lands}
 use Rattle.rows.proofs.Blend.{mix-same, added-same}
 
 module _ (p : AxisPlan) (k : ℕ) where
@@ -94,3 +95,19 @@ pub track-next : (p : AxisPlan) (k : ℕ) (q v : ℤ)
     → _≡_ {A = Track} (record { position = q; velocity = v }) (trackAt p (suc k))
 unfolding blendedPosition
 track-next p k q v e f = λ i. record { position = e i; velocity = f i }
+
+-- ---- one tick back, and at the arrival
+
+pub track-before : (p : AxisPlan) (k : ℕ) (q v : ℤ)
+    → q ≡ blendedPosition p (suc k) -ℤ blendedVelocity p (suc k) -ℤ blendedVelocity p k → v ≡ blendedVelocity p k
+    → _≡_ {A = Track} (record { position = q; velocity = v }) (trackAt p k)
+unfolding blendedPosition
+track-before p k q v e f =
+    λ i. record { position = (e ∙ undone (blendedPosition p k) (blendedVelocity p k) (blendedVelocity p (suc k))) i; velocity = f i }
+  where
+    undone : (q v w : ℤ) → q +ℤ v +ℤ w -ℤ w -ℤ v ≡ q
+    undone q v w = same (q ∷ v ∷ w ∷ []) (search pol depth 20 fits 9000) tt
+
+pub track-landed : (p : AxisPlan) (n : ℕ) (q v : ℤ) → Lands n p → q ≡ pos halfUnit *ℤ p .destination → v ≡ blendedVelocity p n
+    → _≡_ {A = Track} (record { position = q; velocity = v }) (trackAt p n)
+track-landed p n q v a e f = λ i. record { position = (e ∙ a .position) i; velocity = f i }

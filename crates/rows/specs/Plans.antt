@@ -11,6 +11,7 @@ use Rattle.model.specs.declared.SecondSway.the-variants.{Absent}
 use Rattle.model.specs.Quantities.{halfPeriod, secondWeight, swayDelay, finer}
 use Rattle.model.specs.Motion.{leg, startPosition, landingAcceleration, requiredSum}
 use Rattle.model.specs.Refusals.{lastTick}
+use Rattle.motion.specs.Motions.{destination}
 use Rattle.profile.specs.Regions.{chosenRegions, RegionsRanged}
 use Rattle.rows.specs.declared.AxisPlan.{AxisPlan}
 use Rattle.rows.specs.declared.Plan.{Plan}
@@ -25,6 +26,7 @@ abbrev pub planOf : ℕ → Axis → AxisPlan
 planOf n x =
     record {
       origin = startPosition x;
+      destination = destination x n;
       regions = chosenRegions (leg x n) (requiredSum x n);
       acceleration = landingAcceleration x n;
       «half_period» = halfPeriod x;
@@ -38,6 +40,7 @@ abbrev pub unsetPlan : AxisPlan
 unsetPlan =
     record {
       origin = pos 0;
+      destination = pos 0;
       regions =
           record { start = pos 0; rise = 0; up = pos 0; cruise = pos 0; raised = 0; end = pos 0; fall = 0; down = pos 0; ticks = 0 };
       acceleration = pos 0;

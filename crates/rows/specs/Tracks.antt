@@ -1,17 +1,21 @@
 -- One axis tick by tick, over its plan: the planned velocities, their blend, and the cells of a row (paper 01, rules 1, 2, 3 and 5, and "Blend
 -- and rows").
 use Prim.Native.Nat.{ℕ, zero, suc, _+_, _-_, _*_}
+use mathlib.Core.Path.{_≡_}
 use mathlib.Core.Bool.{true, false}
 use mathlib.Core.List.{List, [], _∷_}
 use lib.Dec.{ltb}
 use lib.IntN.{ℤ, pos, _+ℤ_, _-ℤ_, _*ℤ_}
 use Rattle.whole.specs.Integers.{nearest}
+use Rattle.model.specs.declared.Order.{Order}
+use Rattle.model.specs.declared.Order.the-variants.{Forwards, Backwards}
 use Rattle.model.specs.declared.SecondSway.{SecondSway}
 use Rattle.model.specs.declared.SecondSway.the-variants.{Absent, HalfPeriod}
 use Rattle.model.specs.Quantities.{swayDelay}
 use Rattle.profile.specs.Regions.{velocityIn}
 use Rattle.rows.specs.declared.AxisPlan.{AxisPlan}
 use Rattle.rows.specs.declared.Track.{Track}
+use Rattle.rows.specs.declared.RowTracks.{RowTracks}
 
 -- ---- the planned velocities
 
@@ -72,3 +76,30 @@ cellsOf t u = nearest (t .position) 131072 ∷ nearest (t .velocity) 65536 ∷ n
 
 abbrev pub axisCells : ℕ → AxisPlan → List ℤ
 axisCells k p = cellsOf (trackAt p k) (trackAt p (suc k))
+
+-- ---- a row, in an order: forwards the track at tick k comes to the row of tick k, and that one tick on goes on to the next row; backwards that one tick
+-- on comes, and that at tick k goes on
+
+abbrev pub comesAt : Order → ℕ → ℕ
+comesAt Forwards k = k
+comesAt Backwards k = suc k
+
+abbrev pub goesOnAt : Order → ℕ → ℕ
+goesOnAt Forwards k = suc k
+goesOnAt Backwards k = k
+
+abbrev pub rowTracks : Order → AxisPlan → ℕ → RowTracks
+rowTracks o p k = record { now = trackAt p k; next = trackAt p (suc k); onward = trackAt p (goesOnAt o k) }
+
+-- the tick of the track that comes to the row at place j, of rows 0 to n
+abbrev pub comesTo : Order → ℕ → ℕ → ℕ
+comesTo Forwards n j = j
+comesTo Backwards n j = suc n - j
+
+-- half a unit, in half 1/65,536 of a fine step
+abbrev pub halfUnit : ℕ
+halfUnit = 16777216
+
+-- the blended motion is on the destination at the arrival
+pub record Lands (n : ℕ) (p : AxisPlan) : Type 0 where
+  pub position : pos halfUnit *ℤ p .destination ≡ blendedPosition p n

@@ -8,6 +8,7 @@ use Rattle.model.specs.declared.Stop.{Stop}
 use Rattle.model.specs.declared.TourSettings.{TourSettings}
 use Rattle.model.specs.declared.TourAnswer.{TourAnswer}
 use Rattle.model.specs.Outcome.{Input, typed, call, inputAxes, cellsNeeded}
+use Rattle.model.specs.declared.Order.the-variants.{Forwards}
 use Rattle.model.specs.Demand.{Demand3}
 use Rattle.model.specs.Tour.{legJob, tourOutcome, tourOutcomeOf}
 use Rattle.tour.specs.Rows.{noStop}
@@ -32,7 +33,7 @@ pub record LegPlanned (t : TourSettings) (here : List ℤ) (n : ℕ) (stops : Li
   pub job : (lent : List ℤ) → cellsNeeded (length (inputAxes (legTo t here stops i))) ticks ≤ length lent
       → (call (legTo t here stops i) lent .number ≡ 0)
       × ((call (legTo t here stops i) lent .arrival ≡ ticks)
-      × Demand3 (inputAxes (legTo t here stops i)) ticks (call (legTo t here stops i) lent .cells))
+      × Demand3 Forwards (inputAxes (legTo t here stops i)) ticks (call (legTo t here stops i) lent .cells))
 
 -- entry and exit are the lent list before and after the call, r is the answer
 pub record TourPromise (t : TourSettings) (stops : List Stop) (entry : List ℕ) (r : TourAnswer) (exit : List ℕ) : Type 0 where

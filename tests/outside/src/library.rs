@@ -1,7 +1,8 @@
 //! The calls of the static library, as include/polgamir.h declares them.
 
 use crate::reference::{
-    Answer, Axis, Damping, Job, Raise, Raised, Report, Search, Searched, Stop, Target, Tour, Toured, Window, Windows,
+    Answer, Axis, Damping, Job, Order, Raise, Raised, Report, Search, Searched, Stop, Target, Tour, Toured, Window,
+    Windows,
 };
 
 /// `polgamir_answer`.
@@ -330,7 +331,12 @@ pub fn raises_of_words(words: &[u32]) -> Raised {
 
 /// The raises for typed values, with `fill` where nothing is looked at.
 pub fn raises(job: &Job, fill: u64) -> Raised {
-    raised(unsafe { polgamir_raises_job(CJob::of(job, fill)) })
+    raised(raises_c_job(CJob::of(job, fill)))
+}
+
+/// The same for a job that is already laid out, as the call returns it.
+pub fn raises_c_job(job: CJob) -> CRaises {
+    unsafe { polgamir_raises_job(job) }
 }
 
 extern "C" {
@@ -385,4 +391,29 @@ pub fn search_words(words: &[u32], first: u32, budget: u32) -> Search {
 /// Searches for typed values, with `fill` where nothing is looked at.
 pub fn search(job: &Job, fill: u64, first: u32, budget: u32) -> Search {
     searched(unsafe { polgamir_search_job(CJob::of(job, fill), first, budget) })
+}
+
+extern "C" {
+    fn polgamir_plan_words_backwards(words: *const u32, word_count: usize, table: *mut i64, cells: usize) -> CAnswer;
+    fn polgamir_plan_job_backwards(job: CJob, table: *mut i64, cells: usize) -> CAnswer;
+}
+
+/// Plans from job words, with rows in either order.
+pub fn plan_words_in(order: Order, words: &[u32], table: &mut [i64]) -> Answer {
+    match order {
+        Order::Forwards => plan_words(words, table),
+        Order::Backwards => answer(unsafe {
+            polgamir_plan_words_backwards(words.as_ptr(), words.len(), table.as_mut_ptr(), table.len())
+        }),
+    }
+}
+
+/// Plans from typed values, with rows in either order and with `fill` where nothing is looked at.
+pub fn plan_filled_in(order: Order, job: &Job, fill: u64, table: &mut [i64]) -> Answer {
+    match order {
+        Order::Forwards => plan_filled(job, fill, table),
+        Order::Backwards => {
+            answer(unsafe { polgamir_plan_job_backwards(CJob::of(job, fill), table.as_mut_ptr(), table.len()) })
+        }
+    }
 }

@@ -16,7 +16,7 @@ mod words;
 
 pub use converter::convert;
 pub use damping::Damping;
-pub use job::{Answer, Axis, Job, Target, LATEST, RAIL, UNSET};
+pub use job::{Answer, Axis, Job, Order, Target, LATEST, RAIL, UNSET};
 pub use planned::{Exact, Planned};
 pub use program::{printed, words_of};
 pub use raises::{raises_of_words, Raise, Raised};
@@ -24,4 +24,4 @@ pub use search::{search_words, Report, Search, Searched};
 pub use single::Single;
 pub use tour::{Stop, Tour, Toured, MOST_STOPS};
 pub use windows::{Window, Windows, MOST_WINDOWS};
-pub use words::{decode, fits_a_word, plan_words, word};
+pub use words::{decode, fits_a_word, plan_words, plan_words_in, word};

@@ -4,8 +4,8 @@ use std::str::{FromStr, SplitAsciiWhitespace};
 
 use crate::library;
 use crate::reference::{
-    self, Answer, Axis, Damping, Job, Raise, Raised, Report, Search, Searched, Single, Stop, Target, Tour, Toured,
-    Windows, UNSET,
+    self, Answer, Axis, Damping, Job, Order, Raise, Raised, Report, Search, Searched, Single, Stop, Target, Tour,
+    Toured, Windows, UNSET,
 };
 
 /// The tokens of a part of a line, one after the other.
@@ -215,13 +215,13 @@ pub enum Side {
 }
 
 impl Given {
-    /// The call for a table.
-    pub fn plan(&self, side: Side, table: &mut [i64]) -> Answer {
+    /// The call for a table, with its rows in either order.
+    pub fn plan(&self, side: Side, order: Order, table: &mut [i64]) -> Answer {
         match (self, side) {
-            (Given::Words(words), Side::Library) => library::plan_words(words, table),
-            (Given::Words(words), Side::Reference) => reference::plan_words(words, table),
-            (Given::Typed(job), Side::Library) => library::plan_typed(job, table),
-            (Given::Typed(job), Side::Reference) => job.plan(table),
+            (Given::Words(words), Side::Library) => library::plan_words_in(order, words, table),
+            (Given::Words(words), Side::Reference) => reference::plan_words_in(order, words, table),
+            (Given::Typed(job), Side::Library) => library::plan_filled_in(order, job, 0, table),
+            (Given::Typed(job), Side::Reference) => job.plan_in(order, table),
         }
     }
 

@@ -1,11 +1,11 @@
-//! The library and the reference agree on random jobs, valid and damaged, from words and from typed values: on the
-//! answer and on every lent cell, those past the table and those of a refused call among them. More than 200,000 calls
+//! The library and the reference agree on random jobs, valid and damaged, from words and from typed values, with rows in
+//! either order: on the answer and on every lent cell, those past the table and those of a refused call among them. More than 200,000 calls
 //! are compared.
 
 use outside::jobs::{self, Reach};
 use outside::library;
 use outside::random::Random;
-use outside::reference::{self, Answer, Job};
+use outside::reference::{self, Answer, Job, Order};
 
 /// What is compared for a job, and the memory that is lent.
 struct Comparison {
@@ -59,6 +59,11 @@ impl Comparison {
         true
     }
 
+    /// The order of the rows: forwards twice as often.
+    fn order(&mut self) -> Order {
+        self.random.pick(&[Order::Forwards, Order::Forwards, Order::Backwards])
+    }
+
     fn compare(&mut self, got: Answer, want: Answer, job: &dyn std::fmt::Debug) {
         assert_eq!(got, want, "{job:?}");
         if let Some(at) = (0..self.got.len()).find(|&i| self.got[i] != self.want[i]) {
@@ -72,10 +77,10 @@ impl Comparison {
             return;
         }
         self.lend(cells);
-        let fill = self.random.word();
-        let got = library::plan_filled(job, fill, &mut self.got);
-        let want = job.plan(&mut self.want);
-        self.compare(got, want, job);
+        let (fill, order) = (self.random.word(), self.order());
+        let got = library::plan_filled_in(order, job, fill, &mut self.got);
+        let want = job.plan_in(order, &mut self.want);
+        self.compare(got, want, &(order, job));
     }
 
     fn words(&mut self, words: &[u32], cells: usize) {
@@ -83,9 +88,10 @@ impl Comparison {
             return;
         }
         self.lend(cells);
-        let got = library::plan_words(words, &mut self.got);
-        let want = reference::plan_words(words, &mut self.want);
-        self.compare(got, want, &words);
+        let order = self.order();
+        let got = library::plan_words_in(order, words, &mut self.got);
+        let want = reference::plan_words_in(order, words, &mut self.want);
+        self.compare(got, want, &(order, words));
     }
 
     /// Prints how many calls gave each number, and asks that there were enough of them.

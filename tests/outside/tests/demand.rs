@@ -1,16 +1,17 @@
-//! Demand 3 of paper 01 on the tables that the library writes: the landing is exact, both misses are at most 3/2 fine
+//! Demand 3 of paper 01 on the tables that the library writes, whose rows are read by tick: the landing is exact, both misses are at most 3/2 fine
 //! steps on every row, and the sway of every kind of swing list, of either rate, is 0 before rounding and at most N times G
 //! as rounded. The start is exact and the limits on cells hold too.
 
 use outside::jobs::{self, Reach};
 use outside::library;
 use outside::random::Random;
-use outside::reference::{fits_a_word, Axis, Job, Planned};
+use outside::reference::{fits_a_word, Axis, Job, Order, Planned};
 use outside::swing;
 
-/// The cells of one axis of a table, a row each.
-fn rows_of(table: &[i64], axes: usize, rank: usize, arrival: usize) -> Vec<[i64; 3]> {
-    (0..=arrival).map(|k| table[3 * (axes * k + rank)..][..3].try_into().unwrap()).collect()
+/// The cells of one axis of a table, a row for each tick from 0 on.
+fn rows_of(table: &[i64], order: Order, axes: usize, rank: usize, arrival: usize) -> Vec<[i64; 3]> {
+    let row = |k: usize| table[3 * (axes * order.place(k, arrival) + rank)..][..3].try_into().unwrap();
+    (0..=arrival).map(row).collect()
 }
 
 fn start_is_exact(axis: &Axis, first: [i64; 3]) {
@@ -134,17 +135,18 @@ fn run(seed: u64, draw: fn(&mut Random) -> Job, count: usize, lists: usize) -> T
         if job.searches_past(100) {
             continue;
         }
+        let order = random.pick(&[Order::Forwards, Order::Backwards]);
         let answer = if random.once_in(2) {
-            library::plan_typed(&job, &mut table)
+            library::plan_filled_in(order, &job, 0, &mut table)
         } else {
-            library::plan_words(&jobs::words(&job), &mut table)
+            library::plan_words_in(order, &jobs::words(&job), &mut table)
         };
         if answer.number != 0 {
             continue;
         }
         let arrival = answer.arrival as usize;
         for (rank, (_, axis)) in job.by_hand().set().enumerate() {
-            let rows = rows_of(&table, job.count(), rank, arrival);
+            let rows = rows_of(&table, order, job.count(), rank, arrival);
             tried.axis(&mut random, axis, &rows, lists);
         }
     }

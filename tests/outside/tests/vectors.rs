@@ -2,7 +2,7 @@
 //! both give what they expect.
 
 use outside::library;
-use outside::reference::{self, Answer};
+use outside::reference::{self, Answer, Order};
 use outside::vectors::{sum, Side, Tokens};
 
 /// Says which case failed.
@@ -52,9 +52,9 @@ fn table(expected: &mut Tokens, cells: &[i64]) {
     }
 }
 
-fn plan(side: Side, call: &mut Tokens, expected: &mut Tokens) {
+fn plan(side: Side, order: Order, call: &mut Tokens, expected: &mut Tokens) {
     let mut cells = vec![CELL; call.number()];
-    let answer = call.given().plan(side, &mut cells);
+    let answer = call.given().plan(side, order, &mut cells);
     expected.answer(answer);
     table(expected, &cells);
 }
@@ -76,7 +76,7 @@ fn tour(side: Side, call: &mut Tokens, expected: &mut Tokens) {
 #[test]
 fn second_sways() {
     every_case("sway.txt", |side, call, expected| match call.word() {
-        "plan" => plan(side, call, expected),
+        "plan" => plan(side, Order::Forwards, call, expected),
         "tour" => tour(side, call, expected),
         other => panic!("{other} is no call"),
     });
@@ -123,5 +123,13 @@ fn searches() {
         let (first, budget) = (call.number(), call.number());
         let got = call.given().search(side, first, budget);
         expected.searched(got);
+    });
+}
+
+#[test]
+fn backwards() {
+    every_case("backwards.txt", |side, call, expected| {
+        call.is("backwards");
+        plan(side, Order::Backwards, call, expected);
     });
 }

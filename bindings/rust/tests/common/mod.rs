@@ -81,11 +81,7 @@ impl Random {
             acceleration: if accelerates { self.between(-1, 1) } else { 0 },
             tick: self.between(-30, 90),
         };
-        let target = match self.between(1, 3) {
-            1 => Target::still(state.position),
-            2 => Target::Fixed(RestPoint { position: state.position, velocity: state.velocity }),
-            _ => Target::Moving(state),
-        };
+        let target = if self.once_in(3) { Target::still(state.position) } else { Target::Moving(state) };
         Axis {
             start,
             speed_limit: speed_limit as u32,

@@ -1,5 +1,5 @@
 use borrow.Author.Needs.{needs}
-use Rattle.planner.proofs.Stages.{ended, onward}
+use Rattle.planner.proofs.Stages.{ended-in, onward-in}
 use Rattle.planner.proofs.plan_allowed.Statement.{statement}
 use Rattle.planner.proofs.plan_allowed.Tie as tie
 
@@ -11,7 +11,7 @@ returns c =
     let a = c .before .before .before .args in
     let s = c .before .before .answer-allowed in
     let refuses = c .if1 .taken in
-    ended (s .result) (a .table .now) _ refuses (s .ensures .refused refuses (a .table .now))
+    ended-in (a .order) _ (s .result) (a .table .now) _ refuses (s .ensures .refused refuses (a .table .now))
 
 write-table-requires : tie.Need-write-table-requires
 write-table-requires c κs =
@@ -28,7 +28,7 @@ returns-2 c =
     let s = c .before .before .before .before .before .answer-allowed in
     let w = c .before .write-table in
     let zero = c .before .before .before .if1 .left in
-    onward _ _ (w .result) (w .last .1 .1 .1 .0) (s .ensures .found zero (a .table .now)) (w .ensures)
+    onward-in (a .order) _ (a .table .now) _ _ (w .result) (w .last .1 .1 .1 .1 .0) (s .ensures .found zero (a .table .now)) (w .ensures)
 
 pub plan-allowed-spec : {M : Type 1} → statement M
 plan-allowed-spec =

@@ -1,6 +1,6 @@
 use native.Mathlib.Omega.{arith}
 use borrow.Author.Needs.{needs}
-use Rattle.planner.proofs.Stages.{refused, too-small, room, written}
+use Rattle.planner.proofs.Stages.{refused-in, too-small, room, written}
 use Rattle.planner.proofs.write_table.Statement.{statement}
 use Rattle.planner.proofs.write_table.Tie as tie
 
@@ -16,7 +16,7 @@ returns c =
     let k = c .before .before .cells-needed in
     let r = c .answer in
     let six = c .before .before .before .good .1 .0 .1 .0 .1 in
-    refused (r .result) 10 0 0 (a .tick) (a .table .now) _ (r .ensures) (λ z. omega arith)
+    refused-in (a .order) _ (r .result) 10 0 0 (a .tick) (a .table .now) _ (r .ensures) (λ z. omega arith)
     (too-small (a .mask) (a .tick) (a .axes) six (k .result) (k .ensures) (a .table .now) (c .before .if1 .taken))
 
 fill-table-requires : tie.Need-fill-table-requires
@@ -43,8 +43,8 @@ returns-2 c =
     let f = c .before .before .fill-table in
     let six = c .before .before .before .before .before .before .good .1 .0 .1 .0 .1 in
     let fits = c .before .before .before .before .if1 .left in
-    let exit = f .last .1 .1 .1 .0 in
-    written (a .mask) (a .tick) (a .axes) six (k .result) (k .ensures) (a .table .now) fits (r .result) exit
+    let exit = f .last .1 .1 .1 .1 .0 in
+    written (a .mask) (a .tick) (a .axes) six (k .result) (k .ensures) (a .table .now) (a .order) fits (r .result) exit
     (r .ensures) (f .ensures) (p .0) (p .1 .1 .0) (omega arith)
 
 pub write-table-spec : {M : Type 1} → statement M

@@ -2,7 +2,7 @@ use mathlib.Core.Path.{_∙_}
 use borrow.Author.Needs.{needs}
 use Rattle.model.specs.Job.{setAxes}
 use Rattle.rows.proofs.ReadyAxes.{AllReady, all-ready}
-use Rattle.rows.proofs.JobTable.{plan-ranged, plans-arrive, plan-arrives, plan-fits, plan-rows}
+use Rattle.rows.proofs.JobTable.{plan-ranged, plans-arrive, plans-land, plan-arrives, plan-fits, plan-rows}
 use Rattle.rows.proofs.fill_table.Statement.{statement}
 use Rattle.rows.proofs.fill_table.Tie as tie
 
@@ -21,8 +21,11 @@ fill-requires c κs =
       (
         plans-arrive (a .args .mask) (a .args .n) (a .args .axes) (ready a) (p .result) (p .ensures),
         (
-          plan-arrives (a .args .mask) (a .args .n) (a .args .axes) (ready a) (p .result) (p .ensures) (a .pre .1 .0),
-          plan-fits (a .args .mask) (a .args .n) (a .args .axes) (ready a) (p .result) (p .ensures) (a .args .table .now) (a .pre .1 .1 .1),
+          plans-land (a .args .mask) (a .args .n) (a .args .axes) (ready a) (p .result) (p .ensures),
+          (
+            plan-arrives (a .args .mask) (a .args .n) (a .args .axes) (ready a) (p .result) (p .ensures) (a .pre .1 .0),
+            plan-fits (a .args .mask) (a .args .n) (a .args .axes) (ready a) (p .result) (p .ensures) (a .args .table .now) (a .pre .1 .1 .1),
+          ),
         ),
       ),
     )
@@ -34,7 +37,7 @@ returns : tie.Need-returns
 returns c =
     let a = c .before .before .before .before in
     let p = c .before .before .before .plan-for in
-    c .before .fill .ensures ∙ plan-rows (a .args .mask) (a .args .n) (a .args .axes) (ready a) (p .result) (p .ensures) (a .args .table .now)
+    c .before .fill .ensures ∙ plan-rows (a .args .mask) (a .args .n) (a .args .axes) (ready a) (p .result) (p .ensures) (a .args .order) (a .args .table .now)
 
 pub fill-table-spec : {M : Type 1} → statement M
 fill-table-spec = tie.close (tie.spec plan-for-requires fill-requires same-length returns)

@@ -57,6 +57,25 @@ pub struct Job {
     pub windows: Option<Windows>,
 }
 
+/// In which order a call writes the rows of a table (request 2.13).
+#[derive(Clone, Copy, Debug, PartialEq, Eq)]
+pub enum Order {
+    /// Row 0 first.
+    Forwards,
+    /// Row N first.
+    Backwards,
+}
+
+impl Order {
+    /// The place of a row among those of a table, and the row at a place.
+    pub fn place(self, row: usize, arrival: usize) -> usize {
+        match self {
+            Order::Forwards => row,
+            Order::Backwards => arrival - row,
+        }
+    }
+}
+
 pub const LATEST: i64 = 4096;
 
 /// The positions of a long rail: -64 to 63 times 2^28, and what 28 bits add to it (request 2.8).

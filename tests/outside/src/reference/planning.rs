@@ -1,7 +1,7 @@
 //! The refusals from 3 on in checking order, the arrival, and the table of an accepted job.
 
 use super::job::refusal;
-use super::{Answer, Axis, Job, Planned, Target, LATEST, RAIL};
+use super::{Answer, Axis, Job, Order, Planned, Target, LATEST, RAIL};
 
 /// The numbers that look at one axis, in checking order.
 const OF_AN_AXIS: [u32; 7] = [4, 12, 5, 15, 6, 16, 17];
@@ -137,34 +137,39 @@ impl Job {
     }
 
     /// From refusal 3 on: the answer, with the cells of an accepted job written to the front of the table.
-    pub(super) fn plan_checked(&self, table: &mut [i64]) -> Answer {
+    pub(super) fn plan_checked(&self, order: Order, table: &mut [i64]) -> Answer {
         match self.arrival() {
-            Ok(arrival) => self.write(arrival, table),
+            Ok(arrival) => self.write(arrival, order, table),
             Err(refused) => refused,
         }
     }
 
     /// The answer of a job whose arrival is known: its cells, or refusal 10.
-    fn write(&self, arrival: i64, table: &mut [i64]) -> Answer {
+    fn write(&self, arrival: i64, order: Order, table: &mut [i64]) -> Answer {
         let axes = self.count();
         if table.len() < 3 * axes * (arrival as usize + 1) {
             return refusal(10, 0, 0, arrival as u32);
         }
         for (rank, (axis, planned)) in self.motions(arrival).iter().enumerate() {
             for tick in 0..=arrival {
-                let at = 3 * (axes * tick as usize + rank);
+                let at = 3 * (axes * order.place(tick as usize, arrival as usize) + rank);
                 table[at..at + 3].copy_from_slice(&planned.exact(axis, tick).cells());
             }
         }
         Answer { number: 0, place: 0, mask: self.mask, arrival: arrival as u32 }
     }
 
-    /// The call with typed values.
-    pub fn plan(&self, table: &mut [i64]) -> Answer {
+    /// The call with typed values, for rows in either order.
+    pub fn plan_in(&self, order: Order, table: &mut [i64]) -> Answer {
         if !(1..=63).contains(&self.mask) {
             return refusal(1, 0, 0, 0);
         }
-        self.plan_checked(table)
+        self.plan_checked(order, table)
+    }
+
+    /// The call with typed values.
+    pub fn plan(&self, table: &mut [i64]) -> Answer {
+        self.plan_in(Order::Forwards, table)
     }
     /// The call of a job that passes the mask's check, by the old rules.
     pub fn plan_by_old_rules(&self, table: &mut [i64]) -> Answer {
@@ -172,6 +177,6 @@ impl Job {
             Some(refused) => Err(refused),
             None => self.by_hand().reached_arrival(),
         };
-        arrival.map_or_else(|refused| refused, |arrival| self.write(arrival, table))
+        arrival.map_or_else(|refused| refused, |arrival| self.write(arrival, Order::Forwards, table))
     }
 }

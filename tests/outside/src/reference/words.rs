@@ -1,7 +1,7 @@
 //! Jobs as words: refusals 1, 2 and 14, and the call with job words.
 
 use super::job::refusal;
-use super::{Answer, Axis, Damping, Job, Target, UNSET};
+use super::{Answer, Axis, Damping, Job, Order, Target, UNSET};
 
 /// The word of a kind with a payload, of which 28 bits are kept.
 pub fn word(kind: u32, payload: i64) -> u32 {
@@ -125,12 +125,17 @@ pub fn decode(words: &[u32]) -> Result<Job, Answer> {
     }
 }
 
-/// The call with job words.
-pub fn plan_words(words: &[u32], table: &mut [i64]) -> Answer {
+/// The call with job words, for rows in either order.
+pub fn plan_words_in(order: Order, words: &[u32], table: &mut [i64]) -> Answer {
     match decode(words) {
-        Ok(job) => job.plan_checked(table),
+        Ok(job) => job.plan_checked(order, table),
         Err(refused) => refused,
     }
+}
+
+/// The call with job words.
+pub fn plan_words(words: &[u32], table: &mut [i64]) -> Answer {
+    plan_words_in(Order::Forwards, words, table)
 }
 
 #[cfg(test)]

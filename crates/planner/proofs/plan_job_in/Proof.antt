@@ -4,9 +4,9 @@ use borrow.Author.Tests.{not-true, not-false}
 use borrow.Author.Needs.{needs}
 use Rattle.model.specs.Outcome.{typed}
 use Rattle.planner.proofs.Calls.{promise, mask-refused, mask-passed, six-bits-mask}
-use Rattle.planner.proofs.Stages.{refused, onward}
-use Rattle.planner.proofs.plan_job.Statement.{statement}
-use Rattle.planner.proofs.plan_job.Tie as tie
+use Rattle.planner.proofs.Stages.{refused-in, onward-in}
+use Rattle.planner.proofs.plan_job_in.Statement.{statement}
+use Rattle.planner.proofs.plan_job_in.Tie as tie
 
 mask-allowed-requires : tie.Need-mask-allowed-requires
 mask-allowed-requires c κs = search needs
@@ -18,9 +18,11 @@ returns : tie.Need-returns
 returns c =
     let t = c .before .before .before .args .job in
     let lent = c .before .before .before .args .table .now in
+    let o = c .before .before .before .args .order in
     let r = c .answer in
     let bad = sym (c .before .before .mask-allowed .ensures) ∙ not-true _ (c .before .if1 .taken) in
-    promise (typed t) lent (r .result) lent (refused (r .result) 1 0 0 0 lent _ (r .ensures) (λ z. omega arith) (mask-refused t lent bad))
+    promise o (typed t) lent (r .result) lent
+    (refused-in o _ (r .result) 1 0 0 0 lent _ (r .ensures) (λ z. omega arith) (mask-refused t lent bad))
 
 plan-allowed-requires : tie.Need-plan-allowed-requires
 plan-allowed-requires c κs =
@@ -34,13 +36,14 @@ returns-2 : tie.Need-returns-2
 returns-2 c =
     let t = c .before .before .before .before .before .before .before .args .job in
     let lent = c .before .before .before .before .before .before .before .args .table .now in
+    let o = c .before .before .before .before .before .before .before .args .order in
     let w = c .before .plan-allowed in
     let good = sym (c .before .before .before .before .before .before .mask-allowed .ensures) ∙ not-false _ (c .before .before .before .before .before .if1 .left) in
-    let exit = w .last .1 .1 .1 .1 .0 in
-    promise (typed t) lent (w .result) exit (onward _ _ (w .result) exit (mask-passed t lent good) (w .ensures))
+    let exit = w .last .1 .1 .1 .1 .1 .0 in
+    promise o (typed t) lent (w .result) exit (onward-in o _ lent _ _ (w .result) exit (mask-passed t lent good) (w .ensures))
 
-pub plan-job-spec : {M : Type 1} → statement M
-plan-job-spec =
+pub plan-job-in-spec : {M : Type 1} → statement M
+plan-job-in-spec =
     tie.close
     (tie.spec
     mask-allowed-requires

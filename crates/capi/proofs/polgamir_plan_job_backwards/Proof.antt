@@ -1,0 +1,24 @@
+-- `polgamir_plan_job_backwards` keeps the planner's promise for the job that its struct stands for.
+use borrow.Author.Needs.{needs}
+use Rattle.capi.proofs.Passed.{for-answer, for-job}
+use Rattle.capi.proofs.polgamir_plan_job_backwards.Statement.{statement}
+use Rattle.capi.proofs.polgamir_plan_job_backwards.Tie as tie
+
+job-of-requires : tie.Need-job-of-requires
+job-of-requires c κs = search needs
+
+plan-job-backwards-requires : tie.Need-plan-job-backwards-requires
+plan-job-backwards-requires c κs = search needs
+
+returned-requires : tie.Need-returned-requires
+returned-requires c κs = search needs
+
+same-length : tie.Need-same-length
+same-length c = search needs
+
+returns : tie.Need-returns
+returns c = for-job (c .before .before .before .before .job-of .ensures) (for-answer (c .returned .ensures) (c .before .before .plan-job-backwards .ensures))
+
+pub polgamir-plan-job-backwards-spec : {M : Type 1} → statement M
+polgamir-plan-job-backwards-spec =
+    tie.close (tie.spec job-of-requires plan-job-backwards-requires returned-requires same-length returns)
