@@ -8,7 +8,7 @@ use lib.IntN.{ℤ, natAbs, _-ℤ_}
 use lib.Signed.{_≤ℤ_, leZ-yes}
 use Rattle.whole.specs.Integers.{sumTo}
 use Rattle.whole.proofs.Tests.{both, and}
-use Rattle.model.specs.Leg.{Leg, upper, cruise, IsCruise, required, twiceRequired, all, tests, feasible}
+use Rattle.model.specs.Leg.{Leg, upper, lower, cruise, IsCruise, required, twiceRequired, all, tests, feasible}
 use Rattle.model.proofs.Envelopes.{Joined}
 use Rattle.model.proofs.CruiseIsLargest.{cruise-is}
 
@@ -43,6 +43,10 @@ module _ (g : Leg) (δ : ℤ) (t : T (feasible g δ)) where
   pub feasible-below : required g δ ≤ℤ sumTo (upper g) (g .ticks - 1)
   feasible-below = leZ-yes (passed .1 .1 .1 .1 .1 .0)
 
-  -- and has a cruise
+  -- nor is it below the lower envelope's
+  pub feasible-above : sumTo (lower g) (g .ticks - 1) ≤ℤ required g δ
+  feasible-above = leZ-yes (passed .1 .1 .1 .1 .0)
+
+  -- and it has a cruise
   pub feasible-cruise : g .speedLimit ≤ 2 ^ 37 → IsCruise g (required g δ) (cruise g (required g δ))
-  feasible-cruise small = cruise-is g (required g δ) small (leZ-yes (passed .1 .1 .1 .1 .0))
+  feasible-cruise small = cruise-is g (required g δ) small feasible-above
