@@ -399,7 +399,7 @@ fn refusal(number: u32, mask: u32, arrival: u32) -> Answer {
     Answer { number, place: 0, mask, arrival }
 }
 
-/// Refusals 3 to 6, 12, 15 and 16 are tested as the library tests them, and 13 where windows are brought; the jobs that are timed pass.
+/// Refusals 3 to 6, 12 and 15 to 17 are tested as the library tests them, and 13 where windows are brought; the jobs that are timed pass.
 fn passes(job: &Job) -> bool {
     job.asked <= LATEST
         && job
@@ -410,6 +410,7 @@ fn passes(job: &Job) -> bool {
         && job.set().all(|(_, x)| x.start_velocity.unsigned_abs() <= u64::from(x.speed_limit))
         && job.set().all(|(_, x)| x.target.velocity().unsigned_abs() <= u64::from(x.speed_limit))
         && job.set().all(|(_, x)| x.second.is_none() || x.target.acceleration() == 0)
+        && job.set().all(|(_, x)| !matches!(x.target, Target::Fixed { velocity, .. } if velocity != 0))
         && job.windows.as_ref().map_or(true, |windows| windows.refused().is_none())
 }
 

@@ -64,7 +64,7 @@ def field() -> Group:
         job('D asked 54', [to(1, half_period=1)], asked=54, lent=165),
         typed('D asked 54 by values', [to(1, half_period=1)], asked=54, lent=170),
     ]
-    return Group('field', 'The field cases of the paper and the numbers of its traps.', cases)
+    return Group('field', 'The field cases of the method and the numbers of its traps.', cases)
 
 
 # --- Readings --------------------------------------------------------------
@@ -106,7 +106,7 @@ def readings() -> Group:
               [axis(half_period=6, acceleration_limit=4, target=(5, -2, 1, 3))], lent=90),
         typed('one tick to land', [axis(start=(3, 2), half_period=3, target=(11, 2, 0, 4))]),
     ]
-    return Group('readings', 'Places of the paper that are easily misread.', cases)
+    return Group('readings', 'Places of the method that are easily misread.', cases)
 
 
 # --- Accepted jobs ---------------------------------------------------------

@@ -17,7 +17,7 @@ class ConvertCase(NamedTuple):
     name: str
     words: List[int]
     lent: int
-    answer: Answer              # the reference's; None where the papers leave it free
+    answer: Answer              # the reference's; None where the method leaves it free
     left: List[int]             # the lent words as the call leaves them
 
 

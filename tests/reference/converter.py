@@ -1,7 +1,7 @@
 """Flying fixed targets go (request 2.11): the converter from job words to lent
 words, for jobs from the time when a fixed target could have a velocity.
 
-A field that the papers leave free is None: mask and arrival of a conversion.
+A field that the method leaves free is None: mask and arrival of a conversion.
 """
 
 from typing import List, Tuple

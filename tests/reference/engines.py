@@ -1,6 +1,6 @@
 #!/usr/bin/env python3
 """What the program `engines` is to print: reach, cruise and remainder of the
-legs that it draws, from rules 4 and 5 of paper 01. Both of its engines must
+legs that it draws, from rules 4 and 5 of docs/METHOD.md. Both of its engines must
 give the same line.
 
     python3 tests/reference/engines.py > crates/engines/stdout

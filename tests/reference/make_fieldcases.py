@@ -89,8 +89,8 @@ def tour_listed(need: int) -> List[int]:
 
 
 def expected_tour(case: TourCase) -> Expected:
-    """The cells are the list as the call leaves it, and the total. What the
-    papers leave free is 0, but for the mask of an accepted tour with stops,
+    """The cells are the list as the call leaves it, and the total. What the method leaves
+    free is 0, but for the mask of an accepted tour with stops,
     which is its own."""
     answer = case.answer
     mask = case.tour.mask if answer.number == 0 and case.tour.stops else 0

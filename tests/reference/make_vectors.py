@@ -27,7 +27,7 @@ FOLDER = os.path.join(os.path.dirname(os.path.abspath(__file__)), 'vectors')
 
 
 def text(*parts) -> str:
-    """Tokens with a space between them; None is a field that the papers leave free."""
+    """Tokens with a space between them; None is a field that the method leaves free."""
     return ' '.join('-' if part is None else str(part) for part in parts if part != '')
 
 

@@ -1,14 +1,14 @@
 #!/usr/bin/env python3
-"""An independent reference of the planner: paper 01 in exact whole numbers.
+"""An independent reference of the planner: docs/METHOD.md in exact whole numbers.
 
-It is written from the papers alone and shares nothing with the Rattle code.
-Every section names the rule of paper 01, or the request of paper 02, that it
+It is written from the method alone and shares nothing with the Rattle code.
+Every section names the section of docs/METHOD.md that it
 follows. Beside it: damping as measured in `damping.py`, a tour of stops in
 `tour.py`, raises in `raises.py`, the converter in `converter.py`, the search in
 `search.py`, rows from arrival backwards in `backwards.py`.
 
     python3 reference.py < job       the table program: job words in, text out
-    python3 reference.py --selftest  the paper's cases, and checks by definition
+    python3 reference.py --selftest  the method's cases, and checks by definition
 
 Units: a fine step is 1/256 unit. An axis is planned on a grid of its own, of
 1/256, 1/512 or 1/65,536 unit: planned positions are counted in half grid steps,

@@ -1,7 +1,7 @@
 """Planning between servo turns (request 2.12): a search with a first candidate
 tick and a budget of candidates.
 
-What the papers leave free is not reported: the tick where there is none, and
+What the method leaves free is not reported: the tick where there is none, and
 mask and arrival of a search that is not refused.
 """
 

@@ -1,8 +1,8 @@
-"""The reference against the paper: `python3 reference.py --selftest`.
+"""The reference against the method: `python3 reference.py --selftest`.
 
-The papers' field cases, traps, settled readings and ranges as numbers; the
+The method's field cases, traps, settled readings and ranges as numbers; the
 planning functions against their definitions, by trying every list; demand 3 of
-the paper over random jobs; and the calls beside planning, each against the
+the method over random jobs; and the calls beside planning, each against the
 single jobs that it stands for.
 """
 
@@ -71,7 +71,7 @@ def refuses(what, outcome, number, place=0, mask=0, arrival=0):
     same(what + ', cells', outcome[1], [7] * len(outcome[1]))
 
 
-# --- The paper's numbers ---------------------------------------------------
+# --- The method's numbers ---------------------------------------------------
 
 C_WORDS = [0x10000001, 0x20000004, 0x30000000, 0x40000000, 0x5000000A, 0x60000001,
            0x70000000, 0x80000080, 0x90000001, 0xA0000000, 0xF0000000]

@@ -1,6 +1,6 @@
 """A tour of stops (request 2.1), leg by leg from `reference`.
 
-A field that the papers leave free is None: place, mask and arrival of an
+A field that the method leaves free is None: place, mask and arrival of an
 accepted tour, and the total of a refused one.
 """
 

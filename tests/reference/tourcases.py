@@ -19,7 +19,7 @@ class TourCase(NamedTuple):
     name: str
     tour: Tour
     lent: List[int]             # the list before the call
-    answer: TourAnswer          # the reference's; None where the papers leave it free
+    answer: TourAnswer          # the reference's; None where the method leaves it free
     left: List[int]             # the list as the call leaves it
 
 

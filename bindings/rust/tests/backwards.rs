@@ -6,7 +6,7 @@ mod common;
 use common::{case_c, Random, CASE_C_WORDS};
 use polgamir::{plan, plan_backwards, plan_words, plan_words_backwards, Accepted, Job, Order, Plan, Refusal};
 
-/// The rows of case C as the paper prints them, from the last to the first.
+/// The rows of case C as docs/METHOD.md prints them, from the last to the first.
 const CASE_C_BACKWARDS: [i64; 15] = [256, 0, 0, 214, 85, -85, 129, 85, 0, 43, 86, -1, 0, 0, 86];
 
 #[test]

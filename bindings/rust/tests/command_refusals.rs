@@ -137,7 +137,7 @@ fn refusal_8_says_the_least_arrival_that_would_do() {
     assert_eq!(second_line(&far).as_deref(), Some(told));
 }
 
-/// Refusal 8 says what to raise, of each axis that it names. The numbers are the paper's case E and those worked out by hand.
+/// Refusal 8 says what to raise, of each axis that it names. The numbers are the method's case E and those worked out by hand.
 #[test]
 fn refusal_8_says_which_limit_to_raise() {
     let raises = |text: &str| refused(text).lines().nth(3).map(String::from);

@@ -1,4 +1,4 @@
-//! The field cases of paper 01, through the calls of this crate.
+//! The field cases of docs/METHOD.md, through the calls of this crate.
 
 mod common;
 

@@ -5,7 +5,7 @@ mod common;
 use common::{case_c, field_axis, Random};
 use polgamir::{plan, Axis, Damping, Job, Plan, Refusal, Row, Target};
 
-/// The positions of case C's rows, as the paper prints them.
+/// The positions of case C's rows, as docs/METHOD.md prints them.
 const CASE_C_POSITIONS: [i64; 5] = [0, 43, 129, 214, 256];
 
 /// The position of axis 0 in a row.

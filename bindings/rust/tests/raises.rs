@@ -18,7 +18,7 @@ fn of_one(asked: u32, axis: Axis) -> AxisRaises {
     named[0].1
 }
 
-/// The paper's case E, and jobs worked out by hand.
+/// The method's case E, and jobs worked out by hand.
 #[test]
 fn small_jobs_have_their_raises() {
     let to = |speed_limit, position| Axis { speed_limit, ..field_axis(Target::still(position)) };

@@ -75,6 +75,13 @@ fn all() -> Vec<(Refusal, &'static str, SheetLine, &'static str)> {
             "refused with 16: on axis 1 the target has an `acceleration`, and the axis a `second_half_period`",
         ),
         (
+            Refusal::FlyingTarget { axis: 3 },
+            "refused 17 place 3 axes 0 arrival 0",
+            EnterStartAndTarget,
+            "refused with 17: on axis 3 `target` is fixed and its `velocity` is not 0: a fixed target is at rest, and one that \
+             moves uniformly is a moving one with `acceleration` 0",
+        ),
+        (
             Refusal::Windows { place: 0 },
             "refused 13 place 0 axes 0 arrival 0",
             ReadTheArrival,
@@ -144,7 +151,7 @@ fn sentences_speak_of_fields() {
 fn every_number_of_a_job_has_its_case() {
     let mut numbers: Vec<u32> = all().iter().map(|(refusal, ..)| refusal.number()).collect();
     numbers.dedup();
-    assert_eq!(numbers, [1, 2, 14, 3, 4, 12, 5, 15, 6, 16, 13, 18, 8, 9, 10]);
+    assert_eq!(numbers, [1, 2, 14, 3, 4, 12, 5, 15, 6, 16, 17, 13, 18, 8, 9, 10]);
 }
 
 #[test]

@@ -19,7 +19,7 @@ use Rattle.planner.specs.Stages.{testsFor, firstRefusal}
 pub record Converts (ws entry : List ℕ) (r : Answer) (exit : List ℕ) : Type 0 where
   -- number, place and every lent word are those of the definition, refused or not
   pub conversion : record { number = r .number; place = r .place; words = exit } ≡ conversion ws entry
-  -- left free by the paper
+  -- left free by the method
   pub mask : r .mask ≡ 0
   pub arrival : r .arrival ≡ 0
   -- number 0: for every lent table the written words have, by the old rules and in planning, the outcome that the old rules give the old words

@@ -1,5 +1,5 @@
-// The converter of old jobs (paper 02, 2.11). A fixed target must be at rest; an old job may have one that flies. Where its arrival is asked for, the
-// converter turns each such target into a moving one of acceleration 0 at that tick: the same job by the old rules, and one that planning takes.
+// The converter of old jobs (docs/METHOD.md, section 20). A fixed target must be at rest; an old job may have one that flies. Where its arrival is asked
+// for, the converter turns each such target into a moving one of acceleration 0 at that tick: the same job by the old rules, and one that planning takes.
 //
 // The way of a job:
 //     convert           words::decode          refusals 1, 2 and 14

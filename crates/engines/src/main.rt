@@ -1,5 +1,5 @@
 // Runs both engines of `profile` over legs drawn by a fixed rule: reach, and where a leg has it, cruise and remainder. It prints for each engine how many legs
-// have it and a sum over the answers. tests/reference/engines.py computes the same from the paper's rules 4 and 5 and writes what is expected.
+// have it and a sum over the answers. tests/reference/engines.py computes the same from the method's rules 4 and 5 and writes what is expected.
 use profile::Engine;
 use profile::Profile;
 ghost use Prim.Native.Nat.{_≤_, _<_};

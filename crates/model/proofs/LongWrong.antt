@@ -1,4 +1,4 @@
--- What refusal 14 names is the first word of kind 14 that is wrong, in the paper's words: `first-long-wrong`.
+-- What refusal 14 names is the first word of kind 14 that is wrong, in the method's words: `first-long-wrong`.
 use Prim.Native.Nat.{ℕ, zero, suc, _+_, _<_}
 use native.Mathlib.Omega.{arith}
 use mathlib.Core.Path.{_≡_, refl, sym, ap, subst, _∙_}

@@ -1,4 +1,4 @@
--- The weight of damping as measured: it is the largest that paper 02 asks for, and by computation 128 for ratio 1 and 85 for ratio 0.5.
+-- The weight of damping as measured: it is the largest that docs/METHOD.md asks for, and by computation 128 for ratio 1 and 85 for ratio 0.5.
 use Prim.Native.Nat.{ℕ, zero, suc, _-_, _≤_, _<_}
 use native.Mathlib.Omega.{arith}
 use mathlib.Core.Path.{_≡_, refl, sym, ap, subst, _∙_}
@@ -41,7 +41,7 @@ pub largest-lower : (r : Float) (n : ℕ) → 0 < n → meets r n ≡ false → 
 largest-lower r zero h e = absurd (omega arith)
 largest-lower r (suc n) h e = missed r n e ∙ ap (largestTo r) {x = n} {y = suc n - 1} (omega arith)
 
--- ---- the paper's words
+-- ---- the method's words
 
 -- a number that misses is passed over
 skipped : (r : Float) (n c : ℕ) → meets r (suc n) ≡ false → c ≤ suc n → (c ≤ n → T (meets r c) → ⊥) → T (meets r c) → ⊥

@@ -9,7 +9,8 @@ use lib.IntN.{ℤ}
 use borrow.Author.Tests.{ne-eqb}
 use Rattle.model.specs.declared.SecondSway.the-variants.{Absent}
 use Rattle.model.specs.Job.{Job, setBits}
-use Rattle.model.specs.Words.{kind, payload, Reading, got, wrong, Reader, _>>=_, give, field, signed, next, positionBy, position, swayBy, secondSway, target}
+use Rattle.model.specs.Words.{kind, payload, Reading, got, wrong, Reader, _>>=_, give}
+use Rattle.model.specs.Words.{field, signed, next, positionBy, position, swayBy, secondSway, target}
 use Rattle.model.specs.Words.{axisBy, axesBy, ending, afterMaskBy, goodMask, longAllowed, firstBadLong, Decoded, noMask, badWord, job, spelled, decided}
 use Rattle.model.specs.Spelling.{OldKinds, OldJobsKept}
 
@@ -99,7 +100,8 @@ axis-alike =
 axes-alike : (ns : List ℕ) → Alike (axesBy position secondSway ns) (axesBy signed (give Absent) ns)
 axes-alike [] = give-alike []
 axes-alike (n ∷ ns) =
-    then _ _ (λ x. then _ _ (λ xs. give-alike _) (axesBy position secondSway ns) (axesBy signed (give Absent) ns) (axes-alike ns)) (axisBy position secondSway) (axisBy signed (give Absent)) axis-alike
+    then _ _ (λ x. then _ _ (λ xs. give-alike _) (axesBy position secondSway ns) (axesBy signed (give Absent) ns) (axes-alike ns))
+    (axisBy position secondSway) (axisBy signed (give Absent)) axis-alike
 
 job-alike : (m : ℕ) → Alike (afterMaskBy position secondSway m) (afterMaskBy signed (give Absent) m)
 job-alike m =

@@ -1,5 +1,5 @@
 -- Every call's outcome is what `specs/Verdict` says of its number: each refusal comes only in its named case, the first in checking order, and leaves
--- the lent list as it was; the arrival is the asked one or the least common one; 8 and 9 name exactly the axes that the paper says.
+-- the lent list as it was; the arrival is the asked one or the least common one; 8 and 9 name exactly the axes that the method says.
 use Prim.Native.Nat.{ℕ, zero, suc, _≤_, _<_}
 use mathlib.Core.Path.{_≡_, refl, sym, subst}
 use mathlib.Core.Bool.{Bool, true, false, not, false≢true}

@@ -56,14 +56,16 @@ shift-even x n = go (grid x)
 
     go : Grid x → Even (F *ℤ (shift x *ℤ a))
     go (twoSways d e t) =
-        let half = pos (swaySteps / 2) in record { half = half *ℤ (shift x *ℤ a); twice = ap (λ (k : ℕ). pos k *ℤ (shift x *ℤ a)) e ∙ even-grid half (shift x) a }
+        let half = pos (swaySteps / 2) in
+        record { half = half *ℤ (shift x *ℤ a); twice = ap (λ (k : ℕ). pos k *ℤ (shift x *ℤ a)) e ∙ even-grid half (shift x) a }
     go (still e t z) = record { half = pos 0; twice = ap (λ (y : ℤ). F *ℤ (shift x *ℤ y)) (z n) ∙ nothing F (shift x) }
     go (unblended e t z) =
         record { half = F *ℤ (pos 64 *ℤ s *ℤ a); twice = ap (λ (k : ℕ). F *ℤ ((b *ℤ pos k +ℤ pos 128 *ℤ s) *ℤ a)) z ∙ no-delay F b s a }
     go (undamped e t z) =
         record { half = F *ℤ (pos 64 *ℤ (h +ℤ s) *ℤ a); twice = ap (λ (k : ℕ). F *ℤ ((pos k *ℤ h +ℤ pos 128 *ℤ s) *ℤ a)) z ∙ equal F h s a }
     go (corrected e t) =
-        let half = pos (finestSteps / 2) in record { half = half *ℤ (shift x *ℤ a); twice = ap (λ (k : ℕ). pos k *ℤ (shift x *ℤ a)) e ∙ even-grid half (shift x) a }
+        let half = pos (finestSteps / 2) in
+        record { half = half *ℤ (shift x *ℤ a); twice = ap (λ (k : ℕ). pos k *ℤ (shift x *ℤ a)) e ∙ even-grid half (shift x) a }
 
 -- ---- twice the required sum is even
 

@@ -1,4 +1,4 @@
--- Windows: the decisions say what the paper's words say. An arrival that fits: `in-windows`, `windows-in`; refusal 13: `windows-wrong`, `windows-right`.
+-- Windows: the decisions say what the method's words say. An arrival that fits: `in-windows`, `windows-in`; refusal 13: `windows-wrong`, `windows-right`.
 use Prim.Native.Nat.{ℕ, zero, suc, _+_, _≤_, _<_}
 use mathlib.Core.Path.{_≡_, refl, sym, subst}
 use mathlib.Core.Bool.{Bool, true, false, _&&_, false≢true}

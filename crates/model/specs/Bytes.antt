@@ -1,4 +1,4 @@
--- The job words of a program's input bytes (paper 01, "Job words"): little-endian, and one to three bytes left over are one
+-- The job words of a program's input bytes (docs/METHOD.md, section 6): little-endian, and one to three bytes left over are one
 -- word of kind 0, which is wrong at every place. Assumes nothing.
 use Prim.Native.Nat.{ℕ, _+_, _*_}
 use mathlib.Core.List.{List, [], _∷_}

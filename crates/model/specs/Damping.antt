@@ -1,4 +1,4 @@
--- The second weight of damping as measured (paper 02, 2.3). A float is a value of IEEE 754's single precision; each operation rounds once, to
+-- The second weight of damping as measured (docs/METHOD.md, section 12). A float is a value of IEEE 754's single precision; each operation rounds once, to
 -- the nearest, and every comparison with what is not a number is false.
 use Prim.Native.Nat.{ℕ, zero, suc, _-_, _≤_, _<_}
 use mathlib.Core.Path.{_≡_}
@@ -34,7 +34,7 @@ unfoldable pub largestTo : Float → ℕ → ℕ
 largestTo r zero = 1
 largestTo r (suc n) = elim (meets r (suc n)) [ true ↦ suc n | false ↦ largestTo r n ]
 
--- as the paper says it: the largest from 1 to n, or 1 if there is none
+-- as the method says it: the largest from 1 to n, or 1 if there is none
 pub record IsLargest (r : Float) (n b : ℕ) : Type 0 where
   pub first : 1 ≤ b
   pub last : b ≤ n

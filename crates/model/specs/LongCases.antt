@@ -1,4 +1,4 @@
--- Positions past 28 bits, as one table: the words of an axis at rest where it starts, which arrives at tick 1 (paper 02, 2.8).
+-- Positions past 28 bits, as one table: the words of an axis at rest where it starts, which arrives at tick 1 (docs/METHOD.md, section 17).
 -- The theorem `long-cases` proves them all, by computing the definitions.
 use Prim.Native.Nat.{ℕ, _*_, _-_, _^_}
 use mathlib.Core.Path.{_≡_}
@@ -52,6 +52,6 @@ longCases =
     ∷ case (rail 5000 (two 3 1 0) (two 9 1 0) last) 6 [] (refused 3 1 0 0)
     ∷ []
 
--- each call gives what the paper says
+-- each call gives what the method says
 abbrev pub LongCasesHold : Type 0
 LongCasesHold = map found longCases ≡ map (λ (c : Case). c .says) longCases

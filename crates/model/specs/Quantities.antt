@@ -1,4 +1,4 @@
--- The quantities of a job and its targets (paper 01, "Quantities").
+-- The quantities of a job and its targets (docs/METHOD.md, section 2).
 use Prim.Native.Nat.{ℕ, _+_, _*_}
 use mathlib.Core.Bool.{Bool, true, false, not, _&&_}
 use lib.IntN.{ℤ, pos, natAbs, _+ℤ_, _-ℤ_, _*ℤ_}

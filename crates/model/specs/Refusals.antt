@@ -1,4 +1,4 @@
--- The refusals that one axis meets by itself (paper 01, "Refusal list", numbers 4 to 6, and paper 02, numbers 12, 15, 16 and 17), in checking order, and
+-- The refusals that one axis meets by itself (docs/METHOD.md, section 7, numbers 4 to 6, and 12, 15, 16 and 17), in checking order, and
 -- what an axis has that none of them refuses.
 use Prim.Native.Nat.{ℕ, _≤_}
 use mathlib.Core.Path.{_≡_}
@@ -52,7 +52,7 @@ abbrev pub swayRefused : Axis → Bool
 swayRefused x = not (swayAllowed (x .«second_sway»))
 
 -- ---- 6: start or target velocity exceeds L in size, target acceleration exceeds M in size, target tick exceeds 4,096 in size, or a
--- position is outside −17,179,869,184 to 17,179,869,183, which two words hold (paper 02, 2.8)
+-- position is outside −17,179,869,184 to 17,179,869,183, which two words hold (docs/METHOD.md, section 17)
 
 abbrev pub positionAllowed : ℤ → Bool
 positionAllowed p = leZ (negsuc 17179869183) p && leZ p (pos 17179869183)

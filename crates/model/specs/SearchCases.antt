@@ -1,5 +1,5 @@
--- Searches with a budget (paper 02, 2.12) of field case B, whose axis reaches tick 4 and every later one, as one table: what each call is given, and what it
--- gives. The theorem `search-cases` proves them all, by computing the definitions.
+-- Searches with a budget (docs/METHOD.md, section 21) of field case B, whose axis reaches tick 4 and every later one, as one table: what each call is
+-- given, and what it gives. The theorem `search-cases` proves them all, by computing the definitions.
 use Prim.Native.Nat.{ℕ}
 use mathlib.Core.Path.{_≡_}
 use mathlib.Core.List.{List, [], _∷_, map}

@@ -1,4 +1,4 @@
--- The words of a job, for "a position has one spelling only" and "old jobs keep their meaning" (paper 02, 2.8).
+-- The words of a job, for "a position has one spelling only" and "old jobs keep their meaning" (docs/METHOD.md, section 17).
 use Prim.Native.Nat.{ℕ, suc, _-_, _+_, _*_, _/_, _%_, _^_}
 use mathlib.Core.Path.{_≡_}
 use mathlib.Core.Bool.{true, false, _&&_}
@@ -91,7 +91,7 @@ OneSpelling = (ws : List ℕ) (j : Job) → decode ws ≡ job j → ws ≡ jobWo
 
 -- ---- old jobs keep their meaning
 
--- the reading of paper 01: each position is one word, no axis has a second sway, and 1 and 2 are the only refusals
+-- the reading of docs/METHOD.md, section 6, alone: each position is one word, no axis has a second sway, and 1 and 2 are the only refusals
 abbrev pub oldDecode : List ℕ → Decoded
 oldDecode [] = noMask
 oldDecode (w ∷ ws) =

@@ -1,4 +1,4 @@
--- What each answer says, in the words of paper 01 ("Refusal list, in checking order"): the named case of every number, the first in checking
+-- What each answer says, in the words of docs/METHOD.md, section 7: the named case of every number, the first in checking
 -- order, by the existence of a list (rule 4) and not by the decision. The theorem `verdict` says that every call's outcome is one of these.
 use Prim.Native.Nat.{ℕ, suc, _≤_, _<_}
 use mathlib.Core.Path.{_≡_}

@@ -1,4 +1,4 @@
--- The windows of a job (paper 02, 2.5): which arrivals fit them, and which windows are refused.
+-- The windows of a job (docs/METHOD.md, section 14): which arrivals fit them, and which windows are refused.
 use Prim.Native.Nat.{ℕ, suc, _+_, _≤_, _<_}
 use mathlib.Core.Path.{_≡_}
 use mathlib.Core.Bool.{Bool, true, false, _&&_}
@@ -30,7 +30,7 @@ fitsOne n dwell (w ∷ ws) = elim (fits n dwell w) [ true ↦ true | false ↦ f
 abbrev pub inWindows : Windows → ℕ → Bool
 inWindows w n = elim (w .given) [ true ↦ fitsOne n (w .dwell) (brought w) | false ↦ true ]
 
--- the same in the paper's words: one window holds the arrival and its dwell
+-- the same in the method's words: one window holds the arrival and its dwell
 pub record FitsOne (n dwell : ℕ) (l : List Window) : Type 0 where
   pub index : ℕ
   pub window : Window
@@ -60,7 +60,7 @@ windowsRefused w =
 abbrev pub refused13 : Windows → Option ℕ
 refused13 w = elim (w .given) [ true ↦ windowsRefused w | false ↦ none ]
 
--- ---- 13 in the paper's words
+-- ---- 13 in the method's words
 
 -- the tick at which the window before window k closes, where before the first one closed at tick c
 abbrev pub closedBefore : ℕ → List Window → ℕ → ℕ

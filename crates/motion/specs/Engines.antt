@@ -1,5 +1,5 @@
--- Both engines for an axis and its arrival (paper 02, request 2.7): reach, cruise and remainder by areas are those of the definitions. That they are is the
--- theorem `one-answer`.
+-- Both engines for an axis and its arrival (docs/METHOD.md, section 16): reach, cruise and remainder by areas are those of the definitions. That they are
+-- is the theorem `one-answer`.
 use Prim.Native.Nat.{ℕ}
 use mathlib.Core.Path.{_≡_}
 use mathlib.Core.Bool.{Bool, true, _&&_}

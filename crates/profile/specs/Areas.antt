@@ -1,4 +1,4 @@
--- The engine by areas (paper 02, request 2.7): reach, cruise and remainder from the areas under the velocities, with no tick visited. An area is a
+-- The engine by areas (docs/METHOD.md, section 16): reach, cruise and remainder from the areas under the velocities, with no tick visited. An area is a
 -- ramp, a level part and a ramp, each of which may be missing. That both engines give one answer is the theorem `engines-agree`.
 use Prim.Native.Nat.{ℕ, zero, suc, _+_, _-_, _*_, _/_, _^_, min}
 use mathlib.Core.Path.{_≡_}

@@ -1,4 +1,4 @@
--- The chosen velocities in the three regions of the method (paper 01: the end regions have the greatest acceleration): a ramp from the
+-- The chosen velocities in the three regions of the method (docs/METHOD.md, section 1: the end regions have the greatest acceleration): a ramp from the
 -- start, a level part, a ramp to the end. That they are the velocities of rule 5 is the theorem `chosen-in-regions`.
 use Prim.Native.Nat.{ℕ, _+_, _-_, _*_, _/_, _^_, _≤_}
 use mathlib.Core.Bool.{true, false}

@@ -120,7 +120,8 @@ module _ (p : AxisPlan) (some : 0 < p .regions .ticks) where
   unfolding blendedBack
   next-back k d =
       let e = d + p .«half_period» in
-      sym (mix-sum A B (backPosition p d k) (velocityBack p d k) (velocityBack p d (suc k)) (backPosition p e k) (velocityBack p e k) (velocityBack p e (suc k)))
+      sym (mix-sum A B (backPosition p d k) (velocityBack p d k) (velocityBack p d (suc k))
+      (backPosition p e k) (velocityBack p e k) (velocityBack p e (suc k)))
       ∙ (λ i. mix A B (back-goes-on p d k some i) (back-goes-on p e k some i))
 
   -- the position that is carried on is that of the blends

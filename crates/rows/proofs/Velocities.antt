@@ -79,7 +79,8 @@ velocity-0 p some =
     back-0 : (d : ℕ) → pos (p .«first_weight» + p .«second_weight») *ℤ p .regions .start ≡ blendedBack p d 0
     back-0 d =
         sym (mix-same (p .«first_weight») (p .«second_weight») (p .regions .start))
-        ∙ (λ i. mix (p .«first_weight») (p .«second_weight») (back-early p d 0 some (omega arith) i) (back-early p (d + p .«half_period») 0 some (omega arith) i))
+        ∙ (λ i. mix (p .«first_weight») (p .«second_weight») (back-early p d 0 some (omega arith) i)
+        (back-early p (d + p .«half_period») 0 some (omega arith) i))
 
 pub track-0 : (p : AxisPlan) (q v : ℤ)
     → q ≡ pos (weightOf p) *ℤ p .origin -ℤ pos 2 *ℤ (pos (lagOf p) *ℤ p .regions .start)

@@ -1,5 +1,4 @@
--- The plan of an axis for an arrival, and the plan of a job with the ranges in which the code does not overflow (paper 01, "Planned motion",
--- and "It plans 1 to 6 axes").
+-- The plan of an axis for an arrival, and the plan of a job with the ranges in which the code does not overflow (docs/METHOD.md, sections 1 and 3).
 use Prim.Native.Nat.{ℕ, suc, _+_, _-_, _*_, _/_, _%_, _^_, _≤_, _<_}
 use Rattle.whole.specs.Ranges.{Within}
 use mathlib.Core.Bool.{true, false}

@@ -1,5 +1,5 @@
--- One axis tick by tick, over its plan: the planned velocities, their blend, and the cells of a row (paper 01, rules 1, 2, 3 and 5, and "Blend
--- and rows").
+-- One axis tick by tick, over its plan: the planned velocities, their blend, and the cells of a row (docs/METHOD.md, section 3, rules 1, 2, 3 and 5, and
+-- section 4).
 use Prim.Native.Nat.{ℕ, zero, suc, _+_, _-_, _*_}
 use mathlib.Core.Path.{_≡_}
 use mathlib.Core.Bool.{true, false}

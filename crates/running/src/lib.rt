@@ -1,4 +1,4 @@
-// Running sums (paper 02, request 2.2): the sums of both envelopes of a leg, carried to the leg that has one tick more by a step without a loop;
+// Running sums (docs/METHOD.md, section 11): the sums of both envelopes of a leg, carried to the leg that has one tick more by a step without a loop;
 // and by them the least number of ticks in which a displacement can be made.
 use profile::Profile;
 ghost use Prim.Native.Nat.{_*_, _^_, _≤_, _<_};

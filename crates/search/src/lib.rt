@@ -1,5 +1,5 @@
-// Planning between servo turns (paper 02, 2.12): a search for the common arrival of a job over a budget of candidates, which a later call goes on with.
-// specs/Promise.antt says what both calls promise of any job, first candidate and budget. No candidate past the budget is looked at.
+// Planning between servo turns (docs/METHOD.md, section 21): a search for the common arrival of a job over a budget of candidates, which a later call goes
+// on with. specs/Promise.antt says what both calls promise of any job, first candidate and budget. No candidate past the budget is looked at.
 //
 // The way of a job:
 //     search_words      words::decode          the refusals of words, then as search_job

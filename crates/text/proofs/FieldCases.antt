@@ -1,4 +1,4 @@
--- Cases C and E of paper 01 as they are printed, by computing the definitions. Assumes nothing.
+-- Cases C and E of docs/METHOD.md as they are printed, by computing the definitions. Assumes nothing.
 use mathlib.Core.Path.{_≡_, refl}
 use mathlib.Core.List.{flatten}
 use lib.IntN.{pos}

@@ -1,5 +1,5 @@
-// What the table program reads and prints: the job words of its input bytes, and the text of an answer and its table (paper 01,
-// "Job words" and "Field cases"). No public function has a `requires`.
+// What the table program reads and prints: the job words of its input bytes, and the text of an answer and its table (docs/METHOD.md, sections 6 and 8).
+// No public function has a `requires`.
 mod lines;
 mod numbers;
 mod words;

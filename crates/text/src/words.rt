@@ -1,4 +1,4 @@
-// The job words of input bytes (paper 01, "Job words").
+// The job words of input bytes (docs/METHOD.md, section 6).
 ghost use mathlib.Core.Path.{_≡_};
 ghost use Prim.Native.Nat.{_+_, _*_, _<_, _≤_};
 ghost use lib.ListN.{length, take, drop};

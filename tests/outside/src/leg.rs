@@ -1,4 +1,4 @@
-//! Rules 4 and 5 of paper 01 for one axis, by areas.
+//! Rules 4 and 5 of docs/METHOD.md for one axis, by areas.
 //!
 //! Between its two ramps a clamped velocity list is flat at the cruise. Its sum is therefore the flat rectangle, less
 //! what the upper envelope cuts off at either end, plus what the lower envelope adds there. Each of these is a triangle

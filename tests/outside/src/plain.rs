@@ -1,4 +1,4 @@
-//! The axis and the jobs that the field cases of paper 01 are told with.
+//! The axis and the jobs that the field cases of docs/METHOD.md are told with.
 
 use crate::reference::{Axis, Damping, Job, Target, UNSET};
 

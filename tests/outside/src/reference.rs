@@ -1,4 +1,4 @@
-//! Papers 01 and 02 written out in Rust, without the library: what a call must return and what it must leave. Velocities
+//! docs/METHOD.md written out in Rust, without the library: what a call must return and what it must leave. Velocities
 //! and positions come from closed sums (module `leg`), so a row is found without the rows before it.
 
 mod converter;

@@ -34,7 +34,7 @@ impl<'a> Tokens<'a> {
         token.parse().unwrap_or_else(|_| panic!("{token} is no number here"))
     }
 
-    /// A number, or none where the papers leave the field free.
+    /// A number, or none where the method leaves the field free.
     pub fn free<T: FromStr>(&mut self) -> Option<T> {
         let token = self.word();
         (token != "-").then(|| token.parse().unwrap_or_else(|_| panic!("{token} is no number here")))
@@ -143,7 +143,7 @@ impl<'a> Tokens<'a> {
         }
     }
 
-    /// The answer that is expected, but for what the papers leave free.
+    /// The answer that is expected, but for what the method leaves free.
     pub fn answer(&mut self, got: Answer) {
         self.is("answer");
         let (number, place): (_, Option<u64>) = (self.number(), self.free());
@@ -157,7 +157,7 @@ impl<'a> Tokens<'a> {
         assert_eq!(got, want);
     }
 
-    /// What is expected of a tour: an answer whose fields the papers leave free where it is not refused, and the total.
+    /// What is expected of a tour: an answer whose fields the method leaves free where it is not refused, and the total.
     pub fn toured(&mut self, got: Toured) {
         let free = Answer { number: 0, place: 0, mask: 0, arrival: 0 };
         self.answer(got.err().unwrap_or(free));

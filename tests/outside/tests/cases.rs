@@ -1,5 +1,5 @@
-//! The field cases and the traps of paper 01, and jobs that its text decides where it is easily misread, with the
-//! paper's own numbers: the library and the reference both give them, from typed values and from words.
+//! The field cases and the traps of docs/METHOD.md, and jobs that its text decides where it is easily misread, with the method's
+//! own numbers: the library and the reference both give them, from typed values and from words.
 
 use outside::jobs;
 use outside::library;

@@ -1,4 +1,4 @@
-//! Demand 3 of paper 01 on the tables that the library writes, whose rows are read by tick: the landing is exact, both misses are at most 3/2 fine
+//! Demand 3 of docs/METHOD.md on the tables that the library writes, whose rows are read by tick: the landing is exact, both misses are at most 3/2 fine
 //! steps on every row, and the sway of every kind of swing list, of either rate, is 0 before rounding and at most N times G
 //! as rounded. The start is exact and the limits on cells hold too.
 

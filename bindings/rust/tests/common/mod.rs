@@ -25,13 +25,13 @@ pub fn case_c() -> Job {
     Job::arriving_at(4).with_axis(0, field_axis(Target::still(1)))
 }
 
-/// The words of case C as the paper prints them.
+/// The words of case C as docs/METHOD.md prints them.
 pub const CASE_C_WORDS: [u32; 11] = [
     0x10000001, 0x20000004, 0x30000000, 0x40000000, 0x5000000A, 0x60000001, 0x70000000, 0x80000080, 0x90000001,
     0xA0000000, 0xF0000000,
 ];
 
-/// The table of case C as the paper prints it.
+/// The table of case C as docs/METHOD.md prints it.
 pub const CASE_C_TABLE: &str = "arrival 4\n0 0 0 86\n1 43 86 -1\n2 129 85 0\n3 214 85 -85\n4 256 0 0\n";
 
 /// A generator of random numbers (xorshift64*).

@@ -96,6 +96,7 @@ next-feasible-requires c κs =
     let x = a .args .x in
     let slow = subst (λ (p : Profile). (natAbs (p .start) ≤ p .«speed_limit») × (natAbs (p .end) ≤ p .«speed_limit»)) (sym (f .ensures .is))
     (start-slow x (a .pre .0) (a .pre .1 .0), landing-slow x (a .pre .0) (a .pre .1 .0) (b .before .first-after .result)) in
+    let late = b .before .before .delay-of .ensures in
     let ticks : f .result .ticks ≡ b .before .first-after .result - delay x = ap (λ (p : Profile). p .ticks) (f .ensures .is) in (
       f .ensures .ranged,
       (
@@ -108,7 +109,7 @@ next-feasible-requires c κs =
               slow .1,
               (
                 within (search computed depth 9) tt,
-                (within (search computed depth 9) tt, (omega (arith, ticks, b .if1 .left, b .before .before .delay-of .ensures), omega (arith, a .pre .1 .1 .1))),
+                (within (search computed depth 9) tt, (omega (arith, ticks, b .if1 .left, late), omega (arith, a .pre .1 .1 .1))),
               ),
             ),
           ),
@@ -140,10 +141,11 @@ returns-2 c =
     let sum : toZ w64 (ofZ w64 (d .required .result)) ≡ requiredSum x n =
     exactly (search computed depth 9) tt ∙ (λ i. required (legOf (f .ensures .is i)) (way i)) in
     let change : toZ w64 (ofZ w64 (c .before .drift .result)) ≡ drift x = exactly (search computed depth 9) tt in
+    let from = b .before .first-after .ensures ∙ ap (λ (d : ℕ). max (a .args .n) (suc d)) (late .ensures) in
     let t = c .next-feasible .result in
     let last = a .args .last in
     subst (λ (d : ℕ). Next (reachable x) (a .args .n) last (t + d)) (sym (late .ensures))
-    (next-arrival x (a .pre .0) (a .pre .1 .0) (a .args .n) last n t (b .before .first-after .ensures ∙ ap (λ (d : ℕ). max (a .args .n) (suc d)) (late .ensures))
+    (next-arrival x (a .pre .0) (a .pre .1 .0) (a .args .n) last n t from
     (b .if1 .left)
     (subst (λ (p : Profile). Next (betweenAt (legOf p) (requiredSum x n) (drift x)) (p .ticks) (last - delay x) t) (f .ensures .is)
     (subst (λ (d : ℕ). Next (betweenAt (legOf (f .result)) (requiredSum x n) (drift x)) (f .result .ticks) (last - d) t) (late .ensures)

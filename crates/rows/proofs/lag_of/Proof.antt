@@ -34,7 +34,8 @@ small : (c : tie.After-blends) → c .blends .result * first (start c) + both (s
 small c =
     let a = start c in
     subst (λ (n : ℕ). n * first a + both a * c .before .sway-delay .result ≤ 2 ^ 25) (sym (c .blends .ensures))
-    (subst (λ (d : ℕ). blendsBy (a .args .p .«second_sway») * first a + both a * d ≤ 2 ^ 25) (sym (c .before .sway-delay .ensures)) (lag-small (a .args .p) (a .pre)))
+    (subst (λ (d : ℕ). blendsBy (a .args .p .«second_sway») * first a + both a * d ≤ 2 ^ 25) (sym (c .before .sway-delay .ensures))
+    (lag-small (a .args .p) (a .pre)))
 
 mul-result : tie.Need-mul-result
 mul-result c = omega (arith, first-small (start (c .before)))

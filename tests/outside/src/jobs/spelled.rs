@@ -3,7 +3,7 @@
 use crate::random::Random;
 use crate::reference::{fits_a_word, word, Job, Target};
 
-/// The words of the paper's case C, as it prints them. The asked arrival is in word 1.
+/// The words of the method's case C, as it prints them. The asked arrival is in word 1.
 pub const CASE_C: [u32; 11] = [
     0x1000_0001,
     0x2000_0004,

@@ -18,7 +18,7 @@ fn converted(words: &[u32], asked: u32) -> Vec<u32> {
     list
 }
 
-/// The call: how many words it writes to the front of the lent ones, or a refusal. The papers leave mask and arrival of
+/// The call: how many words it writes to the front of the lent ones, or a refusal. The method leaves mask and arrival of
 /// an accepted conversion free.
 pub fn convert(words: &[u32], lent: &mut [u32]) -> Result<usize, Answer> {
     let job = decode(words)?;

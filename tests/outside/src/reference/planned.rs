@@ -1,4 +1,4 @@
-//! The planned motion of one axis, its blends and its cells: rules 1 to 3 of paper 01, and rules 4 and 5 by the areas of
+//! The planned motion of one axis, its blends and its cells: rules 1 to 3 of docs/METHOD.md, and rules 4 and 5 by the areas of
 //! module `leg`.
 
 use super::Axis;

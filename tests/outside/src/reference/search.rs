@@ -20,7 +20,7 @@ pub struct Searched {
     pub tried: u32,
 }
 
-/// What the call returns. The papers leave the fields of an answer beside a report free.
+/// What the call returns. The method leaves the fields of an answer beside a report free.
 pub type Search = Result<Searched, Answer>;
 
 impl Job {

@@ -17,7 +17,7 @@ pub struct Stop {
     pub dwell: u32,
 }
 
-/// What a tour returns: its total, or a refusal. The paper leaves the other fields of either free.
+/// What a tour returns: its total, or a refusal. The method leaves the other fields of either free.
 pub type Toured = Result<u32, Answer>;
 
 pub const MOST_STOPS: usize = 64;

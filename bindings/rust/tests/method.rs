@@ -1,0 +1,124 @@
+//! docs/METHOD.md: its numbers are those of the planner, its sections those that are cited, and its parts are there.
+
+mod common;
+
+use std::fs;
+
+use common::command::folder;
+use common::{field_axis, CASE_C_TABLE, CASE_C_WORDS};
+use polgamir::{Axis, Damping, Job, Plan, RestPoint, State, Target};
+
+/// The page.
+fn page() -> String {
+    fs::read_to_string(folder("docs").join("METHOD.md")).expect("docs/METHOD.md")
+}
+
+/// The printed tables of the page: each begins with an arrival line.
+fn tables(page: &str) -> Vec<String> {
+    let block = |start: usize| {
+        let lines = page[start..].lines().take_while(|line| line.starts_with("    "));
+        lines.map(|line| line[4..].to_string() + "\n").collect()
+    };
+    page.match_indices("    arrival ").map(|(start, _)| block(start)).collect()
+}
+
+/// The numbers after a name at the head of a line.
+fn numbers(page: &str, name: &str) -> Vec<i64> {
+    let line = page.lines().find(|line| line.trim_start().starts_with(name)).expect(name);
+    let words = line.trim_start()[name.len()..].split_whitespace();
+    words.map(|word| word.replace('−', "-").parse().expect("a number")).collect()
+}
+
+fn printed(plan: &Plan) -> String {
+    let row = |row: polgamir::Row| {
+        let cells: String = row.cells().iter().map(|cell| format!(" {cell}")).collect();
+        format!("{}{cells}\n", row.tick())
+    };
+    format!("arrival {}\n", plan.arrival()) + &plan.rows().map(row).collect::<String>()
+}
+
+/// The axis of the worked example.
+fn example() -> Axis {
+    let blend = Axis { half_period: 3, damping: Damping::Weight(96), ..field_axis(Target::still(13)) };
+    Axis { speed_limit: 3, ..blend }
+}
+
+#[test]
+fn printed_tables_are_the_planner_s() {
+    let plan = Job::earliest().with_axis(0, example()).plan().expect("the worked example");
+    assert_eq!(tables(&page()), [CASE_C_TABLE.to_string(), printed(&plan)]);
+    let words: Vec<String> = CASE_C_WORDS.iter().map(|word| format!("{word:08X}")).collect();
+    assert!(page().contains(&words.join(" ")));
+}
+
+/// The planned motion of the example is the table of the same axis without a blend, asked for the landing tick, and it rests from there on.
+#[test]
+fn the_planned_motion_is_the_planner_s() {
+    let planned = Job::arriving_at(8).with_axis(0, Axis { half_period: 0, ..example() }).plan().expect("a plan");
+    let column = |quantity: usize| -> Vec<i64> { planned.rows().map(|row| row.cells()[quantity]).collect() };
+    let page = page();
+    assert_eq!(numbers(&page, "tick  "), (0..12).collect::<Vec<_>>());
+    let rest = |cells: Vec<i64>, last: i64| [cells, vec![last; 3]].concat();
+    assert_eq!(numbers(&page, "V     "), rest(column(1), 0));
+    assert_eq!(numbers(&page, "α     "), rest(column(2), 0));
+    let positions = numbers(&page, "Q     ");
+    let twice = positions.iter().zip(rest(column(0), 3328)).map(|(half, fine)| (half - 2 * fine).abs());
+    assert!(twice.max() <= Some(1), "half steps of rounded positions: {positions:?}");
+    let (velocities, changes) = (numbers(&page, "V     "), numbers(&page, "α     "));
+    assert!((0..11).all(|k| positions[k] + 2 * velocities[k] + changes[k] == positions[k + 1]), "rule 1");
+}
+
+/// The swing list of the example is one, and leaves what the page says.
+#[test]
+fn the_swing_list_leaves_what_is_said() {
+    let list = [125, 0, 0, -75, 0, 0, 45, 0, 0, -27, 0, 0];
+    assert!(
+        page().contains("125 0 0 −75 0 0 45 0 0 −27 0 0") && page().contains("and it is −3, where 5.1 allows 11 × 125")
+    );
+    assert!((0..9).all(|i| 160 * list[i + 3] + 96 * list[i] == 0));
+    let plan = Job::earliest().with_axis(0, example()).plan().expect("the worked example");
+    let accelerations: Vec<i64> = plan.rows().map(|row| row.cells()[2]).collect();
+    let change = |k: usize| accelerations[k] - if k == 0 { 0 } else { accelerations[k - 1] };
+    assert_eq!((0..=11).map(|k| change(k) * list[11 - k]).sum::<i64>(), -3);
+}
+
+/// The examples of the sections on damping, rounding, windows and accelerating targets.
+#[test]
+fn examples_of_the_sections_are_the_planner_s() {
+    assert_eq!(Damping::Peaks { first: 97.0, second: 31.0 }.weight(), Some(61));
+    let left = Job::arriving_at(4).with_axis(0, field_axis(Target::still(-1))).plan().expect("C to the left");
+    let column = |plan: &Plan, quantity: usize| -> Vec<i64> { plan.rows().map(|row| row.cells()[quantity]).collect() };
+    assert_eq!(column(&left, 0), [0, -43, -128, -213, -256]);
+    assert_eq!(column(&left, 1), [0, -85, -85, -86, 0]);
+    let target = Target::Moving(State { position: 0, velocity: 0, acceleration: 1, tick: 20 });
+    let axis = Axis { half_period: 2, damping: Damping::Weight(100), ..field_axis(target) };
+    let plan = Job::arriving_at(20).with_axis(0, axis).plan().expect("an accelerating target");
+    let row = |tick: u32| plan.row(tick).expect("a row").cells().to_vec();
+    assert_eq!([row(0), row(1), row(2)].concat(), [0, 0, 11, 5, 11, 0, 16, 11, 7]);
+    assert_eq!([row(18), row(19), row(20)].concat(), [148, -183, 127, 28, -56, 56, 0, 0, 256]);
+    assert!(
+        axis.start == RestPoint { position: 0, velocity: 0 } && page().contains("148 −183 127, 28 −56 56, 0 0 256")
+    );
+}
+
+/// Sections are numbered without a gap, each heading has its link in the page's list, and every picture is there.
+#[test]
+fn sections_are_numbered() {
+    let page = page();
+    let numbered =
+        page.lines().filter_map(|line| line.strip_prefix("## ")).map(|line| line.split(' ').next().unwrap_or_default());
+    let numbered: Vec<usize> = numbered.map(|number| number.parse().expect("a numbered section")).collect();
+    assert!(numbered.iter().copied().eq(1..=numbered.len()) && numbered.len() >= 16, "{numbered:?}");
+    for link in page.split("](").skip(1).filter_map(|rest| rest.split(')').next()) {
+        match link.strip_prefix('#') {
+            Some(anchor) => {
+                let anchors = page.lines().filter(|line| line.starts_with('#')).map(|line| {
+                    let name = line.trim_start_matches('#').trim().to_lowercase();
+                    name.replace([',', '\'', '.'], "").replace(' ', "-")
+                });
+                assert!(anchors.into_iter().any(|name| name == anchor), "{anchor}");
+            }
+            None => assert!(folder("docs").join(link).exists(), "{link}"),
+        }
+    }
+}
