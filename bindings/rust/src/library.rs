@@ -400,7 +400,8 @@ pub(crate) fn search_job(job: &Job, first: u32, budget: u32) -> Result<Searched,
 #[cfg(test)]
 mod tests {
     use super::{
-        CAnswer, CAxis, CAxisRaises, CJob, CLimits, CRaise, CRaises, CSearchAnswer, CTour, CTourAnswer, CWindows, Stop, Window,
+        CAnswer, CAxis, CAxisRaises, CJob, CLimits, CRaise, CRaises, CSearchAnswer, CTour, CTourAnswer, CWindows, Stop,
+        Window,
     };
     use std::mem::{offset_of, size_of};
 
