@@ -1,10 +1,10 @@
 //! The planner in plain Rust, with the library's formulas and loops and none of its proofs: reach of an arrival from the
 //! areas under the envelopes, the least common arrival by axes that lead on from candidate to candidate, with sums that
 //! are carried from one to the next, cruise by halving steps over areas, rows by stepping a track an axis, blended once or,
-//! on a pole with a second sway, twice, each planned velocity by its region. Beside it the engine by ticks: every candidate is tried, and every sum is taken tick
-//! by tick.
+//! on a pole with a second sway, twice, by a change of velocity that is worked out once for each stretch of ticks over
+//! which it is the same. Beside it the engine by ticks: every candidate is tried, and every sum is taken tick by tick.
 
-use std::ops::RangeInclusive;
+use std::ops::{Range, RangeInclusive};
 
 use outside::reference::{Answer, Axis, Damping, Job, Target, Window};
 
@@ -305,6 +305,14 @@ struct Track {
     /// The blended position, in half 1/65,536 of a fine step, and the blended velocity at the row's tick.
     position: i64,
     velocity: i64,
+    /// The change of the blended velocity in each tick of a stretch.
+    change: i64,
+    stretch: Range<i64>,
+}
+
+/// The ticks that two stretches have in common.
+fn common(one: Range<i64>, other: Range<i64>) -> Range<i64> {
+    one.start.max(other.start)..one.end.min(other.end)
 }
 
 /// The nearest whole number, halves away from zero.
@@ -349,6 +357,8 @@ impl Track {
             second_weight,
             position,
             velocity,
+            change: 0,
+            stretch: 0..0,
         }
     }
 
@@ -380,15 +390,75 @@ impl Track {
         self.first_weight * self.behind(delay, tick) + self.second_weight * self.behind(delay + self.half_period, tick)
     }
 
+    /// The velocity of a tick after the blends.
+    fn velocity_at(&self, tick: i64) -> i64 {
+        let once = self.blended(0, tick);
+        match self.second {
+            None => once,
+            Some(delay) => once + self.blended(delay, tick),
+        }
+    }
+
+    /// The ticks around a tick over which the planned velocity changes by the same amount in each.
+    fn planned_stretch(&self, tick: i64) -> Range<i64> {
+        if tick >= self.ticks {
+            self.ticks..i64::from(LATEST) + 1
+        } else if tick > self.rise {
+            self.later_stretch(tick)
+        } else if tick < self.rise && self.rise < self.ticks {
+            0..self.rise
+        } else {
+            tick..tick + 1
+        }
+    }
+
+    /// The same after the ramp from the start and before the landing.
+    fn later_stretch(&self, tick: i64) -> Range<i64> {
+        if tick + self.fall >= self.ticks {
+            return (self.ticks - self.fall).max(self.rise + 1)..self.ticks;
+        }
+        let last = self.ticks - self.fall - 1;
+        let raised = last.min(self.rise + self.raised);
+        if tick < raised {
+            self.rise + 1..raised
+        } else if raised < tick && tick < last {
+            raised + 1..last
+        } else {
+            tick..tick + 1
+        }
+    }
+
+    /// The same of the planned velocity some ticks before.
+    fn stretch_behind(&self, delay: i64, tick: i64) -> Range<i64> {
+        if tick < delay {
+            return 0..delay;
+        }
+        let stretch = self.planned_stretch(tick - delay);
+        stretch.start + delay..stretch.end + delay
+    }
+
+    /// The same of the blend some ticks before.
+    fn blended_stretch(&self, delay: i64, tick: i64) -> Range<i64> {
+        common(self.stretch_behind(delay, tick), self.stretch_behind(delay + self.half_period, tick))
+    }
+
+    /// The same of the velocity after the blends.
+    fn stretch_at(&self, tick: i64) -> Range<i64> {
+        let once = self.blended_stretch(0, tick);
+        match self.second {
+            None => once,
+            Some(delay) => common(once, self.blended_stretch(delay, tick)),
+        }
+    }
+
     /// The three cells of the row at a tick, after which the track stands one tick on.
     fn row(&mut self, tick: i64) -> [i64; 3] {
-        let once = self.blended(0, tick + 1);
-        let next = match self.second {
-            None => once,
-            Some(delay) => once + self.blended(delay, tick + 1),
-        };
-        let cells =
-            [nearest(self.position, 131_072), nearest(self.velocity, 65_536), nearest(next - self.velocity, 65_536)];
+        if !self.stretch.contains(&tick) {
+            self.stretch = self.stretch_at(tick);
+            self.change = self.velocity_at(tick + 1) - self.velocity_at(tick);
+        }
+        let next = self.velocity + self.change;
+        let cells = [nearest(self.position, 131_072), nearest(self.velocity, 65_536), nearest(self.change, 65_536)];
         self.position += self.velocity + next;
         self.velocity = next;
         cells

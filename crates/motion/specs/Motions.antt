@@ -10,6 +10,8 @@ use Rattle.model.specs.declared.Axis.{Axis}
 use Rattle.model.specs.declared.State.{State}
 use Rattle.model.specs.declared.Target.{Target}
 use Rattle.model.specs.declared.Target.the-variants.{Fixed, Moving}
+use Rattle.model.specs.declared.Weight.{Weight}
+use Rattle.model.specs.declared.Weight.the-variants.{Given, Measured}
 use Rattle.model.specs.Quantities.{fineSteps, speedLimit, accelerationLimit, halfPeriod, secondWeight, secondHalfPeriod, asMoving, twicePositionAt, velocityAt}
 use Rattle.model.specs.Quantities.{onGrid, speedSteps, accelerationSteps}
 use Rattle.model.specs.Motion.{shift, startVelocity, landingTick, landingPosition, landingVelocity, landingAcceleration}
@@ -39,6 +41,15 @@ pub record Ranges (x : Axis) : Type 0 where
   pub velocity : Within (2 ^ 20) (x .start .velocity)
   -- the target, for every arrival
   pub target : (n : ℕ) → n ≤ lastTick → StateRanges (asMoving (x .target) n)
+
+-- ---- the second weight: one to be worked out from damping as measured
+
+abbrev pub measuredBy : Weight → Bool
+measuredBy (Given b) = false
+measuredBy (Measured d) = true
+
+abbrev pub measured : Axis → Bool
+measured x = measuredBy (x .«second_weight»)
 
 -- ---- rule 3: the planned motion for a target in motion m at tick k, which at the landing tick, with the correction, is `landingPosition` and
 -- `landingVelocity`

@@ -17,8 +17,6 @@ use Rattle.model.specs.Outcome.{Outcome, outcomeOf, firstAxis, axisRefusals, al
 use Rattle.model.specs.Converter.{oldRefusals}
 use Rattle.motion.specs.Motions.{refusalTest}
 use Rattle.planner.specs.declared.Refusal.{Refusal}
-use Rattle.planner.specs.declared.FirstAxis.{FirstAxis}
-use Rattle.planner.specs.declared.FirstAxis.the-variants.{At, Nowhere}
 use Rattle.planner.specs.Promise.{Fitted}
 
 -- the outcome of a job, and of one whose arrival is known, with the rows in an order
@@ -45,7 +43,7 @@ pub record Settled (j : Job) (r : Answer) : Type 0 where
   pub passed : r .number ≡ 0 → AllPassed (j .axes)
   pub reached : r .number ≡ 0 → allReach (j .axes) (r .arrival) ≡ true
 
--- ---- refusals 3, 4, 12, 5, 6, 17 and 13
+-- ---- refusals 3, 4, 12, 5, 15, 6, 16, 17 and 13
 
 -- refusal 13, or number 0
 abbrev pub windowRefusal : Windows → Refusal
@@ -71,10 +69,6 @@ pub record Checked (j : Job) (r : Refusal) : Type 0 where
   pub asked : r .number ≡ 0 → j .asked ≤ lastTick
   pub passed : r .number ≡ 0 → AllPassed (j .axes)
   pub windows : r .number ≡ 0 → refused13 (j .windows) ≡ none
-
-abbrev pub foundAxis : FirstAxis → Option ℕ
-foundAxis (At i) = some i
-foundAxis Nowhere = none
 
 -- the lowest bit of m names the axis, and a number refuses it
 unfoldable pub refusedHere : ℕ → Axis → ℕ → Bool

@@ -2,7 +2,7 @@
 use mathlib.Core.Path.{_≡_, refl, sym, ap, subst, _∙_}
 use mathlib.Core.Bool.{true, false}
 use mathlib.Core.List.{List}
-use Prim.Native.Nat.{ℕ, _+_, _<_, _≤_}
+use Prim.Native.Nat.{ℕ, suc, _+_, _<_, _≤_}
 use native.Mathlib.Numerals.{add-one}
 use native.Mathlib.Omega.{arith}
 use native.Mathlib.Decide.{decLt}
@@ -79,6 +79,10 @@ steps axes count k l i tracks u m six long e h a q = go (decLt a i) (decLt i a)
 pub comes : (o : Order) (n j : ℕ) → j ≤ n → comesTo o n j ≡ comesAt o (rowAt o n j)
 comes Forwards n j h = refl
 comes Backwards n j h = omega arith
+
+pub comes-late : (o : Order) (k : ℕ) → comesAt o k ≤ suc k
+comes-late Forwards k = omega arith
+comes-late Backwards k = omega arith
 
 pub goes-on : (o : Order) (n j : ℕ) → j ≤ n → goesOnAt o (rowAt o n j) ≡ comesTo o n (j + 1)
 goes-on Forwards n j h = sym (add-one j)
