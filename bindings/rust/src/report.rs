@@ -10,7 +10,7 @@ mod wrong_axis;
 mod wrong_pole;
 
 use polgamir::sheet::Sheet;
-use polgamir::{Arrival, Axis, Motion, Plan, Refusal, LATEST_ARRIVAL};
+use polgamir::{Arrival, Axis, AxisRaises, Limit, Motion, Plan, Raise, Refusal, LATEST_ARRIVAL};
 
 use crate::measure::{in_seconds, rounded, Measure};
 use crate::picture::scale::quantity;
@@ -72,6 +72,17 @@ impl Entry<'_> {
     fn sway_name(&self) -> String {
         self.measure.names()[0].clone()
     }
+
+    /// How far its blend looks back: an arrival has to be after so many ticks.
+    fn delay(&self) -> u32 {
+        self.axis.half_period + self.axis.second_half_period.unwrap_or(0)
+    }
+
+    /// Its half periods, as `30` or `30 + 11`.
+    fn half_periods(&self) -> String {
+        let first = self.axis.half_period.to_string();
+        self.axis.second_half_period.map_or(first.clone(), |second| format!("{first} + {second}"))
+    }
 }
 
 /// What a report tells of.
@@ -108,9 +119,9 @@ impl<'s> Report<'s> {
         Ok(Report { sheet, plan, axes, arrivals })
     }
 
-    /// A number of ticks, with its seconds where they are known.
-    fn ticks(&self, ticks: u32) -> String {
-        counted(ticks) + &in_seconds(ticks, self.sheet.tick_seconds())
+    /// Whether some axis is planned with a blend.
+    fn blends(&self) -> bool {
+        self.axes.iter().any(|entry| entry.delay() > 0)
     }
 
     /// A tick, with its seconds where they are known.
@@ -150,8 +161,10 @@ impl<'s> Report<'s> {
             (self.tick(self.plan.arrival()), format!("arrival, {asked}")),
             (self.setter(), "sets the arrival".into()),
         ];
-        if let (Some(least), Some(unblended)) = (self.arrivals.least, self.arrivals.least_unblended) {
-            cards.push((self.ticks(least.saturating_sub(unblended)), "is what the blend costs".into()));
+        if let (true, Some(cost)) = (self.blends(), cost_of(self.arrivals.least, self.arrivals.least_unblended)) {
+            let ticks = if cost.abs() == 1 { "tick" } else { "ticks" };
+            let seconds = self.sheet.tick_seconds().map(|tick| format!(" ({} s)", rounded(cost as f64 * tick)));
+            cards.push((format!("{cost} {ticks}{}", seconds.unwrap_or_default()), "is what the blend costs".into()));
         }
         for entry in &self.axes {
             for pole in entry.wrong_poles() {
@@ -159,7 +172,12 @@ impl<'s> Report<'s> {
                 let without = unblended.map(|left| format!(", without the blend {}", amount(left)));
                 cards.push((
                     format!("{} {}", amount(plan), entry.sway_name()),
-                    format!("sway left on {} if the pole is as entered{}", entry.title, without.unwrap_or_default()),
+                    format!(
+                        "{} left on {} if the pole is as entered{}",
+                        pole.swing().name(),
+                        entry.title,
+                        without.unwrap_or_default()
+                    ),
                 ));
             }
         }
@@ -171,11 +189,11 @@ impl<'s> Report<'s> {
 
     /// What sets the arrival, in short.
     fn setter(&self) -> String {
-        let setting = self.titles(self.arrivals.setting());
+        let mut setting = self.arrivals.setting(self.arrivals.found).peekable();
         match self.arrivals.least {
             _ if self.sheet.job.arrival != Arrival::Earliest => "the sheet".into(),
             Some(least) if least < self.arrivals.found => "a window".into(),
-            _ if self.arrivals.setting().next().is_some() => setting,
+            _ if setting.peek().is_some() => self.titles(setting),
             _ => "all axes together".into(),
         }
     }
@@ -222,6 +240,9 @@ impl<'s> Report<'s> {
 
     /// What is left of the sway over the errors of half period and damping, axis by axis.
     fn wrong_poles(&self) -> String {
+        if !self.blends() {
+            return html::paragraph("No axis has a half period: they are planned without a blend, for no pole.");
+        }
         let parts: Vec<String> = self
             .axes
             .iter()
@@ -235,7 +256,7 @@ impl<'s> Report<'s> {
             .collect();
         let text = "The blend cancels the sway of the pole that was entered. Here is what this table leaves, from arrival on, where the pole is \
                     another: on the left its half period, on the right how far each swing shrinks. 0 is what was entered; a plus is a true \
-                    value above it.";
+                    value above it. No swing grows, so that curves over the swing ratio end where the true ratio would be above 1.";
         let key = "<p class=\"key\"><i></i>this table<i class=\"without\"></i>the same job without the blend, at its own arrival</p>\n";
         html::paragraph(text) + key + &parts.concat()
     }
@@ -243,25 +264,24 @@ impl<'s> Report<'s> {
     /// What the blend costs in ticks.
     fn cost(&self) -> String {
         let of = |tick: Option<u32>| tick.map_or(format!("none up to {LATEST_ARRIVAL}"), |tick| tick.to_string());
-        let cost = |blended: Option<u32>, unblended: Option<u32>| match (blended, unblended) {
-            (Some(blended), Some(unblended)) => (i64::from(blended) - i64::from(unblended)).to_string(),
-            _ => "–".into(),
-        };
+        if !self.blends() {
+            return html::paragraph("No axis has a half period: there is no blend, and it costs nothing.");
+        }
+        let cost = |blended, unblended| cost_of(blended, unblended).map_or("–".into(), |cost| cost.to_string());
         let mut rows: Vec<Vec<Cell>> = Vec::new();
-        let mut line = |name: String, half_period: String, blended: Option<u32>, unblended: Option<u32>| {
-            let cells = [half_period, of(blended), of(unblended), cost(blended, unblended)];
+        let mut line = |name: String, half_periods: String, blended: Option<u32>, unblended: Option<u32>| {
+            let cells = [half_periods, of(blended), of(unblended), cost(blended, unblended)];
             rows.push(std::iter::once(Cell::Words(name)).chain(cells.map(Cell::Number)).collect());
         };
         for (entry, alone) in self.axes.iter().zip(&self.arrivals.axes) {
-            let half_period = entry.axis.half_period.to_string();
-            line(format!("{} alone", entry.title), half_period, alone.alone, alone.alone_unblended);
+            line(format!("{} alone", entry.title), entry.half_periods(), alone.alone, alone.alone_unblended);
         }
         if self.axes.len() > 1 {
             line("all together".into(), String::new(), self.arrivals.least, self.arrivals.least_unblended);
         }
-        let text = "Least arrivals, whatever the sheet asks for and whatever its windows, as entered and with half period 0 on every axis. An \
-                    axis that starts and lands at rest arrives by its half period later.";
-        let headings = ["", "half period", "with the blend", "without", "costs, ticks"];
+        let text = "Least arrivals, whatever the sheet asks for and whatever its windows, as entered and without a half period on any axis. \
+                    An axis that starts and lands at rest arrives by its half periods later.";
+        let headings = ["", "half periods", "with the blend", "without", "costs, ticks"];
         html::paragraph(text) + &html::table(&headings, &rows)
     }
 
@@ -288,26 +308,52 @@ impl<'s> Report<'s> {
         html::paragraph(&self.setter_told()) + &html::table(&headings, &rows)
     }
 
-    /// What sets the arrival, in a sentence.
+    /// What sets the arrival, in a sentence or two.
     fn setter_told(&self) -> String {
         let (found, least) = (self.arrivals.found, self.arrivals.least);
         if self.sheet.job.arrival != Arrival::Earliest {
-            let least = least
-                .map_or("there is no other".into(), |least| format!("the least that suits all axes is tick {least}"));
-            return format!("The sheet asks for tick {found}; {least}.");
+            return match least {
+                Some(least) if least == found => {
+                    format!("The sheet asks for tick {found}, the least that suits all axes, {}.", self.set_by(least))
+                }
+                Some(least) => format!(
+                    "The sheet asks for tick {found}; the least that suits all axes is tick {least}, {}.",
+                    self.set_by(least)
+                ),
+                None => format!("The sheet asks for tick {found}."),
+            };
         }
         match least {
             Some(least) if least < found => format!(
-                "Every axis can arrive at tick {least}; tick {found} is the least after it that suits all axes and fits a window with its dwell."
+                "Every axis can arrive at tick {least}, {}; tick {found} is the least after it that suits all axes and fits a window with \
+                 its dwell.{}",
+                self.set_by(least),
+                self.window_told(found - 1)
             ),
-            _ if self.arrivals.setting().next().is_some() => format!(
+            _ if self.arrivals.setting(found).next().is_some() => format!(
                 "The arrival is set by {}: tick {found} is the least that it reaches alone. Axes that could be sooner are planned to arrive with it.",
-                self.titles(self.arrivals.setting())
+                self.titles(self.arrivals.setting(found))
             ),
             _ => format!(
                 "No axis alone sets the arrival. A head that moves may reach a tick and then none for a while, and tick {found} is the first \
                  that suits all axes, later than each one's own least."
             ),
+        }
+    }
+
+    /// Which axes set the least arrival of all: those that alone reach no tick before it.
+    fn set_by(&self, least: u32) -> String {
+        match self.arrivals.setting(least).next() {
+            Some(_) => format!("set by {}", self.titles(self.arrivals.setting(least))),
+            None => "later than each one's own least".into(),
+        }
+    }
+
+    /// That a tick fits no window, where it fits none.
+    fn window_told(&self, tick: u32) -> String {
+        match self.sheet.job.windows.is_some_and(|windows| !windows.fit(tick)) {
+            true => format!(" Tick {tick} fits none."),
+            false => String::new(),
         }
     }
 
@@ -405,33 +451,32 @@ fn earlier_told(entry: &Entry, alone: &OfAxis, arrival: u32) -> String {
     match alone.earlier {
         Earlier::NoTick => "there is no tick before tick 1".into(),
         Earlier::Could => "it could".into(),
-        Earlier::CouldNot { acceleration_limit: None, speed_limit: None } if arrival - 1 <= entry.axis.half_period => {
-            format!("it could not: an arrival has to be after the half period, {}", counted(entry.axis.half_period))
+        Earlier::CouldNot(raises) if raises.first.is_none() && arrival - 1 <= entry.delay() => {
+            let name = if entry.axis.second_half_period.is_some() { "both half periods" } else { "the half period" };
+            format!("it could not: an arrival has to be after {name}, {}", counted(entry.delay()))
         }
-        Earlier::CouldNot { acceleration_limit: None, speed_limit: None } => {
+        Earlier::CouldNot(AxisRaises { first: None, .. }) => {
             "it could not, and no raise of one limit alone would do".into()
         }
-        Earlier::CouldNot { acceleration_limit, speed_limit } => {
-            let [_, speed, acceleration] = entry.measure.sizes();
-            let [_, speeds, accelerations] = entry.measure.names();
-            let raise = |name: &str, from: u32, to: Option<u32>, size: f64, measure: &str| {
-                to.map(|to| {
-                    let (to, from) = (rounded(f64::from(to) * size), rounded(f64::from(from) * size));
-                    format!("{name} limit of {to} {measure} in place of {from}")
-                })
-            };
-            let raises = [
-                raise(
-                    "an acceleration",
-                    entry.axis.acceleration_limit,
-                    acceleration_limit,
-                    acceleration,
-                    &accelerations,
-                ),
-                raise("a speed", entry.axis.speed_limit, speed_limit, speed, &speeds),
-            ];
-            let raises: Vec<String> = raises.into_iter().flatten().collect();
-            format!("it could not; it would take {}", raises.join(", or "))
+        Earlier::CouldNot(raises) => {
+            let told: Vec<String> = raises.iter().map(|raise| raise_told(entry, raise)).collect();
+            format!("it could not; it would take {}", told.join(", or "))
         }
     }
+}
+
+/// A raised limit, beside what it is.
+fn raise_told(entry: &Entry, raise: Raise) -> String {
+    let ([_, speed, acceleration], [_, speeds, accelerations]) = (entry.measure.sizes(), entry.measure.names());
+    let (name, from, size, measure) = match raise.limit {
+        Limit::Acceleration => ("an acceleration", entry.axis.acceleration_limit, acceleration, accelerations),
+        Limit::Speed => ("a speed", entry.axis.speed_limit, speed, speeds),
+    };
+    let shown = |limit: u32| rounded(f64::from(limit) * size);
+    format!("{name} limit of {} {measure} in place of {}", shown(raise.raised(entry.axis)), shown(from))
+}
+
+/// What the blend costs in ticks; fewer than none where a head that moves arrives sooner with it.
+fn cost_of(blended: Option<u32>, unblended: Option<u32>) -> Option<i64> {
+    Some(i64::from(blended?) - i64::from(unblended?))
 }

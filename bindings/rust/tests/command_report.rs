@@ -36,8 +36,17 @@ fn row(page: &str, first: &str) -> Vec<String> {
     cells(page).into_iter().find(|row| row[0] == first).unwrap_or_else(|| panic!("no row {first}"))
 }
 
-const SHEETS: [&str; 7] =
-    ["pan-tilt-stem", "case-c", "six-axes", "common-arrival", "cable-carriage", "damped-carriage", "laser-windows"];
+const SHEETS: [&str; 9] = [
+    "pan-tilt-stem",
+    "case-c",
+    "six-axes",
+    "common-arrival",
+    "cable-carriage",
+    "damped-carriage",
+    "laser-windows",
+    "jointed-pole",
+    "long-rail",
+];
 
 /// A page stands alone: it fetches nothing, runs nothing, and every tag is closed.
 #[test]
@@ -112,18 +121,39 @@ fn arrivals_are_the_planner_s() {
 #[test]
 fn what_sets_the_arrival_is_told() {
     for (name, text) in [
-        ("common-arrival", "The sheet asks for tick 39; the least that suits all axes is tick 39."),
+        ("common-arrival", "The sheet asks for tick 39, the least that suits all axes, set by axis 0 pan."),
         (
             "laser-windows",
-            "Every axis can arrive at tick 110; tick 150 is the least after it that suits all axes and fits a window",
+            "Every axis can arrive at tick 110, set by axis 0 pan; tick 150 is the least after it that suits all axes and fits a window with \
+             its dwell. Tick 149 fits none.",
         ),
-        ("case-c", "The sheet asks for tick 4; the least that suits all axes is tick 2."),
+        ("case-c", "The sheet asks for tick 4; the least that suits all axes is tick 2, set by axis 0."),
     ] {
         assert!(report(name).contains(text), "{name}");
     }
     let soon = changed_case_c("arrival 4", "arrival earliest").replace("target position      1", "target position 0");
     let (page, _) = printed(&run_with(&["report", "-o", "-", "-"], soon.as_bytes()));
     assert!(page.contains("there is no tick before tick 1"), "{page}");
+    // An axis that stays where it is arrives right after its half periods.
+    let blended = soon.replace("half period          0", "half period 3\nsecond half period 2");
+    let (page, _) = printed(&run_with(&["report", "-o", "-", "-"], blended.as_bytes()));
+    assert_eq!(row(&page, "axis 0 alone")[1..], ["3 + 2", "6", "1", "5"]);
+    assert!(page.contains("it could not: an arrival has to be after both half periods, 5 ticks"), "{page}");
+}
+
+/// Each sway of a pole with a joint is told under its own name, and a job without a pole has no chart and no cost.
+#[test]
+fn sways_are_told_apart() {
+    let page = report("jointed-pole");
+    for name in ["sway left on axis 0 pan if", "second sway left on axis 0 pan if", "second sway left, units"] {
+        assert!(page.contains(name), "{name}");
+    }
+    assert_eq!(row(&page, "second half period").len(), 12);
+    for name in ["case-c", "common-arrival"] {
+        let page = report(name);
+        assert!(page.contains("No axis has a half period: there is no blend, and it costs nothing."), "{name}");
+        assert!(!page.contains("this table<") && !page.contains("is what the blend costs"), "{name}");
+    }
 }
 
 /// Limits and misses are those of the cells.

@@ -5,10 +5,10 @@ use super::svg::{stroke, Anchor, Drawing, Stroke, Type};
 use super::sway::Point;
 
 /// The width of a chart.
-const WIDTH: f64 = 460.0;
+const WIDTH: f64 = 400.0;
 
 /// The height of its plot.
-const HEIGHT: f64 = 190.0;
+const HEIGHT: f64 = 170.0;
 
 /// The room above the plot for the name of the values, and below it for the errors and their name.
 const ABOVE: f64 = 24.0;

@@ -1,6 +1,6 @@
 //! What the planner says of the arrivals around that of a job: of each axis alone, without the blend, and one tick earlier.
 
-use polgamir::{Arrival, Axis, Job};
+use polgamir::{Arrival, Axis, AxisRaises, Job};
 
 use crate::picture::without_blend;
 
@@ -35,13 +35,8 @@ pub enum Earlier {
     NoTick,
     /// It could.
     Could,
-    /// It could not. Each limit alone would have to be so much, or however much it is raised the tick stays out of reach.
-    CouldNot {
-        /// The acceleration limit that would do.
-        acceleration_limit: Option<u32>,
-        /// The speed limit that would do.
-        speed_limit: Option<u32>,
-    },
+    /// It could not; with the raises of one limit alone for which it could, the smaller first.
+    CouldNot(AxisRaises),
 }
 
 impl Arrivals {
@@ -66,50 +61,28 @@ impl Arrivals {
         }
     }
 
-    /// The axes whose own least arrival is that of the job.
-    pub fn setting(&self) -> impl Iterator<Item = usize> + '_ {
-        self.axes.iter().filter(|axis| axis.alone == Some(self.found)).map(|axis| axis.number)
+    /// The axes whose own least arrival is a tick.
+    pub fn setting(&self, tick: u32) -> impl Iterator<Item = usize> + '_ {
+        self.axes.iter().filter(move |axis| axis.alone == Some(tick)).map(|axis| axis.number)
     }
 }
 
-/// Whether an axis reaches a tick, and if not, by which limits it would.
+/// Whether an axis reaches a tick, and if not, by which raises it would: the planner's answer to the axis alone.
 fn earlier(number: usize, axis: &Axis, tick: u32) -> Earlier {
-    let reaches = |axis: Axis| Job::arriving_at(tick).with_axis(number, axis).arrival_found().is_ok();
     if tick == 0 {
         return Earlier::NoTick;
     }
-    if reaches(*axis) {
-        return Earlier::Could;
+    let raises = Job::arriving_at(tick).with_axis(number, *axis).raises();
+    match raises.arrival() {
+        Ok(_) => Earlier::Could,
+        Err(_) => Earlier::CouldNot(raises.of_axis(number)),
     }
-    Earlier::CouldNot {
-        acceleration_limit: least_that(axis.acceleration_limit, 65_536, |acceleration_limit| {
-            reaches(Axis { acceleration_limit, ..*axis })
-        }),
-        speed_limit: least_that(axis.speed_limit, 1_048_576, |speed_limit| reaches(Axis { speed_limit, ..*axis })),
-    }
-}
-
-/// The least number above one that does not do, up to a greatest, that does. A limit that is raised keeps every way there was, so
-/// that what a limit does, every greater one does.
-fn least_that(does_not: u32, greatest: u32, does: impl Fn(u32) -> bool) -> Option<u32> {
-    if does_not >= greatest || !does(greatest) {
-        return None;
-    }
-    let (mut below, mut enough) = (does_not, greatest);
-    while enough - below > 1 {
-        let middle = below + (enough - below) / 2;
-        match does(middle) {
-            true => enough = middle,
-            false => below = middle,
-        }
-    }
-    Some(enough)
 }
 
 #[cfg(test)]
 mod tests {
     use super::*;
-    use polgamir::{Damping, RestPoint, Target};
+    use polgamir::{Damping, Limit, Raise, RestPoint, Target};
 
     fn axis(speed_limit: u32, acceleration_limit: u32, velocity: i64, target: i64) -> Axis {
         let start = RestPoint { position: 0, velocity };
@@ -124,32 +97,34 @@ mod tests {
         }
     }
 
-    fn could_not(acceleration_limit: Option<u32>, speed_limit: Option<u32>) -> Earlier {
-        Earlier::CouldNot { acceleration_limit, speed_limit }
+    fn could_not(raises: &[(Limit, u32)]) -> Earlier {
+        let raise = |index: usize| raises.get(index).map(|&(limit, by)| Raise { limit, by });
+        Earlier::CouldNot(AxisRaises { first: raise(0), second: raise(1) })
     }
 
-    /// The least limits that make a tick: case E by one more of acceleration, and two more by either limit.
+    /// The raises that make a tick, by hand: case E by one more of acceleration; then by either limit, the smaller raise first.
     #[test]
-    fn limits_that_would_do() {
-        assert_eq!(earlier(0, &axis(10, 1, 0, 4), 3), could_not(Some(2), None));
-        assert_eq!(earlier(0, &axis(2, 1, 0, 9), 6), could_not(Some(2), Some(3)));
-        assert_eq!(earlier(0, &axis(3, 1, 2, 22), 8), could_not(Some(3), Some(4)));
+    fn raises_that_would_do() {
+        use Limit::{Acceleration, Speed};
+        assert_eq!(earlier(0, &axis(10, 1, 0, 4), 3), could_not(&[(Acceleration, 1)]));
+        assert_eq!(earlier(0, &axis(2, 1, 0, 9), 6), could_not(&[(Acceleration, 1), (Speed, 1)]));
+        assert_eq!(earlier(0, &axis(3, 1, 2, 22), 8), could_not(&[(Speed, 1), (Acceleration, 2)]));
         let blended = Axis { half_period: 3, ..axis(10, 1, 0, 4) };
-        assert_eq!(earlier(0, &blended, 3), could_not(None, None));
+        assert_eq!(earlier(0, &blended, 3), could_not(&[]));
         assert_eq!(
             (earlier(0, &axis(10, 1, 0, 4), 4), earlier(0, &axis(10, 1, 0, 4), 0)),
             (Earlier::Could, Earlier::NoTick)
         );
     }
 
-    /// Case G with its first axis asked to be where it flies: alone they arrive at other ticks than together.
+    /// One axis twice, the second time on a pole of half period 2, by which it arrives later.
     #[test]
     fn arrivals_alone_and_together() {
         let slow = axis(10, 1, 0, 4);
         let job = Job::earliest().with_axis(0, slow).with_axis(3, Axis { half_period: 2, ..slow });
         let arrivals = Arrivals::of(&job, job.arrival_found().expect("a plan"));
         assert_eq!((arrivals.found, arrivals.least, arrivals.least_unblended), (6, Some(6), Some(4)));
-        assert_eq!(arrivals.setting().collect::<Vec<_>>(), [3]);
+        assert_eq!(arrivals.setting(6).collect::<Vec<_>>(), [3]);
         assert_eq!((arrivals.axes[0].alone, arrivals.axes[1].alone_unblended), (Some(4), Some(4)));
     }
 }

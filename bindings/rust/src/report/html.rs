@@ -13,7 +13,7 @@ h2 { font-size: 19px; margin: 36px 0 8px; padding-top: 14px; border-top: 1px sol
 h3 { font-size: 15.5px; margin: 22px 0 6px; }
 p { margin: 8px 0; max-width: 78ch; }
 .sub { color: #57606A; margin: 0 0 18px; }
-.cards { display: grid; grid-template-columns: repeat(auto-fit, minmax(180px, 1fr)); gap: 12px; margin: 18px 0 6px; }
+.cards { display: grid; grid-template-columns: repeat(auto-fit, minmax(150px, 1fr)); gap: 12px; margin: 18px 0 6px; }
 .card { border: 1px solid #D0D7DE; border-radius: 6px; padding: 10px 14px; }
 .card b { display: block; font-size: 20px; line-height: 1.3; font-variant-numeric: tabular-nums; }
 .card span { color: #57606A; font-size: 13px; }

@@ -55,7 +55,7 @@ fn chart_of_half_period(entry: &Entry, pole: &WrongPole) -> Chart {
             counted(pole.half_period())
         ),
         suffix: "%",
-        upward: format!("sway left, {}", entry.sway_name()),
+        upward: format!("{} left, {}", pole.swing().name(), entry.sway_name()),
         range: (over[0].0, over[over.len() - 1].0),
         curves: strokes(&over),
     }
@@ -65,10 +65,10 @@ fn chart_of_half_period(entry: &Entry, pole: &WrongPole) -> Chart {
 fn chart_of_damping(entry: &Entry, pole: &WrongPole) -> Chart {
     let over = pole.over_ratios();
     Chart {
-        title: format!("{}: sway left over the error of the damping", entry.title),
+        title: format!("{}: {} left over the error of the damping", entry.title, pole.swing().name()),
         across: format!("true swing ratio, above or below the entered {}", rounded_ratio(pole.ratio())),
         suffix: "",
-        upward: format!("sway left, {}", entry.sway_name()),
+        upward: format!("{} left, {}", pole.swing().name(), entry.sway_name()),
         range: (over[0].0, over[over.len() - 1].0),
         curves: strokes(&over),
     }
@@ -93,7 +93,7 @@ fn percents_table(entry: &Entry, pole: &WrongPole) -> String {
     let mut errors: Vec<(String, Left)> =
         TOLD_PERCENTS.iter().map(|&percent| (format!("{}%", signed(percent)), pole.at_percent(percent))).collect();
     errors.insert(TOLD_PERCENTS.len() / 2, ("0".into(), pole.left()));
-    left_table(entry, "half period", &errors)
+    left_table(entry, pole.swing().half_period_name(), &errors)
 }
 
 /// What is left at some errors of the swing ratio.
