@@ -147,10 +147,11 @@ fn remedy(sheet: &Sheet, refusal: &Refusal) -> String {
                 "enter 1 to {MOST_WINDOWS} windows in the order of their ticks, and a dwell from 0 to {LONGEST_DWELL}"
             )
         }
-        Refusal::NotReachable { axes } | Refusal::NoCommonArrival { axes }
-            if axes.is_empty() && sheet.job.windows.is_some() =>
-        {
+        Refusal::NotReachable { axes } if axes.is_empty() && sheet.job.windows.is_some() => {
             "ask for another tick, or look whether the site permits other windows or a shorter dwell does".into()
+        }
+        Refusal::NoCommonArrival { axes } if axes.is_empty() && sheet.job.windows.is_some() => {
+            "look whether the site permits other windows or a shorter dwell does, or change limits or targets".into()
         }
         Refusal::NotReachable { .. } if least_arrival(sheet).is_some() => {
             "ask for such a tick or for the earliest, or raise limits as far as the motors allow".into()
