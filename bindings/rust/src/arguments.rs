@@ -20,7 +20,7 @@ Usage:
   polgamir convert [--bytes] [-o FILE] JOB
   polgamir tour  [--tables] [--plain | --units] [-o FILE] TOUR
   polgamir plot  -o FILE.svg JOB | TOUR
-  polgamir report -o FILE.html JOB
+  polgamir report -o FILE.html JOB | TOUR
   polgamir --help | --version
 
 plan    Plans a job. Prints the arrival, then the table: for each tick and each axis the position, velocity and
@@ -53,7 +53,7 @@ plot    Draws the plan: position, velocity, acceleration with their limits and t
 report  Writes one HTML page that opens in any browser, without a network: the sheet as entered, the answer, the
         pictures, how much sway is left where half period or damping was measured wrongly, what the blend costs,
         what sets the arrival and why it is not one tick earlier, how near each axis is to its limits, and the
-        worst carry miss.
+        worst carry miss. Of a tour it tells the same of all legs together.
 
 A JOB is a set-up sheet, which docs/SHEET.md describes, or a file of job words. A TOUR is a sheet with stops. `-` in
 place of a file to read is standard input. `-o FILE` writes to a file, `-o -` to standard output; a refusal is
@@ -91,8 +91,8 @@ pub enum Task {
     Tour { sheet: PathBuf, form: TableForm, tables: bool },
     /// Draw the plan of a job or a tour.
     Plot { setup: PathBuf },
-    /// Write the report of a job.
-    Report { job: PathBuf },
+    /// Write the report of a job or of a tour.
+    Report { setup: PathBuf },
 }
 
 /// How a table is printed.
@@ -300,7 +300,7 @@ impl Rest {
 
     fn report(&mut self) -> Result<Task, Usage> {
         match self.output {
-            Some(_) => Ok(Task::Report { job: self.file("sheet")? }),
+            Some(_) => Ok(Task::Report { setup: self.file("sheet")? }),
             None => Err(Usage("expected `-o FILE.html` for the report, or `-o -` for standard output".into())),
         }
     }

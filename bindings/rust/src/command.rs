@@ -107,7 +107,7 @@ fn done(task: &Task) -> Result<Done, FileError> {
             Ok(tour::planned(&sheet, *form, *tables))
         }
         Task::Plot { setup } => plot(setup),
-        Task::Report { job } => report(job),
+        Task::Report { setup } => report(setup),
     }
 }
 
@@ -200,13 +200,21 @@ fn show(file: &Path, bytes: Option<bool>) -> Result<Done, FileError> {
     Ok(Done::well(Sheet::from(job).to_string()))
 }
 
-/// Writes the report of a job.
+/// Writes the report of a job or of a tour.
 fn report(file: &Path) -> Result<Done, FileError> {
     let content = files::read(file)?;
-    let sheet = content::job_of(&content).map_err(|cause| about(file, cause))?;
-    let entered = content::sheet_text(&content, &sheet);
-    let page = report::written(&title_of(file), &entered, &sheet);
-    Ok(page.map_err(|refusal| refusal::explained(&sheet, &refusal)).map_or_else(Done::refused, Done::well))
+    let setup = content::setup_of(&content).map_err(|cause| about(file, cause))?;
+    let (title, entered) = (title_of(file), content::sheet_text(&content, &setup));
+    let page = match &setup {
+        Setup::Job(sheet) => {
+            report::written(&title, &entered, sheet).map_err(|refusal| refusal::explained(sheet, &refusal))
+        }
+        Setup::Tour(sheet) => {
+            let page = report::written_of_tour(&title, &entered, sheet);
+            page.map_err(|refusal| refusal::explained_tour(sheet, &refusal))
+        }
+    };
+    Ok(page.map_or_else(Done::refused, Done::well))
 }
 
 /// The title of what a file holds: its name without its ending.

@@ -22,7 +22,7 @@ use scale::quantity;
 use svg::{colour, stroke, Stroke};
 use sway::{Point, Pole};
 
-pub use tour::draw_tour;
+pub use tour::{draw_tour, draw_tour_parts};
 
 /// The width of the plots of a picture with one axis that is a part of a page.
 const PART_WIDTH: f64 = 640.0;

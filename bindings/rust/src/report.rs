@@ -1,4 +1,4 @@
-//! The report of a plan: one HTML page with the sheet as entered, the answer, the pictures, and what a maker asks first.
+//! The report of a plan, or of a tour: one HTML page with the sheet as entered, the answer, the pictures, and what a maker asks first.
 //!
 //! Arrivals and raises are the planner's own answers, limits and misses are read off the table, and the sway is that of
 //! `picture::sway`, which is tested against the oscillator's closed form.
@@ -6,6 +6,7 @@
 mod arrivals;
 mod html;
 mod rows;
+mod tour;
 mod wrong_axis;
 mod wrong_pole;
 
@@ -14,12 +15,13 @@ use polgamir::{Arrival, Axis, AxisRaises, Limit, Motion, Plan, Raise, Refusal, L
 
 use crate::measure::{in_seconds, rounded, Measure};
 use crate::picture::scale::quantity;
-use crate::picture::sway::Swing;
 use crate::picture::{self, without_blend, Planned};
 use arrivals::{Arrivals, Earlier, OfAxis};
 use html::Cell;
 use rows::{Miss, Nearest};
 use wrong_pole::{Left, WrongPole};
+
+pub use tour::written as written_of_tour;
 
 /// The report of a sheet whose text is as entered; job words have the sheet that stands for them.
 pub fn written(title: &str, entered: &str, sheet: &Sheet) -> Result<String, Refusal> {
@@ -49,6 +51,10 @@ const METHOD: &str = "Arrival and table are those of the proved planner, which l
     named, at rest at tick 0, follows each row's acceleration until the next row, by the exact solution for a constant acceleration; nothing is \
     approximated but by double-precision floats. Left is the greatest distance, from arrival on, from where the pole comes to rest.";
 
+/// What a carry miss is.
+const CARRIED: &str = "A row that is carried on by one tick, to position + velocity + acceleration / 2 and velocity + acceleration, misses the \
+    next row by at most 3/2 fine steps of 1/256 unit; this is proved of every table.";
+
 /// An axis of the report.
 struct Entry<'s> {
     number: usize,
@@ -64,8 +70,7 @@ struct Entry<'s> {
 impl Entry<'_> {
     /// The swings of its pole, for what is left of each; none where the axis has no half period.
     fn wrong_poles(&self) -> Vec<WrongPole<'_>> {
-        let swings = Swing::of(self.axis).into_iter();
-        swings.map(|swing| WrongPole::new(swing, &self.accelerations, self.unblended.as_deref())).collect()
+        WrongPole::all_of(&[self])
     }
 
     /// The measure of a sway.
@@ -141,13 +146,7 @@ impl<'s> Report<'s> {
 
     /// The line below the title.
     fn headline(&self) -> String {
-        let axes = match self.axes.len() {
-            1 => "1 axis".into(),
-            count => format!("{count} axes"),
-        };
-        let seconds = self.sheet.tick_seconds().map(|tick| format!("; a tick is {} s", rounded(tick)));
-        let version = env!("CARGO_PKG_VERSION");
-        format!("Motion table of {axes}, planned by polgamir {version}{}", seconds.unwrap_or_default())
+        format!("Motion table of {}", planned_by(self.axes.len(), self.sheet.tick_seconds()))
     }
 
     /// What is read first.
@@ -162,28 +161,13 @@ impl<'s> Report<'s> {
             (self.setter(), "sets the arrival".into()),
         ];
         if let (true, Some(cost)) = (self.blends(), cost_of(self.arrivals.least, self.arrivals.least_unblended)) {
-            let ticks = if cost.abs() == 1 { "tick" } else { "ticks" };
-            let seconds = self.sheet.tick_seconds().map(|tick| format!(" ({} s)", rounded(cost as f64 * tick)));
-            cards.push((format!("{cost} {ticks}{}", seconds.unwrap_or_default()), "is what the blend costs".into()));
+            cards.push((cost_told(cost, self.sheet.tick_seconds()), "is what the blend costs".into()));
         }
         for entry in &self.axes {
-            for pole in entry.wrong_poles() {
-                let Left { plan, unblended } = pole.left();
-                let without = unblended.map(|left| format!(", without the blend {}", amount(left)));
-                cards.push((
-                    format!("{} {}", amount(plan), entry.sway_name()),
-                    format!(
-                        "{} left on {} if the pole is as entered{}",
-                        pole.swing().name(),
-                        entry.title,
-                        without.unwrap_or_default()
-                    ),
-                ));
-            }
+            cards.extend(entry.wrong_poles().iter().map(|pole| left_card(entry, pole)));
         }
         let worst = self.axes.iter().flat_map(|entry| rows::worst_misses(&entry.rows)).map(|miss| miss.halves).max();
-        let name = if worst == Some(2) || worst == Some(1) { "fine step" } else { "fine steps" };
-        cards.push((format!("{} {name}", halves(worst.unwrap_or(0))), "worst carry miss, of 3/2 at most".into()));
+        cards.push((fine_steps(worst.unwrap_or(0)), "worst carry miss, of 3/2 at most".into()));
         cards
     }
 
@@ -240,25 +224,8 @@ impl<'s> Report<'s> {
 
     /// What is left of the sway over the errors of half period and damping, axis by axis.
     fn wrong_poles(&self) -> String {
-        if !self.blends() {
-            return html::paragraph("No axis has a half period: they are planned without a blend, for no pole.");
-        }
-        let parts: Vec<String> = self
-            .axes
-            .iter()
-            .map(|entry| match entry.wrong_poles() {
-                poles if !poles.is_empty() => wrong_axis::of_axis(entry, &poles),
-                _ => {
-                    html::heading(&entry.title)
-                        + &html::paragraph("This axis has half period 0: it is planned without a blend, for no pole.")
-                }
-            })
-            .collect();
-        let text = "The blend cancels the sway of the pole that was entered. Here is what this table leaves, from arrival on, where the pole is \
-                    another: on the left its half period, on the right how far each swing shrinks. 0 is what was entered; a plus is a true \
-                    value above it. No swing grows, so that curves over the swing ratio end where the true ratio would be above 1.";
-        let key = "<p class=\"key\"><i></i>this table<i class=\"without\"></i>the same job without the blend, at its own arrival</p>\n";
-        html::paragraph(text) + key + &parts.concat()
+        let axes: Vec<(&Entry, Vec<WrongPole>)> = self.axes.iter().map(|entry| (entry, entry.wrong_poles())).collect();
+        wrong_axis::of_axes(&axes)
     }
 
     /// What the blend costs in ticks.
@@ -389,11 +356,41 @@ impl<'s> Report<'s> {
                 std::iter::once(Cell::Words(entry.title.clone())).chain(cells.map(Cell::Number)).collect()
             })
             .collect();
-        let text = "A row that is carried on by one tick, to position + velocity + acceleration / 2 and velocity + acceleration, misses the next \
-                    row by at most 3/2 fine steps of 1/256 unit; this is proved of every table. Of this table the worst misses are:";
+        let text = format!("{CARRIED} Of this table the worst misses are:");
         let headings = ["axis", "position, fine steps", "from row", "velocity, fine steps", "from row"];
-        html::paragraph(text) + &html::table(&headings, &rows)
+        html::paragraph(&text) + &html::table(&headings, &rows)
     }
+}
+
+/// How many axes were planned, and by what.
+fn planned_by(axes: usize, tick: Option<f64>) -> String {
+    let axes = match axes {
+        1 => "1 axis".into(),
+        count => format!("{count} axes"),
+    };
+    let seconds = tick.map(|tick| format!("; a tick is {} s", rounded(tick)));
+    format!("{axes}, planned by polgamir {}{}", env!("CARGO_PKG_VERSION"), seconds.unwrap_or_default())
+}
+
+/// What the blend costs, with its seconds where they are known.
+fn cost_told(cost: i64, tick: Option<f64>) -> String {
+    let ticks = if cost.abs() == 1 { "tick" } else { "ticks" };
+    let seconds = tick.map(|tick| format!(" ({} s)", rounded(cost as f64 * tick)));
+    format!("{cost} {ticks}{}", seconds.unwrap_or_default())
+}
+
+/// What is left of a sway on the pole that was entered.
+fn left_card(entry: &Entry, pole: &WrongPole) -> (String, String) {
+    let Left { plan, unblended } = pole.left();
+    let without = unblended.map(|left| format!(", without the blend {}", amount(left))).unwrap_or_default();
+    let left = format!("{} left on {} if the pole is as entered{without}", pole.swing().name(), entry.title);
+    (format!("{} {}", amount(plan), entry.sway_name()), left)
+}
+
+/// Half fine steps as a number of fine steps with its name.
+fn fine_steps(halves_of_steps: i64) -> String {
+    let name = if (1..=2).contains(&halves_of_steps) { "fine step" } else { "fine steps" };
+    format!("{} {name}", halves(halves_of_steps))
 }
 
 /// A number of ticks.

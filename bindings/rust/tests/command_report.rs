@@ -5,7 +5,7 @@ mod common;
 use std::fs;
 use std::path::Path;
 
-use common::command::{changed_case_c, folder, printed, run, run_with, scratch, sheet, told};
+use common::command::{changed_case_c, folder, printed, run, run_with, scratch, sheet};
 use polgamir::sheet::Sheet;
 use polgamir::Motion;
 
@@ -36,7 +36,7 @@ fn row(page: &str, first: &str) -> Vec<String> {
     cells(page).into_iter().find(|row| row[0] == first).unwrap_or_else(|| panic!("no row {first}"))
 }
 
-const SHEETS: [&str; 9] = [
+const SHEETS: [&str; 10] = [
     "pan-tilt-stem",
     "case-c",
     "six-axes",
@@ -46,6 +46,7 @@ const SHEETS: [&str; 9] = [
     "laser-windows",
     "jointed-pole",
     "long-rail",
+    "plot-of-stems",
 ];
 
 /// A page stands alone: it fetches nothing, runs nothing, and every tag is closed.
@@ -208,8 +209,44 @@ fn ticks_and_units_scale_a_report() {
 #[test]
 fn a_refused_job_has_no_report() {
     let file = scratch("too-soon.html");
+    let _ = fs::remove_file(&file);
     let (text, status) = printed(&run(&["report", &sheet("too-soon"), "-o", &file]));
     assert!(status == Some(1) && text.starts_with("refused 8 "), "{text}");
     assert!(!Path::new(&file).exists());
-    assert!(told(&run(&["report", &sheet("plot-of-stems"), "-o", &file])).contains("expected a job, found a tour"));
+    let text = fs::read_to_string(sheet("plot-of-stems")).expect("a sheet").replace("stop  3900", "stop  3000000000");
+    let (text, status) = printed(&run_with(&["report", "-", "-o", &file], text.as_bytes()));
+    assert!(status == Some(1) && text.starts_with("refused 9 place 2 "), "{text}");
+    assert!(!Path::new(&file).exists());
+}
+
+/// The report of a tour over the stops 4 and 0 on one axis: each leg is case B or its mirror image, of four ticks, and by half periods
+/// longer; a tick earlier takes one more of acceleration, as case E does.
+#[test]
+fn a_tour_is_told_by_its_legs() {
+    let tour = |half_period: &str| {
+        let text = format!(
+            "tick 0.5\naxis 1 pan\nhalf period {half_period}\nweight 128\nspeed limit 10\nacceleration limit 1\nstart position 0\n\
+             stop 4 dwell 3\nstop 0 dwell 5\n"
+        );
+        let (page, status) = printed(&run_with(&["report", "-o", "-", "-"], text.as_bytes()));
+        assert_eq!(status, Some(0), "{page}");
+        page
+    };
+    let page = tour("0");
+    assert!(page.contains("<b>16 ticks (8 s)</b>") && page.contains("stop 4 dwell 3\nstop 0 dwell 5"), "{page}");
+    let of_length = |count: usize| cells(&page).into_iter().filter(move |row| row.len() == count).skip(1);
+    let answer: Vec<Vec<String>> = of_length(6).collect();
+    assert_eq!(answer, [["0", "4", "4", "3", "7", "4"], ["1", "4", "11", "5", "16", "0"]]);
+    assert_eq!(row(&page, "axis 1 pan, acceleration")[1..], ["100 %", "4", "4", "units/s²", "0", "8", "0"]);
+    assert_eq!(row(&page, "axis 1 pan")[1..], ["0", "–", "–", "0", "–", "–"]);
+    let earlier = "it could not; it would take an acceleration limit of 8 units/s² in place of 4";
+    let set: Vec<Vec<String>> = of_length(4).collect();
+    assert_eq!(set, [["0", "4", "axis 1 pan", earlier], ["1", "4", "axis 1 pan", earlier]]);
+
+    let page = tour("3");
+    assert!(page.contains("<b>22 ticks (11 s)</b>") && page.contains("<b>6 ticks (3 s)</b>"), "{page}");
+    assert_eq!(row(&page, "leg to stop 1")[1..], ["7", "4", "3"]);
+    assert_eq!(row(&page, "all legs")[1..], ["14", "8", "6"]);
+    let left = row(&page, "the worst leg, units");
+    assert!(left[6] == "0" && left[1] != "0" && left[11] != "0", "{left:?}");
 }

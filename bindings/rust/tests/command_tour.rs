@@ -122,7 +122,7 @@ fn wrong_tours_are_told_with_their_line() {
 #[test]
 fn jobs_and_tours_are_told_apart() {
     let expected =
-        "polgamir: standard input: expected a job, found a tour: `polgamir tour` plans it, `polgamir plot` draws it\n";
+        "polgamir: standard input: expected a job, found a tour: `polgamir tour` plans it, `polgamir plot` and `polgamir report` show it\n";
     for command in ["plan", "words"] {
         assert_eq!(told(&run_with(&[command, "-"], TOUR.as_bytes())), expected);
     }

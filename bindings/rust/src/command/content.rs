@@ -71,16 +71,17 @@ pub fn job_of(content: &[u8]) -> Result<Sheet, String> {
     match setup_of(content)? {
         Setup::Job(sheet) => Ok(sheet),
         Setup::Tour(_) => {
-            Err("expected a job, found a tour: `polgamir tour` plans it, `polgamir plot` draws it".into())
+            Err("expected a job, found a tour: `polgamir tour` plans it, `polgamir plot` and `polgamir report` show it"
+                .into())
         }
     }
 }
 
 /// The text of a content's sheet as it was entered, or the sheet that stands for job words.
-pub fn sheet_text(content: &[u8], sheet: &Sheet) -> String {
-    match (Form::of(content), text_of(content)) {
-        (Form::Text, Ok(text)) => text.into(),
-        _ => format!("# The sheet of job words.\n{sheet}"),
+pub fn sheet_text(content: &[u8], setup: &Setup) -> String {
+    match (setup, Form::of(content), text_of(content)) {
+        (Setup::Job(sheet), Form::Bytes | Form::Hexadecimal, _) => format!("# The sheet of job words.\n{sheet}"),
+        (_, _, text) => text.unwrap_or_default().into(),
     }
 }
 

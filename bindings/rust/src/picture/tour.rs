@@ -12,8 +12,9 @@ use super::sway::{Point, Pole};
 use super::{pole_of, tick_name, Planned, SECOND};
 use crate::measure::{in_seconds, Measure};
 
-/// The width of a timeline's plots.
+/// The width of a timeline's plots, and where it is a part of a page.
 const WIDTH: f64 = 900.0;
+const PART_WIDTH: f64 = 800.0;
 
 /// What a timeline shows.
 const CAPTION: &str =
@@ -30,6 +31,17 @@ fn caption(sheet: &TourSheet) -> String {
 
 /// Draws the timeline of a tour.
 pub fn draw_tour(title: &str, sheet: &TourSheet) -> Result<String, TourRefusal> {
+    Ok(page_of(title, sheet)?.draw())
+}
+
+/// Draws the timeline of a tour axis by axis, each as a part of a page.
+pub fn draw_tour_parts(title: &str, sheet: &TourSheet) -> Result<Vec<String>, TourRefusal> {
+    let parts = page_of(title, sheet)?.of_each_axis((1, PART_WIDTH));
+    Ok(parts.iter().enumerate().map(|(index, part)| part.draw_part(&format!("plan{index}"))).collect())
+}
+
+/// The page of a tour's timeline.
+fn page_of(title: &str, sheet: &TourSheet) -> Result<Page, TourRefusal> {
     let schedule = sheet.tour.schedule(&sheet.stops)?;
     let legs = legs_of(sheet)?;
     let stays = stays_of(sheet, &schedule);
@@ -38,7 +50,7 @@ pub fn draw_tour(title: &str, sheet: &TourSheet) -> Result<String, TourRefusal> 
         let panels = way.panels(&stays, &Measure::of_tour(sheet, number));
         Stack { title: sheet.axis_title(number), pole: pole_of(&way.axis), panels }
     });
-    let page = Page {
+    Ok(Page {
         title: format!(
             "{title}: {} stops in {} ticks{}",
             sheet.stops.len(),
@@ -56,8 +68,7 @@ pub fn draw_tour(title: &str, sheet: &TourSheet) -> Result<String, TourRefusal> 
         ],
         caption: caption(sheet),
         time: timeline(&stays, schedule.total, sheet.tick_seconds()),
-    };
-    Ok(page.draw())
+    })
 }
 
 /// A leg of a tour: its job and its plan.

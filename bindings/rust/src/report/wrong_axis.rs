@@ -6,8 +6,31 @@ use super::{amount, counted, Entry};
 use crate::picture::chart::Chart;
 use crate::picture::svg::{stroke, Stroke};
 
+/// What is left over the errors of half period and damping, axis by axis.
+pub fn of_axes(axes: &[(&Entry, Vec<WrongPole>)]) -> String {
+    let Some(first) = axes.iter().flat_map(|(_, poles)| poles).next() else {
+        return html::paragraph("No axis has a half period: they are planned without a blend, for no pole.");
+    };
+    let text = format!(
+        "The blend cancels the sway of the pole that was entered. Here is what {} leaves, from arrival on, where the pole is another: on the \
+         left its half period, on the right how far each swing shrinks. 0 is what was entered; a plus is a true value above it. No swing \
+         grows, so that curves over the swing ratio end where the true ratio would be above 1.",
+        first.tables_name()
+    );
+    let key = format!(
+        "<p class=\"key\"><i></i>{}<i class=\"without\"></i>the same without the blend, at its own arrival</p>\n",
+        first.tables_name()
+    );
+    let parts: String = axes.iter().map(|(entry, poles)| of_axis(entry, poles)).collect();
+    html::paragraph(&text) + &key + &parts
+}
+
 /// The charts and the numbers of one axis, for each swing of its pole.
-pub fn of_axis(entry: &Entry, poles: &[WrongPole]) -> String {
+fn of_axis(entry: &Entry, poles: &[WrongPole]) -> String {
+    if poles.is_empty() {
+        let text = "This axis has half period 0: it is planned without a blend, for no pole.";
+        return html::heading(&entry.title) + &html::paragraph(text);
+    }
     poles.iter().enumerate().map(|(index, pole)| of_swing(entry, pole, index)).collect()
 }
 
@@ -75,13 +98,13 @@ fn chart_of_damping(entry: &Entry, pole: &WrongPole) -> Chart {
 }
 
 /// A table of what is left at some errors: a line for the plan, and one without the blend.
-fn left_table(entry: &Entry, name: &str, errors: &[(String, Left)]) -> String {
+fn left_table(entry: &Entry, pole: &WrongPole, name: &str, errors: &[(String, Left)]) -> String {
     let line = |what: String, of: &dyn Fn(&Left) -> Option<f64>| -> Vec<Cell> {
         let numbers = errors.iter().map(|(_, left)| Cell::Number(of(left).map_or("–".into(), amount)));
         std::iter::once(Cell::Words(what)).chain(numbers).collect()
     };
-    let mut rows = vec![line(format!("this table, {}", entry.sway_name()), &|left| Some(left.plan))];
-    if entry.unblended.is_some() {
+    let mut rows = vec![line(format!("{}, {}", pole.tables_name(), entry.sway_name()), &|left| Some(left.plan))];
+    if errors.iter().any(|(_, left)| left.unblended.is_some()) {
         rows.push(line("without the blend".into(), &|left| left.unblended));
     }
     let headings: Vec<&str> = std::iter::once(name).chain(errors.iter().map(|(error, _)| error.as_str())).collect();
@@ -93,7 +116,7 @@ fn percents_table(entry: &Entry, pole: &WrongPole) -> String {
     let mut errors: Vec<(String, Left)> =
         TOLD_PERCENTS.iter().map(|&percent| (format!("{}%", signed(percent)), pole.at_percent(percent))).collect();
     errors.insert(TOLD_PERCENTS.len() / 2, ("0".into(), pole.left()));
-    left_table(entry, pole.swing().half_period_name(), &errors)
+    left_table(entry, pole, pole.swing().half_period_name(), &errors)
 }
 
 /// What is left at some errors of the swing ratio.
@@ -103,7 +126,7 @@ fn ratios_table(entry: &Entry, pole: &WrongPole) -> String {
     let entered = ("0".to_string(), pole.left());
     let errors = below.iter().filter_map(|&error| at(error)).chain([entered]);
     let errors: Vec<(String, Left)> = errors.chain(above.iter().filter_map(|&error| at(error))).collect();
-    left_table(entry, "swing ratio", &errors)
+    left_table(entry, pole, "swing ratio", &errors)
 }
 
 /// A number with its sign.

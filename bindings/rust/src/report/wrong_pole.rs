@@ -1,5 +1,6 @@
 //! How much sway is left on a pole whose half period or damping is not what was entered.
 
+use super::Entry;
 use crate::picture::sway::{Point, Pole, Swing};
 
 /// The greatest error of the half period that is looked at, as a part of it.
@@ -20,14 +21,14 @@ pub const TOLD_PERCENTS: [f64; 10] = [-20.0, -10.0, -5.0, -2.0, -1.0, 1.0, 2.0, 
 /// The errors of a swing ratio that are told in numbers.
 pub const TOLD_RATIOS: [f64; 6] = [-0.2, -0.1, -0.05, 0.05, 0.1, 0.2];
 
-/// A swing of the pole under an axis as it was entered, and the accelerations of the axis with the blend and without.
+/// A swing of the pole under an axis as it was entered, and the accelerations of the axis with the blend and without, in each table.
 pub struct WrongPole<'a> {
     swing: Swing,
-    plan: &'a [f64],
-    unblended: Option<&'a [f64]>,
+    plan: Vec<&'a [f64]>,
+    unblended: Option<Vec<&'a [f64]>>,
 }
 
-/// What is left by the table, and by the same job without the blend.
+/// What is left by a table, and by the same job without the blend; of several tables the most.
 #[derive(Debug, Clone, Copy, PartialEq)]
 pub struct Left {
     /// By the table.
@@ -37,9 +38,25 @@ pub struct Left {
 }
 
 impl<'a> WrongPole<'a> {
-    /// A swing with accelerations.
-    pub fn new(swing: Swing, plan: &'a [f64], unblended: Option<&'a [f64]>) -> WrongPole<'a> {
+    /// A swing with the accelerations of tables, each of which begins with the pole at rest.
+    pub fn new(swing: Swing, plan: Vec<&'a [f64]>, unblended: Option<Vec<&'a [f64]>>) -> WrongPole<'a> {
         WrongPole { swing, plan, unblended }
+    }
+
+    /// The swings of the pole under an axis, over its part in each table; none where the axis has no half period.
+    pub fn all_of(tables: &[&'a Entry<'a>]) -> Vec<WrongPole<'a>> {
+        let plan: Vec<&[f64]> = tables.iter().map(|entry| entry.accelerations.as_slice()).collect();
+        let unblended: Option<Vec<&[f64]>> = tables.iter().map(|entry| entry.unblended.as_deref()).collect();
+        let swings = tables.first().map(|entry| Swing::of(entry.axis)).unwrap_or_default();
+        swings.into_iter().map(|swing| WrongPole::new(swing, plan.clone(), unblended.clone())).collect()
+    }
+
+    /// What its tables are called.
+    pub fn tables_name(&self) -> &'static str {
+        match self.plan.len() {
+            1 => "this table",
+            _ => "the worst leg",
+        }
     }
 
     /// The swing that was entered.
@@ -77,7 +94,9 @@ impl<'a> WrongPole<'a> {
     }
 
     fn left_on(&self, pole: Pole) -> Left {
-        Left { plan: pole.left(self.plan), unblended: self.unblended.map(|accelerations| pole.left(accelerations)) }
+        let most =
+            |tables: &Vec<&[f64]>| tables.iter().map(|accelerations| pole.left(accelerations)).fold(0.0, f64::max);
+        Left { plan: most(&self.plan), unblended: self.unblended.as_ref().map(most) }
     }
 
     /// What is left over the errors of the half period, in percent.
@@ -112,7 +131,7 @@ mod tests {
         let mut once = [0.0; 30];
         once[0] = 5.0;
         let swing = Swing { second: false, half_period: 12, ratio: 1.0 };
-        let pole = WrongPole::new(swing, &pushes, Some(&once));
+        let pole = WrongPole::new(swing, vec![&pushes], Some(vec![&once]));
         assert!(pole.left().plan < 1e-9);
         for percent in [-30.0, -10.0, -1.0, 2.0, 25.0] {
             let w = std::f64::consts::PI / (12.0 * (1.0 + percent / 100.0));
@@ -123,14 +142,25 @@ mod tests {
         }
     }
 
+    /// Of several tables what is left is that of the worst.
+    #[test]
+    fn the_worst_table_counts() {
+        let (mut weak, mut strong) = ([0.0; 8], [0.0; 8]);
+        (weak[0], strong[0]) = (1.0, 3.0);
+        let swing = Swing { second: false, half_period: 5, ratio: 1.0 };
+        let both = WrongPole::new(swing, vec![&weak, &strong], None).left();
+        assert_eq!(both, WrongPole::new(swing, vec![&strong], None).left());
+        assert!(both.plan > WrongPole::new(swing, vec![&weak], None).left().plan);
+    }
+
     /// Only ratios that a pole can have are looked at, on both sides where there are some.
     #[test]
     fn ratios_stay_within_those_of_poles() {
         let rows = [1.0, -1.0, 0.0];
-        let pole = WrongPole::new(Swing { second: false, half_period: 5, ratio: 1.0 }, &rows, None);
+        let pole = WrongPole::new(Swing { second: false, half_period: 5, ratio: 1.0 }, vec![&rows], None);
         assert_eq!((pole.at_ratio(0.01), pole.at_ratio(-0.99)), (None, None));
         assert_eq!(pole.over_ratios().len(), 61);
-        let damped = WrongPole::new(Swing { second: false, half_period: 5, ratio: 0.5 }, &rows, None);
+        let damped = WrongPole::new(Swing { second: false, half_period: 5, ratio: 0.5 }, vec![&rows], None);
         assert_eq!(damped.over_ratios().len(), 121);
     }
 }
