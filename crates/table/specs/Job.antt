@@ -1,4 +1,4 @@
--- The job of the program's input and the text that it prints (docs/METHOD.md, sections 6 and 8).
+-- The job of the program's input and the text that it prints (docs/METHOD.md, section 6).
 use Prim.Native.Nat.{ℕ}
 use mathlib.Core.List.{List}
 use lib.IntN.{ℤ, pos}
