@@ -3,6 +3,7 @@
 mod common;
 
 use std::fs;
+use std::path::{Path, PathBuf};
 
 use common::command::folder;
 use common::{field_axis, CASE_C_TABLE, CASE_C_WORDS};
@@ -121,4 +122,75 @@ fn sections_are_numbered() {
             None => assert!(folder("docs").join(link).exists(), "{link}"),
         }
     }
+}
+
+/// The files of a folder and of those within it that end in one of some endings.
+fn files_of(folder: &Path, endings: &[&str]) -> Vec<PathBuf> {
+    let mut files = Vec::new();
+    for entry in fs::read_dir(folder).expect("a folder").map(|entry| entry.expect("an entry").path()) {
+        match entry.extension().and_then(|ending| ending.to_str()) {
+            _ if entry.is_dir() => files.extend(files_of(&entry, endings)),
+            Some(ending) if endings.contains(&ending) => files.push(entry),
+            _ => {}
+        }
+    }
+    files
+}
+
+/// Every file of definitions is named on the page and names a section of it; files that the page names are there.
+#[test]
+fn definitions_and_sections_name_each_other() {
+    let page = page();
+    for file in files_of(&folder("crates/model/specs"), &["antt"]) {
+        let name = file.file_name().and_then(|name| name.to_str()).expect("a name").to_string();
+        let text = fs::read_to_string(&file).expect("a file of definitions");
+        let cited = text.lines().take_while(|line| line.starts_with("--")).any(|line| line.contains("docs/METHOD.md"));
+        assert!(name == "Lib.antt" || (cited && page.contains(&format!("{name}`"))), "{name}");
+    }
+    for path in page.split('`').filter(|text| text.starts_with("crates/") && text.contains('.')) {
+        assert!(folder(path).exists(), "{path}");
+    }
+}
+
+/// Sections and parts of sections that are cited are there.
+#[test]
+fn cited_sections_are_there() {
+    let page = page();
+    let is_there = |number: &str| {
+        let heading = if number.contains('.') { format!("\n### {number} ") } else { format!("\n## {number} ") };
+        page.contains(&heading)
+    };
+    let mut count = 0;
+    for file in files_of(&folder("crates"), &["antt", "rt"]) {
+        let text = fs::read_to_string(&file).expect("a source");
+        for cited in text.split("docs/METHOD.md, ").skip(1) {
+            let cited = cited.split(')').next().unwrap_or_default();
+            let cited = cited.trim_start_matches("sections ").trim_start_matches("section ");
+            let number: String = cited.chars().take_while(|c| c.is_ascii_digit() || *c == '.').collect();
+            if number.is_empty() {
+                continue; // the whole page
+            }
+            assert!(is_there(number.trim_end_matches('.')), "{}: {cited}", file.display());
+            count += 1;
+        }
+    }
+    assert!(count > 50, "{count}");
+}
+
+/// The rows of a page's table of refusals: number, named case, place, and what else is said.
+fn refusals_of(page: &str, columns: usize) -> Vec<Vec<String>> {
+    let rows = page.lines().filter(|line| line.starts_with("| ") && line.matches('|').count() == columns + 1);
+    let rows = rows.map(|line| line.trim_matches('|').split('|').map(|cell| cell.trim().to_string()).collect());
+    let numbered = rows.filter(|row: &Vec<String>| row[0].parse::<u32>().is_ok());
+    numbered.map(|row| row[..4].to_vec()).collect()
+}
+
+/// This page and the README tell refusals in the same words, and in checking order.
+#[test]
+fn refusals_are_told_in_the_same_words() {
+    let readme = fs::read_to_string(folder("README.md")).expect("the README");
+    let refusals = refusals_of(&page(), 5);
+    assert_eq!(refusals, refusals_of(&readme, 4));
+    let numbers: Vec<u32> = refusals.iter().map(|row| row[0].parse().expect("a number")).collect();
+    assert_eq!(numbers, [11, 1, 2, 14, 3, 4, 12, 5, 15, 6, 16, 17, 13, 18, 8, 9, 10]);
 }
