@@ -157,6 +157,54 @@ class Searches(unittest.TestCase):
         self.assertRaises(ValueError, to(4).search, 1, 2**32)
 
 
+class Backwards(unittest.TestCase):
+    """Rows from arrival backwards: case C's rows, the last first."""
+
+    ROWS = [[0, 0, 86], [43, 86, -1], [129, 85, 0], [214, 85, -85], [256, 0, 0]]
+
+    def test_rows(self):
+        words = [0x10000001, 0x20000004, 0x30000000, 0x40000000, 0x5000000A, 0x60000001, 0x70000000, 0x80000080, 0x90000001, 0xA0000000,
+                 0xF0000000]
+        for plan in (to(1, 4).plan_backwards(), polgamir.plan_words_backwards(words)):
+            self.assertEqual((plan.backwards, plan.arrival), (True, 4))
+            self.assertEqual(plan.table.tolist(), [[row] for row in reversed(self.ROWS)])
+            self.assertEqual(plan.cells.tolist(), [cell for row in reversed(self.ROWS) for cell in row])
+            self.assertEqual(plan.positions(0).tolist(), [row[0] for row in self.ROWS])
+            self.assertEqual([row.tick for row in plan], [0, 1, 2, 3, 4])
+            self.assertEqual(plan[4].motions[0], Motion(256, 0, 0))
+
+    def test_refusals(self):
+        with self.assertRaises(Refusal) as caught:
+            to(4, 3).plan_backwards()
+        self.assertEqual((caught.exception.number, caught.exception.axes), (8, (0,)))
+        self.assertRaises(Refusal, polgamir.plan_words_backwards, [])
+
+
+class Conversions(unittest.TestCase):
+    """Case F in words: L = 20, M = 1, from 0 at velocity 10, to a fixed target at 10 with velocity 10."""
+
+    def words(self, asked):
+        return [0x10000001, 0x20000000 + asked, 0x30000000, 0x4000000A, 0x50000014, 0x60000001, 0x70000000, 0x80000080, 0x9000000A,
+                0xA000000A, 0xF0000000]
+
+    def test_case_f(self):
+        for asked, number in ((1, 0), (2, 8), (38, 8), (39, 0)):
+            converted = polgamir.convert_words(self.words(asked))
+            self.assertEqual(list(converted), self.words(asked)[:10] + [0xB0000000, 0xC0000000 + asked, 0xF0000000])
+            if number == 0:
+                self.assertEqual(polgamir.plan_words(converted).arrival, asked)
+            else:
+                with self.assertRaises(Refusal) as caught:
+                    polgamir.plan_words(converted)
+                self.assertEqual(caught.exception.number, number)
+
+    def test_refusals(self):
+        with self.assertRaises(Refusal) as caught:
+            polgamir.convert_words(self.words(0))
+        self.assertEqual((caught.exception.number, caught.exception.place), (Number.REFUSED_FLYING_TARGET, 0))
+        self.assertRaises(Refusal, polgamir.plan_words, self.words(39))
+
+
 class Tours(unittest.TestCase):
     AXIS = TourAxis(start=0, speed_limit=10, acceleration_limit=1, half_period=0, damping=Weight(128))
 

@@ -8,11 +8,16 @@ from pathlib import Path
 HERE = Path(__file__).resolve().parent
 sys.path[:0] = [str(HERE.parent), str(HERE.parents[2] / "tests" / "reference")]
 
+import backwardcases
 import builders
 import cases
+import convertcases
 import damping
 import raisecases
 import reference
+import search
+import searchcases
+import swaycases
 
 import polgamir
 
@@ -43,13 +48,31 @@ def job_of(case):
     return polgamir.Job(axes, case.asked, windows)
 
 
-def found(case):
+def found(case, backwards=False):
     """The answer and the cells of a case."""
     try:
-        plan = polgamir.plan_words(case.words) if case.words is not None else job_of(case).plan()
+        if case.words is not None:
+            plan = (polgamir.plan_words_backwards if backwards else polgamir.plan_words)(case.words)
+        else:
+            plan = job_of(case).plan_backwards() if backwards else job_of(case).plan()
     except polgamir.Refusal as refusal:
         return (int(refusal.number), refusal.place, refusal.mask, refusal.arrival), []
     return (0, 0, plan.mask, plan.arrival), plan.cells.tolist()
+
+
+def searched(case):
+    """What a search gives, as the reference reports it."""
+    one = case.job
+    try:
+        if one.words is not None:
+            report = polgamir.search_words(one.words, case.first, case.budget)
+        else:
+            report = job_of(one).search(case.first, case.budget)
+    except polgamir.Refusal as refusal:
+        return reference.Answer(int(refusal.number), refusal.place, refusal.mask, refusal.arrival)
+    if report.arrival is not None:
+        return search.Found(report.arrival, report.tried)
+    return search.Nothing(report.tried) if report.next is None else search.Spent(report.next, report.tried)
 
 
 def raises_of(case):
@@ -66,17 +89,19 @@ def raises_of(case):
 def tour_of(case):
     def chosen(values):
         return {bit: value for bit, value in enumerate(values) if case.tour.mask >> bit & 1}
-    axes = {bit: polgamir.TourAxis(*axis[:4], damping_of(axis.second_weight)) for bit, axis in chosen(case.tour.axes).items()}
+    axes = {bit: polgamir.TourAxis(*axis[:4], damping_of(axis.second_weight), axis.second_half_period)
+            for bit, axis in chosen(case.tour.axes).items()}
     return polgamir.Tour(axes, [polgamir.Stop(chosen(stop.positions), stop.dwell) for stop in case.tour.stops])
 
 
 class AgainstTheReference(unittest.TestCase):
-    def agree(self, group):
+    def agree(self, group, backwards=False):
         for case in group.cases:
             if case.words is None and not case.mask < 64:
                 continue  # a job has no such axis
-            expected, table = builders.outcome(case, [0] * polgamir.MOST_CELLS)
-            answer, cells = found(case)
+            outcome = backwardcases.turned if backwards else builders.outcome
+            expected, table = outcome(case, [0] * polgamir.MOST_CELLS)
+            answer, cells = found(case, backwards)
             self.assertEqual(answer, tuple(expected), case.name)
             self.assertEqual(cells, table[:len(cells)], case.name)
 
@@ -95,8 +120,26 @@ class AgainstTheReference(unittest.TestCase):
             expected = (answer.number, answer.place, answer.arrival), [(axis, list(map(tuple, raises))) for axis, raises in axes]
             self.assertEqual(raises_of(case), expected, case.name)
 
+    def test_backwards(self):
+        self.agree(backwardcases.drawn_backwards(seed=75, count=12), backwards=True)
+
+    def test_searches(self):
+        for case in searchcases.refused() + searchcases.drawn_searches(seed=76, count=16):
+            if case.job.words is None and not case.job.mask < 64:
+                continue
+            self.assertEqual(searched(case), searchcases.searched(case), case.job.name)
+
+    def test_conversions(self):
+        for case in convertcases.converted() + convertcases.copied() + convertcases.refused():
+            expected, words = convertcases.convert(case.words, [0] * 90)  # the module lends enough words
+            try:
+                converted = polgamir.convert_words(case.words)
+                self.assertEqual((0, list(converted)), (expected.number, words[:expected.place]), case.name)
+            except polgamir.Refusal as refusal:
+                self.assertEqual((int(refusal.number), refusal.place), (expected.number, expected.place), case.name)
+
     def test_drawn_tours(self):
-        for case in cases.drawn_tours(seed=74, count=30):
+        for case in cases.drawn_tours(seed=74, count=30) + swaycases.tours() + swaycases.drawn_sway_tours():
             if len(case.lent) < len(case.tour.stops):
                 continue  # the module lends a list that is long enough
             if not 0 < case.tour.mask < 64:
