@@ -14,11 +14,11 @@ h3 { font-size: 15.5px; margin: 22px 0 6px; }
 p { margin: 8px 0; max-width: 78ch; }
 .sub { color: #57606A; margin: 0 0 18px; }
 .cards { display: grid; grid-template-columns: repeat(auto-fit, minmax(150px, 1fr)); gap: 12px; margin: 18px 0 6px; }
-.card { border: 1px solid #D0D7DE; border-radius: 6px; padding: 10px 14px; }
-.card b { display: block; font-size: 20px; line-height: 1.3; font-variant-numeric: tabular-nums; }
-.card span { color: #57606A; font-size: 13px; }
-pre { background: #F6F8FA; border: 1px solid #D0D7DE; border-radius: 6px; padding: 12px 16px; overflow-x: auto;
-  font: 13px/1.45 'DejaVu Sans Mono', Menlo, Consolas, monospace; }
+.card { border: 1px solid #D0D7DE; border-radius: 6px; padding: 10px 12px; }
+.card b { display: block; font-size: 17px; line-height: 1.3; font-variant-numeric: tabular-nums; }
+.card span { display: block; color: #57606A; font-size: 13px; line-height: 1.35; margin-top: 2px; }
+pre { background: #F6F8FA; border: 1px solid #D0D7DE; border-radius: 6px; padding: 12px 16px; white-space: pre-wrap;
+  overflow-wrap: anywhere; font: 13px/1.45 'DejaVu Sans Mono', Menlo, Consolas, monospace; }
 table { border-collapse: collapse; margin: 10px 0; font-variant-numeric: tabular-nums; font-size: 14px; }
 th, td { text-align: right; padding: 4px 12px; border-bottom: 1px solid #E4E8EC; vertical-align: top; }
 th { font-weight: bold; border-bottom: 1px solid #B4BCC4; vertical-align: bottom; }
@@ -40,7 +40,7 @@ svg { display: block; max-width: 100%; height: auto; }
   h1 { font-size: 18pt; } h2 { font-size: 13.5pt; margin-top: 20pt; } h3 { font-size: 11.5pt; }
   h2, h3, p { break-after: avoid; }
   table { font-size: 9pt; } th, td { padding: 2.5pt 7pt; } p, svg, .wide, .card, .unit { break-inside: avoid; }
-  pre { font-size: 8.5pt; white-space: pre-wrap; overflow: visible; }
+  pre { font-size: 8.5pt; }
   .wide { overflow: visible; }
   .charts { flex-wrap: nowrap; gap: 10pt; } .charts svg { flex: 1 1 0; min-width: 0; }
   .bar { width: 70pt; }
