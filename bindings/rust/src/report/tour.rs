@@ -7,8 +7,8 @@ use polgamir::{Schedule, TourRefusal};
 
 use super::html::{self, Cell};
 use super::rows::{self, Miss, Nearest};
+use super::told::{at_tick, cost_of, cost_told, earlier_told, fine_steps, halves, left_card, limit_row, planned_by};
 use super::wrong_pole::WrongPole;
-use super::{at_tick, cost_of, cost_told, earlier_told, fine_steps, halves, left_card, limit_row, planned_by};
 use super::{wrong_axis, Entry, Report};
 use crate::measure::{in_seconds, rounded};
 use crate::picture;

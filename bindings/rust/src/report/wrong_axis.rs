@@ -1,8 +1,9 @@
 //! The charts and the numbers of what is left on a pole that is another than entered, axis by axis.
 
 use super::html::{self, Cell};
+use super::told::{amount, counted};
 use super::wrong_pole::{self, Left, WrongPole, TOLD_PERCENTS, TOLD_RATIOS};
-use super::{amount, counted, Entry};
+use super::Entry;
 use crate::picture::chart::Chart;
 use crate::picture::svg::{stroke, Stroke};
 
