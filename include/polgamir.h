@@ -19,7 +19,7 @@
  * Threads. The library has no state, takes no lock, allocates no memory and makes no system call. Any number of threads may call
  * it at the same time, each with a table of its own.
  *
- * Stack and time. A call for a table or a search takes up to 12,000 bytes of stack, its job among them, and a tour up to 20,000.
+ * Stack and time. A call takes up to 12,000 bytes of stack, its job among them, and a tour up to 20,000.
  * The longest search, over six axes to refusal 9, takes 50 microseconds of a 2.5 GHz core, 1 ms where targets accelerate, and a tour
  * has one search a leg; with an arrival asked for the longest call takes 0.2 ms. Where a controller has less time than that in a
  * turn, polgamir_search_job looks for the arrival over as many turns as it takes, with a budget of candidates in each.
@@ -61,7 +61,7 @@ uint32_t polgamir_version(void);
 /* The cells that the largest table needs: 3 * 6 * (4096 + 1). A table of this size is never refused by number 10. */
 #define POLGAMIR_MOST_CELLS 73746
 
-/* Enough bytes of stack for a call for a table, also where the loader binds memcpy during the first one. */
+/* Enough bytes of stack for every call but a tour, also where the loader binds memcpy during the first one. */
 #define POLGAMIR_STACK 16384
 
 /*
@@ -155,7 +155,7 @@ static inline const char *polgamir_refusal_text(uint32_t number)
 typedef struct polgamir_answer {
     uint32_t number;  /* a polgamir_number: 0 where the job is accepted, else the refusal's number */
     uint32_t mask;    /* bit i stands for axis i */
-    uint64_t place;   /* a word's index, an axis's number or a window's index */
+    uint64_t place;   /* a word's index, an axis's number or a window's index; of polgamir_convert also a number of words */
     uint32_t arrival; /* the arrival tick N */
 } polgamir_answer;
 

@@ -171,7 +171,7 @@ class RestPoint:
 
 @dataclass(frozen=True)
 class Fixed:
-    """A target at a position, to hold at arrival, whenever that is; with a velocity the head goes on uniformly."""
+    """A position to come to rest at, whenever that is. Its velocity is 0: the planner refuses any other with 17."""
 
     position: int
     velocity: int = 0

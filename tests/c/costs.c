@@ -32,6 +32,7 @@ static ucontext_t outside, inside;
 static polgamir_job job;
 static uint32_t words[64];
 static size_t word_count;
+static uint32_t lent[81];
 static polgamir_answer answer;
 static polgamir_tour tour;
 static polgamir_stop stops[POLGAMIR_MOST_STOPS];
@@ -55,6 +56,21 @@ static void raises(void)
 static void plan_backwards(void)
 {
     answer = polgamir_plan_job_backwards(job, table, POLGAMIR_MOST_CELLS);
+}
+
+static void plan_words_backwards(void)
+{
+    answer = polgamir_plan_words_backwards(words, word_count, table, POLGAMIR_MOST_CELLS);
+}
+
+static void raises_words(void)
+{
+    answer = polgamir_raises_words(words, word_count).answer;
+}
+
+static void convert(void)
+{
+    answer = polgamir_convert(words, word_count, lent, sizeof lent / sizeof *lent);
 }
 
 static void plan_tour(void)
@@ -191,7 +207,10 @@ static void both(const char *what, uint32_t asked, polgamir_axis axis, uint32_t 
     measure(what, number);
     as_words();
     measure(what, number);
+    on_paint("backwards from words", plan_words_backwards, number);
+    on_paint("raises from words", raises_words, number);
     on_paint("a search from words", search_words, number == 4 ? 4 : 0);
+    on_paint("a conversion", convert, number == 4 ? 4 : 0);
     word_count = 0;
 }
 

@@ -56,7 +56,7 @@ def found(case, backwards=False):
         else:
             plan = job_of(case).plan_backwards() if backwards else job_of(case).plan()
     except polgamir.Refusal as refusal:
-        return (int(refusal.number), refusal.place, refusal.mask, refusal.arrival), []
+        return fields(refusal), []
     return (0, 0, plan.mask, plan.arrival), plan.cells.tolist()
 
 

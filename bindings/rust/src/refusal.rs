@@ -210,8 +210,8 @@ impl Refusal {
         }
     }
 
-    /// The place: a word's index for 2 and 14, 1 for 3, the axis for 4 to 6, 12 and 15 to 17, the window or 32 for 13, and 0 where no place
-    /// is named.
+    /// The place: a word's index for 2 and 14, 1 for 3, the axis for 4 to 6, 12 and 15 to 17, the window or 32 for 13, the number of words
+    /// needed for 10 of the converter, and 0 where no place is named.
     pub const fn place(&self) -> u64 {
         match *self {
             Refusal::Words { index } | Refusal::LongPosition { index } => index as u64,

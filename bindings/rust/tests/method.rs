@@ -7,7 +7,7 @@ use std::path::{Path, PathBuf};
 
 use common::command::folder;
 use common::{field_axis, CASE_C_TABLE, CASE_C_WORDS};
-use polgamir::{Axis, Damping, Job, Plan, RestPoint, State, Target};
+use polgamir::{Axis, Damping, Job, Plan, Report, RestPoint, State, Target};
 
 /// The page.
 fn page() -> String {
@@ -100,6 +100,47 @@ fn examples_of_the_sections_are_the_planner_s() {
     assert!(
         axis.start == RestPoint { position: 0, velocity: 0 } && page().contains("148 −183 127, 28 −56 56, 0 0 256")
     );
+}
+
+/// Number, named case and place of each refusal, in a table's order.
+fn refusals(page: &str) -> Vec<[&str; 3]> {
+    let rows = page.lines().filter_map(|line| {
+        let mut cells = line.strip_prefix("| ")?.split(" | ");
+        let number = cells.next().filter(|number| number.parse::<u32>().is_ok())?;
+        Some([number, cells.next()?, cells.next()?.trim_end_matches(" |")])
+    });
+    rows.collect()
+}
+
+/// The page and the README tell the refusals in the same words, and both and the header in the same order.
+#[test]
+fn refusals_are_told_alike() {
+    let (page, readme) = (page(), fs::read_to_string(folder("README.md")).expect("README.md"));
+    assert_eq!(refusals(&page), refusals(&readme));
+    let header = fs::read_to_string(folder("include").join("polgamir.h")).expect("the header");
+    let of_header =
+        header.lines().filter_map(|line| line.trim_start().strip_prefix("POLGAMIR_REFUSED_")?.split_once(" = "));
+    let of_header: Vec<&str> = of_header.map(|(_, number)| number.trim_end_matches(',')).collect();
+    assert_eq!(refusals(&page).iter().map(|row| row[0]).collect::<Vec<_>>(), of_header);
+    assert_eq!(of_header.len(), 17);
+}
+
+/// What sections 20 to 22 say of some jobs.
+#[test]
+fn examples_of_the_last_sections_are_the_planner_s() {
+    let target = Target::Moving(State { position: 8, velocity: -1, acceleration: 1, tick: 0 });
+    let met = |tick: &u32| Job::arriving_at(*tick).with_axis(0, field_axis(target)).arrival_found().is_ok();
+    assert_eq!((1..=4096).filter(met).collect::<Vec<u32>>(), [9, 10, 11]);
+    assert!(page().contains("is met at ticks 9, 10 and 11 only"));
+    let nowhere = Job::earliest().with_axis(0, Axis { speed_limit: 1, ..field_axis(Target::still(100_000_000)) });
+    let reports =
+        [(4096, 1), (4096, 0), (1, 4095)].map(|(first, budget)| nowhere.search(first, budget).expect("a report"));
+    let told = reports.map(|searched| (searched.report, searched.tried));
+    let spent = Report::Spent { next: 4096 };
+    assert_eq!(told, [(Report::None, 1), (spent, 0), (spent, 4095)]);
+    let backwards =
+        Job::arriving_at(4).with_axis(0, field_axis(Target::still(1))).plan_backwards().expect("C backwards");
+    assert_eq!(backwards.cells()[..6], [256, 0, 0, 214, 85, -85]);
 }
 
 /// Sections are numbered without a gap, each heading has its link in the page's list, and every picture is there.

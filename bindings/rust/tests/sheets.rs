@@ -178,7 +178,7 @@ fn wrong_entries_are_told_with_their_line() {
         "line 3: expected a whole number of ticks from 0 to 256 after `half period`, found the end of the line",
         "line 4: expected a whole number from 1 to 128 after `weight`, found `1.5`",
         "line 8: expected a whole number of units per tick after `start velocity`, found `0 0`",
-        "line 9: expected `still`, `flying` or `moving` after `target`, found `soon`",
+        "line 9: expected `still` or `moving` after `target`, found `soon`",
         "line 1: expected `earliest` or a tick from 1 to 4096 after `arrival`, found `0`",
         "line 1: expected `earliest` or a tick from 1 to 4096 after `arrival`, found the end of the line",
         "line 2: expected an axis number from 0 to 5 after `axis`, found `6`",
@@ -227,7 +227,7 @@ fn entries_that_stand_twice_or_not_at_all_are_told_with_their_line() {
     );
     assert_eq!(
         told_with(9, ""),
-        "line 2: expected `target still`, `target flying` or `target moving` for axis 0, found none among its lines"
+        "line 2: expected `target still` or `target moving` for axis 0, found none among its lines"
     );
     let moving = "target moving\ntarget velocity 1\ntarget acceleration 0";
     assert_eq!(told_with(9, moving), "line 2: expected `target tick` for axis 0, found none among its lines");

@@ -12,7 +12,7 @@ use lib.ListN.{length, getD, take, drop}
 use Rattle.whole.proofs.Elements.{none-some}
 use Rattle.model.specs.declared.Window.{Window}
 use Rattle.model.specs.declared.Windows.{Windows}
-use Rattle.model.specs.Windows.{brought, fits, fitsOne, fine, firstWrong, windowsRefused, refused13}
+use Rattle.model.specs.Windows.{brought, fits, fitsOne, inOrderAfter, firstWrong, windowsRefused, refused13}
 use Rattle.model.specs.Job.{JobAxis}
 use Rattle.model.specs.Outcome.{leastFrom, allReach}
 use Rattle.model.proofs.WindowsInWords.{none-wrong}
@@ -33,7 +33,7 @@ pub record Ordered (i c : ℕ) (w : Window) (l : List Window) : Type 0 where
 ordered : (i c : ℕ) (w : Window) (l : List Window) → firstWrong i c (w ∷ l) ≡ none → Ordered i c w l
 ordered i c w l e =
     let r = none-wrong i c (w ∷ l) e 0 w refl in
-    record { closes = r .closes; follows = r .follows; later = go (fine c w) e }
+    record { closes = r .closes; follows = r .follows; later = go (inOrderAfter c w) e }
   where
     go : (b : Bool) → _≡_ {A = Option ℕ} (elim b as (λ _. Option ℕ) [ true ↦ firstWrong (suc i) (w .closing) l | false ↦ some i ]) none
         → firstWrong (suc i) (w .closing) l ≡ none

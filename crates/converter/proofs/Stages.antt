@@ -10,14 +10,13 @@ use lib.ListN.{length, take, drop}
 use borrow.Author.Tests.{le-leb, lt-leb, leb-true, eq-eqb, ne-eqb, lt-ltb, le-ltb}
 use Rattle.whole.specs.Lists.{over}
 use Rattle.whole.proofs.Lists.{over-front}
-use Rattle.model.specs.declared.Axis.{Axis}
 use Rattle.model.specs.declared.Answer.{Answer}
 use Rattle.model.specs.declared.Job as Typed
 use Rattle.model.specs.Windows.{noWindows}
 use Rattle.model.specs.Job.{JobAxis, setAxes, jobOf}
 use Rattle.model.specs.Words.{Decoded, noMask, badWord, badLong, job, decode}
 use Rattle.model.specs.Refusals.{lastTick}
-use Rattle.model.specs.Outcome.{firstAxis, outcomeOfWords}
+use Rattle.model.specs.Outcome.{firstAxis, Tests, outcomeOfWords}
 use Rattle.model.specs.Converter.{oldOutcome, converted, Conversion, unconverted, written, conversionRefusals, unlessRefused, jobConversion, conversion}
 use Rattle.model.proofs.Conversion.{conversion-kept, conversion-plans}
 use Rattle.words.specs.declared.DecodedJob.{DecodedJob}
@@ -26,9 +25,6 @@ use Rattle.planner.specs.declared.Refusal.{Refusal}
 use Rattle.planner.specs.Stages.{testsFor, firstRefusal}
 use Rattle.model.proofs.CheckingOrder.{Lacks, lacks}
 use Rattle.converter.specs.Promise.{Converts, refusalOf, Gives}
-
-abbrev Tests : Type 0
-Tests = List (ℕ × (Axis → Bool))
 
 -- ---- refusals 1, 2 and 14
 

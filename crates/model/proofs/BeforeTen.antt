@@ -12,7 +12,6 @@ use lib.Dec.{eqb, leb, ltb}
 use lib.ListN.{length, length-map}
 use borrow.Author.Tests.{eqb-true}
 use Rattle.model.specs.declared.Answer.{Answer}
-use Rattle.model.specs.declared.Axis.{Axis}
 use Rattle.model.specs.declared.Order.the-variants.{Forwards}
 use Rattle.model.specs.Job.{Job, jobOf, maskWhere}
 use Rattle.model.specs.Windows as W
@@ -20,7 +19,7 @@ use Rattle.model.specs.Motion.{reachable}
 use Rattle.model.specs.Words.{Decoded, noMask, badWord, badLong, job, decode, goodMask}
 use Rattle.model.specs.Refusals.{lastTick}
 use Rattle.model.specs.Outcome.{Outcome, Input, words, typed, call, jobRead, inputJob, inputAxes}
-use Rattle.model.specs.Outcome.{refuse, accept, filled, arrived, tested, axisRefusals, jobOutcome}
+use Rattle.model.specs.Outcome.{refuse, accept, filled, arrived, Tests, tested, axisRefusals, jobOutcome}
 use Rattle.model.specs.Outcome.{cellsNeeded, leastFrom, arrives, firstAxis, reachesNone, beforeTen, answerOf}
 use Rattle.model.specs.Verdict.{Verdict, refused3, refused4, refused12, refused5, refused15, refused6}
 use Rattle.model.specs.Verdict.{refused16, refused17, refused13, refused8, refused9, refused10, accepted}
@@ -71,7 +70,7 @@ module _ (j : Job) (l l' : List ℤ) where
       go true = filled-same (suc n)
       go false = refl
 
-  tested-same : (ts : List (ℕ × (Axis → Bool))) → Same (tested ts j)
+  tested-same : (ts : Tests) → Same (tested ts j)
   tested-same [] = go (W.refused13 (j .windows))
     where
       go : (o : Option ℕ) → beforeTen (j .mask) (elim o as (λ _. Outcome) [ some p ↦ refuse 13 p 0 0 l | none ↦ arrived j (j .asked) l ])

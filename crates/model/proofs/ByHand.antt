@@ -23,8 +23,8 @@ use Rattle.model.specs.Quantities.{finer}
 use Rattle.model.specs.Refusals.{lastTick, limitsRefused, dampingRefused, blendRefused, swayRefused, valuesRefused, accelerationRefused, flyingRefused}
 use Rattle.model.specs.Refusals.{restAllowed, targetAllowed, AllPassed}
 use Rattle.model.specs.Outcome.{Outcome, typed, call, refuse, allReach, leastFrom, arrives, reachesNone}
-use Rattle.model.specs.Outcome.{filled, arrived, firstAxis, axisRefusals, tested, jobOutcome}
-use Rattle.model.proofs.MappedAxes.{Tests, cells-alike, Blind, AllBlind, first-mapped}
+use Rattle.model.specs.Outcome.{filled, arrived, firstAxis, Tests, axisRefusals, tested, jobOutcome}
+use Rattle.model.proofs.MappedAxes.{cells-alike, Blind, AllBlind, first-mapped}
 use Rattle.model.proofs.MappedAxes.{mask-mapped, reach-mapped, arrives-mapped, filled-mapped, asked-mapped, tested-mapped}
 
 -- ---- the axes

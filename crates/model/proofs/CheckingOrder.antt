@@ -5,15 +5,11 @@ use mathlib.Core.Bool.{Bool, true, false, not, _&&_, false≢true}
 use mathlib.Core.List.{List, [], _∷_}
 use lib.Dec.{eqb}
 use borrow.Author.Tests.{eqb-false}
-use Rattle.model.specs.declared.Axis.{Axis}
 use Rattle.model.specs.Job.{JobAxis}
 use Rattle.model.specs.Refusals.{AllPassed}
-use Rattle.model.specs.Outcome.{axisRefusals}
+use Rattle.model.specs.Outcome.{Tests, axisRefusals}
 use Rattle.model.proofs.Verdict.{none-refused, all-passed}
 use Rattle.model.proofs.OutsideWindows.{Clear}
-
-abbrev pub Tests : Type 0
-Tests = List (ℕ × (Axis → Bool))
 
 -- no test of a list has number k
 abbrev pub Lacks : ℕ → Tests → Type 0

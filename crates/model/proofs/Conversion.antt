@@ -18,10 +18,10 @@ use Rattle.model.specs.Quantities.{asMoving}
 use Rattle.model.specs.Job.{Job, JobAxis}
 use Rattle.model.specs.Words.{Decoded, noMask, badWord, badLong, job, decode}
 use Rattle.model.specs.Refusals.{lastTick, flies, flyingRefused}
-use Rattle.model.specs.Outcome.{Outcome, refuse, firstAxis, axisRefusals, admitted, tested, jobOutcomeBy, jobOutcome, outcomeOfWordsBy}
+use Rattle.model.specs.Outcome.{Outcome, refuse, firstAxis, Tests, axisRefusals, admitted, tested, jobOutcomeBy, jobOutcome, outcomeOfWordsBy}
 use Rattle.model.specs.Converter.{oldRefusals, oldOutcome, converted, Conversion, unconverted, written, conversionRefusals, unlessRefused, jobConversion}
 use Rattle.model.specs.Converter.{convertedTarget, withTarget, convertedAxis, convertedAxes, convertedJob, ConversionKept, ConversionPlans}
-use Rattle.model.proofs.MappedAxes.{Tests}
+use Rattle.model.proofs.OutsideWindows.{Clear}
 use Rattle.model.proofs.ConvertedJob.{converted-outcome}
 use Rattle.model.proofs.ConvertedWords.{converted-words}
 
@@ -86,10 +86,6 @@ outcome-same j cells e =
 abbrev numbered : Tests → Bool
 numbered [] = true
 numbered (t ∷ ts) = ltb 0 (t .0) && numbered ts
-
-abbrev Clear : Tests → List JobAxis → Type 0
-Clear [] xs = Unit
-Clear (t ∷ ts) xs = (firstAxis (t .1) xs ≡ none) × Clear ts xs
 
 last-clear : (t : ℕ × (Axis → Bool)) (ts : Tests) (xs : List JobAxis) → Clear (ts ++ (t ∷ [])) xs → firstAxis (t .1) xs ≡ none
 last-clear t [] xs c = c .0

@@ -37,7 +37,7 @@ use Rattle.model.proofs.TwoBlends.{both, bothDivisor, cell-both, positi
 use Rattle.model.proofs.Landing.{lands-position, lands-velocity, lands-acceleration}
 use Rattle.model.proofs.Carry.{carries-position, carries-velocity}
 use Rattle.model.proofs.SwayExact.{sway-same}
-use Rattle.model.proofs.Ordered.{same-answer, rows-turn}
+use Rattle.model.proofs.Ordered.{answer-stays, rows-turn}
 use Rattle.model.proofs.SwayCancelled.{cancelled-exact, cancelled-rounded}
 
 module _ (o : Order) (xs : List Axis) (n : ℕ) (lent rest : List ℤ) (is : lent ≡ table o xs n ++ rest)
@@ -234,7 +234,7 @@ module _ (Claim : Order → List Axis → ℕ → List ℤ → Type 0)
   of-calls Backwards q lent z =
       let xs = inputAxes q in
       let r = call q lent in
-      let zero : r .number ≡ 0 = sym (ap (λ (a : Answer). a .number) (same-answer xs lent r Backwards)) ∙ z in
+      let zero : r .number ≡ 0 = sym (ap (λ (a : Answer). a .number) (answer-stays xs lent r Backwards)) ∙ z in
       subst (λ (s : Outcome). Claim Backwards xs (s .arrival) (s .cells)) (rows-turn xs lent r zero)
       (holds Backwards xs (r .arrival) _ (drop (cellsNeeded (length xs) (r .arrival)) lent) refl (planned-axes q lent zero))
 
@@ -261,7 +261,7 @@ pub same-rows : SameRows
 same-rows q lent z i j k h hj hk =
     let xs = inputAxes q in
     let r = call q lent in
-    let answer = same-answer xs lent r Backwards in
+    let answer = answer-stays xs lent r Backwards in
     let y : (x : Axis) × (getElem? xs i ≡ some x) = element xs i h in
     let back = subst (λ (n : ℕ). CellsByTick Backwards xs n (callIn Backwards q lent .cells)) (ap (λ (a : Answer). a .arrival) answer)
     (cells-by-tick Backwards q lent (ap (λ (a : Answer). a .number) answer ∙ z)) in

@@ -16,10 +16,7 @@ use Rattle.model.specs.Windows.{inWindows, refused13}
 use Rattle.model.specs.Motion.{Tick, reachable}
 use Rattle.model.specs.Rows.{track, blend, divisor, row, table, cells, concat, tabulate}
 use Rattle.model.specs.Job.{Job, JobAxis, axesOf, maskWhere}
-use Rattle.model.specs.Outcome.{Outcome, refuse, allReach, arrives, cellsNeeded, tableOver, filled, arrived, firstAxis, tested}
-
-abbrev pub Tests : Type 0
-Tests = List (ℕ × (Axis → Bool))
+use Rattle.model.specs.Outcome.{Outcome, refuse, allReach, arrives, cellsNeeded, tableOver, filled, arrived, firstAxis, Tests, tested}
 
 -- two axes have the same cells where they have the same blends and the same divisor
 pub cells-alike : (n k : ℕ) (x y : Axis) → ((f : Tick → ℤ) → blend (track n x) k f ≡ blend (track n y) k f) → divisor x ≡ divisor y

@@ -16,9 +16,9 @@ abbrev turned : List Axis → List ℤ → Outcome → Outcome
 turned xs lent r = outcomeOf (answerIn r) (tableOver Backwards xs (r .arrival) lent)
 
 module _ (xs : List Axis) (lent : List ℤ) (r : Outcome) where
-  pub same-answer : (o : Order) → answerIn (ordered o xs lent r) ≡ answerIn r
-  same-answer Forwards = refl
-  same-answer Backwards = go (eqb (r .number) 0)
+  pub answer-stays : (o : Order) → answerIn (ordered o xs lent r) ≡ answerIn r
+  answer-stays Forwards = refl
+  answer-stays Backwards = go (eqb (r .number) 0)
     where
       go : (b : Bool) → answerIn (elim b as (λ _. Outcome) [ true ↦ turned xs lent r | false ↦ r ]) ≡ answerIn r
       go true = refl

@@ -19,7 +19,7 @@ use Rattle.model.specs.Job.{Job, JobAxis, maskWhere}
 use Rattle.model.specs.Refusals.{lastTick, limitsRefused, dampingRefused, blendRefused, swayRefused}
 use Rattle.model.specs.Refusals.{valuesRefused, accelerationRefused, flyingRefused, Passed, AllPassed}
 use Rattle.model.specs.Outcome.{Outcome, refuse, accept, allReach, leastFrom, arrives, cellsNeeded, reachesNone}
-use Rattle.model.specs.Outcome.{firstAxis, axisRefusals, filled, arrived, admitted, tested, jobOutcome}
+use Rattle.model.specs.Outcome.{firstAxis, Tests, axisRefusals, filled, arrived, admitted, tested, jobOutcome}
 use Rattle.model.specs.Verdict.{Arrives, Passing, OutsideWindows, EightOutside, NineNowhere}
 use Rattle.model.proofs.WindowsInWords.{in-windows, windows-in, windows-wrong}
 use Rattle.model.proofs.LeastTick.{least-is, none-is}
@@ -52,12 +52,12 @@ wrong-or-right w p (wrongWindow i a b c f) r =
     go (inr h) k l = not-below h l
 
 -- no test of a list holds of an axis
-abbrev pub Clear : List (ℕ × (Axis → Bool)) → List JobAxis → Type 0
+abbrev pub Clear : Tests → List JobAxis → Type 0
 Clear [] xs = Unit
 Clear (t ∷ ts) xs = (firstAxis (t .1) xs ≡ none) × Clear ts xs
 
 module _ (j : Job) (lent : List ℤ) (p : Passing j) where
-  tests-clear : (ts : List (ℕ × (Axis → Bool))) → Clear ts (j .axes) → tested ts j lent ≡ admitted j lent
+  tests-clear : (ts : Tests) → Clear ts (j .axes) → tested ts j lent ≡ admitted j lent
   tests-clear [] c = refl
   tests-clear (t ∷ ts) (e, c) =
       ap (λ (o : Option ℕ). elim o as (λ _. Outcome) [ some i ↦ refuse (t .0) i 0 0 lent | none ↦ tested ts j lent ]) e ∙ tests-clear ts c

@@ -18,7 +18,7 @@ use Rattle.model.specs.Windows.{refused13}
 use Rattle.model.specs.Job.{Job, jobOf}
 use Rattle.model.specs.Words.{Decoded, noMask, badWord, badLong, job, decode, goodMask}
 use Rattle.model.specs.Outcome.{Outcome, Input, words, typed, jobRead, inputJob, refuse}
-use Rattle.model.specs.Outcome.{arrives, arrived, leastFrom, firstAxis, axisRefusals, tested, jobOutcome}
+use Rattle.model.specs.Outcome.{arrives, arrived, leastFrom, firstAxis, Tests, axisRefusals, tested, jobOutcome}
 use Rattle.model.specs.Verdict.{Arrives, Passing}
 use Rattle.model.specs.Search.{candidates, searchFrom, refuseSearch, searchAnswer, firstAllowed, firstChecked, searchTested, asking}
 use Rattle.model.specs.Search.{searchJob, searchCall, undivided, after, continued}
@@ -27,7 +27,7 @@ use Rattle.model.specs.Search.{SearchSays, found, spent, nothing, Planne
 use Rattle.model.specs.Search.{refusedAs, refused18, reports, SearchCallVerdict, refusedCall, ofJob}
 use Rattle.model.proofs.WindowsInWords.{windows-right}
 use Rattle.model.proofs.OutsideWindows.{Clear}
-use Rattle.model.proofs.CheckingOrder.{Tests, Lacks, lacks, clear-passed}
+use Rattle.model.proofs.CheckingOrder.{Lacks, lacks, clear-passed}
 use Rattle.model.proofs.Budgets.{whole, wholly, whole-search, GoesOn, either-way}
 use Rattle.model.proofs.SearchSays.{search-says, planned}
 

@@ -13,7 +13,7 @@ use Rattle.whole.proofs.Tests.{both, and, true-T}
 use Rattle.whole.proofs.Elements.{none-some}
 use Rattle.model.specs.declared.Window.{Window}
 use Rattle.model.specs.declared.Windows.{Windows}
-use Rattle.model.specs.Windows.{fits, fitsOne, inWindows, FitsOne, fine, firstWrong, windowsRefused, refused13}
+use Rattle.model.specs.Windows.{fits, fitsOne, inWindows, FitsOne, inOrderAfter, firstWrong, windowsRefused, refused13}
 use Rattle.model.specs.Windows.{brought, InOrder, FirstWrong, WindowsWrong, WindowsRight}
 use Rattle.model.specs.Windows.{empty, tooMany, longDwell, wrongWindow}
 
@@ -25,14 +25,14 @@ Right c w = (w .opening < w .closing) × (c ≤ w .opening)
 abbrev Wrong : ℕ → Window → Type 0
 Wrong c w = (w .closing ≤ w .opening) ⊎ (w .opening < c)
 
-right-is : (c : ℕ) (w : Window) → fine c w ≡ true → Right c w
+right-is : (c : ℕ) (w : Window) → inOrderAfter c w ≡ true → Right c w
 right-is c w e = go (ltb (w .opening) (w .closing)) (leb c (w .opening)) (ltb-true (w .opening) (w .closing)) (leb-true c (w .opening)) e
   where
     go : (a b : Bool) → (a ≡ true → w .opening < w .closing) → (b ≡ true → c ≤ w .opening) → a && b ≡ true → Right c w
     go true b f g e = (f refl, g e)
     go false b f g e = absurd (false≢true e)
 
-wrong-is : (c : ℕ) (w : Window) → fine c w ≡ false → Wrong c w
+wrong-is : (c : ℕ) (w : Window) → inOrderAfter c w ≡ false → Wrong c w
 wrong-is c w e = go (ltb (w .opening) (w .closing)) (leb c (w .opening)) (ltb-false (w .opening) (w .closing)) (leb-false c (w .opening)) e
   where
     go : (a b : Bool) → (a ≡ false → w .closing ≤ w .opening) → (b ≡ false → w .opening < c) → a && b ≡ false → Wrong c w
@@ -104,7 +104,7 @@ in-order c w l r (suc k) v e h = let o = h k refl e in record { closes = o .clos
 
 pub none-wrong : (i c : ℕ) (l : List Window) → firstWrong i c l ≡ none → (k : ℕ) (v : Window) → getElem? l k ≡ some v → InOrder c l k v
 none-wrong i c [] e = λ k v q. absurd (none-some q)
-none-wrong i c (w ∷ l) e = go (fine c w) (right-is c w) e (none-wrong (suc i) (w .closing) l)
+none-wrong i c (w ∷ l) e = go (inOrderAfter c w) (right-is c w) e (none-wrong (suc i) (w .closing) l)
   where
     go : (b : Bool) → (b ≡ true → Right c w)
         → _≡_ {A = Option ℕ} (elim b as (λ _. Option ℕ) [ true ↦ firstWrong (suc i) (w .closing) l | false ↦ some i ]) none
@@ -116,7 +116,7 @@ none-wrong i c (w ∷ l) e = go (fine c w) (right-is c w) e (none-wrong (suc i) 
 -- the first wrong window of those from index i on, counted from there
 first-wrong : (i c : ℕ) (l : List Window) (p : ℕ) → firstWrong i c l ≡ some p → (q : ℕ) × ((p ≡ i + q) × FirstWrong c l q)
 first-wrong i c [] p e = absurd (none-some e)
-first-wrong i c (w ∷ l) p e = go (fine c w) (right-is c w) (wrong-is c w) e (first-wrong (suc i) (w .closing) l p)
+first-wrong i c (w ∷ l) p e = go (inOrderAfter c w) (right-is c w) (wrong-is c w) e (first-wrong (suc i) (w .closing) l p)
   where
     later : Right c w → (q : ℕ) → FirstWrong (w .closing) l q → FirstWrong c (w ∷ l) (suc q)
     later r q f =

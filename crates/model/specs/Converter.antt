@@ -15,11 +15,11 @@ use Rattle.model.specs.Job.{Job, JobAxis}
 use Rattle.model.specs.Words.{kind, payload, noMask, badWord, badLong, job, decode}
 use Rattle.model.specs.Spelling.{word}
 use Rattle.model.specs.Refusals.{lastTick, limitsRefused, dampingRefused, blendRefused, swayRefused, valuesRefused, accelerationRefused, flies}
-use Rattle.model.specs.Outcome.{Outcome, firstAxis, axisRefusals, outcomeOfWordsBy, outcomeOfWords}
+use Rattle.model.specs.Outcome.{Outcome, Tests, firstAxis, axisRefusals, outcomeOfWordsBy, outcomeOfWords}
 
 -- ---- the old rules: the tests of `axisRefusals` without 17
 
-abbrev pub oldRefusals : List (ℕ × (Axis → Bool))
+abbrev pub oldRefusals : Tests
 oldRefusals =
     (4, limitsRefused) ∷ (12, dampingRefused) ∷ (5, blendRefused) ∷ (15, swayRefused) ∷ (6, valuesRefused) ∷ (16, accelerationRefused) ∷ []
 
@@ -66,11 +66,11 @@ written ws lent =
     ]
 
 -- planning's tests through 17, which is given only where the least arrival is sought
-abbrev pub conversionRefusals : ℕ → List (ℕ × (Axis → Bool))
+abbrev pub conversionRefusals : ℕ → Tests
 conversionRefusals zero = axisRefusals
 conversionRefusals (suc n) = oldRefusals
 
-abbrev pub unlessRefused : List (ℕ × (Axis → Bool)) → List JobAxis → List ℕ → Conversion → Conversion
+abbrev pub unlessRefused : Tests → List JobAxis → List ℕ → Conversion → Conversion
 unlessRefused [] xs lent c = c
 unlessRefused (t ∷ ts) xs lent c =
     elim (firstAxis (t .1) xs) [ some i ↦ unconverted (t .0) i lent | none ↦ unlessRefused ts xs lent c ]

@@ -9,7 +9,6 @@ use mathlib.Core.Logic.{_⊎_}
 use lib.Dec.{ltb, leb}
 use lib.IntN.{ℤ}
 use lib.ListN.{length}
-use Rattle.model.specs.declared.Axis.{Axis}
 use Rattle.model.specs.declared.Order.the-variants.{Forwards}
 use Rattle.model.specs.declared.Report.{Report}
 use Rattle.model.specs.declared.Report.the-variants.{Found, Spent, Nothing}
@@ -19,7 +18,7 @@ use Rattle.model.specs.Job.{Job, axesOf, jobOf}
 use Rattle.model.specs.Windows.{refused13}
 use Rattle.model.specs.Words.{noMask, badWord, badLong, job, decode, goodMask}
 use Rattle.model.specs.Refusals.{lastTick}
-use Rattle.model.specs.Outcome.{Input, words, typed, call, inputJob, leastFrom, arrives, firstAxis, axisRefusals}
+use Rattle.model.specs.Outcome.{Input, words, typed, call, inputJob, leastFrom, arrives, firstAxis, Tests, axisRefusals}
 use Rattle.model.specs.Outcome.{refuse, accept, cellsNeeded, jobOutcome}
 use Rattle.model.specs.Verdict.{Arrives, Passing}
 use Rattle.model.specs.Demand.{Demand3}
@@ -77,7 +76,7 @@ abbrev pub searchAdmitted : Job → ℕ → ℕ → SearchAnswer
 searchAdmitted j first budget = elim (refused13 (j .windows)) [ some p ↦ refuseSearch 13 p | none ↦ firstChecked j first budget ]
 
 -- the refusals of an axis, in checking order, as for a table
-abbrev pub searchTested : List (ℕ × (Axis → Bool)) → Job → ℕ → ℕ → SearchAnswer
+abbrev pub searchTested : Tests → Job → ℕ → ℕ → SearchAnswer
 searchTested [] j first budget = searchAdmitted j first budget
 searchTested (t ∷ ts) j first budget =
     elim (firstAxis (t .1) (j .axes)) [ some i ↦ refuseSearch (t .0) i | none ↦ searchTested ts j first budget ]
@@ -158,7 +157,7 @@ pub record Planned (j : Job) (n : ℕ) : Type 0 where
 -- ---- what each number says of a job whose mask and words passed
 
 -- the numbers of some tests of an axis, and 13
-abbrev pub numbersOf : List (ℕ × (Axis → Bool)) → List ℕ
+abbrev pub numbersOf : Tests → List ℕ
 numbersOf [] = 13 ∷ []
 numbersOf (t ∷ ts) = t .0 ∷ numbersOf ts
 

@@ -14,7 +14,7 @@ use Rattle.model.specs.declared.AxisLimits.{AxisLimits}
 use Rattle.model.specs.declared.TourSettings.{TourSettings}
 use Rattle.model.specs.declared.TourAnswer.{TourAnswer}
 use Rattle.model.specs.declared.Job.{Job}
-use Rattle.model.specs.Windows.{noWindows}
+use Rattle.model.specs.Windows.{noWindows, longestDwell}
 use Rattle.model.specs.Outcome.{typed, answerOf}
 
 -- ---- a leg
@@ -108,10 +108,7 @@ afterLegs stops g lent =
       | false ↦ refuseTour (g .number) (g .place) (g .mask) (g .arrival) lent
     ]
 
--- the longest dwell, and the most stops
-abbrev pub longestDwell : ℕ
-longestDwell = 4096
-
+-- the most stops
 abbrev pub mostStops : ℕ
 mostStops = 64
 

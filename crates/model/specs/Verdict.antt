@@ -1,5 +1,5 @@
--- What each answer says, in the words of docs/METHOD.md, section 7: the named case of every number, the first in checking
--- order, by the existence of a list (rule 4) and not by the decision. The theorem `verdict` says that every call's outcome is one of these.
+-- What each number of a call for a table says, in the words of docs/METHOD.md, section 7: its named case, the first in checking order, by the existence of
+-- a list (rule 4) and not by the decision. The theorem `verdict` says it of every job from refusal 3 on, `call-verdict` of every call.
 use Prim.Native.Nat.{ℕ, suc, _≤_, _<_}
 use mathlib.Core.Path.{_≡_}
 use mathlib.Core.Bool.{Bool, true, false}

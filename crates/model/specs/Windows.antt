@@ -10,13 +10,20 @@ use lib.ListN.{getD, take, replicate, getElem?}
 use Rattle.model.specs.declared.Window.{Window}
 use Rattle.model.specs.declared.Windows.{Windows}
 
+-- the most windows, and the longest dwell
+abbrev pub mostWindows : ℕ
+mostWindows = 32
+
+abbrev pub longestDwell : ℕ
+longestDwell = 4096
+
 -- the windows that are brought: the first `count` of the list
 abbrev pub brought : Windows → List Window
 brought w = take (w .count) (w .list)
 
 -- a job without windows
 abbrev pub noWindows : Windows
-noWindows = record { given = false; dwell = 0; count = 0; list = replicate 32 (record { opening = 0; closing = 0 }) }
+noWindows = record { given = false; dwell = 0; count = 0; list = replicate mostWindows (record { opening = 0; closing = 0 }) }
 
 -- arrival n fits a window: at its opening or later, below its closing, and n + dwell not above its closing
 abbrev pub fits : ℕ → ℕ → Window → Bool
@@ -42,18 +49,18 @@ pub record FitsOne (n dwell : ℕ) (l : List Window) : Type 0 where
 -- ---- 13: an empty list (place 0); more than 32 windows, or then a dwell above 4,096 (place 32); then the first window, from index i on,
 -- whose closing is not above its opening or that opens before the previous one closes, at tick c (place its index)
 
-abbrev pub fine : ℕ → Window → Bool
-fine c w = ltb (w .opening) (w .closing) && leb c (w .opening)
+abbrev pub inOrderAfter : ℕ → Window → Bool
+inOrderAfter c w = ltb (w .opening) (w .closing) && leb c (w .opening)
 
 abbrev pub firstWrong : ℕ → ℕ → List Window → Option ℕ
 firstWrong i c [] = none
-firstWrong i c (w ∷ ws) = elim (fine c w) [ true ↦ firstWrong (suc i) (w .closing) ws | false ↦ some i ]
+firstWrong i c (w ∷ ws) = elim (inOrderAfter c w) [ true ↦ firstWrong (suc i) (w .closing) ws | false ↦ some i ]
 
 abbrev pub windowsRefused : Windows → Option ℕ
 windowsRefused w =
     elim (eqb (w .count) 0) [
       | true ↦ some 0
-      | false ↦ elim (leb (w .count) 32 && leb (w .dwell) 4096) [ true ↦ firstWrong 0 0 (brought w) | false ↦ some 32 ]
+      | false ↦ elim (leb (w .count) mostWindows && leb (w .dwell) longestDwell) [ true ↦ firstWrong 0 0 (brought w) | false ↦ some mostWindows ]
     ]
 
 -- the place that 13 names, of a job that brings windows

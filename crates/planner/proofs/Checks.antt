@@ -15,8 +15,8 @@ use Rattle.model.specs.Windows.{refused13}
 use Rattle.model.specs.Job.{Job, JobAxis}
 use Rattle.model.specs.Refusals.{AllPassed, lastTick, limitsRefused, dampingRefused}
 use Rattle.model.specs.Refusals.{blendRefused, swayRefused, valuesRefused, accelerationRefused, flyingRefused}
-use Rattle.model.specs.Outcome.{Outcome, refuse, firstAxis, axisRefusals, tested, arrived, jobOutcome}
-use Rattle.model.proofs.CheckingOrder.{Tests, Lacks, lacks}
+use Rattle.model.specs.Outcome.{Outcome, refuse, firstAxis, Tests, axisRefusals, tested, arrived, jobOutcome}
+use Rattle.model.proofs.CheckingOrder.{Lacks, lacks}
 use Rattle.motion.specs.Motions.{refusalTest}
 use Rattle.planner.specs.declared.Refusal.{Refusal}
 use Rattle.planner.specs.Stages.{windowRefusal, testsFor, firstRefusal, checkedFor, Checked}

@@ -14,7 +14,8 @@ use borrow.Author.Tests.{le-leb, lt-leb, leb-true, eq-eqb, ne-eqb}
 use Rattle.model.specs.declared.Answer.{Answer}
 use Rattle.model.specs.declared.Stop.{Stop}
 use Rattle.model.specs.declared.TourSettings.{TourSettings}
-use Rattle.model.specs.Tour.{Legs, legAxes, legAnswer, allLegs, refusedLeg, legsFrom, longestDwell, firstLongDwell}
+use Rattle.model.specs.Windows.{longestDwell}
+use Rattle.model.specs.Tour.{Legs, legAxes, legAnswer, allLegs, refusedLeg, legsFrom, firstLongDwell}
 use Rattle.tour.specs.Parts.{noLimits, legAxisAt, legsIn}
 
 -- ---- the stops that are left

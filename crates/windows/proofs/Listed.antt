@@ -8,7 +8,7 @@ use mathlib.Core.List.{List, [], _∷_}
 use lib.ListN.{length, getD, take, drop}
 use lib.Seq.{drop-cons, drop-length, getD-take}
 use Rattle.model.specs.declared.Window.{Window}
-use Rattle.model.specs.Windows.{fits, fitsOne, fine, firstWrong}
+use Rattle.model.specs.Windows.{fits, fitsOne, inOrderAfter, firstWrong}
 
 abbrev pub noWindow : Window
 noWindow = record { opening = 0; closing = 0 }
@@ -34,11 +34,11 @@ module _ (list : List Window) (count i : ℕ) (h : i < length (take count list))
   after : ℕ → Bool → Option ℕ
   after k b = elim b [ true ↦ firstWrong k (getD list i noWindow .closing) (drop (i + 1) (take count list)) | false ↦ some i ]
 
-  pub wrong-here : (c : ℕ) → fine c (getD list i noWindow) ≡ false → firstWrong i c (drop i (take count list)) ≡ some i
+  pub wrong-here : (c : ℕ) → inOrderAfter c (getD list i noWindow) ≡ false → firstWrong i c (drop i (take count list)) ≡ some i
   unfolding after
   wrong-here c e = ap (firstWrong i c) split ∙ ap (after (suc i)) e
 
-  pub wrong-later : (c : ℕ) → fine c (getD list i noWindow) ≡ true
+  pub wrong-later : (c : ℕ) → inOrderAfter c (getD list i noWindow) ≡ true
       → firstWrong i c (drop i (take count list)) ≡ firstWrong (i + 1) (getD list i noWindow .closing) (drop (i + 1) (take count list))
   unfolding after
   wrong-later c e =

@@ -6,7 +6,7 @@ ghost use Prim.Native.Nat.{_≤_};
 ghost use lib.ListN.{take};
 ghost use mathlib.Core.Bool.{true};
 ghost use mathlib.Core.Option.{none};
-ghost use Rattle.model.specs.Windows.{noWindows, fits, fitsOne, inWindows, fine, firstWrong, windowsRefused, refused13};
+ghost use Rattle.model.specs.Windows.{noWindows, fits, fitsOne, inWindows, inOrderAfter, firstWrong, windowsRefused, refused13};
 ghost use Rattle.windows.specs.Places.{placeOf};
 ghost use Rattle.windows.specs.Ticks.{firstTick, upTo, afterLast};
 
@@ -61,12 +61,12 @@ pub enum Place {
     Nowhere,
 }
 
-// Whether a window closes after it opens, and opens at a tick or later.
-fn fine(window: Window, from: u32) -> bool
-    ensures { λ r. ⌜ r ≡ fine from window ⌝ }
+// Whether a window closes after it opens, and opens at the tick at which the one before it closed, or later.
+fn in_order_after(closed: u32, window: Window) -> bool
+    ensures { λ r. ⌜ r ≡ inOrderAfter closed window ⌝ }
 {
     if window.opening < window.closing {
-        return from <= window.opening;
+        return closed <= window.opening;
     }
     false
 }
@@ -80,7 +80,7 @@ fn first_wrong(list: [Window; 32], count: usize) -> Place
     let mut i: usize = 0;
     while i < count {
         let window = list[i];
-        if !fine(window, closed) {
+        if !in_order_after(closed, window) {
             return Place::At(i);
         }
         closed = window.closing;

@@ -34,16 +34,15 @@ impl Moment {
         }
     }
 
-    /// The moment of a target at a tick, for a job with an arrival.
-    fn of_target(target: &Target, arrival: u32, tick: u32) -> Moment {
-        let (state, since) = match *target {
-            Target::Fixed(RestPoint { position, velocity }) => {
-                (State { position, velocity, ..State::default() }, f64::from(tick) - f64::from(arrival))
-            }
-            Target::Moving(state) => (state, f64::from(tick) - state.tick as f64),
+    /// The moment of a target at a tick; a fixed one is at rest.
+    fn of_target(target: &Target, tick: u32) -> Moment {
+        let state = match *target {
+            Target::Fixed(RestPoint { position, .. }) => State { position, ..State::default() },
+            Target::Moving(state) => state,
         };
         let acceleration = state.acceleration as f64;
-        Moment { position: state.position as f64, velocity: state.velocity as f64, acceleration }.carried(since)
+        let moment = Moment { position: state.position as f64, velocity: state.velocity as f64, acceleration };
+        moment.carried(f64::from(tick) - state.tick as f64)
     }
 
     /// The moment some ticks later, under the same acceleration.
@@ -76,7 +75,7 @@ impl Course {
         Course {
             plan: (0..).zip(rows).map(|(tick, &row)| point(tick, row)).collect(),
             after: (ticks.arrival..=ticks.last).map(|tick| point(tick, after(tick))).collect(),
-            target: (0..=ticks.last).map(|tick| point(tick, Moment::of_target(target, ticks.arrival, tick))).collect(),
+            target: (0..=ticks.last).map(|tick| point(tick, Moment::of_target(target, tick))).collect(),
         }
     }
 
@@ -103,14 +102,14 @@ mod tests {
         assert_eq!(course.target, [(0.0, 0.0), (1.0, 1.0), (2.0, 2.0), (3.0, 3.0), (4.0, 4.0), (5.0, 5.0)]);
     }
 
-    /// An accelerating target is carried from its tick in both directions, a flying one from the arrival.
+    /// An accelerating target is carried from its tick in both directions, a fixed one stays where it is.
     #[test]
     fn targets_are_carried() {
         let target = Target::Moving(State { position: 10, velocity: 2, acceleration: 1, tick: 2 });
-        let at = |tick| Moment::of_target(&target, 3, tick);
+        let at = |tick| Moment::of_target(&target, tick);
         assert_eq!(at(0), Moment { position: 8.0, velocity: 0.0, acceleration: 1.0 });
         assert_eq!(at(4), Moment { position: 16.0, velocity: 4.0, acceleration: 1.0 });
-        let flying = Target::Fixed(RestPoint { position: 10, velocity: 4 });
-        assert_eq!(Moment::of_target(&flying, 3, 5), Moment { position: 18.0, velocity: 4.0, acceleration: 0.0 });
+        let still = Moment { position: 10.0, velocity: 0.0, acceleration: 0.0 };
+        assert_eq!([0, 5].map(|tick| Moment::of_target(&Target::still(10), tick)), [still, still]);
     }
 }

@@ -170,7 +170,7 @@ impl Draft {
             _ => None,
         };
         let Some(kind) = kind else {
-            return fault(line, "`still`, `flying` or `moving` after `target`", quoted(value));
+            return fault(line, "`still` or `moving` after `target`", quoted(value));
         };
         self.target = Some((kind, line));
         Ok(())
@@ -203,7 +203,7 @@ impl Draft {
     /// The axis with all its entries.
     pub fn axis(&self) -> Result<Axis, SheetError> {
         let Some((target, target_line)) = self.target else {
-            return self.lacks("`target still`, `target flying` or `target moving`");
+            return self.lacks("`target still` or `target moving`");
         };
         if let Some(entry) = self.entries.iter().find(|entry| !target.has(entry.kind)) {
             let name = entry.kind.name();

@@ -32,14 +32,14 @@ mul-window c = omega arith
 array-copy-out-window : tie.Need-array-copy-out-window Inv-loop μ-loop
 array-copy-out-window c = omega arith
 
-fine-requires : tie.Need-fine-requires Inv-loop μ-loop
-fine-requires c κs = search needs
+in-order-after-requires : tie.Need-in-order-after-requires Inv-loop μ-loop
+in-order-after-requires c κs = search needs
 
 returns : tie.Need-returns Inv-loop μ-loop
 returns c =
     let l = c .before .before .before .before .loop in
     let a = c .before .before .before .before .before .args in
-    let wrong = sym (c .before .fine .ensures) ∙ not-true (c .before .fine .result) (c .if1 .taken) in
+    let wrong = sym (c .before .in-order-after .ensures) ∙ not-true (c .before .in-order-after .result) (c .if1 .taken) in
     sym (wrong-here (a .t1) (a .count) (l .i) (omega (arith, l .inv .long)) (omega arith) (l .closed) wrong) ∙ l .inv .rest
 
 add-i : tie.Need-add-i Inv-loop μ-loop
@@ -52,7 +52,7 @@ loop-again : tie.Need-loop-again Inv-loop μ-loop
 loop-again c =
     let l = c .before .before .before .before .loop in
     let a = c .before .before .before .before .before .args in
-    let good = sym (c .before .fine .ensures) ∙ not-false (c .before .fine .result) (c .if1 .left) in
+    let good = sym (c .before .in-order-after .ensures) ∙ not-false (c .before .in-order-after .result) (c .if1 .left) in
     record {
       rest = sym (wrong-later (a .t1) (a .count) (l .i) (omega (arith, l .inv .long)) (omega arith) (l .closed) good) ∙ l .inv .rest;
       low = omega arith;
@@ -74,7 +74,7 @@ first-wrong-spec =
     loop-holds
     mul-window
     array-copy-out-window
-    fine-requires
+    in-order-after-requires
     returns
     add-i
     loop-less
