@@ -1,6 +1,6 @@
 """Motion tables for a scanner head on a swaying pole, planned by a proved library.
 
-A `Job` says for each axis where it starts, what it is to land on, its limits, and the half period and damping of the pole under it.
+A `Job` says for each axis where it starts, what it is to land on, its limits, and the half periods and damping of the pole under it.
 `Job.plan` gives a `Plan` with a table of position, velocity and acceleration for each tick that lands every axis exactly on its target
 at one common tick with the sway cancelled, or raises a `Refusal`. What the library promises of its answers is proved for every job;
 this module is a thin layer above it, with no planning of its own and no dependency.
@@ -231,7 +231,7 @@ class Axis:
     damping: Damping
     target: Target
     second_half_period: Optional[int] = None
-    """Half the period of a second sway, 1 to 256 ticks, where the pole has one."""
+    """Half the period of a second sway, 1 to 256 ticks, taken as undamped; none where the pole swings at one rate, which 0 is not."""
 
 
 @dataclass(frozen=True)

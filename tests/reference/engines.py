@@ -71,7 +71,10 @@ def answered() -> Tuple[int, int]:
     return made, total
 
 
+def printed() -> str:
+    made, total = answered()
+    return ''.join('by %s: %d of %d legs can be made, sum %d\n' % (engine, made, LEGS, total) for engine in ('ticks', 'areas'))
+
+
 if __name__ == '__main__':
-    line = '%d of %d legs can be made, sum %d' % (answered()[0], LEGS, answered()[1])
-    for engine in 'ticks', 'areas':
-        print('by %s: %s' % (engine, line))
+    print(printed(), end='')

@@ -95,6 +95,27 @@ class FieldCases(unittest.TestCase):
         for wrong in (Ratio(math.nan), Ratio(0), Ratio(1.5), Ratio(1e300), Peaks(0.0, 0.0), Peaks(1.0, math.inf)):
             self.assertEqual(self.refused(to(9, damping=wrong)), (12, 0, 0, 0))
 
+    def test_long_positions(self):
+        upper, lower = 2**34 - 1, -(2**34)
+        for end in (upper, lower):
+            self.assertEqual(self.columns(to(end, start=RestPoint(end)))[:2], (1, [256 * end] * 2))
+        for past in (upper + 1, lower - 1):
+            self.assertEqual(self.refused(to(past)), (6, 0, 0, 0))
+        head, middle, tail = [0x10000001, 0x20000000], [0x40000000, 0x5000000A, 0x60000001, 0x70000000, 0x80000080], [0xA0000000, 0xF0000000]
+        words = head + [0xE0000000, 0x38000000] + middle + [0xE0000000, 0x98000000] + tail
+        self.assertEqual(polgamir.plan_words(words).positions(0).tolist(), [256 * 2**27] * 2)
+        words[3] -= 1  # this position fits a single word
+        with self.assertRaises(Refusal) as caught:
+            polgamir.plan_words(words)
+        self.assertEqual((caught.exception.number, caught.exception.place), (Number.REFUSED_LONG_POSITION, 2))
+
+    def test_second_sways(self):
+        expected = (5, [0, 39, 103, 167, 231, 256], [0, 78, 50, 78, 50, 0], [78, -28, 28, -28, -50, 0])
+        self.assertEqual(self.columns(to(1, half_period=1, damping=Weight(100), second_half_period=2)), expected)
+        for wrong in (0, 257):
+            self.assertEqual(self.refused(to(1, second_half_period=wrong)), (15, 0, 0, 0))
+        self.assertEqual(self.refused(Job({2: field_axis(Moving(0, 0, 1, 0), second_half_period=1)})), (16, 2, 0, 0))
+
     def test_arrival_found(self):
         self.assertEqual(to(4).arrival_found(), 4)
         with self.assertRaises(Refusal):

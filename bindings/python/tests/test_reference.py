@@ -82,8 +82,8 @@ def raises_of(case):
     axes = [(axis, [(letters[raised.limit], raised.by) for raised in raises]) for axis, raises in found.axes.items()]
     refusal = found.refusal
     if refusal is None:
-        return (0, 0, found.arrival), axes
-    return (int(refusal.number), refusal.place, refusal.arrival), axes
+        return (0, 0, 0, found.arrival), axes
+    return (int(refusal.number), refusal.place, refusal.mask, refusal.arrival), axes
 
 
 def tour_of(case):
@@ -114,10 +114,19 @@ class AgainstTheReference(unittest.TestCase):
     def test_drawn_damping(self):
         self.agree(cases.drawn_damping(seed=73, count=25))
 
+    def test_rails(self):
+        self.agree(cases.rails())
+        self.agree(cases.drawn_rails(seed=75, count=20))
+
+    def test_second_sways(self):
+        self.agree(swaycases.sways())
+        self.agree(swaycases.drawn_sways(seed=76, count=30))
+
     def test_raises(self):
         for case in raisecases.raises_cases().cases + raisecases.drawn_raises().cases:
             answer, axes = raisecases.raised(case)
-            expected = (answer.number, answer.place, answer.arrival), [(axis, list(map(tuple, raises))) for axis, raises in axes]
+            mask = answer.mask if answer.number else 0  # an accepted job's own is not handed on
+            expected = (answer.number, answer.place, mask, answer.arrival), [(axis, list(map(tuple, raises))) for axis, raises in axes]
             self.assertEqual(raises_of(case), expected, case.name)
 
     def test_backwards(self):

@@ -120,7 +120,8 @@ fn refusal_17_says_what_to_write() {
     assert_eq!(third_line.as_deref(), Some(told));
 }
 
-/// Refusal 8 says which arrivals would do. The numbers are those of a target that is met at ticks 9 to 11 only, and of case L.
+/// Refusal 8 says which arrivals would do. The numbers are those of a target that is met at ticks 9 to 11 only, of case L, and of case B
+/// with windows.
 #[test]
 fn refusal_8_says_the_least_arrival_that_would_do() {
     let moving = "target moving\ntarget position 8\ntarget velocity -1\ntarget acceleration 1\ntarget tick 0";
@@ -135,6 +136,11 @@ fn refusal_8_says_the_least_arrival_that_would_do() {
     let far = changed_case_c("target position      1", "target position 100000000");
     let told = "axis 0 cannot arrive at tick 4; no tick from 1 to 4096 would do";
     assert_eq!(second_line(&far).as_deref(), Some(told));
+    let windows = "arrival 100\nwindow 4 5\nwindow 2000 3000\ndwell 0";
+    let case_b = changed_case_c("target position      1", "target position 4").replace("arrival 4", windows);
+    let told = "every axis can arrive at tick 100, but it fits no window; the least arrival that would do is tick 4, and the next \
+                after 100 is tick 2000";
+    assert_eq!(second_line(&case_b).as_deref(), Some(told));
 }
 
 /// Refusal 8 says what to raise, of each axis that it names. The numbers are the method's case E and those worked out by hand.
@@ -149,6 +155,11 @@ fn refusal_8_says_which_limit_to_raise() {
     let moving = moving.replace("start velocity       0", "start velocity 2").replace("arrival 4", "arrival 8");
     let told = "axis 0: to arrive at tick 8 raise the speed limit by 1 to 4, or the acceleration limit by 2 to 3";
     assert_eq!(raises(&moving).as_deref(), Some(told));
+
+    let windowed = slow.replace("arrival 4", "arrival 6\nwindow 20 30\ndwell 4");
+    assert_eq!(refused(&windowed).lines().nth(4), Some("tick 6 fits no window either"));
+    let fitting = slow.replace("arrival 4", "arrival 6\nwindow 6 30\ndwell 4");
+    assert!(!refused(&fitting).contains("fits no window"));
 
     let late = changed_case_c("half period          0", "half period 4");
     let told = "axis 0: no speed limit and no acceleration limit alone would let it arrive at tick 4";

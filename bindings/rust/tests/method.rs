@@ -7,7 +7,7 @@ use std::path::{Path, PathBuf};
 
 use common::command::folder;
 use common::{field_axis, CASE_C_TABLE, CASE_C_WORDS};
-use polgamir::{Axis, Damping, Job, Plan, Report, RestPoint, State, Target};
+use polgamir::{plan_words, Axis, Damping, Job, Limit, Plan, Refusal, Report, RestPoint, State, Target};
 
 /// The page.
 fn page() -> String {
@@ -102,27 +102,46 @@ fn examples_of_the_sections_are_the_planner_s() {
     );
 }
 
-/// Number, named case and place of each refusal, in a table's order.
-fn refusals(page: &str) -> Vec<[&str; 3]> {
-    let rows = page.lines().filter_map(|line| {
-        let mut cells = line.strip_prefix("| ")?.split(" | ");
-        let number = cells.next().filter(|number| number.parse::<u32>().is_ok())?;
-        Some([number, cells.next()?, cells.next()?.trim_end_matches(" |")])
-    });
-    rows.collect()
-}
-
-/// The page and the README tell the refusals in the same words, and both and the header in the same order.
+/// The examples of the sections on positions past 28 bits, on a second sway and on raises.
 #[test]
-fn refusals_are_told_alike() {
-    let (page, readme) = (page(), fs::read_to_string(folder("README.md")).expect("README.md"));
-    assert_eq!(refusals(&page), refusals(&readme));
-    let header = fs::read_to_string(folder("include").join("polgamir.h")).expect("the header");
-    let of_header =
-        header.lines().filter_map(|line| line.trim_start().strip_prefix("POLGAMIR_REFUSED_")?.split_once(" = "));
-    let of_header: Vec<&str> = of_header.map(|(_, number)| number.trim_end_matches(',')).collect();
-    assert_eq!(refusals(&page).iter().map(|row| row[0]).collect::<Vec<_>>(), of_header);
-    assert_eq!(of_header.len(), 17);
+fn later_examples_are_the_planner_s() {
+    let page = page();
+    let pairs = "(high, low) = (0, 2²⁷) passes, (0, 2²⁷ − 1) is 14, (−1, 2²⁷ − 1) passes, (−1, 2²⁷) is 14, (64, 0) and (−65, 0) are 14.";
+    assert!(page.contains(pairs));
+    for (high, low, passes) in [
+        (0, 1 << 27, true),
+        (0, (1 << 27) - 1, false),
+        (-1, (1 << 27) - 1, true),
+        (-1, 1 << 27, false),
+        (64, 0, false),
+        (-65, 0, false),
+    ] {
+        let word = |kind: u32, payload: i32| kind << 28 | payload as u32 & 0x0FFF_FFFF;
+        let mut words = CASE_C_WORDS.to_vec();
+        words.splice(8..9, [word(14, high), word(9, low)]);
+        words.splice(2..3, [word(14, high), word(3, low)]);
+        let answer = plan_words(&words, &mut [0; 15]).map(|accepted| accepted.arrival());
+        assert_eq!(answer, if passes { Ok(4) } else { Err(Refusal::LongPosition { index: 2 }) }, "{high} {low}");
+    }
+
+    let pole = Axis { half_period: 1, damping: Damping::Weight(100), ..field_axis(Target::still(1)) };
+    let jointed = Axis { second_half_period: Some(2), ..pole };
+    let plan = Job::earliest().with_axis(0, jointed).plan().expect("a pole with a joint");
+    let row =
+        |row: polgamir::Row| row.cells().iter().map(i64::to_string).collect::<Vec<_>>().join(" ").replace('-', "−");
+    let rows: Vec<String> = plan.rows().map(row).collect();
+    assert!(page.contains(&format!("arrival {}, rows {}.", plan.arrival(), rows.join(", "))), "{rows:?}");
+
+    let raises = |asked: u32, axis: Axis| -> Vec<(Limit, u32)> {
+        let raises = Job::arriving_at(asked).with_axis(0, axis).raises().of_axis(0);
+        raises.iter().map(|raise| (raise.limit, raise.by)).collect()
+    };
+    let to = |speed_limit, position| Axis { speed_limit, ..field_axis(Target::still(position)) };
+    assert_eq!(raises(3, to(10, 4)), [(Limit::Acceleration, 1)]);
+    assert_eq!(raises(6, to(2, 9)), [(Limit::Acceleration, 1), (Limit::Speed, 1)]);
+    let moving = Axis { start: RestPoint { position: 0, velocity: 2 }, ..to(3, 22) };
+    assert_eq!(raises(8, moving), [(Limit::Speed, 1), (Limit::Acceleration, 2)]);
+    assert_eq!(raises(3, Axis { half_period: 3, ..to(10, 4) }), []);
 }
 
 /// What sections 20 to 22 say of some jobs.
@@ -226,12 +245,16 @@ fn refusals_of(page: &str, columns: usize) -> Vec<Vec<String>> {
     numbered.map(|row| row[..4].to_vec()).collect()
 }
 
-/// This page and the README tell refusals in the same words, and in checking order.
+/// This page and the README tell refusals in the same words and in checking order, which is the header's too.
 #[test]
-fn refusals_are_told_in_the_same_words() {
+fn refusals_are_told_alike() {
     let readme = fs::read_to_string(folder("README.md")).expect("the README");
     let refusals = refusals_of(&page(), 5);
     assert_eq!(refusals, refusals_of(&readme, 4));
-    let numbers: Vec<u32> = refusals.iter().map(|row| row[0].parse().expect("a number")).collect();
-    assert_eq!(numbers, [11, 1, 2, 14, 3, 4, 12, 5, 15, 6, 16, 17, 13, 18, 8, 9, 10]);
+    let numbers: Vec<&str> = refusals.iter().map(|row| row[0].as_str()).collect();
+    assert_eq!(numbers.join(" "), "11 1 2 14 3 4 12 5 15 6 16 17 13 18 8 9 10");
+    let header = fs::read_to_string(folder("include").join("polgamir.h")).expect("the header");
+    let of_header =
+        header.lines().filter_map(|line| line.trim_start().strip_prefix("POLGAMIR_REFUSED_")?.split_once(" = "));
+    assert_eq!(numbers, of_header.map(|(_, number)| number.trim_end_matches(',')).collect::<Vec<_>>());
 }

@@ -55,7 +55,7 @@ module _ (ws : List ℕ) (d : DecodedJob) (is : Decodes ws d) where
         holds = subst (λ (j : Job). RaisesHold j r) (job-of-words ws d is z) (p .holds);
       }
 
-  -- refusals 1 and 2
+  -- refusals 1, 2 and 14
   pub refusal-promise : (r : RaisesAnswer) → (d .number ≡ 0 → ⊥)
       → r ≡ record { answer = record { number = d .number; place = d .place; mask = 0; arrival = 0 }; axes = noneRaised } → RaisesPromise (words ws) r
   refusal-promise r h e =

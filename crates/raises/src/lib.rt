@@ -2,7 +2,7 @@
 // the least raise of each limit alone for which an axis that the mask names can arrive. specs/Promise.antt says what both calls promise of any job.
 //
 // The way of a job:
-//     raises_words    words::decode         refusals 1 and 2, then as raises_job
+//     raises_words    words::decode         refusals 1, 2 and 14, then as raises_job
 //     raises_job      planner::answer_of    every other answer
 //     raises_for      raises_of             the axes that do not reach the asked arrival, each by least_raise for M and for L, in_order
 use model::Answer;

@@ -18,7 +18,8 @@ pub fn explained(sheet: &Sheet, refusal: &Refusal) -> String {
     text
 }
 
-/// For each axis that cannot arrive at the asked tick, which limit to raise and by how much so that it can.
+/// For each axis that cannot arrive at the asked tick, which limit to raise and by how much so that it can; and that the tick fits no
+/// window, which raises do not heed.
 fn raise_lines(sheet: &Sheet, refusal: &Refusal) -> Vec<String> {
     if !matches!(refusal, Refusal::NotReachable { .. }) {
         return Vec::new();
@@ -39,7 +40,9 @@ fn raise_lines(sheet: &Sheet, refusal: &Refusal) -> Vec<String> {
             _ => format!("{title}: no speed limit and no acceleration limit alone would let it arrive at tick {tick}"),
         })
     });
-    told.collect()
+    let outside = sheet.job.windows.is_some_and(|windows| !windows.fit(tick));
+    let outside = (outside && raises.axes().next().is_some()).then(|| format!("tick {tick} fits no window either"));
+    told.chain(outside).collect()
 }
 
 /// The same of a tour: a leg's refusal is that of its job, whose positions are those of the stops.

@@ -1,0 +1,24 @@
+"""What is stored of the reference is what it gives: the cases for the tests from outside, and what the program `engines` is to print."""
+
+import sys
+import unittest
+from pathlib import Path
+
+REPOSITORY = Path(__file__).resolve().parents[3]
+sys.path.insert(0, str(REPOSITORY / "tests" / "reference"))
+
+import engines
+import make_vectors
+
+
+class Stored(unittest.TestCase):
+    def test_vectors(self):
+        for name in make_vectors.FILES:
+            self.assertTrue(make_vectors.is_stored(name), name)
+
+    def test_engines(self):
+        self.assertEqual((REPOSITORY / "crates" / "engines" / "stdout").read_text(), engines.printed())
+
+
+if __name__ == "__main__":
+    unittest.main()
