@@ -10,8 +10,9 @@ use Rattle.model.specs.Outcome.{Input, typed, inputJob}
 use Rattle.model.specs.Raises.{RaisesHold}
 use Rattle.planner.specs.Promise.{Promise}
 use Rattle.raises.specs.Promise.{RaisesPromise}
-use Rattle.capi.specs.declared.limit_raises.PolgamirRaises.{PolgamirRaises}
-use Rattle.capi.specs.Raises.{raisesInC, RaisesReturned}
+use Rattle.layout.specs.declared.limit_raises.PolgamirRaises.{PolgamirRaises}
+use Rattle.layout.specs.Raises.{raisesInC}
+use Rattle.capi.specs.Raises.{RaisesReturned}
 
 pub for-answer : {o : Order} {q : Input} {entry exit : List ℤ} {r s : Answer} → s ≡ r → Promise o q entry r exit → Promise o q entry s exit
 for-answer {o} {q} {entry} {exit} same kept = subst (λ (a : Answer). Promise o q entry a exit) (sym same) kept

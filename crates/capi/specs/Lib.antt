@@ -1,4 +1,2 @@
-pub mod Jobs
 pub mod Raises
 pub mod Searches
-pub mod Tours

@@ -48,14 +48,14 @@ use Rattle.model.proofs.TourSettings.Laws as N′
 use Rattle.model.proofs.TourAnswer as R
 use Rattle.model.proofs.TourAnswer.Laws as R′
 use Rattle.tour.specs.Promise.{TourPromise}
-use Rattle.capi.specs.declared.tours.PolgamirTour.{PolgamirTour}
-use Rattle.capi.specs.Tours.{settingsOf}
-use Rattle.capi.proofs.tours.PolgamirTour as P
-use Rattle.capi.proofs.tours.PolgamirTour.Laws as P′
-use Rattle.capi.proofs.tours.settings_of as settings
-use Rattle.capi.proofs.tours.settings_of.Symbol as settings-def
-use Rattle.capi.proofs.tours.settings_of.Symbol.{name as #capi·settings-of}
-use Rattle.capi.proofs.tours.settings_of.Met as settings-thm
+use Rattle.layout.specs.declared.tours.PolgamirTour.{PolgamirTour}
+use Rattle.layout.specs.Tours.{settingsOf}
+use Rattle.layout.proofs.tours.PolgamirTour as P
+use Rattle.layout.proofs.tours.PolgamirTour.Laws as P′
+use Rattle.layout.proofs.tours.settings_of as settings
+use Rattle.layout.proofs.tours.settings_of.Symbol as settings-def
+use Rattle.layout.proofs.tours.settings_of.Symbol.{name as #layout·settings-of}
+use Rattle.layout.proofs.tours.settings_of.Met as settings-thm
 use Rattle.tour.proofs.plan_tour as plan
 use Rattle.tour.proofs.plan_tour.Symbol as plan-def
 use Rattle.tour.proofs.plan_tour.Symbol.{name as #tour·plan-tour}
@@ -129,7 +129,7 @@ module _ {M : Type 1} (𝓤 : URA M) (H : Heap 𝓤) (A : Atoms 𝓤) (W : Given
       -- [true; the result; the last list; what stops owns]
       move ! (2 ∷ 0 ∷ []) $ fjoin ! $ move ! (2 ∷ 0 ∷ []) $ fjoin ! $ owned ! P.the-row (Is P.the-row) (LL.makes P.the-type P′.the-plain 𝓤 H A) d _ is $ fjoin ! $ frame ! $ done !
 
-  module _ (C : Calls 𝓤 H) (Λ : Loops 𝓤 H) (fm : FmC 𝓤 H (W .laws) C) (known-settings : Triple 𝓤 (C #capi·settings-of) (Settings 𝓤 H A mem run)) (known-plan : Triple 𝓤 (C #tour·plan-tour) (Plan 𝓤 H A mem run)) where
+  module _ (C : Calls 𝓤 H) (Λ : Loops 𝓤 H) (fm : FmC 𝓤 H (W .laws) C) (known-settings : Triple 𝓤 (C #layout·settings-of) (Settings 𝓤 H A mem run)) (known-plan : Triple 𝓤 (C #tour·plan-tour) (Plan 𝓤 H A mem run)) where
     walk : Is P.the-row d (P′.lowered d ∷ []) → Room S.the-row (length (x .now)) → Room u32 (length (y .now))
         → ent 𝓤 (onEntry 𝓤 H A this.signature κs (q, (q′, tt)) (d, (x, (y, tt))) at) (WpFn 𝓤 H C Λ code.function (P′.lowered d ∷ v ∷ v′ ∷ []) Post)
     walk is room room′ =
@@ -172,14 +172,14 @@ module _ {M : Type 1} (𝓤 : URA M) (H : Heap 𝓤) (A : Atoms 𝓤) (W : Given
         Told t r zs = TourPromise t (x .now) (y .now) r zs
 
 module _ {M : Type 1} (𝓤 : URA M) (H : Heap 𝓤) (A : Atoms 𝓤) (W : Given 𝓤 H A) (mem : Memory → SProp 𝓤) (run : Routine → Fun 𝓤) where
-  plan-tour-walks : (C : Calls 𝓤 H) (Λ : Loops 𝓤 H) → FmC 𝓤 H (W .laws) C → Triple 𝓤 (C #capi·settings-of) (Settings 𝓤 H A mem run) → Triple 𝓤 (C #tour·plan-tour) (Plan 𝓤 H A mem run)
+  plan-tour-walks : (C : Calls 𝓤 H) (Λ : Loops 𝓤 H) → FmC 𝓤 H (W .laws) C → Triple 𝓤 (C #layout·settings-of) (Settings 𝓤 H A mem run) → Triple 𝓤 (C #tour·plan-tour) (Plan 𝓤 H A mem run)
       → Walks 𝓤 H A this.ended stayed (WpFn 𝓤 H C Λ code.function) (this.clauses 𝓤 H A mem run)
   plan-tour-walks C Λ fm known-settings known-plan = walked 𝓤 H A this.ended stayed (this.clauses 𝓤 H A mem run) (WpFn 𝓤 H C Λ code.function)
       (λ κs. ((λ z. P′.lowered z ∷ []), (slice-vals, (slice-vals, tt)))) (λ κs. (P′.lowers .val-is, (shr-slice-tells (named 0) (κs .0) S.the-row, (mut-slice-tells (named 1) (κs .1 .0) u32, tt))))
       (λ κs qs bounds a g are. via 𝓤 _ (fst∗ 𝓤 _ (emp 𝓤)) (walk 𝓤 H A W mem run (κs .0) (κs .1 .0) (qs .0) (qs .1 .0) (a .0) (a .1 .0) (a .1 .1 .0) C Λ fm known-settings known-plan (are .0) (are .1 .0 .0 .1) (are .1 .1 .0 .0 .1)))
 
 plan-tour-meets : {M : Type 1} (𝓤 : URA M) (H : Heap 𝓤) (A : Atoms 𝓤) (W : Given 𝓤 H A) (mem : Memory → SProp 𝓤) (run : Routine → Fun 𝓤) (𝓣 : Tables 𝓤 H)
-    → Triple 𝓤 (𝓣 .C #capi·settings-of) (Settings 𝓤 H A mem run) → Triple 𝓤 (𝓣 .C #tour·plan-tour) (Plan 𝓤 H A mem run)
+    → Triple 𝓤 (𝓣 .C #layout·settings-of) (Settings 𝓤 H A mem run) → Triple 𝓤 (𝓣 .C #tour·plan-tour) (Plan 𝓤 H A mem run)
     → Meets 𝓤 H A this.signature (WpFn 𝓤 H (𝓣 .C) (𝓣 .Λ) code.function) (this.spec 𝓤 H A mem run)
 plan-tour-meets 𝓤 H A W mem run 𝓣 known-settings known-plan =
     walk-meets 𝓤 H A this.ended stayed W
@@ -193,5 +193,5 @@ polgamir-plan-tour-spec 𝓤 H 𝓜 𝓖 𝓡 =
     entered 𝓤 H (tripleOf 𝓤 H (𝓖 .A) this.signature (this.spec 𝓤 H (𝓖 .A) (𝓜 .mem) (𝓡 .run)))
     (tables 𝓤 H 𝓜 𝓡 code.env .C) (tables 𝓤 H 𝓜 𝓡 code.env .Λ) #capi·polgamir-plan-tour code.function (code.unfolded 𝓤 H 𝓜 𝓡)
     (plan-tour-meets 𝓤 H (𝓖 .A) (givenOf 𝓤 H 𝓜 𝓖) (𝓜 .mem) (𝓡 .run) (tablesOf 𝓤 H 𝓜 (tables 𝓤 H 𝓜 𝓡 code.env))
-    (cited 𝓤 H (Settings 𝓤 H (𝓖 .A) (𝓜 .mem) (𝓡 .run)) 𝓜 𝓡 code.env #capi·settings-of settings-def.routine code.calls-capi·tours·settings-of (settings-thm.met 𝓤 H 𝓜 𝓖 𝓡))
+    (cited 𝓤 H (Settings 𝓤 H (𝓖 .A) (𝓜 .mem) (𝓡 .run)) 𝓜 𝓡 code.env #layout·settings-of settings-def.routine code.calls-layout·tours·settings-of (settings-thm.met 𝓤 H 𝓜 𝓖 𝓡))
     (cited 𝓤 H (Plan 𝓤 H (𝓖 .A) (𝓜 .mem) (𝓡 .run)) 𝓜 𝓡 code.env #tour·plan-tour plan-def.routine code.calls-tour·plan-tour (plan-thm.met 𝓤 H 𝓜 𝓖 𝓡)))

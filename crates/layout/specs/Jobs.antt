@@ -1,0 +1,79 @@
+-- What the structs of include/polgamir.h stand for.
+use Prim.Native.Nat.{ℕ}
+use mathlib.Core.Bool.{cond, not}
+use mathlib.Core.List.{map}
+use lib.Dec.{eqb}
+use lib.Ieee.{Float}
+use Rattle.model.specs.declared.Answer.{Answer}
+use Rattle.model.specs.declared.Axis.{Axis}
+use Rattle.model.specs.declared.Damping.the-variants.{Ratio, Peaks}
+use Rattle.model.specs.declared.Job.{Job}
+use Rattle.model.specs.declared.RestPoint.{RestPoint}
+use Rattle.model.specs.declared.SecondSway.{SecondSway}
+use Rattle.model.specs.declared.SecondSway.the-variants.{Absent, HalfPeriod}
+use Rattle.model.specs.declared.State.{State}
+use Rattle.model.specs.declared.Target.{Target}
+use Rattle.model.specs.declared.Target.the-variants.{Fixed, Moving}
+use Rattle.model.specs.declared.Weight.{Weight}
+use Rattle.model.specs.declared.Weight.the-variants.{Given, Measured}
+use Rattle.model.specs.declared.Windows.{Windows}
+use Rattle.layout.specs.declared.PolgamirAnswer.{PolgamirAnswer}
+use Rattle.layout.specs.declared.PolgamirAxis.{PolgamirAxis}
+use Rattle.layout.specs.declared.PolgamirJob.{PolgamirJob}
+use Rattle.layout.specs.declared.PolgamirWindows.{PolgamirWindows}
+
+-- ---- an axis
+
+abbrev pub startOf : PolgamirAxis → RestPoint
+startOf a = record { position = a .«start_position»; velocity = a .«start_velocity» }
+
+abbrev pub fixedOf : PolgamirAxis → RestPoint
+fixedOf a = record { position = a .«target_position»; velocity = a .«target_velocity» }
+
+abbrev pub movingOf : PolgamirAxis → State
+movingOf a =
+    record {
+      position = a .«target_position»;
+      velocity = a .«target_velocity»;
+      acceleration = a .«target_acceleration»;
+      tick = a .«target_tick»;
+    }
+
+-- fixed where its kind is 0, moving where it is any other number
+unfoldable pub targetOf : PolgamirAxis → Target
+targetOf a = cond (eqb (a .«target_kind») 0) (Fixed (fixedOf a)) (Moving (movingOf a))
+
+-- of an axis or of a tour's limits: the number given where the kind is 0, of a ratio where it is 1, of two peaks where it is any other number
+unfoldable pub weightOf : ℕ → ℕ → Float → Float → Float → Weight
+weightOf kind weight ratio first second =
+    cond (eqb kind 0) (Given weight) (cond (eqb kind 1) (Measured (Ratio ratio)) (Measured (Peaks first second)))
+
+-- of an axis or of a tour's limits: none where it is given by 0, and by any other number of the half period
+unfoldable pub swayOf : ℕ → ℕ → SecondSway
+swayOf given period = cond (eqb given 0) Absent (HalfPeriod period)
+
+unfoldable pub axisOf : PolgamirAxis → Axis
+axisOf a =
+    record {
+      start = startOf a;
+      «speed_limit» = a .«speed_limit»;
+      «acceleration_limit» = a .«acceleration_limit»;
+      «half_period» = a .«half_period»;
+      «second_weight» = weightOf (a .«damping_kind») (a .«second_weight») (a .«swing_ratio») (a .«first_peak») (a .«second_peak»);
+      «second_sway» = swayOf (a .«second_sway_given») (a .«second_half_period»);
+      target = targetOf a;
+    }
+
+-- ---- a job
+
+abbrev pub windowsOf : PolgamirWindows → Windows
+windowsOf w = record { given = not (eqb (w .given) 0); dwell = w .dwell; count = w .count; list = w .list }
+
+abbrev pub jobOf : PolgamirJob → Job
+jobOf j = record { mask = j .mask; asked = j .asked; axes = map axisOf (j .axes); windows = windowsOf (j .windows) }
+
+-- ---- an answer
+
+-- the planner's answer that C's holds
+abbrev pub answerOf : PolgamirAnswer → Answer
+answerOf r = record { number = r .number; place = r .place; mask = r .mask; arrival = r .arrival }

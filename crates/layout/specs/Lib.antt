@@ -1,0 +1,4 @@
+pub mod Jobs
+pub mod Raises
+pub mod Searches
+pub mod Tours
