@@ -3,7 +3,7 @@ use layout::tours::PolgamirTour;
 use layout::tours::settings_of;
 use model::Stop;
 use model::TourAnswer;
-ghost use Rattle.tour.specs.Promise.{TourPromise};
+ghost use Rattle.stops.specs.Promise.{TourPromise};
 ghost use Rattle.layout.specs.Tours.{settingsOf};
 
 // Plans the legs of a tour, from its start over each stop in order, and writes each stop's arrival, counted from the tour's start, into the lent list.

@@ -16,7 +16,7 @@ use casetext::reading::settings_at;
 use casetext::reading::stop_at;
 use model::Answer;
 use model::TourAnswer;
-use tour::StopRow;
+use stops::StopRow;
 ghost use mathlib.Core.Path.{_≡_};
 ghost use lib.ListN.{length};
 
@@ -44,12 +44,12 @@ fn plan_typed(text: &[u8], from: usize, table: &mut [i64]) -> Answer {
 // The stops of a tour: their count, and so many.
 fn stops_at(text: &[u8], from: usize) -> StopRow {
     let count = nth_low(text, from, 0) as usize;
-    let mut row = tour::empty_row(count);
+    let mut row = stops::empty_row(count);
     let mut at = after(text, from, 1);
     let mut i: usize = 0;
     while i < count {
         let stop = stop_at(text, at);
-        let next = tour::with_stop(row, i, stop);
+        let next = stops::with_stop(row, i, stop);
         row = next;
         at = after(text, at, 7);
         i += 1;

@@ -1,31 +1,34 @@
 // A tour of stops (docs/METHOD.md, section 10). The stops go in as a lent row of records, with a lent list for their arrivals; an answer comes back.
 // Where its number is 0 the list has each stop's arrival in front, counted from the tour's start, and its later entries are as they were.
-// Where it is not 0 the whole list is as it was. specs/Promise.antt says what the call promises of any tour.
+// Where it is not 0 the whole list is as it was. crates/stops/specs/Promise.antt says what the call promises of any tour.
 //
 // The way of a tour:
-//     plan_tour      stop_row            the lent row by value: these two are the only functions over a slice of structs
-//     tour_of_row    first_long_dwell    refusal 11
-//                    legs_of             the legs, each by leg_answer: their own refusals
-//                    write_arrivals      refusal 10, or the arrivals
-// A caller in Rattle has no slice of stops to lend: it makes a row by `empty_row` and `with_stop` and calls `tour_of_row`, which keeps the same promise.
+//     plan_tour      stops::stop_row            the lent row by value: these two are the only functions over a slice of structs
+//     tour_of_row    stops::first_long_dwell    refusal 11
+//                    legs_of                    the legs, each by leg_answer: their own refusals
+//                    stops::write_arrivals      refusal 10, or the arrivals
+// A caller in Rattle has no slice of stops to lend: it makes a row by `empty_row` and `with_stop` of `stops` and calls `tour_of_row`, which keeps the same promise.
 use model::Answer;
-use model::Axis;
-use model::AxisLimits;
-use model::Job;
-use model::RestPoint;
 use model::Stop;
-use model::Target;
 use model::TourAnswer;
 use model::TourSettings;
+use stops::FirstStop;
+use stops::LegRow;
+use stops::StopRow;
+use stops::first_long_dwell;
+use stops::leg_job;
+use stops::leg_row;
+use stops::stop_row;
+use stops::write_arrivals;
 ghost use mathlib.Core.Path.{_≡_};
 ghost use mathlib.Core.Option.{none};
-ghost use mathlib.Core.List.{[], _++_};
-ghost use Prim.Native.Nat.{_<_, _≤_};
-ghost use lib.ListN.{length, take, drop};
-ghost use Rattle.model.specs.Tour.{legAxes, legJob, legsFrom, firstLongDwell};
-ghost use Rattle.tour.specs.Promise.{TourPromise};
-ghost use Rattle.tour.specs.Rows.{emptyRow, withStop, heldOf, rowOf, rowStops};
-ghost use Rattle.tour.specs.Parts.{legAxisAt, LegIs, foundStop, legsIn};
+ghost use mathlib.Core.List.{[]};
+ghost use Prim.Native.Nat.{_≤_};
+ghost use lib.ListN.{take};
+ghost use Rattle.model.specs.Tour.{legsFrom, firstLongDwell};
+ghost use Rattle.stops.specs.Promise.{TourPromise};
+ghost use Rattle.stops.specs.Rows.{rowStops};
+ghost use Rattle.stops.specs.Parts.{LegIs, legsIn};
 
 // Plans the legs of a tour, from the start over each stop in order, and writes each stop's arrival into the lent list.
 pub fn plan_tour(settings: TourSettings, stops: &[Stop], arrivals: &mut [u32]) -> TourAnswer
@@ -63,41 +66,7 @@ pub fn tour_of_row(settings: TourSettings, row: StopRow, arrivals: &mut [u32]) -
     tour_answer(0, 0, legs.mask, 0, legs.total)
 }
 
-// ---- refusal 11
-
-// A stop by its index, or none.
-enum FirstStop {
-    At(usize),
-    Nowhere,
-}
-
-// The first of `count` stops whose dwell is too long.
-fn first_long_dwell(stops: [Stop; 64], count: usize) -> FirstStop
-    requires { ⌜ count ≤ 64 ⌝ }
-    ensures { λ r. ⌜ foundStop r ≡ firstLongDwell 0 (take count stops) ⌝ }
-{
-    let mut i: usize = 0;
-    while i < count {
-        let stop = stops[i];
-        if 4096 < stop.dwell {
-            return FirstStop::At(i);
-        }
-        i += 1;
-    }
-    FirstStop::Nowhere
-}
-
 // ---- the legs
-
-// Number 0 with the mask, the total and the arrivals in front; or the first refused leg's number, mask and arrival, with the stop as place.
-struct LegRow {
-    number: u32,
-    place: usize,
-    mask: u32,
-    arrival: u32,
-    total: u32,
-    arrivals: [u32; 64],
-}
 
 // The legs to `count` stops, each from where the last one ended, after its dwell.
 fn legs_of(settings: TourSettings, stops: [Stop; 64], count: usize) -> LegRow
@@ -125,26 +94,6 @@ fn legs_of(settings: TourSettings, stops: [Stop; 64], count: usize) -> LegRow
     leg_row(0, 0, settings.mask, 0, tick, arrivals)
 }
 
-fn leg_row(
-    number: u32,
-    place: usize,
-    mask: u32,
-    arrival: u32,
-    total: u32,
-    arrivals: [u32; 64],
-) -> LegRow
-    ensures { λ r. ⌜ r ≡ record { number = number; place = place; mask = mask; arrival = arrival; total = total; arrivals = arrivals } ⌝ }
-{
-    LegRow {
-        number: number,
-        place: place,
-        mask: mask,
-        arrival: arrival,
-        total: total,
-        arrivals: arrivals,
-    }
-}
-
 // The answer to the leg between two positions, from rest to rest: that of the typed job that seeks its least arrival, with no table lent.
 pub fn leg_answer(settings: TourSettings, here: [i64; 6], there: [i64; 6]) -> Answer
     ensures { λ r. ⌜ LegIs settings here there r ⌝ }
@@ -153,77 +102,7 @@ pub fn leg_answer(settings: TourSettings, here: [i64; 6], there: [i64; 6]) -> An
     planner::answer_of(job)
 }
 
-// The typed job of a leg, without windows.
-fn leg_job(settings: TourSettings, here: [i64; 6], there: [i64; 6]) -> Job
-    ensures { λ r. ⌜ r ≡ legJob settings here there ⌝ }
-{
-    let axes = leg_axes(settings, here, there);
-    let windows = windows::no_windows();
-    Job {
-        mask: settings.mask,
-        asked: 0,
-        axes: axes,
-        windows: windows,
-    }
-}
-
-// The axes of a leg.
-fn leg_axes(settings: TourSettings, here: [i64; 6], there: [i64; 6]) -> [Axis; 6]
-    ensures { λ r. ⌜ r ≡ legAxes (settings .limits) here there ⌝ }
-{
-    [
-        leg_axis(settings, here, there, 0),
-        leg_axis(settings, here, there, 1),
-        leg_axis(settings, here, there, 2),
-        leg_axis(settings, here, there, 3),
-        leg_axis(settings, here, there, 4),
-        leg_axis(settings, here, there, 5),
-    ]
-}
-
-// Axis i of a leg.
-fn leg_axis(settings: TourSettings, here: [i64; 6], there: [i64; 6], i: usize) -> Axis
-    requires { ⌜ i < 6 ⌝ }
-    ensures { λ r. ⌜ r ≡ legAxisAt settings here there i ⌝ }
-{
-    let limits: [AxisLimits; 6] = settings.limits;
-    let limit = limits[i];
-    let start = RestPoint {
-        position: here[i],
-        velocity: 0,
-    };
-    let end = RestPoint {
-        position: there[i],
-        velocity: 0,
-    };
-    let target = Target::Fixed(end);
-    let weight = limit.second_weight;
-    let sway = limit.second_sway;
-    Axis {
-        start: start,
-        speed_limit: limit.speed_limit,
-        acceleration_limit: limit.acceleration_limit,
-        half_period: limit.half_period,
-        second_weight: weight,
-        second_sway: sway,
-        target: target,
-    }
-}
-
 // ---- the answer
-
-// The first `count` of some ticks over the front of the lent list.
-fn write_arrivals(ticks: [u32; 64], count: usize, arrivals: &mut [u32])
-    requires { ⌜ count ≤ 64 ⌝ }
-    requires { ⌜ count ≤ length (now arrivals) ⌝ }
-    ensures { λ _. ⌜ now (arrivals .exit) ≡ take count ticks ++ drop count (now (arrivals .entry)) ⌝ }
-{
-    let mut i: usize = 0;
-    while i < count {
-        arrivals[i] = ticks[i];
-        i += 1;
-    }
-}
 
 // An answer, from its fields.
 fn tour_answer(number: u32, place: usize, mask: u32, arrival: u32, total: u32) -> TourAnswer
@@ -236,63 +115,4 @@ fn tour_answer(number: u32, place: usize, mask: u32, arrival: u32, total: u32) -
         arrival: arrival,
         total: total,
     }
-}
-
-// ---- the lent row by value
-
-// The stops of a tour by value: how many are lent, and the first 64 of them. Places that no stop is stored in have the stop of zeros.
-pub struct StopRow {
-    pub stops: [Stop; 64],
-    pub lent: usize,
-}
-
-// The row of so many stops before any of them is stored.
-pub fn empty_row(lent: usize) -> StopRow
-    ensures { λ r. ⌜ r ≡ emptyRow lent ⌝ }
-{
-    let none = Stop {
-        positions: [0; 6],
-        dwell: 0,
-    };
-    StopRow {
-        stops: [none; 64],
-        lent: lent,
-    }
-}
-
-// The row with a stop at an index; past the 64th there is no place, and the row stays as it is.
-pub fn with_stop(row: StopRow, index: usize, stop: Stop) -> StopRow
-    ensures { λ r. ⌜ r ≡ withStop row index stop ⌝ }
-{
-    if 64 <= index {
-        return row;
-    }
-    let mut next = row;
-    next.stops[index] = stop;
-    next
-}
-
-// How many stops of a lent row are held: all, or 64.
-fn stops_held(lent: usize) -> usize
-    ensures { λ r. ⌜ r ≡ heldOf lent ⌝ }
-{
-    if lent < 64 {
-        return lent;
-    }
-    64
-}
-
-// The stops of a lent row by value.
-fn stop_row(stops: &[Stop]) -> StopRow
-    ensures { λ r. ⌜ r ≡ rowOf (now (stops .entry)) ⌝ }
-{
-    let mut row = empty_row(stops.len());
-    let held = stops_held(row.lent);
-    let mut i: usize = 0;
-    while i < held {
-        let next = with_stop(row, i, stops[i]);
-        row = next;
-        i += 1;
-    }
-    row
 }

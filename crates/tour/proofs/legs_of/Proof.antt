@@ -1,6 +1,6 @@
 use Rattle.model.specs.declared.Answer.{Answer}
-use Rattle.tour.specs.declared.LegRow.{LegRow}
-use Rattle.tour.specs.Parts.{legsIn}
+use Rattle.stops.specs.declared.LegRow.{LegRow}
+use Rattle.stops.specs.Parts.{legsIn}
 use borrow.Author.Needs.{needs}
 use Prim.Native.Nat.{ℕ, _+_, _-_, _*_, _≤_}
 use native.Mathlib.Omega.{arith}
@@ -9,7 +9,7 @@ use mathlib.Core.Option.{none}
 use mathlib.Core.List.{[], _∷_, _++_}
 use lib.ListN.{length, getD, take, drop, length-set}
 use Rattle.model.specs.Tour.{legsFrom, firstLongDwell, refusedLeg, allLegs}
-use Rattle.tour.proofs.Legs.{short, leg-refused, leg-made, legs-made, stored-next, refused-row, emptyStop}
+use Rattle.stops.proofs.Legs.{short, leg-refused, leg-made, legs-made, stored-next, refused-row, emptyStop}
 use Rattle.tour.proofs.legs_of.Statement.{statement}
 use Rattle.tour.proofs.legs_of.Tie as tie
 

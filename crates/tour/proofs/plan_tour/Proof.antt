@@ -48,17 +48,17 @@ use Rattle.model.proofs.TourSettings as N
 use Rattle.model.proofs.TourSettings.Laws as N′
 use Rattle.model.proofs.TourAnswer as R
 use Rattle.model.proofs.TourAnswer.Laws as R′
-use Rattle.tour.specs.declared.StopRow.{StopRow}
-use Rattle.tour.specs.Rows.{rowOf, rowStops}
-use Rattle.tour.specs.Promise.{TourPromise}
-use Rattle.tour.proofs.Held.{head-is}
-use Rattle.tour.proofs.Promise.{list-promise}
-use Rattle.tour.proofs.StopRow as T
-use Rattle.tour.proofs.StopRow.Laws as T′
-use Rattle.tour.proofs.stop_row as row
-use Rattle.tour.proofs.stop_row.Symbol as row-def
-use Rattle.tour.proofs.stop_row.Symbol.{name as #tour·stop-row}
-use Rattle.tour.proofs.stop_row.Met as row-thm
+use Rattle.stops.specs.declared.StopRow.{StopRow}
+use Rattle.stops.specs.Rows.{rowOf, rowStops}
+use Rattle.stops.specs.Promise.{TourPromise}
+use Rattle.stops.proofs.Held.{head-is}
+use Rattle.stops.proofs.Promise.{list-promise}
+use Rattle.stops.proofs.StopRow as T
+use Rattle.stops.proofs.StopRow.Laws as T′
+use Rattle.stops.proofs.stop_row as row
+use Rattle.stops.proofs.stop_row.Symbol as row-def
+use Rattle.stops.proofs.stop_row.Symbol.{name as #stops·stop-row}
+use Rattle.stops.proofs.stop_row.Met as row-thm
 use Rattle.tour.proofs.tour_of_row as tour
 use Rattle.tour.proofs.tour_of_row.Symbol as tour-def
 use Rattle.tour.proofs.tour_of_row.Symbol.{name as #tour·tour-of-row}
@@ -131,7 +131,7 @@ module _ {M : Type 1} (𝓤 : URA M) (H : Heap 𝓤) (A : Atoms 𝓤) (W : Given
       -- [true; the result; the last list; what stops owns]
       move ! (2 ∷ 0 ∷ []) $ fjoin ! $ move ! (2 ∷ 0 ∷ []) $ fjoin ! $ owned ! N.the-row (Is N.the-row) (LL.makes N.the-type N′.the-plain 𝓤 H A) d _ is $ fjoin ! $ frame ! $ done !
 
-  module _ (C : Calls 𝓤 H) (Λ : Loops 𝓤 H) (fm : FmC 𝓤 H (W .laws) C) (known-row : Triple 𝓤 (C #tour·stop-row) (RowOf 𝓤 H A mem run)) (known-tour : Triple 𝓤 (C #tour·tour-of-row) (TourOf 𝓤 H A mem run)) where
+  module _ (C : Calls 𝓤 H) (Λ : Loops 𝓤 H) (fm : FmC 𝓤 H (W .laws) C) (known-row : Triple 𝓤 (C #stops·stop-row) (RowOf 𝓤 H A mem run)) (known-tour : Triple 𝓤 (C #tour·tour-of-row) (TourOf 𝓤 H A mem run)) where
     walk : Is N.the-row d (N′.lowered d ∷ []) → Room S.the-row (length (x .now)) → Room u32 (length (y .now))
         → ent 𝓤 (onEntry 𝓤 H A plan.signature κs (q, (q′, tt)) (d, (x, (y, tt))) at) (WpFn 𝓤 H C Λ code.function (N′.lowered d ∷ v ∷ v′ ∷ []) Post)
     walk is room room′ =
@@ -174,14 +174,14 @@ module _ {M : Type 1} (𝓤 : URA M) (H : Heap 𝓤) (A : Atoms 𝓤) (W : Given
         Told r zs = TourPromise d (rowStops (rowOf (x .now))) (y .now) r zs
 
 module _ {M : Type 1} (𝓤 : URA M) (H : Heap 𝓤) (A : Atoms 𝓤) (W : Given 𝓤 H A) (mem : Memory → SProp 𝓤) (run : Routine → Fun 𝓤) where
-  plan-tour-walks : (C : Calls 𝓤 H) (Λ : Loops 𝓤 H) → FmC 𝓤 H (W .laws) C → Triple 𝓤 (C #tour·stop-row) (RowOf 𝓤 H A mem run) → Triple 𝓤 (C #tour·tour-of-row) (TourOf 𝓤 H A mem run)
+  plan-tour-walks : (C : Calls 𝓤 H) (Λ : Loops 𝓤 H) → FmC 𝓤 H (W .laws) C → Triple 𝓤 (C #stops·stop-row) (RowOf 𝓤 H A mem run) → Triple 𝓤 (C #tour·tour-of-row) (TourOf 𝓤 H A mem run)
       → Walks 𝓤 H A plan.ended stayed (WpFn 𝓤 H C Λ code.function) (plan.clauses 𝓤 H A mem run)
   plan-tour-walks C Λ fm known-row known-tour = walked 𝓤 H A plan.ended stayed (plan.clauses 𝓤 H A mem run) (WpFn 𝓤 H C Λ code.function)
       (λ κs. ((λ z. N′.lowered z ∷ []), (slice-vals, (slice-vals, tt)))) (λ κs. (N′.lowers .val-is, (shr-slice-tells (named 0) (κs .0) S.the-row, (mut-slice-tells (named 1) (κs .1 .0) u32, tt))))
       (λ κs qs bounds a g are. via 𝓤 _ (fst∗ 𝓤 _ (emp 𝓤)) (walk 𝓤 H A W mem run (κs .0) (κs .1 .0) (qs .0) (qs .1 .0) (a .0) (a .1 .0) (a .1 .1 .0) C Λ fm known-row known-tour (are .0) (are .1 .0 .0 .1) (are .1 .1 .0 .0 .1)))
 
 plan-tour-meets : {M : Type 1} (𝓤 : URA M) (H : Heap 𝓤) (A : Atoms 𝓤) (W : Given 𝓤 H A) (mem : Memory → SProp 𝓤) (run : Routine → Fun 𝓤) (𝓣 : Tables 𝓤 H)
-    → Triple 𝓤 (𝓣 .C #tour·stop-row) (RowOf 𝓤 H A mem run) → Triple 𝓤 (𝓣 .C #tour·tour-of-row) (TourOf 𝓤 H A mem run)
+    → Triple 𝓤 (𝓣 .C #stops·stop-row) (RowOf 𝓤 H A mem run) → Triple 𝓤 (𝓣 .C #tour·tour-of-row) (TourOf 𝓤 H A mem run)
     → Meets 𝓤 H A plan.signature (WpFn 𝓤 H (𝓣 .C) (𝓣 .Λ) code.function) (plan.spec 𝓤 H A mem run)
 plan-tour-meets 𝓤 H A W mem run 𝓣 known-row known-tour =
     walk-meets 𝓤 H A plan.ended stayed W
@@ -195,5 +195,5 @@ plan-tour-spec 𝓤 H 𝓜 𝓖 𝓡 =
     entered 𝓤 H (tripleOf 𝓤 H (𝓖 .A) plan.signature (plan.spec 𝓤 H (𝓖 .A) (𝓜 .mem) (𝓡 .run)))
     (tables 𝓤 H 𝓜 𝓡 code.env .C) (tables 𝓤 H 𝓜 𝓡 code.env .Λ) #tour·plan-tour code.function (code.unfolded 𝓤 H 𝓜 𝓡)
     (plan-tour-meets 𝓤 H (𝓖 .A) (givenOf 𝓤 H 𝓜 𝓖) (𝓜 .mem) (𝓡 .run) (tablesOf 𝓤 H 𝓜 (tables 𝓤 H 𝓜 𝓡 code.env))
-    (cited 𝓤 H (RowOf 𝓤 H (𝓖 .A) (𝓜 .mem) (𝓡 .run)) 𝓜 𝓡 code.env #tour·stop-row row-def.routine code.calls-tour·stop-row (row-thm.met 𝓤 H 𝓜 𝓖 𝓡))
+    (cited 𝓤 H (RowOf 𝓤 H (𝓖 .A) (𝓜 .mem) (𝓡 .run)) 𝓜 𝓡 code.env #stops·stop-row row-def.routine code.calls-stops·stop-row (row-thm.met 𝓤 H 𝓜 𝓖 𝓡))
     (cited 𝓤 H (TourOf 𝓤 H (𝓖 .A) (𝓜 .mem) (𝓡 .run)) 𝓜 𝓡 code.env #tour·tour-of-row tour-def.routine code.calls-tour·tour-of-row (tour-thm.met 𝓤 H 𝓜 𝓖 𝓡)))

@@ -6,9 +6,9 @@ use lib.ListN.{take, drop, length-map}
 use Rattle.model.specs.declared.Stop.{Stop}
 use Rattle.model.specs.declared.TourAnswer.{TourAnswer}
 use Rattle.model.specs.Tour.{tourOutcomeOf}
-use Rattle.tour.specs.Parts.{foundStop}
-use Rattle.tour.proofs.Promise.{row-promise}
-use Rattle.tour.proofs.Outcomes.{no-stops, many-stops, long-dwell, leg-refused, list-short, list-written}
+use Rattle.stops.specs.Parts.{foundStop}
+use Rattle.stops.proofs.Promise.{row-promise}
+use Rattle.stops.proofs.Outcomes.{no-stops, many-stops, long-dwell, leg-refused, list-short, list-written}
 use borrow.Author.Needs.{needs}
 use Rattle.tour.proofs.tour_of_row.Statement.{statement}
 use Rattle.tour.proofs.tour_of_row.Tie as tie

@@ -47,7 +47,7 @@ use Rattle.model.proofs.TourSettings as N
 use Rattle.model.proofs.TourSettings.Laws as N′
 use Rattle.model.proofs.TourAnswer as R
 use Rattle.model.proofs.TourAnswer.Laws as R′
-use Rattle.tour.specs.Promise.{TourPromise}
+use Rattle.stops.specs.Promise.{TourPromise}
 use Rattle.layout.specs.declared.tours.PolgamirTour.{PolgamirTour}
 use Rattle.layout.specs.Tours.{settingsOf}
 use Rattle.layout.proofs.tours.PolgamirTour as P

@@ -2,7 +2,7 @@
 use mathlib.Core.Path.{refl}
 use Rattle.model.specs.Quantities.{finer}
 use Rattle.model.specs.Outcome.{answerOf}
-use Rattle.tour.specs.Cases.{Small}
+use Rattle.stops.specs.Cases.{Small}
 
 pub small : Small
 unfolding answerOf finer

@@ -3,8 +3,8 @@ use mathlib.Core.List.{List}
 use borrow.Author.Needs.{needs}
 use Rattle.model.specs.declared.Axis.{Axis}
 use Rattle.model.specs.declared.Windows.{Windows}
-use Rattle.tour.proofs.leg_job.Statement.{statement}
-use Rattle.tour.proofs.leg_job.Tie as tie
+use Rattle.stops.proofs.leg_job.Statement.{statement}
+use Rattle.stops.proofs.leg_job.Tie as tie
 
 leg-axes-requires : tie.Need-leg-axes-requires
 leg-axes-requires c κs = search needs

@@ -2,9 +2,9 @@ use mathlib.Core.Path.{sym, ap}
 use mathlib.Core.Bool.{Bool, true, false}
 use borrow.Author.Tests.{lt-ltb, le-ltb}
 use Prim.Native.Nat.{ℕ}
-use Rattle.tour.specs.Rows.{heldOf}
-use Rattle.tour.proofs.stops_held.Statement.{statement}
-use Rattle.tour.proofs.stops_held.Tie as tie
+use Rattle.stops.specs.Rows.{heldOf}
+use Rattle.stops.proofs.stops_held.Statement.{statement}
+use Rattle.stops.proofs.stops_held.Tie as tie
 
 returns : tie.Need-returns
 unfolding heldOf

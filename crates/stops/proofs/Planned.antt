@@ -14,8 +14,8 @@ use Rattle.model.specs.declared.Answer.{Answer}
 use Rattle.model.specs.declared.Stop.{Stop}
 use Rattle.model.specs.declared.TourSettings.{TourSettings}
 use Rattle.model.specs.Tour.{Legs, TourOutcome, legJob, legAnswer, legsFrom, refusedLeg, refuseTour, arrivalsOver, afterLegs, firstLongDwell, dwellsChecked, stopsChecked, mostStops, tourOutcome}
-use Rattle.tour.specs.Rows.{noStop}
-use Rattle.tour.specs.Promise.{leavesFrom, departsAt, legTo, LegPlanned}
+use Rattle.stops.specs.Rows.{noStop}
+use Rattle.stops.specs.Promise.{leavesFrom, departsAt, legTo, LegPlanned}
 use Rattle.model.specs.Outcome.{typed}
 use Rattle.model.proofs.BeforeTen.{job-accepted}
 

@@ -11,7 +11,7 @@ use Rattle.model.specs.Outcome.{Input, typed, call, inputAxes, cellsNeeded}
 use Rattle.model.specs.declared.Order.the-variants.{Forwards}
 use Rattle.model.specs.Demand.{Demand3}
 use Rattle.model.specs.Tour.{legJob, tourOutcome, tourOutcomeOf}
-use Rattle.tour.specs.Rows.{noStop}
+use Rattle.stops.specs.Rows.{noStop}
 
 -- ---- the leg to stop i: where it starts, and the tick at which it leaves; the first one from `here` at tick n
 

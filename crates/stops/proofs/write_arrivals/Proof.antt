@@ -3,9 +3,9 @@ use native.Mathlib.Omega.{arith}
 use mathlib.Core.Path.{_≡_, refl, sym, ap, _∙_}
 use mathlib.Core.List.{List, _++_}
 use lib.ListN.{length, getD, set, take, drop}
-use Rattle.tour.proofs.Legs.{front-next, front-length}
-use Rattle.tour.proofs.write_arrivals.Statement.{statement}
-use Rattle.tour.proofs.write_arrivals.Tie as tie
+use Rattle.stops.proofs.Legs.{front-next, front-length}
+use Rattle.stops.proofs.write_arrivals.Statement.{statement}
+use Rattle.stops.proofs.write_arrivals.Tie as tie
 
 abbrev Inv-loop : tie.InvT-loop
 Inv-loop count arrivals₀ ticks i₀ arrivals i =

@@ -3,9 +3,9 @@ use native.Mathlib.Omega.{arith}
 use mathlib.Core.Path.{_≡_, refl, sym, ap, _∙_}
 use lib.ListN.{length, take, drop}
 use Rattle.model.specs.Tour.{firstLongDwell}
-use Rattle.tour.proofs.Legs.{long-here, long-later, long-nowhere, emptyStop}
-use Rattle.tour.proofs.first_long_dwell.Statement.{statement}
-use Rattle.tour.proofs.first_long_dwell.Tie as tie
+use Rattle.stops.proofs.Legs.{long-here, long-later, long-nowhere, emptyStop}
+use Rattle.stops.proofs.first_long_dwell.Statement.{statement}
+use Rattle.stops.proofs.first_long_dwell.Tie as tie
 
 abbrev Inv-loop : tie.InvT-loop
 Inv-loop count stops i₀ i =

@@ -15,9 +15,9 @@ use Rattle.model.specs.declared.Weight.the-variants.{Given}
 use Rattle.model.specs.declared.TourSettings.{TourSettings}
 use Rattle.model.specs.Refusals.{lastTick}
 use Rattle.model.specs.Tour.{Legs, legAxis, legAnswer}
-use Rattle.tour.specs.declared.FirstStop.{FirstStop}
-use Rattle.tour.specs.declared.FirstStop.the-variants.{At, Nowhere}
-use Rattle.tour.specs.declared.LegRow.{LegRow}
+use Rattle.stops.specs.declared.FirstStop.{FirstStop}
+use Rattle.stops.specs.declared.FirstStop.the-variants.{At, Nowhere}
+use Rattle.stops.specs.declared.LegRow.{LegRow}
 
 abbrev pub noLimits : AxisLimits
 noLimits = record { «speed_limit» = 0; «acceleration_limit» = 0; «half_period» = 0; «second_weight» = Given 0; «second_sway» = Absent }

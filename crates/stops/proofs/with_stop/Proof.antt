@@ -5,9 +5,9 @@ use mathlib.Core.List.{List}
 use lib.ListN.{length-map}
 use borrow.Author.Needs.{needs}
 use Rattle.model.specs.declared.Stop.{Stop}
-use Rattle.tour.proofs.Held.{set-past}
-use Rattle.tour.proofs.with_stop.Statement.{statement}
-use Rattle.tour.proofs.with_stop.Tie as tie
+use Rattle.stops.proofs.Held.{set-past}
+use Rattle.stops.proofs.with_stop.Statement.{statement}
+use Rattle.stops.proofs.with_stop.Tie as tie
 
 returns : tie.Need-returns
 returns c =

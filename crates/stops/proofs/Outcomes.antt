@@ -10,8 +10,8 @@ use borrow.Author.Tests.{le-leb, lt-leb, lt-ltb, le-ltb, eq-eqb, ne-eqb}
 use Rattle.model.specs.declared.Stop.{Stop}
 use Rattle.model.specs.declared.TourSettings.{TourSettings}
 use Rattle.model.specs.Tour.{Legs, TourOutcome, refuseTour, arrivalsOver, afterLegs, legsFrom, mostStops, firstLongDwell, dwellsChecked, stopsChecked, tourBy}
-use Rattle.tour.specs.declared.LegRow.{LegRow}
-use Rattle.tour.specs.Parts.{legsIn}
+use Rattle.stops.specs.declared.LegRow.{LegRow}
+use Rattle.stops.specs.Parts.{legsIn}
 
 module _ (t : TourSettings) (count : ℕ) (stops : List Stop) (lent : List ℕ) where
   abbrev answered : TourOutcome

@@ -1,10 +1,10 @@
 use lib.ListN.{length-map}
 use mathlib.Core.Path.{_∙_}
-use Rattle.tour.proofs.Legs.{six-legs}
+use Rattle.stops.proofs.Legs.{six-legs}
 use mathlib.Core.List.{[], _∷_}
 use borrow.Author.Needs.{needs}
-use Rattle.tour.proofs.leg_axes.Statement.{statement}
-use Rattle.tour.proofs.leg_axes.Tie as tie
+use Rattle.stops.proofs.leg_axes.Statement.{statement}
+use Rattle.stops.proofs.leg_axes.Tie as tie
 
 leg-axis-requires : tie.Need-leg-axis-requires
 leg-axis-requires c κs = search needs

@@ -12,12 +12,12 @@ use Rattle.model.specs.declared.Stop.{Stop}
 use Rattle.model.specs.declared.TourSettings.{TourSettings}
 use Rattle.model.specs.declared.TourAnswer.{TourAnswer}
 use Rattle.model.specs.Tour.{TourOutcome, tourBy, tourOutcome, tourOutcomeOf}
-use Rattle.tour.specs.declared.StopRow.{StopRow}
-use Rattle.tour.specs.Rows.{noStop, heldOf, emptyRow, withStop, rowTo, rowOf, rowStops}
-use Rattle.tour.specs.Promise.{departsAt, LegPlanned, TourPromise}
-use Rattle.tour.proofs.Held.{held-64, held-all, held-few}
-use Rattle.tour.proofs.Outcomes.{many-stops}
-use Rattle.tour.proofs.Planned.{legs-planned, total-planned}
+use Rattle.stops.specs.declared.StopRow.{StopRow}
+use Rattle.stops.specs.Rows.{noStop, heldOf, emptyRow, withStop, rowTo, rowOf, rowStops}
+use Rattle.stops.specs.Promise.{departsAt, LegPlanned, TourPromise}
+use Rattle.stops.proofs.Held.{held-64, held-all, held-few}
+use Rattle.stops.proofs.Outcomes.{many-stops}
+use Rattle.stops.proofs.Planned.{legs-planned, total-planned}
 
 -- ---- the row of the first k stops of a list
 

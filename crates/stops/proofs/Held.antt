@@ -10,10 +10,10 @@ use mir.Val.{Val, vunit}
 use denote.Laws.{Is}
 use borrow.Author.Tests.{ltb-true, ltb-false}
 use Rattle.model.specs.declared.Stop.{Stop}
-use Rattle.tour.specs.declared.StopRow.{StopRow}
-use Rattle.tour.specs.Rows.{noStop, heldOf, emptyRow, withStop, rowTo}
-use Rattle.tour.proofs.StopRow as T
-use Rattle.tour.proofs.StopRow.Laws as T′
+use Rattle.stops.specs.declared.StopRow.{StopRow}
+use Rattle.stops.specs.Rows.{noStop, heldOf, emptyRow, withStop, rowTo}
+use Rattle.stops.proofs.StopRow as T
+use Rattle.stops.proofs.StopRow.Laws as T′
 
 abbrev Held : ℕ → ℕ → Type 0
 Held n h = (h ≤ 64) × (h ≤ n)

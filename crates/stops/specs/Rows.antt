@@ -6,7 +6,7 @@ use lib.IntN.{pos}
 use lib.Dec.{ltb}
 use lib.ListN.{length, replicate, set, getD, take}
 use Rattle.model.specs.declared.Stop.{Stop}
-use Rattle.tour.specs.declared.StopRow.{StopRow}
+use Rattle.stops.specs.declared.StopRow.{StopRow}
 
 abbrev pub noStop : Stop
 noStop = record { positions = replicate 6 (pos 0); dwell = 0 }

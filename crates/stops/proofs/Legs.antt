@@ -16,7 +16,7 @@ use Rattle.model.specs.declared.Stop.{Stop}
 use Rattle.model.specs.declared.TourSettings.{TourSettings}
 use Rattle.model.specs.Windows.{longestDwell}
 use Rattle.model.specs.Tour.{Legs, legAxes, legAnswer, allLegs, refusedLeg, legsFrom, firstLongDwell}
-use Rattle.tour.specs.Parts.{noLimits, legAxisAt, legsIn}
+use Rattle.stops.specs.Parts.{noLimits, legAxisAt, legsIn}
 
 -- ---- the stops that are left
 

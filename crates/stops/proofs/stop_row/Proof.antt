@@ -54,27 +54,27 @@ use denote.Triple.Clauses.{ensured, lasts}
 use Rattle.model.specs.declared.Stop.{Stop}
 use Rattle.model.proofs.Stop as S
 use Rattle.model.proofs.Stop.Laws as S′
-use Rattle.tour.specs.declared.StopRow.{StopRow}
-use Rattle.tour.specs.Rows.{noStop, heldOf, emptyRow, withStop, rowTo, rowOf}
-use Rattle.tour.proofs.Held.{held-64, held-all, row-none, row-more, head-is}
-use Rattle.tour.proofs.StopRow as T
-use Rattle.tour.proofs.StopRow.Laws as T′
-use Rattle.tour.proofs.empty_row as empty
-use Rattle.tour.proofs.empty_row.Symbol as empty-def
-use Rattle.tour.proofs.empty_row.Symbol.{name as #tour·empty-row}
-use Rattle.tour.proofs.empty_row.Met as empty-thm
-use Rattle.tour.proofs.stops_held as held
-use Rattle.tour.proofs.stops_held.Symbol as held-def
-use Rattle.tour.proofs.stops_held.Symbol.{name as #tour·stops-held}
-use Rattle.tour.proofs.stops_held.Met as held-thm
-use Rattle.tour.proofs.with_stop as with
-use Rattle.tour.proofs.with_stop.Symbol as with-def
-use Rattle.tour.proofs.with_stop.Symbol.{name as #tour·with-stop}
-use Rattle.tour.proofs.with_stop.Met as with-thm
-use Rattle.tour.proofs.stop_row.Key.{name as #tour·stop-row}
-use Rattle.tour.proofs.stop_row as stop-row
-use Rattle.tour.proofs.stop_row.Statement as stated
-use Rattle.tour.proofs.stop_row.Code as code
+use Rattle.stops.specs.declared.StopRow.{StopRow}
+use Rattle.stops.specs.Rows.{noStop, heldOf, emptyRow, withStop, rowTo, rowOf}
+use Rattle.stops.proofs.Held.{held-64, held-all, row-none, row-more, head-is}
+use Rattle.stops.proofs.StopRow as T
+use Rattle.stops.proofs.StopRow.Laws as T′
+use Rattle.stops.proofs.empty_row as empty
+use Rattle.stops.proofs.empty_row.Symbol as empty-def
+use Rattle.stops.proofs.empty_row.Symbol.{name as #stops·empty-row}
+use Rattle.stops.proofs.empty_row.Met as empty-thm
+use Rattle.stops.proofs.stops_held as held
+use Rattle.stops.proofs.stops_held.Symbol as held-def
+use Rattle.stops.proofs.stops_held.Symbol.{name as #stops·stops-held}
+use Rattle.stops.proofs.stops_held.Met as held-thm
+use Rattle.stops.proofs.with_stop as with
+use Rattle.stops.proofs.with_stop.Symbol as with-def
+use Rattle.stops.proofs.with_stop.Symbol.{name as #stops·with-stop}
+use Rattle.stops.proofs.with_stop.Met as with-thm
+use Rattle.stops.proofs.stop_row.Key.{name as #stops·stop-row}
+use Rattle.stops.proofs.stop_row as stop-row
+use Rattle.stops.proofs.stop_row.Statement as stated
+use Rattle.stops.proofs.stop_row.Code as code
 
 abbrev stayed : Stays (stop-row.ended .signature .params) (stop-row.ended .kept)
 stayed = (stay-none-slice (0 ∷ []) tt (plain (λ _. S.the-row)) yes, tt)
@@ -91,7 +91,7 @@ stores =
     seq (assign (place 8 []) (op2 (mul unsigned) (copy (place 4 [])) (int w64 56)))
     (seq (assign (place 9 []) (op2 offset (copy (place 1 (field 0 ∷ []))) (copy (place 8 []))))
     (seq (assign (place 10 []) (rvOpd (copy (place 9 (deref S′.mir ∷ [])))))
-    (seq (call #tour·with-stop (copy (place 2 []) ∷ copy (place 4 []) ∷ copy (place 10 []) ∷ []) (place 5 []))
+    (seq (call #stops·with-stop (copy (place 2 []) ∷ copy (place 4 []) ∷ copy (place 10 []) ∷ []) (place 5 []))
     (seq (assign (place 2 []) (rvOpd (copy (place 5 []))))
     (assign (place 4 []) (op2 (add unsigned) (copy (place 4 [])) (int w64 1)))))))
 
@@ -187,7 +187,7 @@ module _ {M : Type 1} (𝓤 : URA M) (H : Heap 𝓤) (A : Atoms 𝓤) (W : Given
   Nearer-wf : WellFounded Nearer
   Nearer-wf = InvImage·wf (λ (i : Upto). heldOf count - i .0) (Nat·lt-wfRel .wf)
 
-  module _ (𝓣 : Tables 𝓤 H) (fm : FmC 𝓤 H (W .laws) (𝓣 .C)) (known-with : Triple 𝓤 (𝓣 .C #tour·with-stop) (With 𝓤 H A mem run)) (l₀ l₁ l₂ l₃ l₄ l₅ l₆ l₇ l₈ l₉ l₁₀ : ℕ) where
+  module _ (𝓣 : Tables 𝓤 H) (fm : FmC 𝓤 H (W .laws) (𝓣 .C)) (known-with : Triple 𝓤 (𝓣 .C #stops·with-stop) (With 𝓤 H A mem run)) (l₀ l₁ l₂ l₃ l₄ l₅ l₆ l₇ l₈ l₉ l₁₀ : ℕ) where
     abbrev C : Calls 𝓤 H
     C = 𝓣 .C
 
@@ -293,7 +293,7 @@ module _ {M : Type 1} (𝓤 : URA M) (H : Heap 𝓤) (A : Atoms 𝓤) (W : Given
   word-typed : (h : ℕ) (u : Val) → Is usize h (u ∷ []) → Holds (hasTy word u) × WT u
   word-typed h u is = uint-lawful 𝓤 H A W w64 .typed h (u ∷ []) is .0
 
-  walk : (𝓣 : Tables 𝓤 H) → FmC 𝓤 H (W .laws) (𝓣 .C) → Triple 𝓤 (𝓣 .C #tour·empty-row) (Empty 𝓤 H A mem run) → Triple 𝓤 (𝓣 .C #tour·stops-held) (Held 𝓤 H A mem run) → Triple 𝓤 (𝓣 .C #tour·with-stop) (With 𝓤 H A mem run)
+  walk : (𝓣 : Tables 𝓤 H) → FmC 𝓤 H (W .laws) (𝓣 .C) → Triple 𝓤 (𝓣 .C #stops·empty-row) (Empty 𝓤 H A mem run) → Triple 𝓤 (𝓣 .C #stops·stops-held) (Held 𝓤 H A mem run) → Triple 𝓤 (𝓣 .C #stops·with-stop) (With 𝓤 H A mem run)
       → Room S.the-row count → ent 𝓤 (onEntry 𝓤 H A stop-row.signature (κ, tt) (q, tt) (x, tt) at) (WpFn 𝓤 H (𝓣 .C) (𝓣 .Λ) code.function (mach ∷ []) Post)
   walk 𝓣 fm known-empty known-held known-with room =
       qed W ((‵ (flft κ q) ⊛ ‵ ftrue) ∷ ‵ (owns (ShrSlice (named 0) κ S.the-row ∷ []) (x, tt) at) ∷ []) ∵ enter ! (𝓣 .C) (𝓣 .Λ) code.function (mach ∷ []) _ $
@@ -324,15 +324,15 @@ module _ {M : Type 1} (𝓤 : URA M) (H : Heap 𝓤) (A : Atoms 𝓤) (W : Given
       (0, (zero-le, subst IsRow (e ∙ sym (row-none ys)) (subst (λ (v : Val). Is T.the-row r (v ∷ [])) (head-is r u is) is))))))))))))))))))))))
 
 module _ {M : Type 1} (𝓤 : URA M) (H : Heap 𝓤) (A : Atoms 𝓤) (W : Given 𝓤 H A) (mem : Memory → SProp 𝓤) (run : Routine → Fun 𝓤) where
-  stop-row-walks : (𝓣 : Tables 𝓤 H) → Triple 𝓤 (𝓣 .C #tour·empty-row) (Empty 𝓤 H A mem run) → Triple 𝓤 (𝓣 .C #tour·stops-held) (Held 𝓤 H A mem run)
-      → Triple 𝓤 (𝓣 .C #tour·with-stop) (With 𝓤 H A mem run)
+  stop-row-walks : (𝓣 : Tables 𝓤 H) → Triple 𝓤 (𝓣 .C #stops·empty-row) (Empty 𝓤 H A mem run) → Triple 𝓤 (𝓣 .C #stops·stops-held) (Held 𝓤 H A mem run)
+      → Triple 𝓤 (𝓣 .C #stops·with-stop) (With 𝓤 H A mem run)
       → Walks 𝓤 H A stop-row.ended stayed (WpFn 𝓤 H (𝓣 .C) (𝓣 .Λ) code.function) (stop-row.clauses 𝓤 H A mem run)
   stop-row-walks 𝓣 known-empty known-held known-with = walked 𝓤 H A stop-row.ended stayed (stop-row.clauses 𝓤 H A mem run) (WpFn 𝓤 H (𝓣 .C) (𝓣 .Λ) code.function) (λ κs. (slice-vals, tt)) (λ κs. (shr-slice-tells (named 0) (κs .0) S.the-row, tt))
       (λ κs qs bounds a g are. via 𝓤 _ (fst∗ 𝓤 _ (emp 𝓤)) (walk 𝓤 H A W mem run (κs .0) (qs .0) (a .0 .ptr .0) (a .0 .ptr .1) (a .0 .name) (a .0 .now) 𝓣 (fmOf 𝓤 H (W .laws) 𝓣) known-empty known-held known-with (are .0 .0 .1)))
 
 stop-row-meets : {M : Type 1} (𝓤 : URA M) (H : Heap 𝓤) (A : Atoms 𝓤) (W : Given 𝓤 H A) (mem : Memory → SProp 𝓤) (run : Routine → Fun 𝓤) (𝓣 : Tables 𝓤 H)
-    → Triple 𝓤 (𝓣 .C #tour·empty-row) (Empty 𝓤 H A mem run) → Triple 𝓤 (𝓣 .C #tour·stops-held) (Held 𝓤 H A mem run)
-    → Triple 𝓤 (𝓣 .C #tour·with-stop) (With 𝓤 H A mem run)
+    → Triple 𝓤 (𝓣 .C #stops·empty-row) (Empty 𝓤 H A mem run) → Triple 𝓤 (𝓣 .C #stops·stops-held) (Held 𝓤 H A mem run)
+    → Triple 𝓤 (𝓣 .C #stops·with-stop) (With 𝓤 H A mem run)
     → Meets 𝓤 H A stop-row.signature (WpFn 𝓤 H (𝓣 .C) (𝓣 .Λ) code.function) (stop-row.spec 𝓤 H A mem run)
 stop-row-meets 𝓤 H A W mem run 𝓣 known-empty known-held known-with = walk-meets 𝓤 H A stop-row.ended stayed W (goes-none-slice 𝓤 H A W 1 (0 ∷ []) tt (plain (λ _. S.the-row)) yes, tt) (stop-row.clauses 𝓤 H A mem run) (WpFn 𝓤 H (𝓣 .C) (𝓣 .Λ) code.function) (WpFn-mono 𝓤 H (W .laws) 𝓣 code.function)
     (stop-row-walks 𝓤 H A W mem run 𝓣 known-empty known-held known-with)
@@ -341,8 +341,8 @@ pub stop-row-spec : {M : Type 1} → stated.statement M
 unfolding code.routine tablesOf
 stop-row-spec 𝓤 H 𝓜 𝓖 𝓡 =
     entered 𝓤 H (tripleOf 𝓤 H (𝓖 .A) stop-row.signature (stop-row.spec 𝓤 H (𝓖 .A) (𝓜 .mem) (𝓡 .run)))
-    (tables 𝓤 H 𝓜 𝓡 code.env .C) (tables 𝓤 H 𝓜 𝓡 code.env .Λ) #tour·stop-row code.function (code.unfolded 𝓤 H 𝓜 𝓡)
+    (tables 𝓤 H 𝓜 𝓡 code.env .C) (tables 𝓤 H 𝓜 𝓡 code.env .Λ) #stops·stop-row code.function (code.unfolded 𝓤 H 𝓜 𝓡)
     (stop-row-meets 𝓤 H (𝓖 .A) (givenOf 𝓤 H 𝓜 𝓖) (𝓜 .mem) (𝓡 .run) (tablesOf 𝓤 H 𝓜 (tables 𝓤 H 𝓜 𝓡 code.env))
-    (cited 𝓤 H (Empty 𝓤 H (𝓖 .A) (𝓜 .mem) (𝓡 .run)) 𝓜 𝓡 code.env #tour·empty-row empty-def.routine code.calls-tour·empty-row (empty-thm.met 𝓤 H 𝓜 𝓖 𝓡))
-    (cited 𝓤 H (Held 𝓤 H (𝓖 .A) (𝓜 .mem) (𝓡 .run)) 𝓜 𝓡 code.env #tour·stops-held held-def.routine code.calls-tour·stops-held (held-thm.met 𝓤 H 𝓜 𝓖 𝓡))
-    (cited 𝓤 H (With 𝓤 H (𝓖 .A) (𝓜 .mem) (𝓡 .run)) 𝓜 𝓡 code.env #tour·with-stop with-def.routine code.calls-tour·with-stop (with-thm.met 𝓤 H 𝓜 𝓖 𝓡)))
+    (cited 𝓤 H (Empty 𝓤 H (𝓖 .A) (𝓜 .mem) (𝓡 .run)) 𝓜 𝓡 code.env #stops·empty-row empty-def.routine code.calls-stops·empty-row (empty-thm.met 𝓤 H 𝓜 𝓖 𝓡))
+    (cited 𝓤 H (Held 𝓤 H (𝓖 .A) (𝓜 .mem) (𝓡 .run)) 𝓜 𝓡 code.env #stops·stops-held held-def.routine code.calls-stops·stops-held (held-thm.met 𝓤 H 𝓜 𝓖 𝓡))
+    (cited 𝓤 H (With 𝓤 H (𝓖 .A) (𝓜 .mem) (𝓡 .run)) 𝓜 𝓡 code.env #stops·with-stop with-def.routine code.calls-stops·with-stop (with-thm.met 𝓤 H 𝓜 𝓖 𝓡)))
