@@ -48,6 +48,10 @@ def job_of(case):
     return polgamir.Job(axes, case.asked, windows)
 
 
+def fields(refusal):
+    return reference.Answer(int(refusal.number), refusal.place, refusal.mask, refusal.arrival)
+
+
 def found(case, backwards=False):
     """The answer and the cells of a case."""
     try:
@@ -69,7 +73,7 @@ def searched(case):
         else:
             report = job_of(one).search(case.first, case.budget)
     except polgamir.Refusal as refusal:
-        return reference.Answer(int(refusal.number), refusal.place, refusal.mask, refusal.arrival)
+        return fields(refusal)
     if report.arrival is not None:
         return search.Found(report.arrival, report.tried)
     return search.Nothing(report.tried) if report.next is None else search.Spent(report.next, report.tried)

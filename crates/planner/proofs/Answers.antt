@@ -17,7 +17,7 @@ use Rattle.model.specs.Windows.{refused13}
 use Rattle.model.specs.Job.{Job, JobAxis, jobOf}
 use Rattle.model.specs.Words.{Decoded, noMask, badWord, badLong, job, decode, goodMask}
 use Rattle.model.specs.Refusals.{lastTick, AllPassed}
-use Rattle.model.specs.Outcome.{Outcome, outcomeOf, refuse, accept, filled, jobOutcome, cellsNeeded, firstAxis}
+use Rattle.model.specs.Outcome.{outcomeOf, refuse, filled, jobOutcome, firstAxis}
 use Rattle.model.specs.Outcome.{axisRefusals, leastFrom, allReach, words, typed, jobRead, inputJob, beforeTen, answerOf}
 use Rattle.model.proofs.BeforeTen.{before-filled}
 use Rattle.words.specs.declared.DecodedJob.{DecodedJob}

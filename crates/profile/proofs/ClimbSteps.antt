@@ -98,9 +98,6 @@ module _ (g : Leg) (s c : ℤ) (step : ℕ) where
   step-fast e = ap at (and-no slow (fitsAt g s next) e)
 
 -- a step that keeps to the speed limit
-pub step-within : (step l : ℕ) (c : ℤ) → Within (2 ^ 37) c → l ≤ 2 ^ 37 → (c +ℤ pos step) ≤ℤ pos l → Within (2 ^ 37) (c +ℤ pos step)
-step-within step l = all₁ _ (λ a b. simp whole (omega arith))
-
 pub step-inside : (step l : ℕ) (c : ℤ) → Within l c → (c +ℤ pos step) ≤ℤ pos l → Within l (c +ℤ pos step)
 step-inside step l = all₁ _ (λ a b. simp whole (omega arith))
 
