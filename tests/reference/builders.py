@@ -12,6 +12,8 @@ from reference import Axis, Job, Outcome, RestPoint, State, Windows, encode, pla
 
 LOWEST, HIGHEST = -2 ** 63, 2 ** 63 - 1     # the ends of a 64-bit signed number
 MOST = 2 ** 32 - 1                          # the end of a 32-bit unsigned one
+BUFFER = 73760                              # the cells of the buffer of the program `fieldcases`
+UNTOUCHED = -1234567890123                  # what each of them holds before a call
 
 REST = RestPoint(0, 0)
 UNSET = Axis(REST, 0, 0, 0, 0, REST)        # a typed axis off the mask

@@ -1,6 +1,7 @@
 #!/usr/bin/env python3
-"""Writes the cases of `cases.py`, with what the reference expects of each, as
-the input and the expected output of the program `fieldcases`.
+"""Writes the cases of `cases.py` and of `callcases.py`, with what the reference
+expects of each, as the input and the expected output of the program
+`fieldcases`.
 
     python3 tests/reference/make_fieldcases.py
     python3 tests/reference/make_fieldcases.py --check
@@ -15,8 +16,10 @@ import os
 import sys
 from typing import List, NamedTuple, Optional, Tuple
 
+import callcases
 import cases
-from builders import UNSET, outcome
+from builders import BUFFER, UNSET, UNTOUCHED, outcome
+from callcases import CallCase
 from damping import Peaks, Ratio
 from reference import Answer, Axis, Windows
 from swaycases import words_cases
@@ -24,8 +27,6 @@ from tourcases import TourCase, drawn_tours, tours
 from windowcases import drawn_windows, windows
 
 CRATE = os.path.join(os.path.dirname(os.path.abspath(__file__)), '../../crates/fieldcases')
-BUFFER = 73760                  # the cells of the program's buffer
-UNTOUCHED = -1234567890123      # what each holds before a call
 PRIME = 2147483647              # 2^31 - 1
 
 
@@ -51,6 +52,9 @@ def sum_of(buffer: List[int]) -> int:
 def expected(case) -> Expected:
     if isinstance(case, TourCase):
         return expected_tour(case)
+    if isinstance(case, CallCase):
+        buffer = case.left + [UNTOUCHED] * (BUFFER - len(case.left))
+        return Expected(case, Outcome(case.answer, sum_of(buffer)), buffer)
     answer, cells = outcome(case, [UNTOUCHED] * case.lent)
     buffer = cells + [UNTOUCHED] * (BUFFER - case.lent)
     return Expected(case, Outcome(answer, sum_of(buffer)), buffer)
@@ -77,15 +81,27 @@ def listed(e: Expected) -> List[int]:
     answer = e.outcome.answer
     if isinstance(e.case, TourCase):
         return tour_listed(len(e.case.lent) + 1)
+    if isinstance(e.case, CallCase) and e.case.call != 'back':
+        return call_listed(e.case)
     if answer.number != 0:
         return []
     need = 3 * bin(answer.mask).count('1') * (answer.arrival + 1)
-    return rows_listed(answer) + [need] * (need < BUFFER)
+    return rows_listed(answer) + [need] * (need < len(e.buffer))
 
 
 def tour_listed(need: int) -> List[int]:
     """The list, or of a long one the ends, the total and the cell after it."""
     return (list(range(need)) if need <= 18 else [0, 1, need - 3, need - 2, need - 1]) + [need]
+
+
+def call_listed(case: CallCase) -> List[int]:
+    """The raises of the axes that 8 names, the words written with the next one, or a report."""
+    number, place, mask, _ = case.answer
+    if case.call == 'raises':
+        return [2 * bit + k for bit in range(6) if number == 8 and mask >> bit & 1 for k in range(2)]
+    if number != 0:
+        return []
+    return list(range(place + 1 if case.call == 'convert' else 4))
 
 
 def expected_tour(case: TourCase) -> Expected:
@@ -136,8 +152,10 @@ def case_lines(e: Expected, shown: Outcome, cells: List[Tuple[int, int]]) -> Lis
     case = e.case
     if isinstance(case, TourCase):
         lines = tour_lines(case)
+    elif isinstance(case, CallCase):
+        lines = job_lines(case.job, '"%s" %s lent %d%s' % (case.name, case.call, len(case.left), case.ahead))
     else:
-        lines = job_lines(case)
+        lines = job_lines(case, '"%s" lent %d' % (case.name, case.lent))
     lines.append(' number %d place %d axes %d arrival %d sum %d' % (*shown.answer, shown.sum))
     pairs = ['%d: %d' % cell for cell in cells]
     return lines + [', '.join([' cells %d' % len(cells)] + pairs)]
@@ -153,8 +171,7 @@ def windows_text(windows: Optional[Windows]) -> str:
         ', %d %d' % tuple(pair) for pair in pairs)
 
 
-def job_lines(case: cases.Case) -> List[str]:
-    head = '"%s" lent %d' % (case.name, case.lent)
+def job_lines(case: cases.Case, head: str) -> List[str]:
     if case.words is not None:
         words = ['%08X' % word for word in case.words]
         lines = ['%s words %d' % (head, len(words))]
@@ -210,6 +227,30 @@ def wrong_on_purpose():
     ]
 
 
+def wrong_calls():
+    """Of each call some parts altered that only it gives back."""
+    known = {case.name: expected(case) for group in callcases.calls() for case in group.cases}
+
+    def altered(name: str, what: str, *changes):
+        e = known[name]
+        cells = dict([(i, e.buffer[i]) for i in listed(e)] + list(changes))
+        return e._replace(case=e.case._replace(name='wrong on purpose: ' + what)), e.outcome, sorted(cells.items())
+
+    number = altered('search B, from 1, budget 3', 'number')
+    return [
+        altered('raises equal raises, M first', 'the limit of a raise', (1, 1)),
+        altered('raises equal raises, M first', 'the amount of a raise', (0, 2)),
+        altered('raises E', 'a raise that is none', (1, -1)),
+        altered('convert F asked 2', 'a converted word', (11, 0xC0000001)),
+        altered('convert F asked 2', 'a word after them', (13, 0)),
+        altered('search B, from 1, budget 3', 'a report', (0, 1)),
+        altered('search B, from 1, budget 3', 'the next candidate', (1, 5)),
+        altered('search B, from 1, budget 3', 'the candidates tried', (2, 4)),
+        (number[0], number[1]._replace(answer=number[1].answer._replace(number=18)), number[2]),
+        altered('backwards C', 'rows from 0 on', (0, 0)),
+    ]
+
+
 def texts(groups: List[cases.Group], altered=()) -> Tuple[str, str]:
     """The program's input and its output, for groups of cases and for some
     with altered expectations."""
@@ -249,6 +290,11 @@ def drawn_groups(seed: int, count: int) -> List[cases.Group]:
             cases.Group('drawn tours', 'Random tours.', drawn_tours(seed, count))]
 
 
+def both_files() -> Tuple[str, str]:
+    groups = cases.groups() + [words_cases(), windows(), drawn_windows()] + tour_groups() + callcases.calls()
+    return texts(groups, wrong_on_purpose() + wrong_calls())
+
+
 def is_stored(folder: str, pair: Tuple[str, str]) -> bool:
     def stored(name: str) -> str:
         with open(os.path.join(folder, name)) as kept:
@@ -260,15 +306,14 @@ def main(words: List[str]) -> int:
     if words[:1] == ['--drawn'] and len(words) == 4:
         write(words[3], texts(drawn_groups(int(words[1]), int(words[2]))))
         return 0
-    pair = texts(cases.groups() + [words_cases(), windows(), drawn_windows()] + tour_groups(), wrong_on_purpose())
     if words == ['--check']:
-        same = is_stored(CRATE, pair)
+        same = is_stored(CRATE, both_files())
         print('as stored' if same else 'not as stored')
         return 0 if same else 1
     if words:
         print(__doc__)
         return 2
-    write(CRATE, pair)
+    write(CRATE, both_files())
     return 0
 
 

@@ -1,15 +1,21 @@
-// Runs the planner over a table of cases and compares each answer, with the cells as the call leaves them, with what an
+// Runs every call over a table of cases and compares each answer, with the cells as the call leaves them, with what an
 // independent reference computed. It prints a line for each case and, last, how many came as expected.
 //
 // The cases come as text on standard input: tests/reference/README.md says how it is made and what a case looks like. Where
 // a number is looked for, every byte that begins none is passed over, so the words between the numbers are for readers, but
-// for some letters: the input begins with `words`, `typed` or `route`, a target with `target`, and the outcome that is expected with `number`.
+// for some letters: the input begins with `words`, `typed` or `route`, a target with `target`, and the outcome that is expected with `number`. A call for
+// raises, a conversion, a search or rows backwards has its name before the number of cells that are lent.
 use model::Answer;
 use model::Axis;
 use model::AxisLimits;
+use model::AxisRaises;
 use model::Damping;
 use model::Job;
+use model::Raise;
+use model::RaisesAnswer;
+use model::Report;
 use model::RestPoint;
+use model::SearchAnswer;
 use model::SecondSway;
 use model::State;
 use model::Stop;
@@ -31,6 +37,9 @@ const UNTOUCHED: i64 = -1234567890123;
 // What every entry of a list of arrivals holds before a call.
 const UNWRITTEN: u32 = 987654321;
 
+// What every lent word holds before a call: DEADBEEF.
+const UNCONVERTED: u32 = 3735928559;
+
 // The prime 2^31 - 1, below which the sum over the buffer stays.
 const PRIME: u64 = 2147483647;
 
@@ -48,6 +57,22 @@ fn found(text: &[u8], from: usize, byte: u8) -> usize
         i += 1;
     }
     text.len()
+}
+
+// The letter that a call begins with: the byte after the space that follows a name; 0 where there is none.
+fn call_at(text: &[u8], from: usize) -> u8 {
+    if from < text.len() {
+        let next = from + 1;
+        if next < text.len() {
+            return text[next];
+        }
+    }
+    0
+}
+
+// Whether the job that comes next is one of typed values.
+fn is_typed(text: &[u8], from: usize) -> bool {
+    found(text, from, b't') < found(text, from, b'w')
 }
 
 // The number of a size and a sign; the last one on that side where the size is larger than any.
@@ -436,7 +461,7 @@ fn plan_route(text: &[u8], from: usize, table: &mut [i64]) -> Answer {
     }
 }
 
-// The call of a case, with the cells that it is lent.
+// A call for a table or a tour.
 fn planned(text: &[u8], from: usize, table: &mut [i64]) -> Answer {
     if found(text, from, b'r') < found(text, from, b't') {
         if found(text, from, b'r') < found(text, from, b'w') {
@@ -449,13 +474,191 @@ fn planned(text: &[u8], from: usize, table: &mut [i64]) -> Answer {
     plan_typed(text, from, table)
 }
 
-// The call of a case with the first cells of the buffer, as many as it says are lent.
-fn lent(text: &[u8], from: usize, input: usize, buffer: &mut [i64]) -> Answer {
-    let n = nth_low(text, from, 0) as usize;
-    if n <= buffer.len() {
-        return planned(text, input, &mut buffer[..n]);
+// What raises, searches and conversions give back, written over the cells that a case is lent.
+
+// Raises.
+
+// A raise: the amount, below 0 for L; 0 for no raise.
+fn cell_of(raise: Raise) -> i64 {
+    match raise {
+        Raise::AccelerationBy(amount) => signed(amount as u64, false),
+        Raise::SpeedBy(amount) => signed(amount as u64, true),
+        Raise::NoRaise => 0,
     }
-    planned(text, input, buffer)
+}
+
+// Cell i: two for each axis, its first raise and its second.
+fn raise_at(axes: [AxisRaises; 6], i: usize) -> i64 {
+    if i < 12 {
+        let raises = axes[i / 2];
+        if i % 2 == 0 {
+            let first = raises.first;
+            return cell_of(first);
+        }
+        let second = raises.second;
+        return cell_of(second);
+    }
+    0
+}
+
+fn put_axes(axes: [AxisRaises; 6], table: &mut [i64]) {
+    let mut i: usize = 0;
+    while i < table.len() {
+        let raise = raise_at(axes, i);
+        table[i] = raise;
+        i += 1;
+    }
+}
+
+// Writes the raises of each axis, and answers the answer beside them.
+fn put_raises(r: RaisesAnswer, table: &mut [i64]) -> Answer {
+    let axes = r.axes;
+    put_axes(axes, table);
+    r.answer
+}
+
+// Searches.
+
+// What is reported: 1 for a tick that is found, 2 for a budget that is spent, 0 for none.
+fn kind_of(report: Report) -> i64 {
+    match report {
+        Report::Found(_) => 1,
+        Report::Spent(_) => 2,
+        Report::Nothing => 0,
+    }
+}
+
+fn tick_of(report: Report) -> i64 {
+    match report {
+        Report::Found(tick) => tick as i64,
+        Report::Spent(next) => next as i64,
+        Report::Nothing => 0,
+    }
+}
+
+fn put_report(report: Report, tried: u32, table: &mut [i64]) {
+    let kind = kind_of(report);
+    let tick = tick_of(report);
+    if 3 <= table.len() {
+        table[0] = kind;
+        table[1] = tick;
+        table[2] = tried as i64;
+    }
+}
+
+// Writes what is reported, its tick and the number of candidates tried, and answers the rest.
+fn put_search(r: SearchAnswer, table: &mut [i64]) -> Answer {
+    let report = r.report;
+    put_report(report, r.tried, table);
+    Answer {
+        number: r.number,
+        place: r.place,
+        mask: r.mask,
+        arrival: r.arrival,
+    }
+}
+
+// Conversions.
+
+fn word_at(words: &[u32], i: usize) -> u32 {
+    if i < words.len() { words[i] } else { 0 }
+}
+
+// Writes the first words, as many as there are cells.
+fn put_words(words: &[u32], table: &mut [i64]) {
+    let mut i: usize = 0;
+    while i < table.len() {
+        let word = word_at(words, i) as i64;
+        table[i] = word;
+        i += 1;
+    }
+}
+
+// Calling for raises, conversions, searches and rows backwards.
+
+fn at_most(n: usize, most: usize) -> usize
+    ensures { λ r. ⌜ r ≤ most ⌝ }
+{
+    if n <= most {
+        return n;
+    }
+    most
+}
+
+// The room for lent words.
+fn word_buffer() -> [u32; 96]
+    ensures { λ r. ⌜ 96 ≡ length r ⌝ }
+{
+    [UNCONVERTED; 96]
+}
+
+// A conversion into the first words of a list, so many or all.
+fn converted_within(words: &[u32], n: usize, list: &mut [u32]) -> Answer {
+    let count = at_most(n, list.len());
+    converter::convert(words, &mut list[..count])
+}
+
+// A conversion with as many words lent as cells.
+fn converted(words: &[u32], table: &mut [i64]) -> Answer {
+    let mut list = word_buffer();
+    let answer = converted_within(words, table.len(), &mut list);
+    put_words(&list, table);
+    answer
+}
+
+// A search from words. The first candidate and the budget come before the job.
+fn searched(text: &[u8], from: usize, words: &[u32], table: &mut [i64]) -> Answer {
+    let first = nth_low(text, from, 0);
+    let budget = nth_low(text, from, 1);
+    put_search(search::search_words(words, first, budget), table)
+}
+
+// The same from typed values.
+fn searched_typed(text: &[u8], from: usize, table: &mut [i64]) -> Answer {
+    let first = nth_low(text, from, 0);
+    let budget = nth_low(text, from, 1);
+    let job = job_at(text, after(text, from, 2));
+    put_search(search::search_job(job, first, budget), table)
+}
+
+// A call from words.
+fn from_words(text: &[u8], from: usize, call: u8, words: &[u32], table: &mut [i64]) -> Answer {
+    match call {
+        b'b' => planner::plan_words_backwards(words, table),
+        b'r' => put_raises(raises::raises_words(words), table),
+        b's' => searched(text, from, words, table),
+        _ => converted(words, table),
+    }
+}
+
+// A call from typed values.
+fn from_values(text: &[u8], from: usize, call: u8, table: &mut [i64]) -> Answer {
+    match call {
+        b'b' => planner::plan_job_backwards(job_at(text, from), table),
+        b'r' => put_raises(raises::raises_job(job_at(text, from)), table),
+        _ => searched_typed(text, from, table),
+    }
+}
+
+// The call of a case, with the cells that it is lent. The longest job has 81 words; more may be left over.
+fn called(text: &[u8], from: usize, table: &mut [i64]) -> Answer {
+    let call = call_at(text, from);
+    let input = after(text, from, 1);
+    if call == b'l' {
+        return planned(text, input, table);
+    }
+    if is_typed(text, input) {
+        return from_values(text, input, call, table);
+    }
+    let mut words = [0u32; 128];
+    let count = read_words(text, found(text, input, b'w'), &mut words);
+    from_words(text, input, call, &words[..count], table)
+}
+
+// The same with the first cells of the buffer, as many as the case says are lent.
+fn lent(text: &[u8], from: usize, buffer: &mut [i64]) -> Answer {
+    let count = at_most(nth_low(text, from, 0) as usize, buffer.len());
+    called(text, from, &mut buffer[..count])
 }
 
 // Comparing.
@@ -630,12 +833,16 @@ fn compared(text: &[u8], from: usize, came: &[i64; 5], buffer: &[i64]) -> bool {
 
 // Runs the case whose text comes next, and answers whether it came as expected.
 fn run_case(text: &[u8], from: usize) -> bool {
-    let input = after(text, from, 1);
     let mut buffer = cell_buffer();
-    let answer = lent(text, from, input, &mut buffer);
+    let answer = lent(text, from, &mut buffer);
     let sum = sum_of(&buffer);
     let came = outcome(answer, sum);
-    compared(text, found(text, input, b'n'), &came, &buffer)
+    compared(
+        text,
+        found(text, after(text, from, 1), b'n'),
+        &came,
+        &buffer,
+    )
 }
 
 // Prints the next name in quotation marks, which begins a case and its line, and answers the index after it.
@@ -671,10 +878,10 @@ fn run(text: &[u8]) {
 }
 
 // Room for the text; what is longer is not read.
-fn text_buffer() -> [u8; 262144]
-    ensures { λ r. ⌜ 262144 ≡ length r ⌝ }
+fn text_buffer() -> [u8; 524288]
+    ensures { λ r. ⌜ 524288 ≡ length r ⌝ }
 {
-    [0; 262144]
+    [0; 524288]
 }
 
 // The buffer of which a case is lent the first cells: six axes to tick 4,096 need 73,746.

@@ -8,19 +8,20 @@ use Rattle.fieldcases.proofs.lent.Tie as tie
 nth-low-requires : tie.Need-nth-low-requires
 nth-low-requires c κs = search needs
 
-cast-n : tie.Need-cast-n
-cast-n c = search needs
+cast-at-most : tie.Need-cast-at-most
+cast-at-most c = search needs
 
-slice-relend-prefix-planned : tie.Need-slice-relend-prefix-planned
-slice-relend-prefix-planned c = search needs
+at-most-requires : tie.Need-at-most-requires
+at-most-requires c κs = search needs
 
-slice-aggregate-planned : tie.Need-slice-aggregate-planned
-slice-aggregate-planned c =
-    let n = c .before .before in
-    sym (length-take-le (n .nth-low .result) (n .before .before .args .buffer .now) (omega arith))
+slice-relend-prefix-called : tie.Need-slice-relend-prefix-called
+slice-relend-prefix-called c = search needs
 
-planned-requires : tie.Need-planned-requires
-planned-requires c κs = search needs
+slice-aggregate-called : tie.Need-slice-aggregate-called
+slice-aggregate-called c = sym (length-take-le (c .before .at-most .result) (c .before .before .before .before .args .buffer .now) (omega arith))
+
+called-requires : tie.Need-called-requires
+called-requires c κs = search needs
 
 same-length : tie.Need-same-length
 same-length c = search needs
@@ -28,26 +29,15 @@ same-length c = search needs
 returns : tie.Need-returns
 returns c = search needs
 
-planned-requires-2 : tie.Need-planned-requires-2
-planned-requires-2 c κs = search needs
-
-same-length-2 : tie.Need-same-length-2
-same-length-2 c = search needs
-
-returns-2 : tie.Need-returns-2
-returns-2 c = search needs
-
 pub lent-spec : {M : Type 1} → statement M
 lent-spec =
     tie.close
     (tie.spec
     nth-low-requires
-    cast-n
-    slice-relend-prefix-planned
-    slice-aggregate-planned
-    planned-requires
+    cast-at-most
+    at-most-requires
+    slice-relend-prefix-called
+    slice-aggregate-called
+    called-requires
     same-length
-    returns
-    planned-requires-2
-    same-length-2
-    returns-2)
+    returns)
