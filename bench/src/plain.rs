@@ -1,8 +1,8 @@
 //! The planner in plain Rust, with the library's formulas and loops and none of its proofs: reach of an arrival from the
 //! areas under the envelopes, the least common arrival by axes that lead on from candidate to candidate, with sums that
 //! are carried from one to the next, cruise by halving steps over areas, rows by stepping a track an axis, blended once or,
-//! on a pole with a second sway, twice, by a change of velocity that is worked out once for each stretch of ticks over
-//! which it is the same. Beside it the engine by ticks: every candidate is tried, and every sum is taken tick by tick.
+//! on a pole with a second sway, twice, by a change of velocity that is worked out once for all ticks around in which it is
+//! the same. Beside it the engine by ticks: every candidate is tried, and every sum is taken tick by tick.
 
 use std::ops::{Range, RangeInclusive};
 
@@ -305,14 +305,25 @@ struct Track {
     /// The blended position, in half 1/65,536 of a fine step, and the blended velocity at the row's tick.
     position: i64,
     velocity: i64,
-    /// The change of the blended velocity in each tick of a stretch.
-    change: i64,
-    stretch: Range<i64>,
+    /// The pace of the blended velocity.
+    pace: Pace,
 }
 
-/// The ticks that two stretches have in common.
-fn common(one: Range<i64>, other: Range<i64>) -> Range<i64> {
-    one.start.max(other.start)..one.end.min(other.end)
+/// The change of a velocity in each of some ticks.
+struct Pace {
+    change: i64,
+    ticks: Range<i64>,
+}
+
+impl Pace {
+    fn new(change: i64, ticks: Range<i64>) -> Pace {
+        Pace { change, ticks }
+    }
+
+    /// A change in the ticks that two paces have in common.
+    fn common(change: i64, one: &Pace, other: &Pace) -> Pace {
+        Pace::new(change, one.ticks.start.max(other.ticks.start)..one.ticks.end.min(other.ticks.end))
+    }
 }
 
 /// The nearest whole number, halves away from zero.
@@ -357,8 +368,7 @@ impl Track {
             second_weight,
             position,
             velocity,
-            change: 0,
-            stretch: 0..0,
+            pace: Pace::new(0, 0..0),
         }
     }
 
@@ -377,88 +387,76 @@ impl Track {
         }
     }
 
-    /// The planned velocity some ticks before a tick.
-    fn behind(&self, delay: i64, tick: i64) -> i64 {
-        if tick < delay {
-            return self.first;
-        }
-        self.planned(tick - delay)
+    /// The pace of the planned velocity at one tick alone.
+    fn one_tick(&self, tick: i64) -> Pace {
+        Pace::new(self.planned(tick + 1) - self.planned(tick), tick..tick + 1)
     }
 
-    /// The blend some ticks before a tick.
-    fn blended(&self, delay: i64, tick: i64) -> i64 {
-        self.first_weight * self.behind(delay, tick) + self.second_weight * self.behind(delay + self.half_period, tick)
-    }
-
-    /// The velocity of a tick after the blends.
-    fn velocity_at(&self, tick: i64) -> i64 {
-        let once = self.blended(0, tick);
-        match self.second {
-            None => once,
-            Some(delay) => once + self.blended(delay, tick),
-        }
-    }
-
-    /// The ticks around a tick over which the planned velocity changes by the same amount in each.
-    fn planned_stretch(&self, tick: i64) -> Range<i64> {
+    /// The pace of the planned velocity at a tick.
+    fn planned_pace(&self, tick: i64) -> Pace {
         if tick >= self.ticks {
-            self.ticks..i64::from(LATEST) + 1
+            Pace::new(self.change_after, self.ticks..i64::from(LATEST) + 1)
         } else if tick > self.rise {
-            self.later_stretch(tick)
+            self.later_pace(tick)
         } else if tick < self.rise && self.rise < self.ticks {
-            0..self.rise
+            Pace::new(self.up, 0..self.rise)
         } else {
-            tick..tick + 1
+            self.one_tick(tick)
         }
     }
 
     /// The same after the ramp from the start and before the landing.
-    fn later_stretch(&self, tick: i64) -> Range<i64> {
+    fn later_pace(&self, tick: i64) -> Pace {
         if tick + self.fall >= self.ticks {
-            return (self.ticks - self.fall).max(self.rise + 1)..self.ticks;
+            return Pace::new(-self.down, (self.ticks - self.fall).max(self.rise + 1)..self.ticks);
         }
         let last = self.ticks - self.fall - 1;
         let raised = last.min(self.rise + self.raised);
         if tick < raised {
-            self.rise + 1..raised
+            Pace::new(0, self.rise + 1..raised)
         } else if raised < tick && tick < last {
-            raised + 1..last
+            Pace::new(0, raised + 1..last)
         } else {
-            tick..tick + 1
+            self.one_tick(tick)
         }
     }
 
     /// The same of the planned velocity some ticks before.
-    fn stretch_behind(&self, delay: i64, tick: i64) -> Range<i64> {
+    fn pace_behind(&self, delay: i64, tick: i64) -> Pace {
         if tick < delay {
-            return 0..delay;
+            return Pace::new(0, 0..delay);
         }
-        let stretch = self.planned_stretch(tick - delay);
-        stretch.start + delay..stretch.end + delay
+        let Pace { change, ticks } = self.planned_pace(tick - delay);
+        Pace::new(change, ticks.start + delay..ticks.end + delay)
     }
 
-    /// The same of the blend some ticks before.
-    fn blended_stretch(&self, delay: i64, tick: i64) -> Range<i64> {
-        common(self.stretch_behind(delay, tick), self.stretch_behind(delay + self.half_period, tick))
+    /// The pace of the blend some ticks before.
+    fn blended_pace(&self, delay: i64, tick: i64) -> Pace {
+        let ahead = self.pace_behind(delay, tick);
+        let behind = self.pace_behind(delay + self.half_period, tick);
+        Pace::common(self.first_weight * ahead.change + self.second_weight * behind.change, &ahead, &behind)
     }
 
-    /// The same of the velocity after the blends.
-    fn stretch_at(&self, tick: i64) -> Range<i64> {
-        let once = self.blended_stretch(0, tick);
+    /// The pace of the velocity after the blends.
+    fn pace_at(&self, tick: i64) -> Pace {
+        let once = self.blended_pace(0, tick);
         match self.second {
             None => once,
-            Some(delay) => common(once, self.blended_stretch(delay, tick)),
+            Some(delay) => {
+                let again = self.blended_pace(delay, tick);
+                Pace::common(once.change + again.change, &once, &again)
+            }
         }
     }
 
     /// The three cells of the row at a tick, after which the track stands one tick on.
     fn row(&mut self, tick: i64) -> [i64; 3] {
-        if !self.stretch.contains(&tick) {
-            self.stretch = self.stretch_at(tick);
-            self.change = self.velocity_at(tick + 1) - self.velocity_at(tick);
+        if !self.pace.ticks.contains(&tick) {
+            self.pace = self.pace_at(tick);
         }
-        let next = self.velocity + self.change;
-        let cells = [nearest(self.position, 131_072), nearest(self.velocity, 65_536), nearest(self.change, 65_536)];
+        let change = self.pace.change;
+        let next = self.velocity + change;
+        let cells = [nearest(self.position, 131_072), nearest(self.velocity, 65_536), nearest(change, 65_536)];
         self.position += self.velocity + next;
         self.velocity = next;
         cells

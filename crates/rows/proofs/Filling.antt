@@ -6,67 +6,55 @@ use Prim.Native.Nat.{ℕ, suc, _+_, _*_, _<_, _≤_}
 use native.Mathlib.Omega.{arith}
 use native.Mathlib.Nat.{mul-le-mul-left, mul-suc, zero-add}
 use lib.IntN.{ℤ}
-use lib.ListN.{length, getD, take, drop, length-append, length-take}
+use lib.ListN.{length, getD, drop, length-append}
+use lib.Seq.{length-take-le}
 use Rattle.model.specs.declared.Order.{Order}
 use Rattle.model.specs.Rows.{rowAt}
 use Rattle.model.specs.Outcome.{cellsNeeded}
 use Rattle.rows.specs.declared.AxisPlan.{AxisPlan}
 use Rattle.rows.specs.declared.Plan.{Plan}
 use Rattle.rows.specs.declared.Track.{Track}
-use Rattle.rows.specs.declared.SetPlans.{SetPlans}
-use Rattle.rows.specs.Plans.{unsetPlan, plansOf, arrivalOf, PlanRanges, Each}
-use Rattle.rows.specs.Tracks.{trackAt, cellsOf, axisCells, Lands}
+use Rattle.rows.specs.Plans.{unsetPlan, plansOf, Each, Fillable}
+use Rattle.rows.specs.Tracks.{trackAt, cellsOf, axisCells}
 use Rattle.rows.specs.Table.{planRow, rowsOver}
-use Rattle.rows.specs.Steps.{SetPlansIs}
 use Rattle.whole.specs.Lists.{over}
 use Rattle.whole.proofs.Lists.{over-over}
+use Rattle.rows.proofs.FrontPlans.{each-of}
 use Rattle.rows.proofs.Cells.{rowTo, row-none, row-more, row-all, row-long, rowsTo, rows-none, rows-more, rows-length, rows-all}
 
--- ---- what is known of the plans at the front, and of the table
+-- ---- a plan whose rows can be written, and a table that has room for them
 
-abbrev pub frontPlans : SetPlans → List AxisPlan
-frontPlans r = take (r .count) (r .axes)
+pub record Front (plan : Plan) (t₀ : List ℤ) : Type 0 where
+  pub can : Fillable plan
+  pub six : length (plan .axes) ≡ 6
+  pub fits : 3 * plan .count * suc (plan .arrival) ≤ length t₀
 
-pub record Front (plan : Plan) (r : SetPlans) (t₀ : List ℤ) : Type 0 where
-  pub plans : frontPlans r ≡ plansOf plan
-  pub long : length (frontPlans r) ≡ r .count
-  pub few : r .count ≤ 6
-  pub here : r .count ≤ length (r .axes)
-  pub ranged : Each PlanRanges (frontPlans r)
-  pub arrive : Each (λ p. plan .arrival ≤ arrivalOf p) (frontPlans r)
-  pub land : Each (Lands (plan .arrival)) (frontPlans r)
-  pub fits : 3 * length (frontPlans r) * suc (plan .arrival) ≤ length t₀
+module _ {plan : Plan} {t₀ : List ℤ} (f : Front plan t₀) where
+  pub long : length (plansOf plan) ≡ plan .count
+  long = length-take-le (plan .count) (plan .axes) (omega (arith, f .can .few, f .six))
 
-module _ {plan : Plan} {r : SetPlans} {t₀ : List ℤ} where
-  pub front : SetPlansIs (plansOf plan) r → Each PlanRanges (plansOf plan) → Each (λ p. plan .arrival ≤ arrivalOf p) (plansOf plan)
-      → Each (Lands (plan .arrival)) (plansOf plan) → cellsNeeded (length (plansOf plan)) (plan .arrival) ≤ length t₀ → Front plan r t₀
-  front s a b g f =
-      let long : length (frontPlans r) ≡ r .count = ap length (s .axes) ∙ sym (s .count) in
-      record {
-        plans = s .axes;
-        long = long;
-        few = s .few;
-        here = omega (arith, length-take (r .count) (r .axes));
-        ranged = subst (Each PlanRanges) (sym (s .axes)) a;
-        arrive = subst (Each (λ p. plan .arrival ≤ arrivalOf p)) (sym (s .axes)) b;
-        land = subst (Each (Lands (plan .arrival))) (sym (s .axes)) g;
-        fits = subst (λ (l : List AxisPlan). 3 * length l * suc (plan .arrival) ≤ length t₀) (sym (s .axes)) f;
-      }
+  -- what holds of each of its plans holds of plan i
+  pub of-each : (Q : AxisPlan → Type 0) (i : ℕ) → Each Q (plansOf plan) → i < plan .count → Q (getD (plan .axes) i unsetPlan)
+  of-each Q i r h = each-of Q (plan .axes) (plan .count) i r (omega (arith, f .can .few, f .six)) h
 
   -- the cells of the row at place k have their place in the table, and in them those of axis i
-  pub row-fits : Front plan r t₀ → (o : Order) (k : ℕ) → k ≤ plan .arrival
-      → length (rowsTo o (frontPlans r) (plan .arrival) k) + 3 * length (frontPlans r) ≤ length t₀
-  row-fits f o k h = omega (arith, rows-length o (frontPlans r) (plan .arrival) k, mul-suc row k, mul-le-mul-left row later, f .fits)
+  pub row-fits : (o : Order) (k : ℕ) → k ≤ plan .arrival
+      → length (rowsTo o (plansOf plan) (plan .arrival) k) + 3 * length (plansOf plan) ≤ length t₀
+  row-fits o k h =
+      omega (arith, rows-length o (plansOf plan) (plan .arrival) k, mul-suc row k, mul-le-mul-left row later, room)
     where
       row : ℕ
-      row = 3 * length (frontPlans r)
+      row = 3 * length (plansOf plan)
 
       later : suc k ≤ suc (plan .arrival)
       later = omega arith
 
-  pub axis-fits : Front plan r t₀ → (o : Order) (k i : ℕ) → k ≤ plan .arrival → i < r .count
-      → length (rowsTo o (frontPlans r) (plan .arrival) k) + 3 * i + 3 ≤ length t₀
-  axis-fits f o k i h l = omega (arith, row-fits f o k h, f .long)
+      room : row * suc (plan .arrival) ≤ length t₀
+      room = subst (λ (c : ℕ). 3 * c * suc (plan .arrival) ≤ length t₀) (sym long) (f .fits)
+
+  pub axis-fits : (o : Order) (k i : ℕ) → k ≤ plan .arrival → i < plan .count
+      → length (rowsTo o (plansOf plan) (plan .arrival) k) + 3 * i + 3 ≤ length t₀
+  axis-fits o k i h l = omega (arith, row-fits o k h, long)
 
 -- ---- in row k, from the place at₁ of the list t₁ on
 module _ (ps : List AxisPlan) (k : ℕ) (t₁ : List ℤ) (at₁ : ℕ) where
@@ -117,11 +105,10 @@ module _ (o : Order) (ps : List AxisPlan) (n : ℕ) (t₀ : List ℤ) where
         long = ap length (sym (row-all ps l i all)) ∙ row-long ps l i (omega arith)
 
 -- all rows of a plan
-pub rows-end : (o : Order) (plan : Plan) (ps : List AxisPlan) (t₀ t : List ℤ) (k : ℕ) → ps ≡ plansOf plan → k ≡ suc (plan .arrival)
-    → t ≡ over t₀ 0 (rowsTo o ps (plan .arrival) k) → t ≡ rowsOver o plan t₀
-rows-end o plan ps t₀ t k e q c =
+pub rows-end : (o : Order) (plan : Plan) (t₀ t : List ℤ) (k : ℕ) → k ≡ suc (plan .arrival)
+    → t ≡ over t₀ 0 (rowsTo o (plansOf plan) (plan .arrival) k) → t ≡ rowsOver o plan t₀
+rows-end o plan t₀ t k q c =
     c
-    ∙ ap (λ (l : List AxisPlan). over t₀ 0 (rowsTo o l n k)) e
     ∙ over-front t₀ (rowsTo o (plansOf plan) n k)
     ∙ ap₂ (λ (l : List ℤ) (m : ℕ). l ++ drop m t₀) (rows-all o (plansOf plan) n k q) long
   where

@@ -1,4 +1,4 @@
--- The pace of an axis: the change of its blended velocity in each tick of a stretch, and the tracks of a row by it.
+-- The pace of an axis, of its velocity after the blends, and the tracks of a row by it.
 use mathlib.Core.Path.{_≡_, sym, ap, subst, _∙_}
 use mathlib.Core.Bool.{true}
 use mathlib.Core.List.{List, [], _∷_}
@@ -7,7 +7,7 @@ use native.Mathlib.Omega.{arith}
 use native.Mathlib.Decide.{decLt}
 use lib.Dec.{T, leb, ltb, leb→le, ltb→lt}
 use lib.IntN.{ℤ, _+ℤ_, _-ℤ_}
-use lib.ListN.{length, getD, set, replicate, getD-replicate}
+use lib.ListN.{length, getD, set, getD-replicate}
 use lib.Seq.{getD-set-same, getD-set-other}
 use Rattle.whole.specs.Ranges.{Within}
 use Rattle.whole.proofs.Ring.{pol, same}
@@ -17,32 +17,24 @@ use Rattle.model.specs.declared.Order.{Order}
 use Rattle.model.specs.declared.Order.the-variants.{Forwards, Backwards}
 use Rattle.rows.specs.declared.AxisPlan.{AxisPlan}
 use Rattle.rows.specs.declared.Pace.{Pace}
-use Rattle.rows.specs.declared.Stretch.{Stretch}
 use Rattle.rows.specs.declared.Track.{Track}
 use Rattle.rows.specs.declared.RowTracks.{RowTracks}
 use Rattle.rows.specs.Plans.{arrivalOf, PlanRanges, unsetPlan}
 use Rattle.rows.specs.Tracks.{blendedVelocity, blendedPosition, trackAt, comesAt, rowTracks}
-use Rattle.rows.specs.Paces.{Even, PaceOf, PaceAt, keptAt, noPace, changed}
+use Rattle.rows.specs.Paces.{PaceOf, keptAt, noPace, noPaces, changed}
 use Rattle.rows.proofs.Velocities.{track-next, track-before}
 use Rattle.rows.proofs.Ranges.{velocity-within}
 
 back : (v c : ℤ) → v +ℤ c -ℤ v ≡ c
 back v c = same (v ∷ c ∷ []) (search pol depth 20 fits 9000) tt
 
--- the change of tick k is that of every tick of its stretch
-pub pace-of : (p : AxisPlan) (k : ℕ) (s : Stretch) (c : ℤ) → Even (2 ^ 14) (blendedVelocity p) k s
-    → c ≡ blendedVelocity p (suc k) -ℤ blendedVelocity p k → PaceAt p k (record { change = c; from = s .from; until = s .until })
-pace-of p k s c e is =
-    let o = e .over in
-    let v = blendedVelocity p in
-    let one : c ≡ o .change = is ∙ ap (λ (w : ℤ). w -ℤ v k) (o .even k (e .from) (e .until)) ∙ back (v k) (o .change) in
-    record {
-      paced = record { even = λ j h l. o .even j h l ∙ ap (λ (w : ℤ). v j +ℤ w) (sym one) };
-      from = e .from;
-      until = e .until;
-    }
+-- a pace of the velocity after the blends that has tick k
+pub record Kept (p : AxisPlan) (k : ℕ) (q : Pace) : Type 0 where
+  pub paced : PaceOf (blendedVelocity p) q
+  pub from : q .from ≤ k
+  pub until : k < q .until
 
-module _ {p : AxisPlan} {k : ℕ} {q : Pace} (a : PaceAt p k q) where
+module _ {p : AxisPlan} {k : ℕ} {q : Pace} (a : Kept p k q) where
   -- the change of tick k
   pub changes : blendedVelocity p (suc k) ≡ blendedVelocity p k +ℤ q .change
   changes = a .paced .even k (a .from) (a .until)
@@ -89,32 +81,33 @@ backwards-is t c x y e f =
 -- ---- the paces of the first `count` axes
 
 abbrev pub Paced : List AxisPlan → ℕ → List Pace → Type 0
-Paced axes count paces = (a : ℕ) → a < count → PaceOf (getD axes a unsetPlan) (getD paces a noPace)
+Paced axes count paces = (a : ℕ) → a < count → PaceOf (blendedVelocity (getD axes a unsetPlan)) (getD paces a noPace)
 
 -- none is known
-pub paced-none : (axes : List AxisPlan) (count : ℕ) → count ≤ 6 → Paced axes count (replicate 6 noPace)
+pub paced-none : (axes : List AxisPlan) (count : ℕ) → count ≤ 6 → Paced axes count noPaces
 paced-none axes count h a l =
-    subst (PaceOf (getD axes a unsetPlan)) (sym (getD-replicate 6 a noPace noPace (omega arith))) (record { even = λ j f u. absurd (omega arith) })
+    subst (PaceOf (blendedVelocity (getD axes a unsetPlan))) (sym (getD-replicate 6 a noPace noPace (omega arith)))
+    (record { even = λ j f u. absurd (omega arith) })
 
 -- that of axis i is set
 pub paced-set : (axes : List AxisPlan) (count : ℕ) (paces : List Pace) (i : ℕ) (q : Pace) → i < length paces
-    → PaceOf (getD axes i unsetPlan) q → Paced axes count paces → Paced axes count (set paces i q)
+    → PaceOf (blendedVelocity (getD axes i unsetPlan)) q → Paced axes count paces → Paced axes count (set paces i q)
 paced-set axes count paces i q h e w a l = go (decLt a i) (decLt i a)
   where
     Goal : ℕ → Type 0
-    Goal b = PaceOf (getD axes b unsetPlan) (getD (set paces i q) b noPace)
+    Goal b = PaceOf (blendedVelocity (getD axes b unsetPlan)) (getD (set paces i q) b noPace)
 
     other : (a ≡ i → ⊥) → Goal a
-    other n = subst (PaceOf (getD axes a unsetPlan)) (sym (getD-set-other paces i a q noPace n)) (w a l)
+    other n = subst (PaceOf (blendedVelocity (getD axes a unsetPlan))) (sym (getD-set-other paces i a q noPace n)) (w a l)
 
     go : Dec (a < i) → Dec (i < a) → Goal a
     go (Dec.yes r) d = other (λ u. omega arith)
     go (Dec.no r) (Dec.yes t) = other (λ u. omega arith)
     go (Dec.no r) (Dec.no t) =
-        subst Goal {x = i} {y = a} (omega arith) (subst (PaceOf (getD axes i unsetPlan)) (sym (getD-set-same paces i q noPace h)) e)
+        subst Goal {x = i} {y = a} (omega arith) (subst (PaceOf (blendedVelocity (getD axes i unsetPlan))) (sym (getD-set-same paces i q noPace h)) e)
 
--- a pace that has tick k
-pub kept : (p : AxisPlan) (k : ℕ) (q : Pace) → PaceOf p q → keptAt q k ≡ true → PaceAt p k q
+-- a pace that is held has tick k where its test says so
+pub kept : (p : AxisPlan) (k : ℕ) (q : Pace) → PaceOf (blendedVelocity p) q → keptAt q k ≡ true → Kept p k q
 kept p k q e t =
     let b : T (keptAt q k) = true-T t in
     record {

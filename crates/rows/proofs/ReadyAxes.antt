@@ -1,11 +1,11 @@
 -- The axes of a mask that have passed the refusals of one axis and reach the arrival: each can be planned, and its plan is within the ranges.
 use mathlib.Core.Path.{_≡_, refl, sym, ap, ap₂, subst, _∙_}
 use mathlib.Core.Bool.{Bool, true, false}
-use mathlib.Core.List.{List, [], _∷_, _++_, map, append-assoc, append-nil}
+use mathlib.Core.List.{List, [], _∷_}
 use Prim.Native.Nat.{ℕ, suc, _+_, _-_, _*_, _/_, _%_, _^_, _<_, _≤_}
 use native.Mathlib.Numerals.{add-one}
-use lib.ListN.{length, getD, set, take, drop}
-use lib.Seq.{take-suc-set, take-length, drop-cons, drop-length}
+use lib.ListN.{length, getD, drop}
+use lib.Seq.{drop-cons}
 use native.Mathlib.Omega.{arith}
 use lib.Dec.{T, eqb}
 use lib.IntN.{ℤ, pos, natAbs, _+ℤ_, _*ℤ_}
@@ -32,7 +32,7 @@ use Rattle.model.proofs.ReadyAxis.{some-acceleration, speed-range, moves}
 use Rattle.motion.proofs.ReadyAxis.{ready-after, ready-landed, ready-arrived, ready-feasible, ready-ranges}
 use Rattle.motion.proofs.ReadyAxis.{start-position-size, landing-acceleration-size, profile-ranged}
 use Rattle.rows.specs.declared.AxisPlan.{AxisPlan}
-use Rattle.rows.specs.Plans.{scale, planOf, unsetPlan, planAt, axisPlans, setPlans, arrivalOf, PlanRanges, Each}
+use Rattle.rows.specs.Plans.{scale, planOf, plansFor, arrivalOf, PlanRanges, Each}
 use Rattle.rows.specs.Tracks.{plannedAt, weightOf}
 use Rattle.rows.proofs.Scale.{weight-is, weighed-within}
 use Rattle.rows.proofs.Velocities.{planned-before, planned-after}
@@ -186,27 +186,7 @@ module _ (n i rest : ℕ) (axes : List Axis) (here : i < length axes) (ready : A
   pub ready-next : AllReady n (setAxes (i + 1) (rest / 2) (drop (i + 1) axes))
   ready-next = subst (λ (j : ℕ). AllReady n (setAxes j (rest / 2) (drop j axes))) (sym (add-one i)) (parted .1)
 
-  pub plans-next : (plans : List AxisPlan) (p : AxisPlan) → i < length plans → p ≡ planAt n rest (getD axes i unsetAxis)
-      → take (i + 1) (set plans i p) ++ axisPlans n (rest / 2) (drop (i + 1) axes) ≡ take i plans ++ axisPlans n rest (drop i axes)
-  plans-next plans p l e =
-      ap (λ (j : ℕ). take j (set plans i p) ++ axisPlans n (rest / 2) (drop j axes)) (add-one i)
-      ∙ ap (λ (t : List AxisPlan). t ++ axisPlans n (rest / 2) (drop (suc i) axes)) (take-suc-set plans i p l)
-      ∙ append-assoc (take i plans) (p ∷ []) (axisPlans n (rest / 2) (drop (suc i) axes))
-      ∙ ap (λ (q : AxisPlan). take i plans ++ (q ∷ axisPlans n (rest / 2) (drop (suc i) axes))) e
-      ∙ ap (λ (a : List Axis). take i plans ++ axisPlans n rest a) (sym (drop-cons axes i unsetAxis here))
-
-pub plans-all : (n i m rest : ℕ) (axes : List Axis) (plans : List AxisPlan) → i ≡ length axes → i ≡ length plans
-    → take i plans ++ axisPlans n rest (drop i axes) ≡ axisPlans n m axes → plans ≡ axisPlans n m axes
-plans-all n i m rest axes plans e f h =
-    sym (take-length plans)
-    ∙ ap (λ (j : ℕ). take j plans) (sym f)
-    ∙ sym (append-nil (take i plans))
-    ∙ ap (λ (a : List Axis). take i plans ++ axisPlans n rest a) (sym (ap (λ (j : ℕ). drop j axes) e ∙ drop-length axes))
-    ∙ h
-
--- the plans of a list of axes
-abbrev pub plansFor : ℕ → List JobAxis → List AxisPlan
-plansFor n xs = map (λ (x : JobAxis). planOf n (x .axis)) xs
+-- ---- their plans
 
 pub all-ranged : (n : ℕ) (xs : List JobAxis) → AllReady n xs → Each PlanRanges (plansFor n xs)
 all-ranged n [] r = tt
@@ -215,21 +195,3 @@ all-ranged n (x ∷ xs) r = (plan-ranges (r .0), all-ranged n xs (r .1))
 pub all-arrive : (n : ℕ) (xs : List JobAxis) → AllReady n xs → Each (λ p. n ≤ arrivalOf p) (plansFor n xs)
 all-arrive n [] r = tt
 all-arrive n (x ∷ xs) r = (plan-arrives (r .0), all-arrive n xs (r .1))
-
--- ---- the plans that a mask names are those of the axes that it names
-
-pub plans-are : (n i m : ℕ) (xs : List Axis) → setPlans m (axisPlans n m xs) ≡ plansFor n (setAxes i m xs)
-plans-are n i m [] = refl
-plans-are n i m (x ∷ xs) = go (plans-are n (suc i) (m / 2) xs) (eqb (m % 2) 1)
-  where
-    plans : List AxisPlan
-    plans = setPlans (m / 2) (axisPlans n (m / 2) xs)
-
-    axes : List JobAxis
-    axes = setAxes (suc i) (m / 2) xs
-
-    go : plans ≡ plansFor n axes → (b : Bool)
-        → (elim b as (λ _. List AxisPlan) [ true ↦ (elim b as (λ _. AxisPlan) [ true ↦ planOf n x | false ↦ unsetPlan ]) ∷ plans | false ↦ plans ])
-        ≡ plansFor n (elim b as (λ _. List JobAxis) [ true ↦ record { number = i; axis = x } ∷ axes | false ↦ axes ])
-    go rest true = ap (λ (l : List AxisPlan). planOf n x ∷ l) rest
-    go rest false = rest

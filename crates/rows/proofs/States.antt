@@ -8,6 +8,7 @@ use native.Mathlib.Omega.{arith}
 use native.Mathlib.Decide.{decLt}
 use lib.Dec.{ltb}
 use borrow.Author.Tests.{lt-ltb, le-ltb}
+use lib.IntN.{pos}
 use lib.ListN.{length, getD, set}
 use lib.Seq.{getD-set-same, getD-set-other}
 use Rattle.model.specs.declared.Order.{Order}
@@ -17,7 +18,6 @@ use Rattle.rows.specs.declared.AxisPlan.{AxisPlan}
 use Rattle.rows.specs.declared.Track.{Track}
 use Rattle.rows.specs.Plans.{unsetPlan}
 use Rattle.rows.specs.Tracks.{trackAt, comesAt, goesOnAt, comesTo}
-use Rattle.rows.specs.Steps.{noTrack}
 use Rattle.whole.proofs.Tests.{choice-yes, choice-no}
 
 -- the tick of axis a in a row, when the axes before axis i are stepped from tick k to tick l
@@ -31,6 +31,10 @@ tick-after i k l a h = sym (choice-yes (ltb a i) l k (lt-ltb a i h))
 pub tick-before : (i k l a : ℕ) → i ≤ a → tickOf i k l a ≡ k
 unfolding tickOf
 tick-before i k l a h = sym (choice-no (ltb a i) l k (le-ltb a i h))
+
+-- what stands where no track is
+abbrev pub noTrack : Track
+noTrack = record { position = pos 0; velocity = pos 0 }
 
 -- the tracks of the first `count` axes
 abbrev pub At : List AxisPlan → ℕ → ℕ → List Track → Type 0

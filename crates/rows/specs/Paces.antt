@@ -1,30 +1,30 @@
--- Ticks over which a velocity changes by the same amount in each, and the tracks of a row by that amount.
-use Prim.Native.Nat.{ℕ, suc, _+_, _-_, _<_, _≤_}
+-- Paces: ticks over which a velocity changes by the same amount in each, and the tracks of a row by that amount.
+use Prim.Native.Nat.{ℕ, suc, _+_, _-_, _<_, _≤_, max, min}
 use mathlib.Core.Path.{_≡_}
 use mathlib.Core.Bool.{Bool, true, false, _&&_}
+use mathlib.Core.List.{List}
 use lib.Dec.{leb, ltb}
 use lib.IntN.{ℤ, pos, _+ℤ_, _-ℤ_}
+use lib.ListN.{replicate}
+use Rattle.whole.specs.Ranges.{Within}
 use Rattle.model.specs.declared.Order.{Order}
 use Rattle.model.specs.declared.Order.the-variants.{Forwards, Backwards}
 use Rattle.profile.specs.declared.Regions.{Regions}
-use Rattle.rows.specs.declared.AxisPlan.{AxisPlan}
-use Rattle.rows.specs.declared.Stretch.{Stretch}
 use Rattle.rows.specs.declared.Pace.{Pace}
 use Rattle.rows.specs.declared.Track.{Track}
 use Rattle.rows.specs.declared.RowTracks.{RowTracks}
-use Rattle.rows.specs.Tracks.{blendedVelocity}
 
--- the velocity v changes by the same amount in each tick from a on and before b
-pub record Over (v : ℕ → ℤ) (a b : ℕ) : Type 0 where
-  pub change : ℤ
-  pub even : (j : ℕ) → a ≤ j → j < b → v (suc j) ≡ v j +ℤ change
+-- the velocity v changes by the pace's amount in each of its ticks
+pub record PaceOf (v : ℕ → ℤ) (q : Pace) : Type 0 where
+  pub even : (j : ℕ) → q .from ≤ j → j < q .until → v (suc j) ≡ v j +ℤ q .change
 
--- a stretch of v up to tick n at most, with tick k among its ticks
-pub record Even (n : ℕ) (v : ℕ → ℤ) (k : ℕ) (s : Stretch) : Type 0 where
-  pub from : s .from ≤ k
-  pub until : k < s .until
-  pub short : s .until ≤ n
-  pub over : Over v (s .from) (s .until)
+-- a pace of v that has tick k, ends at tick n at the latest, and changes by b at most
+pub record PaceAt (n b : ℕ) (v : ℕ → ℤ) (k : ℕ) (q : Pace) : Type 0 where
+  pub paced : PaceOf v q
+  pub from : q .from ≤ k
+  pub until : k < q .until
+  pub short : q .until ≤ n
+  pub small : Within b (q .change)
 
 -- the first tick of the ramp to the end, after the ramp from the start
 abbrev pub fallBegins : Regions → ℕ
@@ -34,23 +34,20 @@ fallBegins r = elim (ltb (r .rise + r .fall) (r .ticks)) [ true ↦ r .ticks - r
 abbrev pub raisedUntil : Regions → ℕ → ℕ
 raisedUntil r n = elim (ltb (r .raised) (n - r .rise)) [ true ↦ r .rise + r .raised | false ↦ n ]
 
--- the blended velocity of a plan changes by the pace's amount in each of its ticks
-pub record PaceOf (p : AxisPlan) (q : Pace) : Type 0 where
-  pub even : (j : ℕ) → q .from ≤ j → j < q .until → blendedVelocity p (suc j) ≡ blendedVelocity p j +ℤ q .change
-
 -- whether tick k is one of a pace's
 abbrev pub keptAt : Pace → ℕ → Bool
 keptAt q k = leb (q .from) k && ltb k (q .until)
 
--- a pace with no tick
+-- a pace with no tick, for each axis
 abbrev pub noPace : Pace
 noPace = record { change = pos 0; from = 0; until = 0 }
 
--- a pace of the plan that has tick k
-pub record PaceAt (p : AxisPlan) (k : ℕ) (q : Pace) : Type 0 where
-  pub paced : PaceOf p q
-  pub from : q .from ≤ k
-  pub until : k < q .until
+abbrev pub noPaces : List Pace
+noPaces = replicate 6 noPace
+
+-- a change in the ticks that two paces have in common
+abbrev pub shared : ℤ → Pace → Pace → Pace
+shared c q r = record { change = c; from = max (q .from) (r .from); until = min (q .until) (r .until) }
 
 -- the tracks of a row, from the one that comes to it and the change of velocity in the row's tick
 abbrev pub changed : Order → Track → ℤ → RowTracks

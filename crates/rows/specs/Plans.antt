@@ -1,20 +1,21 @@
 -- The plan of an axis for an arrival, and the plan of a job with the ranges in which the code does not overflow (docs/METHOD.md, sections 1 and 3).
-use Prim.Native.Nat.{ℕ, suc, _+_, _-_, _*_, _/_, _%_, _^_, _≤_, _<_}
+use Prim.Native.Nat.{ℕ, suc, _+_, _-_, _*_, _/_, _^_, _≤_, _<_}
 use Rattle.whole.specs.Ranges.{Within}
-use mathlib.Core.Bool.{true, false}
-use mathlib.Core.List.{List, [], _∷_}
-use lib.Dec.{eqb}
+use mathlib.Core.Path.{_≡_}
+use mathlib.Core.List.{List, [], _∷_, map}
 use lib.IntN.{pos, _*ℤ_}
+use lib.ListN.{length, take}
 use Rattle.model.specs.declared.Axis.{Axis}
 use Rattle.model.specs.declared.SecondSway.the-variants.{Absent}
 use Rattle.model.specs.Quantities.{halfPeriod, secondWeight, swayDelay, finer}
 use Rattle.model.specs.Motion.{leg, startPosition, landingAcceleration, requiredSum}
 use Rattle.model.specs.Refusals.{lastTick}
+use Rattle.model.specs.Job.{JobAxis}
 use Rattle.motion.specs.Motions.{destination}
 use Rattle.profile.specs.Regions.{chosenRegions, RegionsRanged}
 use Rattle.rows.specs.declared.AxisPlan.{AxisPlan}
 use Rattle.rows.specs.declared.Plan.{Plan}
-use Rattle.rows.specs.Tracks.{plannedAt, blendsBy, weightOf}
+use Rattle.rows.specs.Tracks.{plannedAt, blendsBy, weightOf, Lands}
 
 -- what both weights are multiplied by: all weights together are then 65,536, by the grid steps in a fine step
 abbrev pub scale : Axis → ℕ
@@ -34,7 +35,7 @@ planOf n x =
       «second_sway» = x .«second_sway»;
     }
 
--- what stands where the mask names no axis
+-- what stands after the last axis
 abbrev pub unsetPlan : AxisPlan
 unsetPlan =
     record {
@@ -49,27 +50,20 @@ unsetPlan =
       «second_sway» = Absent;
     }
 
--- the plan of the axis that the lowest bit of a mask stands for
-abbrev pub planAt : ℕ → ℕ → Axis → AxisPlan
-planAt n m x = elim (eqb (m % 2) 1) [ true ↦ planOf n x | false ↦ unsetPlan ]
-
--- the plans of a list of axes, the lowest bit of the mask standing for the first
-abbrev pub axisPlans : ℕ → ℕ → List Axis → List AxisPlan
-axisPlans n m [] = []
-axisPlans n m (x ∷ xs) = planAt n m x ∷ axisPlans n (m / 2) xs
-
--- the plan of the axes of a mask for arrival n
-abbrev pub planFor : ℕ → List Axis → ℕ → Plan
-planFor m xs n = record { axes = axisPlans n m xs; mask = m; arrival = n }
-
--- the plans that a mask names, lowest bit first
-abbrev pub setPlans : ℕ → List AxisPlan → List AxisPlan
-setPlans m [] = []
-setPlans m (p ∷ ps) = elim (eqb (m % 2) 1) [ true ↦ p ∷ setPlans (m / 2) ps | false ↦ setPlans (m / 2) ps ]
+-- the plans of a list of axes for arrival n
+abbrev pub plansFor : ℕ → List JobAxis → List AxisPlan
+plansFor n xs = map (λ (x : JobAxis). planOf n (x .axis)) xs
 
 -- those of a job's plan
 abbrev pub plansOf : Plan → List AxisPlan
-plansOf plan = setPlans (plan .mask) (plan .axes)
+plansOf plan = take (plan .count) (plan .axes)
+
+-- the plan of the axes xs for arrival n
+pub record PlanIs (xs : List JobAxis) (n : ℕ) (r : Plan) : Type 0 where
+  pub plans : plansOf r ≡ plansFor n xs
+  pub count : r .count ≡ length xs
+  pub few : r .count ≤ 6
+  pub arrival : r .arrival ≡ n
 
 -- ---- ranges: those of an axis that passed the refusals of one axis and reaches the arrival, and wider
 
@@ -94,3 +88,10 @@ pub record PlanRanges (p : AxisPlan) : Type 0 where
 abbrev pub Each : (AxisPlan → Type 0) → List AxisPlan → Type 0
 Each Q [] = Unit
 Each Q (p ∷ ps) = Q p × Each Q ps
+
+-- a plan whose rows can be written: each of its axes is within the ranges, goes on up to the arrival and lands there
+pub record Fillable (plan : Plan) : Type 0 where
+  pub few : plan .count ≤ 6
+  pub ranged : Each PlanRanges (plansOf plan)
+  pub arrive : Each (λ p. plan .arrival ≤ arrivalOf p) (plansOf plan)
+  pub land : Each (Lands (plan .arrival)) (plansOf plan)

@@ -2,7 +2,7 @@ use mathlib.Core.Path.{_∙_}
 use borrow.Author.Needs.{needs}
 use Rattle.model.specs.Job.{setAxes}
 use Rattle.rows.proofs.ReadyAxes.{AllReady, all-ready}
-use Rattle.rows.proofs.JobTable.{plan-ranged, plans-arrive, plans-land, plan-arrives, plan-fits, plan-rows}
+use Rattle.rows.proofs.JobTable.{fillable, plan-arrives, plan-fits, plan-rows}
 use Rattle.rows.proofs.fill_table.Statement.{statement}
 use Rattle.rows.proofs.fill_table.Tie as tie
 
@@ -17,16 +17,10 @@ fill-requires : tie.Need-fill-requires
 fill-requires c κs =
     let a = c .before .before in
     let p = c .before .plan-for in (
-      plan-ranged (a .args .mask) (a .args .n) (a .args .axes) (ready a) (p .result) (p .ensures),
+      fillable (a .args .mask) (a .args .n) (a .args .axes) (ready a) (p .result) (p .ensures),
       (
-        plans-arrive (a .args .mask) (a .args .n) (a .args .axes) (ready a) (p .result) (p .ensures),
-        (
-          plans-land (a .args .mask) (a .args .n) (a .args .axes) (ready a) (p .result) (p .ensures),
-          (
-            plan-arrives (a .args .mask) (a .args .n) (a .args .axes) (ready a) (p .result) (p .ensures) (a .pre .1 .0),
-            plan-fits (a .args .mask) (a .args .n) (a .args .axes) (ready a) (p .result) (p .ensures) (a .args .table .now) (a .pre .1 .1 .1),
-          ),
-        ),
+        plan-arrives (a .args .mask) (a .args .n) (a .args .axes) (ready a) (p .result) (p .ensures) (a .pre .1 .0),
+        plan-fits (a .args .mask) (a .args .n) (a .args .axes) (ready a) (p .result) (p .ensures) (a .args .table .now) (a .pre .1 .1 .1),
       ),
     )
 

@@ -1,52 +1,75 @@
-use mathlib.Core.Path.{subst}
-use Prim.Native.Nat.{ℕ, suc, _^_}
+use mathlib.Core.Path.{sym, subst}
+use Prim.Native.Nat.{_^_, _≤_}
 use native.Mathlib.Omega.{arith}
-use native.Mathlib.Numerals.{add-one}
-use borrow.Author.Needs.{needs}
-use Rattle.whole.specs.Ranges.{Is}
-use Rattle.whole.proofs.Bounds.{exact, sfits, exactly}
+use Rattle.whole.proofs.Bounds.{exact, sfits, exactly, within}
+use Rattle.model.specs.declared.SecondSway.{SecondSway}
+use Rattle.model.specs.Quantities.{swayDelay}
 use Rattle.rows.specs.Tracks.{blendedVelocity}
-use Rattle.rows.proofs.Paces.{pace-of}
+use Rattle.rows.specs.Paces.{PaceAt}
+use Rattle.rows.proofs.PlannedPaces.{shared-at, pace-sum, pace-added}
+use borrow.Author.Needs.{needs}
 use Rattle.rows.proofs.pace_at.Statement.{statement}
 use Rattle.rows.proofs.pace_at.Tie as tie
 
-stretch-at-requires : tie.Need-stretch-at-requires
-stretch-at-requires c κs = (c .pre .0, omega (arith, c .pre .0 .last))
+blended-pace-requires : tie.Need-blended-pace-requires
+blended-pace-requires c κs = search needs
 
-blended-velocity-requires : tie.Need-blended-velocity-requires
-blended-velocity-requires c κs = (c .before .pre .0, omega arith)
+enum-told : tie.Need-enum-told
+enum-told c = search needs
 
-add-blended-velocity : tie.Need-add-blended-velocity
-add-blended-velocity c = search needs
+enum-known-sway : tie.Need-enum-known-sway
+enum-known-sway c = search needs
 
-blended-velocity-requires-2 : tie.Need-blended-velocity-requires-2
-blended-velocity-requires-2 c κs = search needs
+blended-pace-requires-2 : tie.Need-blended-pace-requires-2
+blended-pace-requires-2 c κs =
+    let a = c .before .before .before .before in
+    let short = subst (λ (s : SecondSway). swayDelay s ≤ 256) (c .before .sway .given .1) (a .pre .0 .«second_sway») in
+    (a .pre .0, (omega (arith, short), a .pre .1))
 
-sub-t8 : tie.Need-sub-t8
-sub-t8 c = sfits (search exact depth 9) tt
+add-common : tie.Need-add-common
+add-common c =
+    let s = c .before .before .before .before .before .before .before .before .blended-pace .ensures .small in
+    let t = c .before .before .before .before .blended-pace2 .ensures .small in
+    sfits (search exact depth 9) tt
 
--- the blended velocity one tick on
-abbrev Next : tie.After-blended-velocity2 → Type 0
-Next d = Is (2 ^ 46) (d .blended-velocity2 .result) (blendedVelocity (d .before .before .before .args .p) (suc (d .before .before .before .args .k)))
-
-next : (d : tie.After-blended-velocity2) → Next d
-next d =
-    let a = d .before .before .before .args in
-    subst (λ (k : ℕ). Is (2 ^ 46) (d .blended-velocity2 .result) (blendedVelocity (a .p) k)) (add-one (a .k)) (d .blended-velocity2 .ensures)
+common-requires : tie.Need-common-requires
+common-requires c κs =
+    let s = c .before .before .before .before .before .before .before .before .blended-pace .ensures .small in
+    let t = c .before .before .before .before .blended-pace2 .ensures .small in
+    within (search exact depth 9) tt
 
 returns : tie.Need-returns
 returns c =
-    let a = c .before .before .before .args in
-    let w = next c in
-    pace-of (a .p) (a .k) (c .before .before .stretch-at .result) _ (c .before .before .stretch-at .ensures) (exactly (search exact depth 20) tt)
+    let a = c .before .before .before in
+    let s = c .before .before .blended-pace .ensures in
+    record {
+      paced = pace-added (a .args .p) (c .enum-told .given .1) (s .paced);
+      from = s .from;
+      until = s .until;
+      short = s .short;
+      small = record { within = omega (arith, s .small .within) };
+    }
+
+returns-2 : tie.Need-returns-2
+returns-2 c =
+    let a = c .before .before .before .before .before .before .before .before .before .before in
+    let s = c .before .before .before .before .before .before .before .before .before .blended-pace .ensures in
+    let t = c .before .before .before .before .before .blended-pace2 .ensures in
+    let w = s .small in
+    let z = t .small in
+    subst (PaceAt (2 ^ 14) (2 ^ 57) (blendedVelocity (a .args .p)) (a .args .k)) (sym (c .common .ensures))
+    (shared-at s t (pace-added (a .args .p) (c .before .before .before .before .before .before .before .sway .given .1) (pace-sum (s .paced) (t .paced))) (exactly (search exact depth 20) tt)
+    (within (search exact depth 9) tt))
 
 pub pace-at-spec : {M : Type 1} → statement M
 pace-at-spec =
     tie.close
     (tie.spec
-    stretch-at-requires
-    blended-velocity-requires
-    add-blended-velocity
-    blended-velocity-requires-2
-    sub-t8
-    returns)
+    blended-pace-requires
+    enum-told
+    enum-known-sway
+    blended-pace-requires-2
+    add-common
+    common-requires
+    returns
+    returns-2)

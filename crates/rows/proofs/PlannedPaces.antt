@@ -1,20 +1,21 @@
--- Ticks over which the planned velocities, and the blends of them, change by the same amount in each.
+-- The paces of the planned velocities, and of the blends of them.
 use mathlib.Core.Path.{_≡_, sym, ap, subst, _∙_}
 use mathlib.Core.List.{[], _∷_}
-use Prim.Native.Nat.{ℕ, suc, _+_, _-_, _<_, _≤_, max, min}
+use Prim.Native.Nat.{ℕ, suc, _+_, _-_, _<_, _≤_}
 use native.Mathlib.Omega.{arith}
 use native.Mathlib.Decide.{decLt}
 use lib.Dec.{ltb, ltb→lt, nltb→le}
 use lib.IntN.{ℤ, pos, _+ℤ_, _-ℤ_, _*ℤ_}
+use Rattle.whole.specs.Ranges.{Within}
 use Rattle.whole.proofs.Ring.{pol, same}
 use Rattle.whole.proofs.Tests.{by-bool}
 use Rattle.model.specs.declared.SecondSway.{SecondSway}
 use Rattle.profile.specs.declared.Regions.{Regions}
 use Rattle.profile.proofs.ChosenRegions.{in-start, in-end, in-raised, in-level}
 use Rattle.rows.specs.declared.AxisPlan.{AxisPlan}
+use Rattle.rows.specs.declared.Pace.{Pace}
 use Rattle.rows.specs.Tracks.{plannedAt, velocityBack, mix, blendedBack, added, blendedVelocity}
-use Rattle.rows.specs.declared.Stretch.{Stretch}
-use Rattle.rows.specs.Paces.{Over, Even, fallBegins, raisedUntil}
+use Rattle.rows.specs.Paces.{PaceOf, PaceAt, fallBegins, raisedUntil, shared}
 use Rattle.rows.proofs.Velocities.{planned-before, lands, goes-on, back-late, back-early}
 
 -- ---- any velocities
@@ -22,50 +23,58 @@ use Rattle.rows.proofs.Velocities.{planned-before, lands, goes-on, back
 nothing : (x : ℤ) → x ≡ x +ℤ pos 0
 nothing x = same (x ∷ []) (search pol depth 20 fits 9000) tt
 
+-- a change of c in each tick from a on and before b
+abbrev pub over : ℤ → ℕ → ℕ → Pace
+over c a b = record { change = c; from = a; until = b }
+
+-- a pace that has tick k, its change being c in the code and d in a law
+pub paced-at : {n b k f u : ℕ} {v : ℕ → ℤ} {c d : ℤ} → PaceOf v (over d f u) → c ≡ d → f ≤ k → k < u → u ≤ n → Within b d
+    → PaceAt n b v k (over c f u)
+paced-at {n} {b} {k} {f} {u} {v} o e first last end w =
+    subst (λ (z : ℤ). PaceAt n b v k (over z f u)) (sym e) (record { paced = o; from = first; until = last; short = end; small = w })
+
 -- one tick alone
-pub over-once : (v : ℕ → ℤ) (k : ℕ) → Over v k (k + 1)
-over-once v k =
+pub pace-once : (v : ℕ → ℤ) (k : ℕ) → PaceOf v (over (v (suc k) -ℤ v k) k (k + 1))
+pace-once v k =
     record {
-      change = v (suc k) -ℤ v k;
       even = λ j h l. subst (λ (i : ℕ). v (suc i) ≡ v i +ℤ (v (suc k) -ℤ v k)) {x = k} {y = j} (omega arith) (made (v (suc k)) (v k));
     }
   where
     made : (x y : ℤ) → x ≡ y +ℤ (x -ℤ y)
     made x y = same (x ∷ y ∷ []) (search pol depth 20 fits 9000) tt
 
-pub even-once : (n : ℕ) (v : ℕ → ℤ) (k : ℕ) (s : Stretch) → k < n → s ≡ record { from = k; until = k + 1 } → Even n v k s
-even-once n v k s h e =
-    subst (λ (t : Stretch). Even n v k t) (sym e)
-    (record { from = omega arith; until = omega arith; short = omega arith; over = over-once v k })
-
 -- velocities that are the same
-pub over-same : {f g : ℕ → ℤ} {a b : ℕ} → ((j : ℕ) → f j ≡ g j) → Over g a b → Over f a b
-over-same e o =
-    record { change = o .change; even = λ j h l. e (suc j) ∙ o .even j h l ∙ ap (λ (v : ℤ). v +ℤ o .change) (sym (e j)) }
+pub pace-same : {f g : ℕ → ℤ} {q : Pace} → ((j : ℕ) → f j ≡ g j) → PaceOf g q → PaceOf f q
+pace-same {q = q} e o =
+    record { even = λ j h l. e (suc j) ∙ o .even j h l ∙ ap (λ (v : ℤ). v +ℤ q .change) (sym (e j)) }
 
--- the ticks that two stretches have in common
-module _ {f g : ℕ → ℤ} {k l m n : ℕ} (o : Over f k l) (q : Over g m n) where
-  pub over-mix : (a b : ℕ) → Over (λ j. mix a b (f j) (g j)) (max k m) (min l n)
-  over-mix a b =
+-- the ticks that two paces have in common
+module _ {f g : ℕ → ℤ} {q r : Pace} (o : PaceOf f q) (u : PaceOf g r) where
+  pub pace-mix : (a b : ℕ) → PaceOf (λ j. mix a b (f j) (g j)) (shared (mix a b (q .change) (r .change)) q r)
+  pace-mix a b =
       record {
-        change = mix a b (o .change) (q .change);
-        even = λ j h r. (λ i. mix a b (o .even j (omega arith) (omega arith) i) (q .even j (omega arith) (omega arith) i))
-            ∙ ring (pos a) (pos b) (f j) (g j) (o .change) (q .change);
+        even = λ j h l. (λ i. mix a b (o .even j (omega arith) (omega arith) i) (u .even j (omega arith) (omega arith) i))
+            ∙ ring (pos a) (pos b) (f j) (g j) (q .change) (r .change);
       }
     where
       ring : (a b x y c d : ℤ) → a *ℤ (x +ℤ c) +ℤ b *ℤ (y +ℤ d) ≡ (a *ℤ x +ℤ b *ℤ y) +ℤ (a *ℤ c +ℤ b *ℤ d)
       ring a b x y c d = same (a ∷ b ∷ x ∷ y ∷ c ∷ d ∷ []) (search pol depth 20 fits 9000) tt
 
-  pub over-sum : Over (λ j. f j +ℤ g j) (max k m) (min l n)
-  over-sum =
+  pub pace-sum : PaceOf (λ j. f j +ℤ g j) (shared (q .change +ℤ r .change) q r)
+  pace-sum =
       record {
-        change = o .change +ℤ q .change;
-        even = λ j h r. (λ i. o .even j (omega arith) (omega arith) i +ℤ q .even j (omega arith) (omega arith) i)
-            ∙ ring (f j) (g j) (o .change) (q .change);
+        even = λ j h l. (λ i. o .even j (omega arith) (omega arith) i +ℤ u .even j (omega arith) (omega arith) i)
+            ∙ ring (f j) (g j) (q .change) (r .change);
       }
     where
       ring : (x y c d : ℤ) → (x +ℤ c) +ℤ (y +ℤ d) ≡ (x +ℤ y) +ℤ (c +ℤ d)
       ring x y c d = same (x ∷ y ∷ c ∷ d ∷ []) (search pol depth 20 fits 9000) tt
+
+-- they have tick k where both have it
+pub shared-at : {n b d k : ℕ} {f g h : ℕ → ℤ} {q r : Pace} {c e : ℤ} → PaceAt n b f k q → PaceAt n b g k r → PaceOf h (shared e q r) → c ≡ e → Within d e
+    → PaceAt n d h k (shared c q r)
+shared-at s t o e w =
+    paced-at o e (omega (arith, s .from, t .from)) (omega (arith, s .until, t .until)) (omega (arith, s .short, t .short)) w
 
 -- ---- the regions: where the ramp to the end begins, and where the raised ticks end
 
@@ -116,12 +125,12 @@ module _ (p : AxisPlan) where
   g = p .regions
 
   -- from the landing on
-  pub over-landed : (n : ℕ) → Over (plannedAt p) (g .ticks) n
-  over-landed n = record { change = p .acceleration; even = λ j h l. sym (goes-on p j h) }
+  pub pace-landed : (n : ℕ) → PaceOf (plannedAt p) (over (p .acceleration) (g .ticks) n)
+  pace-landed n = record { even = λ j h l. sym (goes-on p j h) }
 
   -- on the ramp from the start
-  pub over-rising : g .rise < g .ticks → Over (plannedAt p) 0 (g .rise)
-  over-rising h = record { change = g .up; even = λ j _ l. rises (suc j) (omega arith) ∙ more j ∙ ap (λ (v : ℤ). v +ℤ g .up) (sym (rises j (omega arith))) }
+  pub pace-rising : g .rise < g .ticks → PaceOf (plannedAt p) (over (g .up) 0 (g .rise))
+  pace-rising h = record { even = λ j _ l. rises (suc j) (omega arith) ∙ more j ∙ ap (λ (v : ℤ). v +ℤ g .up) (sym (rises j (omega arith))) }
     where
       rises : (j : ℕ) → j ≤ g .rise → plannedAt p j ≡ g .start +ℤ pos j *ℤ g .up
       rises j l = sym (planned-before p j (omega arith)) ∙ in-start g j l
@@ -135,10 +144,9 @@ module _ (p : AxisPlan) where
           ∙ ring (g .start) (pos j) (g .up)
 
   -- on the ramp to the end, up to the landing
-  pub over-falling : Over (plannedAt p) (fallBegins g) (g .ticks)
-  over-falling =
+  pub pace-falling : PaceOf (plannedAt p) (over (pos 0 -ℤ g .down) (fallBegins g) (g .ticks))
+  pace-falling =
       record {
-        change = pos 0 -ℤ g .down;
         even = λ j h l. falls (suc j) (fall-from g (suc j) (omega arith)) (omega arith)
             ∙ less j l
             ∙ ap (λ (v : ℤ). v +ℤ (pos 0 -ℤ g .down)) (sym (falls j (fall-from g j h) (omega arith)));
@@ -167,9 +175,9 @@ module _ (p : AxisPlan) where
 
   -- on the level part, whose last tick is n
   module _ (n : ℕ) (h : g .rise ≤ n) (end : suc (n + g .fall) ≡ g .ticks) where
-    pub over-raised : Over (plannedAt p) (g .rise + 1) (raisedUntil g n)
-    over-raised =
-        record { change = pos 0; even = λ j a b. at (suc j) (omega arith) b ∙ nothing _ ∙ ap (λ (v : ℤ). v +ℤ pos 0) (sym (at j (omega arith) (omega arith))) }
+    pub pace-raised : PaceOf (plannedAt p) (over (pos 0) (g .rise + 1) (raisedUntil g n))
+    pace-raised =
+        record { even = λ j a b. at (suc j) (omega arith) b ∙ nothing _ ∙ ap (λ (v : ℤ). v +ℤ pos 0) (sym (at j (omega arith) (omega arith))) }
       where
         at : (j : ℕ) → g .rise < j → j ≤ raisedUntil g n → plannedAt p j ≡ g .cruise +ℤ pos 1
         at j a b =
@@ -177,9 +185,9 @@ module _ (p : AxisPlan) where
             let i = q .inside in
             sym (planned-before p j (omega arith)) ∙ in-raised g j a (omega arith) (q .raised)
 
-    pub over-level : Over (plannedAt p) (raisedUntil g n + 1) n
-    over-level =
-        record { change = pos 0; even = λ j a b. at (suc j) (omega arith) b ∙ nothing _ ∙ ap (λ (v : ℤ). v +ℤ pos 0) (sym (at j a (omega arith))) }
+    pub pace-level : PaceOf (plannedAt p) (over (pos 0) (raisedUntil g n + 1) n)
+    pace-level =
+        record { even = λ j a b. at (suc j) (omega arith) b ∙ nothing _ ∙ ap (λ (v : ℤ). v +ℤ pos 0) (sym (at j a (omega arith))) }
       where
         at : (j : ℕ) → raisedUntil g n + 1 ≤ j → j ≤ n → plannedAt p j ≡ g .cruise
         at j a b =
@@ -189,21 +197,19 @@ module _ (p : AxisPlan) where
 -- ---- d ticks before
 
 module _ (p : AxisPlan) (d : ℕ) where
-  pub over-back : {a b : ℕ} → Over (plannedAt p) a b → Over (velocityBack p d) (a + d) (b + d)
-  over-back o =
+  pub pace-back : {q : Pace} → PaceOf (plannedAt p) q → PaceOf (velocityBack p d) (over (q .change) (q .from + d) (q .until + d))
+  pace-back {q} o =
       record {
-        change = o .change;
         even = λ j h l. sym (back-late p d (suc j) (omega arith))
             ∙ ap (plannedAt p) {x = suc j - d} {y = suc (j - d)} (omega arith)
             ∙ o .even (j - d) (omega arith) (omega arith)
-            ∙ ap (λ (v : ℤ). v +ℤ o .change) (back-late p d j (omega arith));
+            ∙ ap (λ (v : ℤ). v +ℤ q .change) (back-late p d j (omega arith));
       }
 
   -- up to tick 0 of the planned motion
-  pub over-early : 0 < p .regions .ticks → Over (velocityBack p d) 0 d
-  over-early some =
+  pub pace-early : 0 < p .regions .ticks → PaceOf (velocityBack p d) (over (pos 0) 0 d)
+  pace-early some =
       record {
-        change = pos 0;
         even = λ j h l. sym (back-early p d (suc j) some (omega arith))
             ∙ nothing (p .regions .start)
             ∙ ap (λ (v : ℤ). v +ℤ pos 0) (back-early p d j some (omega arith));
@@ -211,12 +217,12 @@ module _ (p : AxisPlan) (d : ℕ) where
 
   -- ---- the blends
 
-  pub over-blend : {k l m n : ℕ} → Over (velocityBack p d) k l → Over (velocityBack p (d + p .«half_period»)) m n
-      → Over (blendedBack p d) (max k m) (min l n)
+  pub pace-blend : {q r : Pace} → PaceOf (velocityBack p d) q → PaceOf (velocityBack p (d + p .«half_period»)) r
+      → PaceOf (blendedBack p d) (shared (mix (p .«first_weight») (p .«second_weight») (q .change) (r .change)) q r)
   unfolding blendedBack
-  over-blend o q = over-mix o q (p .«first_weight») (p .«second_weight»)
+  pace-blend o u = pace-mix o u (p .«first_weight») (p .«second_weight»)
 
-pub over-added : (p : AxisPlan) {s : SecondSway} {a b : ℕ} → p .«second_sway» ≡ s → Over (λ k. added s (λ d. blendedBack p d k)) a b
-    → Over (blendedVelocity p) a b
+pub pace-added : (p : AxisPlan) {s : SecondSway} {q : Pace} → p .«second_sway» ≡ s → PaceOf (λ k. added s (λ d. blendedBack p d k)) q
+    → PaceOf (blendedVelocity p) q
 unfolding blendedVelocity
-over-added p e o = over-same (λ k. ap (λ (s : SecondSway). added s (λ d. blendedBack p d k)) e) o
+pace-added p e o = pace-same (λ k. ap (λ (s : SecondSway). added s (λ d. blendedBack p d k)) e) o
