@@ -12,9 +12,9 @@ use lib.ListN.{length, getD, take}
 use lib.Seq.{take-suc, take-length, length-take-le}
 use Rattle.model.specs.declared.Order.{Order}
 use Rattle.model.specs.Rows.{concat, tabulate, rowAt}
-use Rattle.rows.specs.declared.AxisPlan.{AxisPlan}
+use Rattle.tracks.specs.declared.AxisPlan.{AxisPlan}
 use Rattle.rows.specs.Plans.{unsetPlan}
-use Rattle.rows.specs.Tracks.{axisCells}
+use Rattle.tracks.specs.Tracks.{axisCells}
 use Rattle.rows.specs.Table.{planRow}
 
 concat-append : (l m : List (List ℤ)) → concat (l ++ m) ≡ concat l ++ concat m

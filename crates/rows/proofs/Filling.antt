@@ -11,11 +11,11 @@ use lib.Seq.{length-take-le}
 use Rattle.model.specs.declared.Order.{Order}
 use Rattle.model.specs.Rows.{rowAt}
 use Rattle.model.specs.Outcome.{cellsNeeded}
-use Rattle.rows.specs.declared.AxisPlan.{AxisPlan}
+use Rattle.tracks.specs.declared.AxisPlan.{AxisPlan}
 use Rattle.rows.specs.declared.Plan.{Plan}
-use Rattle.rows.specs.declared.Track.{Track}
+use Rattle.tracks.specs.declared.Track.{Track}
 use Rattle.rows.specs.Plans.{unsetPlan, plansOf, Each, Fillable}
-use Rattle.rows.specs.Tracks.{trackAt, cellsOf, axisCells}
+use Rattle.tracks.specs.Tracks.{trackAt, cellsOf, axisCells}
 use Rattle.rows.specs.Table.{planRow, rowsOver}
 use Rattle.whole.specs.Lists.{over}
 use Rattle.whole.proofs.Lists.{over-over}

@@ -13,12 +13,13 @@ use Rattle.model.specs.Refusals.{lastTick}
 use Rattle.model.specs.Outcome.{cellsNeeded, tableOver}
 use Rattle.model.proofs.CellPlaces.{row-place}
 use Rattle.model.proofs.Reversed.{tabulate-same}
-use Rattle.rows.specs.Plans.{plansFor, plansOf, arrivalOf, PlanIs, PlanRanges, Each, Fillable}
-use Rattle.rows.specs.declared.AxisPlan.{AxisPlan}
+use Rattle.rows.specs.Plans.{plansFor, plansOf, PlanIs, Each, Fillable}
+use Rattle.tracks.specs.Plans.{arrivalOf, PlanRanges}
+use Rattle.tracks.specs.declared.AxisPlan.{AxisPlan}
 use Rattle.rows.specs.declared.Plan.{Plan}
-use Rattle.rows.specs.Tracks.{Lands}
+use Rattle.tracks.specs.Tracks.{Lands}
 use Rattle.rows.specs.Table.{planRow, planTable, rowsOver}
-use Rattle.rows.proofs.BlendedTicks.{cells-are, lands}
+use Rattle.tracks.proofs.BlendedTicks.{cells-are, lands}
 use Rattle.rows.proofs.ReadyAxes.{AllReady, all-ranged, all-arrive}
 
 row-is : (n k : ℕ) (xs : List JobAxis) → AllReady n xs → k ≤ n → planRow (plansFor n xs) k ≡ row (map (track n) (map (λ (x : JobAxis). x .axis) xs)) k
@@ -32,7 +33,7 @@ all-land n (x ∷ xs) r = (lands (x .axis) n (r .0), all-land n xs (r .1))
 
 -- ---- a plan that is the job's
 
-module _ (m n : ℕ) (xs : List Axis) (ready : AllReady n (setAxes 0 m xs)) (plan : Plan) (is : PlanIs (setAxes 0 m xs) n plan) where
+module _ (m n : ℕ) (xs : List Axis) (ready : AllReady n (setAxes 0 m xs)) (plan : Plan) (is : PlanIs m (setAxes 0 m xs) n plan) where
   pub fillable : Fillable plan
   fillable =
       record {

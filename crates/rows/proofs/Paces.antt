@@ -15,15 +15,18 @@ use Rattle.whole.proofs.Bounds.{exact, within}
 use Rattle.whole.proofs.Tests.{left, right, true-T}
 use Rattle.model.specs.declared.Order.{Order}
 use Rattle.model.specs.declared.Order.the-variants.{Forwards, Backwards}
-use Rattle.rows.specs.declared.AxisPlan.{AxisPlan}
-use Rattle.rows.specs.declared.Pace.{Pace}
-use Rattle.rows.specs.declared.Track.{Track}
+use Rattle.tracks.specs.declared.AxisPlan.{AxisPlan}
+use Rattle.tracks.specs.declared.Pace.{Pace}
+use Rattle.tracks.specs.declared.Track.{Track}
 use Rattle.rows.specs.declared.RowTracks.{RowTracks}
-use Rattle.rows.specs.Plans.{arrivalOf, PlanRanges, unsetPlan}
-use Rattle.rows.specs.Tracks.{blendedVelocity, blendedPosition, trackAt, comesAt, rowTracks}
-use Rattle.rows.specs.Paces.{PaceOf, keptAt, noPace, noPaces, changed}
-use Rattle.rows.proofs.Velocities.{track-next, track-before}
-use Rattle.rows.proofs.Ranges.{velocity-within}
+use Rattle.tracks.specs.Plans.{arrivalOf, PlanRanges}
+use Rattle.rows.specs.Plans.{unsetPlan}
+use Rattle.tracks.specs.Tracks.{blendedVelocity, blendedPosition, trackAt}
+use Rattle.rows.specs.Rows.{comesAt, rowTracks}
+use Rattle.tracks.specs.Paces.{PaceOf}
+use Rattle.rows.specs.Rows.{keptAt, noPace, noPaces, changed}
+use Rattle.tracks.proofs.Velocities.{track-next, track-before}
+use Rattle.tracks.proofs.Ranges.{velocity-within}
 
 back : (v c : ℤ) → v +ℤ c -ℤ v ≡ c
 back v c = same (v ∷ c ∷ []) (search pol depth 20 fits 9000) tt

@@ -14,10 +14,11 @@ use lib.Seq.{getD-set-same, getD-set-other}
 use Rattle.model.specs.declared.Order.{Order}
 use Rattle.model.specs.declared.Order.the-variants.{Forwards, Backwards}
 use Rattle.model.specs.Rows.{rowAt}
-use Rattle.rows.specs.declared.AxisPlan.{AxisPlan}
-use Rattle.rows.specs.declared.Track.{Track}
+use Rattle.tracks.specs.declared.AxisPlan.{AxisPlan}
+use Rattle.tracks.specs.declared.Track.{Track}
 use Rattle.rows.specs.Plans.{unsetPlan}
-use Rattle.rows.specs.Tracks.{trackAt, comesAt, goesOnAt, comesTo}
+use Rattle.tracks.specs.Tracks.{trackAt, comesTo}
+use Rattle.rows.specs.Rows.{comesAt, goesOnAt}
 use Rattle.whole.proofs.Tests.{choice-yes, choice-no}
 
 -- the tick of axis a in a row, when the axes before axis i are stepped from tick k to tick l

@@ -1,39 +1,16 @@
--- The plan of an axis for an arrival, and the plan of a job with the ranges in which the code does not overflow (docs/METHOD.md, sections 1 and 3).
-use Prim.Native.Nat.{ℕ, suc, _+_, _-_, _*_, _/_, _^_, _≤_, _<_}
-use Rattle.whole.specs.Ranges.{Within}
+-- The plan of a job: the plans of its axes, one after the other (docs/METHOD.md, section 3).
+use Prim.Native.Nat.{ℕ, _<_, _≤_}
 use mathlib.Core.Path.{_≡_}
 use mathlib.Core.List.{List, [], _∷_, map}
-use lib.IntN.{pos, _*ℤ_}
-use lib.ListN.{length, take}
-use Rattle.model.specs.declared.Axis.{Axis}
+use lib.IntN.{pos}
+use lib.ListN.{length, getD, take}
 use Rattle.model.specs.declared.SecondSway.the-variants.{Absent}
-use Rattle.model.specs.Quantities.{halfPeriod, secondWeight, swayDelay, finer}
-use Rattle.model.specs.Motion.{leg, startPosition, landingAcceleration, requiredSum}
-use Rattle.model.specs.Refusals.{lastTick}
 use Rattle.model.specs.Job.{JobAxis}
 use Rattle.motion.specs.Motions.{destination}
-use Rattle.profile.specs.Regions.{chosenRegions, RegionsRanged}
-use Rattle.rows.specs.declared.AxisPlan.{AxisPlan}
+use Rattle.tracks.specs.declared.AxisPlan.{AxisPlan}
+use Rattle.tracks.specs.Plans.{planOf, arrivalOf, PlanRanges}
 use Rattle.rows.specs.declared.Plan.{Plan}
-use Rattle.rows.specs.Tracks.{plannedAt, blendsBy, weightOf, Lands}
-
--- what both weights are multiplied by: all weights together are then 65,536, by the grid steps in a fine step
-abbrev pub scale : Axis → ℕ
-scale x = 256 / blendsBy (x .«second_sway») / finer x
-
--- the plan of axis x for arrival n
-abbrev pub planOf : ℕ → Axis → AxisPlan
-planOf n x =
-    record {
-      origin = startPosition x;
-      destination = destination x n;
-      regions = chosenRegions (leg x n) (requiredSum x n);
-      acceleration = landingAcceleration x n;
-      «half_period» = halfPeriod x;
-      «first_weight» = scale x * (256 - secondWeight x);
-      «second_weight» = scale x * secondWeight x;
-      «second_sway» = x .«second_sway»;
-    }
+use Rattle.tracks.specs.Tracks.{Lands}
 
 -- what stands after the last axis
 abbrev pub unsetPlan : AxisPlan
@@ -58,31 +35,14 @@ plansFor n xs = map (λ (x : JobAxis). planOf n (x .axis)) xs
 abbrev pub plansOf : Plan → List AxisPlan
 plansOf plan = take (plan .count) (plan .axes)
 
--- the plan of the axes xs for arrival n
-pub record PlanIs (xs : List JobAxis) (n : ℕ) (r : Plan) : Type 0 where
+-- the plan of the axes xs of mask m for arrival n
+pub record PlanIs (m : ℕ) (xs : List JobAxis) (n : ℕ) (r : Plan) : Type 0 where
   pub plans : plansOf r ≡ plansFor n xs
   pub count : r .count ≡ length xs
   pub few : r .count ≤ 6
+  pub unset : (i : ℕ) → r .count ≤ i → i < 6 → getD (r .axes) i unsetPlan ≡ unsetPlan
+  pub mask : r .mask ≡ m
   pub arrival : r .arrival ≡ n
-
--- ---- ranges: those of an axis that passed the refusals of one axis and reaches the arrival, and wider
-
--- N = T + h + h₂
-abbrev pub arrivalOf : AxisPlan → ℕ
-arrivalOf p = p .regions .ticks + (p .«half_period» + swayDelay (p .«second_sway»))
-
--- positions and velocities are small as the blends weigh them, whatever the grid is
-pub record PlanRanges (p : AxisPlan) : Type 0 where
-  pub light : weightOf p ≤ 2 ^ 16
-  pub weighs : 256 ≤ weightOf p
-  pub origin : Within (2 ^ 60) (pos (weightOf p) *ℤ p .origin)
-  pub regions : RegionsRanged (p .regions)
-  pub some : 0 < p .regions .ticks
-  pub velocities : (k : ℕ) → k ≤ suc (arrivalOf p) → Within (2 ^ 45) (pos (weightOf p) *ℤ plannedAt p k)
-  pub acceleration : Within (2 ^ 32) (p .acceleration)
-  pub «half_period» : p .«half_period» ≤ 256
-  pub «second_sway» : swayDelay (p .«second_sway») ≤ 256
-  pub last : arrivalOf p ≤ lastTick
 
 -- what holds of every plan of a list
 abbrev pub Each : (AxisPlan → Type 0) → List AxisPlan → Type 0

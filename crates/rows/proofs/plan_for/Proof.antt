@@ -5,12 +5,12 @@ use Prim.Native.Nat.{ℕ, _+_, _-_, _/_, _%_, _≤_, _<_}
 use native.Mathlib.Omega.{arith}
 use borrow.Author.Needs.{needs}
 use borrow.Author.Tests.{eq-eqb, ne-eqb}
-use lib.ListN.{length, set, take, drop, length-set, length-map}
-use lib.Seq.{length-take-le}
+use lib.ListN.{length, getD, set, take, drop, length-set, length-map, getD-replicate}
+use lib.Seq.{length-take-le, getD-set-other}
 use Rattle.model.specs.declared.Axis.{Axis}
 use Rattle.model.specs.Job.{setAxes}
-use Rattle.rows.specs.declared.AxisPlan.{AxisPlan}
-use Rattle.rows.specs.Plans.{plansFor}
+use Rattle.tracks.specs.declared.AxisPlan.{AxisPlan}
+use Rattle.rows.specs.Plans.{unsetPlan, plansFor}
 use Rattle.rows.proofs.ReadyAxes.{AllReady, all-ready, ready-here, ready-next}
 use Rattle.rows.proofs.FrontPlans.{plansFrom, plan-put, plan-left-out, plans-put}
 use Rattle.rows.proofs.plan_for.Statement.{statement}
@@ -24,6 +24,7 @@ Inv-loop mask n axes plans₀ count₀ rest₀ i₀ plans count rest i =
       few : count ≤ i;
       six : length axes ≡ 6;
       long : length plans ≡ 6;
+      unset : (j : ℕ) → count ≤ j → j < 6 → getD plans j unsetPlan ≡ unsetPlan;
       ready : AllReady n (setAxes i rest (drop i axes));
       done : take count plans ++ plansFrom n i rest axes ≡ plansFor n (setAxes 0 mask axes);
     }
@@ -42,6 +43,7 @@ loop-holds c =
       few = omega arith;
       six = omega arith;
       long = refl;
+      unset = λ j h l. getD-replicate 6 j _ unsetPlan l ∙ c .unset-plan .ensures;
       ready = all-ready (a .args .n) (setAxes 0 (a .args .mask) (a .args .t2)) (a .pre .0) (a .pre .1 .0) (a .pre .1 .1);
       done = refl;
     }
@@ -78,6 +80,7 @@ loop-less c = omega arith
 record Turned (n i rest : ℕ) (axes : List Axis) (plans₀ : List AxisPlan) (count₀ : ℕ) (plans : List AxisPlan) (count : ℕ) : Type 0 where
   pub few : count ≤ count₀ + 1
   pub long : length plans ≡ length plans₀
+  pub unset : (j : ℕ) → count ≤ j → j < 6 → getD plans j unsetPlan ≡ unsetPlan
   pub done : take count plans ++ plansFrom n (i + 1) (rest / 2) axes ≡ take count₀ plans₀ ++ plansFrom n i rest axes
 
 turned : (c : tie.Joined1 Inv-loop μ-loop)
@@ -94,6 +97,9 @@ turned c =
     record {
       few = omega (arith, w .4);
       long = ap (λ (ps : List AxisPlan). length ps) is ∙ length-set (h .plans) (h .count) _;
+      unset = λ j q l. ap (λ (ps : List AxisPlan). getD ps j unsetPlan) is
+          ∙ getD-set-other (h .plans) (h .count) j _ unsetPlan (λ e. omega (arith, w .4))
+          ∙ h .inv .unset j (omega (arith, w .4)) l;
       done =
           ap₂ (λ (k : ℕ) (ps : List AxisPlan). take k ps ++ after) (w .4) is
           ∙ plan-put (a .n) (h .i) (h .rest) (a .t2) here (h .plans) (h .count) (omega (arith, h .inv .long)) (eq-eqb (h .rest % 2) 1 (w .0 .taken));
@@ -101,6 +107,7 @@ turned c =
     (λ w. record {
       few = omega (arith, w .2);
       long = ap (λ (ps : List AxisPlan). length ps) (w .1);
+      unset = λ j q l. ap (λ (ps : List AxisPlan). getD ps j unsetPlan) (w .1) ∙ h .inv .unset j (omega (arith, w .2)) l;
       done =
           ap₂ (λ (k : ℕ) (ps : List AxisPlan). take k ps ++ after) (w .2) (w .1)
           ∙ plan-left-out (a .n) (h .i) (h .rest) (a .t2) here (take (h .count) (h .plans)) (ne-eqb (h .rest % 2) 1 (w .0 .left));
@@ -117,6 +124,7 @@ loop-again c =
       few = omega (arith, t .few, h .inv .few);
       six = h .inv .six;
       long = t .long ∙ h .inv .long;
+      unset = t .unset;
       ready = ready-next (a .n) (h .i) (h .rest) (a .t2) (omega (arith, h .inv .six)) (h .inv .ready);
       done = t .done ∙ h .inv .done;
     }
@@ -130,6 +138,8 @@ returns c =
       plans = plans;
       count = sym (length-take-le (h .count) (h .plans) (omega (arith, h .inv .long, h .inv .few))) ∙ ap length plans ∙ length-map (setAxes 0 (a .mask) (a .t2)) _;
       few = omega (arith, h .inv .few);
+      unset = h .inv .unset;
+      mask = refl;
       arrival = refl;
     }
 

@@ -2,7 +2,7 @@ use mathlib.Core.Path.{sym, ap, _∙_}
 use borrow.Author.Needs.{needs}
 use Rattle.model.specs.declared.Order.{Order}
 use Rattle.whole.proofs.Bounds.{exact, sfits, exactly}
-use Rattle.rows.specs.Paces.{changed}
+use Rattle.rows.specs.Rows.{changed}
 use Rattle.rows.proofs.Paces.{forwards-is, backwards-is}
 use Rattle.rows.proofs.row_tracks.Statement.{statement}
 use Rattle.rows.proofs.row_tracks.Tie as tie

@@ -1,0 +1,75 @@
+use mathlib.Core.Path.{_≡_, sym, ap₂, subst}
+use Prim.Native.Nat.{_^_}
+use native.Mathlib.Omega.{arith}
+use mir.Syntax.{w64}
+use mir.Val.{toZ, ofZ}
+use Rattle.whole.specs.Ranges.{Is}
+use Rattle.whole.proofs.Bounds.{exact, exactly, within, then-is}
+use Rattle.tracks.specs.Tracks.{mix, blendedBack}
+use Rattle.tracks.specs.Paces.{PaceAt}
+use Rattle.tracks.proofs.Ranges.{weights-small}
+use Rattle.tracks.proofs.PlannedPaces.{shared-at, pace-blend}
+use borrow.Author.Needs.{needs}
+use Rattle.tracks.proofs.blended_pace.Statement.{statement}
+use Rattle.tracks.proofs.blended_pace.Tie as tie
+
+pace-back-requires : tie.Need-pace-back-requires
+pace-back-requires c κs = search needs
+
+add-pace-back : tie.Need-add-pace-back
+add-pace-back c = omega (arith, c .before .before .pre .0 .«half_period»)
+
+pace-back-requires-2 : tie.Need-pace-back-requires-2
+pace-back-requires-2 c κs =
+    let a = c .before .before in
+    (a .pre .0, (omega (arith, a .pre .0 .«half_period»), a .pre .1 .1))
+
+blended-requires : tie.Need-blended-requires
+blended-requires c κs =
+    let a = c .before .before .before .before .before in
+    let h = weights-small (a .args .p) (a .pre .0) in
+    let s = c .before .before .before .before .pace-back .ensures .small in
+    let t = c .before .before .pace-back2 .ensures .small in
+    (omega arith, (omega arith, (within (search exact depth 9) tt, within (search exact depth 9) tt)))
+
+-- the change of the blend
+abbrev Change : tie.After-blended → Type 0
+Change c =
+    let p = c .before .before .before .before .before .before .args .p in
+    Is (2 ^ 56) (c .blended .result)
+    (mix (p .«first_weight») (p .«second_weight») (c .before .before .before .before .before .pace-back .result .change) (c .before .before .before .pace-back2 .result .change))
+
+change-is : (c : tie.After-blended) → Change c
+change-is c =
+    let p = c .before .before .before .before .before .before .args .p in
+    let q = c .before .before .before .before .before .pace-back in
+    let r = c .before .before .before .pace-back2 in
+    let s = q .ensures .small in
+    let t = r .ensures .small in
+    let one : toZ w64 (ofZ w64 (q .result .change)) ≡ q .result .change = exactly (search exact depth 9) tt in
+    let other : toZ w64 (ofZ w64 (r .result .change)) ≡ r .result .change = exactly (search exact depth 9) tt in
+    then-is (c .blended .ensures) (ap₂ (mix (p .«first_weight») (p .«second_weight»)) one other)
+
+common-requires : tie.Need-common-requires
+common-requires c κs = let w = change-is c in within (search exact depth 9) tt
+
+returns : tie.Need-returns
+returns c =
+    let b = c .before in
+    let a = b .before .before .before .before .before .before in
+    let s = b .before .before .before .before .before .pace-back .ensures in
+    let t = b .before .before .before .pace-back2 .ensures in
+    let w = change-is b in
+    subst (PaceAt (2 ^ 14) (2 ^ 56) (blendedBack (a .args .p) (a .args .d)) (a .args .k)) (sym (c .common .ensures))
+    (shared-at s t (pace-blend (a .args .p) (a .args .d) (s .paced) (t .paced)) (exactly (search exact depth 9) tt) (record { within = w .within }))
+
+pub blended-pace-spec : {M : Type 1} → statement M
+blended-pace-spec =
+    tie.close
+    (tie.spec
+    pace-back-requires
+    add-pace-back
+    pace-back-requires-2
+    blended-requires
+    common-requires
+    returns)

@@ -1,0 +1,3 @@
+pub mod Plans
+pub mod Tracks
+pub mod Paces

@@ -1,0 +1,454 @@
+// One axis of a job: its plan for an arrival, its track after the blends, tick by tick, and the pace at which its velocity changes (docs/METHOD.md, section 3).
+use model::Axis;
+use model::Order;
+use model::SecondSway;
+use profile::Regions;
+ghost use Prim.Native.Nat.{suc, _+_, _^_, _<_, _≤_, max, min};
+ghost use mathlib.Core.Path.{_≡_};
+ghost use Rattle.whole.specs.Ranges.{Within, Is};
+ghost use Rattle.model.specs.Refusals.{Ready};
+ghost use Rattle.profile.specs.Regions.{RegionsRanged};
+ghost use Rattle.tracks.specs.Plans.{scale, planOf, arrivalOf, PlanRanges};
+ghost use Rattle.tracks.specs.Tracks.{mix, blendsBy, plannedAt, velocityBack, blendedBack, blendedVelocity, weightOf, lagOf, trackAt, comesTo, Lands};
+ghost use Rattle.tracks.specs.Paces.{PaceAt, fallBegins, raisedUntil, shared};
+
+// The plan of one axis, on its own grid: its planned position at tick 0, in half grid steps; twice its target's position at the arrival, in units;
+// its planned velocities up to the landing, in grid steps; its planned acceleration from the landing on; h; the weights of the blend, scaled so
+// that the cells of every plan are rounded by the same divisors; and the second sway.
+pub struct AxisPlan {
+    pub origin: i64,
+    pub destination: i64,
+    pub regions: Regions,
+    pub acceleration: i64,
+    pub half_period: u32,
+    pub first_weight: u32,
+    pub second_weight: u32,
+    pub second_sway: SecondSway,
+}
+
+// An axis at a tick: its exact position after the blends, in half 1/65,536 of a fine step, and its velocity, in 1/65,536 of a fine step.
+pub struct Track {
+    pub position: i64,
+    pub velocity: i64,
+}
+
+// The change of a velocity in each tick from `from` on and before `until`.
+pub struct Pace {
+    pub change: i64,
+    pub from: u64,
+    pub until: u64,
+}
+
+// ---- the plan
+
+// How many blends are added up: a second one for a second sway.
+fn blends(sway: SecondSway) -> u32
+    ensures { λ r. ⌜ r ≡ blendsBy sway ⌝ }
+{
+    match sway {
+        SecondSway::Absent => 1,
+        SecondSway::HalfPeriod(_) => 2,
+    }
+}
+
+// What both weights are multiplied by: the blends then count in 1/65,536 of a fine step.
+fn weight_scale(x: Axis) -> u32
+    ensures { λ r. ⌜ r ≡ scale x ⌝ }
+{
+    let sway = x.second_sway;
+    let count = blends(sway);
+    let steps = motion::finer(x);
+    256 / count / steps
+}
+
+// The plan of an axis for an arrival that it reaches.
+pub fn axis_plan(x: Axis, n: u32) -> AxisPlan
+    requires { ⌜ Ready x n ⌝ }
+    ensures { λ r. ⌜ r ≡ planOf n x ⌝ }
+{
+    let landing = motion::landing_at(x, n);
+    let profile = motion::profile_of(x, n, landing);
+    let regions = profile::chosen(profile, motion::displacement(x, landing));
+    let origin = motion::start_position(x);
+    let destination = motion::destination(x, n);
+    let acceleration = landing.acceleration;
+    let sway = x.second_sway;
+    let second_weight = motion::second_weight(x);
+    let scale = weight_scale(x);
+    AxisPlan {
+        origin: origin,
+        destination: destination,
+        regions: regions,
+        acceleration: acceleration,
+        half_period: x.half_period,
+        first_weight: scale * (256 - second_weight),
+        second_weight: scale * second_weight,
+        second_sway: sway,
+    }
+}
+
+// ---- one axis, tick by tick
+
+// The blend of a planned value and of that a half period before it.
+fn blended(first_weight: u32, second_weight: u32, ahead: i64, behind: i64) -> i64
+    requires { ⌜ «first_weight» ≤ 2 ^ 16 ⌝ }
+    requires { ⌜ «second_weight» ≤ 2 ^ 16 ⌝ }
+    requires { ⌜ Within (2 ^ 39) ahead ⌝ }
+    requires { ⌜ Within (2 ^ 39) behind ⌝ }
+    ensures { λ r. ⌜ Is (2 ^ 56) r (mix «first_weight» «second_weight» ahead behind) ⌝ }
+{
+    (first_weight as i64) * ahead + (second_weight as i64) * behind
+}
+
+// All weights together.
+fn weight_of(p: AxisPlan) -> u32
+    requires { ⌜ PlanRanges p ⌝ }
+    ensures { λ r. ⌜ r ≡ weightOf p ⌝ }
+{
+    let sway = p.second_sway;
+    blends(sway) * (p.first_weight + p.second_weight)
+}
+
+// Each weight times its delay, together.
+fn lag_of(p: AxisPlan) -> u32
+    requires { ⌜ PlanRanges p ⌝ }
+    ensures { λ r. ⌜ r ≡ lagOf p ⌝ }
+{
+    let sway = p.second_sway;
+    let second_delay = motion::sway_delay(sway);
+    blends(sway) * (p.second_weight * p.half_period)
+        + (p.first_weight + p.second_weight) * second_delay
+}
+
+// The track at tick 0.
+fn started(p: AxisPlan) -> Track
+    requires { ⌜ PlanRanges p ⌝ }
+    ensures { λ r. ⌜ r ≡ trackAt p 0 ⌝ }
+{
+    let regions = p.regions;
+    let start = regions.start;
+    let weight = weight_of(p) as i64;
+    let lag = lag_of(p) as i64;
+    Track {
+        position: weight * p.origin - 2 * (lag * start),
+        velocity: weight * start,
+    }
+}
+
+// The planned velocity of tick k: before the landing tick that of its region; at it the end velocity, which the acceleration changes
+// from there on.
+fn planned_velocity(p: AxisPlan, k: u32) -> i64
+    requires { ⌜ PlanRanges p ⌝ }
+    requires { ⌜ k ≤ suc (arrivalOf p) ⌝ }
+    ensures { λ r. ⌜ Is (2 ^ 38) r (plannedAt p k) ⌝ }
+{
+    let regions = p.regions;
+    let tick = k as u64;
+    let ticks = regions.ticks;
+    if tick < ticks {
+        return profile::velocity_in(regions, tick);
+    }
+    regions.end + ((tick - ticks) as i64) * p.acceleration
+}
+
+// The planned velocity d ticks before tick k: before tick 0 the planned motion is uniform.
+fn velocity_back(p: AxisPlan, d: u32, k: u32) -> i64
+    requires { ⌜ PlanRanges p ⌝ }
+    requires { ⌜ k ≤ suc (arrivalOf p) ⌝ }
+    ensures { λ r. ⌜ Is (2 ^ 38) r (velocityBack p d k) ⌝ }
+{
+    if k < d {
+        let regions = p.regions;
+        return regions.start;
+    }
+    planned_velocity(p, k - d)
+}
+
+// One blend, d ticks before tick k.
+fn blended_back(p: AxisPlan, d: u32, k: u32) -> i64
+    requires { ⌜ PlanRanges p ⌝ }
+    requires { ⌜ d ≤ 256 ⌝ }
+    requires { ⌜ k ≤ suc (arrivalOf p) ⌝ }
+    ensures { λ r. ⌜ Is (2 ^ 46) r (blendedBack p d k) ⌝ }
+{
+    let ahead = velocity_back(p, d, k);
+    let behind = velocity_back(p, d + p.half_period, k);
+    blended(p.first_weight, p.second_weight, ahead, behind)
+}
+
+// The velocity of tick k after the blends.
+fn blended_velocity(p: AxisPlan, k: u32) -> i64
+    requires { ⌜ PlanRanges p ⌝ }
+    requires { ⌜ k ≤ suc (arrivalOf p) ⌝ }
+    ensures { λ r. ⌜ Is (2 ^ 46) r (blendedVelocity p k) ⌝ }
+{
+    let sway = p.second_sway;
+    let once = blended_back(p, 0, k);
+    match sway {
+        SecondSway::Absent => once,
+        SecondSway::HalfPeriod(d) => once + blended_back(p, d, k),
+    }
+}
+
+// The track one tick on from tick k.
+fn step(p: AxisPlan, k: u32, t: Track) -> Track
+    requires { ⌜ PlanRanges p ⌝ }
+    requires { ⌜ k ≤ arrivalOf p ⌝ }
+    requires { ⌜ t ≡ trackAt p k ⌝ }
+    ensures { λ r. ⌜ r ≡ trackAt p (suc k) ⌝ }
+{
+    let next = blended_velocity(p, k + 1);
+    let velocity = t.velocity;
+    let position = t.position + velocity + next;
+    Track {
+        position: position,
+        velocity: next,
+    }
+}
+
+// The track at the arrival n: the landing is exact.
+fn arrived(p: AxisPlan, n: u32) -> Track
+    requires { ⌜ PlanRanges p ⌝ }
+    requires { ⌜ n ≤ arrivalOf p ⌝ }
+    requires { ⌜ Lands n p ⌝ }
+    ensures { λ r. ⌜ r ≡ trackAt p n ⌝ }
+{
+    let destination = p.destination;
+    let velocity = blended_velocity(p, n);
+    Track {
+        position: 16777216 * destination,
+        velocity: velocity,
+    }
+}
+
+// ---- the track of the first row
+
+// The track that comes to the first row: forwards that at tick 0, backwards that one tick past the arrival n.
+pub fn first_track(p: AxisPlan, order: Order, n: u32) -> Track
+    requires { ⌜ PlanRanges p ⌝ }
+    requires { ⌜ n ≤ arrivalOf p ⌝ }
+    requires { ⌜ Lands n p ⌝ }
+    ensures { λ r. ⌜ r ≡ trackAt p (comesTo order n 0) ⌝ }
+{
+    match order {
+        Order::Forwards => started(p),
+        Order::Backwards => {
+            let landed = arrived(p, n);
+            step(p, n, landed)
+        }
+    }
+}
+
+// ---- the pace of one axis
+
+// The pace of the planned velocity in tick k alone.
+fn one_tick(p: AxisPlan, k: u32) -> Pace
+    requires { ⌜ PlanRanges p ⌝ }
+    requires { ⌜ k ≤ arrivalOf p ⌝ }
+    ensures { λ r. ⌜ PaceAt (2 ^ 13) (2 ^ 39) (plannedAt p) k r ⌝ }
+{
+    let now = planned_velocity(p, k);
+    let next = planned_velocity(p, k + 1);
+    let tick = k as u64;
+    Pace {
+        change: next - now,
+        from: tick,
+        until: tick + 1,
+    }
+}
+
+// The first tick of the ramp to the end, after the ramp from the start.
+fn fall_begins(r: Regions) -> u64
+    requires { ⌜ RegionsRanged r ⌝ }
+    requires { ⌜ r .rise < r .ticks ⌝ }
+    ensures { λ k. ⌜ k ≡ fallBegins r ⌝ }
+{
+    let rise = r.rise;
+    let fall = r.fall;
+    let ticks = r.ticks;
+    if rise + fall < ticks {
+        return ticks - fall;
+    }
+    rise + 1
+}
+
+// The last raised tick of the level part, whose last tick is given.
+fn raised_until(r: Regions, last: u64) -> u64
+    requires { ⌜ r .rise ≤ last ⌝ }
+    ensures { λ k. ⌜ k ≡ raisedUntil r last ⌝ }
+{
+    let rise = r.rise;
+    let raised = r.raised;
+    if raised < last - rise {
+        return rise + raised;
+    }
+    last
+}
+
+// The pace of the planned velocity at a tick of the level part, whose last tick is given.
+fn level_pace(p: AxisPlan, k: u32, last: u64) -> Pace
+    requires { ⌜ PlanRanges p ⌝ }
+    requires { ⌜ p .regions .rise < k ⌝ }
+    requires { ⌜ k ≤ last ⌝ }
+    requires { ⌜ suc (last + p .regions .fall) ≡ p .regions .ticks ⌝ }
+    ensures { λ r. ⌜ PaceAt (2 ^ 13) (2 ^ 39) (plannedAt p) k r ⌝ }
+{
+    let regions = p.regions;
+    let rise = regions.rise;
+    let tick = k as u64;
+    let end = raised_until(regions, last);
+    if tick < end {
+        return Pace {
+            change: 0,
+            from: rise + 1,
+            until: end,
+        };
+    }
+    if end < tick {
+        if tick < last {
+            return Pace {
+                change: 0,
+                from: end + 1,
+                until: last,
+            };
+        }
+    }
+    one_tick(p, k)
+}
+
+// The same after the ramp from the start and before the landing.
+fn later_pace(p: AxisPlan, k: u32) -> Pace
+    requires { ⌜ PlanRanges p ⌝ }
+    requires { ⌜ p .regions .rise < k ⌝ }
+    requires { ⌜ k < p .regions .ticks ⌝ }
+    ensures { λ r. ⌜ PaceAt (2 ^ 13) (2 ^ 39) (plannedAt p) k r ⌝ }
+{
+    let regions = p.regions;
+    let fall = regions.fall;
+    let ticks = regions.ticks;
+    let down = regions.down;
+    if ticks <= k as u64 + fall {
+        let from = fall_begins(regions);
+        return Pace {
+            change: -down,
+            from: from,
+            until: ticks,
+        };
+    }
+    level_pace(p, k, ticks - fall - 1)
+}
+
+// The pace of the planned velocity at tick k.
+fn planned_pace(p: AxisPlan, k: u32) -> Pace
+    requires { ⌜ PlanRanges p ⌝ }
+    requires { ⌜ k ≤ arrivalOf p ⌝ }
+    ensures { λ r. ⌜ PaceAt (2 ^ 13) (2 ^ 39) (plannedAt p) k r ⌝ }
+{
+    let regions = p.regions;
+    let rise = regions.rise;
+    let ticks = regions.ticks;
+    let tick = k as u64;
+    if ticks <= tick {
+        return Pace {
+            change: p.acceleration,
+            from: ticks,
+            until: 4097,
+        };
+    }
+    if rise < tick {
+        return later_pace(p, k);
+    }
+    if tick < rise {
+        if rise < ticks {
+            return Pace {
+                change: regions.up,
+                from: 0,
+                until: rise,
+            };
+        }
+    }
+    one_tick(p, k)
+}
+
+// The same of the planned velocity d ticks before, which is uniform before tick 0.
+fn pace_back(p: AxisPlan, d: u32, k: u32) -> Pace
+    requires { ⌜ PlanRanges p ⌝ }
+    requires { ⌜ d ≤ 512 ⌝ }
+    requires { ⌜ k ≤ arrivalOf p ⌝ }
+    ensures { λ r. ⌜ PaceAt (2 ^ 14) (2 ^ 39) (velocityBack p d) k r ⌝ }
+{
+    let delay = d as u64;
+    if k < d {
+        return Pace {
+            change: 0,
+            from: 0,
+            until: delay,
+        };
+    }
+    let pace = planned_pace(p, k - d);
+    Pace {
+        change: pace.change,
+        from: pace.from + delay,
+        until: pace.until + delay,
+    }
+}
+
+// A change in the ticks that two paces have in common.
+fn common(change: i64, s: Pace, t: Pace) -> Pace
+    requires { ⌜ Within (2 ^ 57) change ⌝ }
+    ensures { λ r. ⌜ r ≡ shared change s t ⌝ }
+{
+    Pace {
+        change: change,
+        from: later(s.from, t.from),
+        until: earlier(s.until, t.until),
+    }
+}
+
+fn later(x: u64, y: u64) -> u64
+    ensures { λ r. ⌜ r ≡ max x y ⌝ }
+{
+    if x < y {
+        return y;
+    }
+    x
+}
+
+fn earlier(x: u64, y: u64) -> u64
+    ensures { λ r. ⌜ r ≡ min x y ⌝ }
+{
+    if x < y {
+        return x;
+    }
+    y
+}
+
+// The pace of one blend, d ticks before.
+fn blended_pace(p: AxisPlan, d: u32, k: u32) -> Pace
+    requires { ⌜ PlanRanges p ⌝ }
+    requires { ⌜ d ≤ 256 ⌝ }
+    requires { ⌜ k ≤ arrivalOf p ⌝ }
+    ensures { λ r. ⌜ PaceAt (2 ^ 14) (2 ^ 56) (blendedBack p d) k r ⌝ }
+{
+    let ahead = pace_back(p, d, k);
+    let behind = pace_back(p, d + p.half_period, k);
+    let change = blended(p.first_weight, p.second_weight, ahead.change, behind.change);
+    common(change, ahead, behind)
+}
+
+// The pace of the velocity after the blends at tick k.
+pub fn pace_at(p: AxisPlan, k: u32) -> Pace
+    requires { ⌜ PlanRanges p ⌝ }
+    requires { ⌜ k ≤ arrivalOf p ⌝ }
+    ensures { λ r. ⌜ PaceAt (2 ^ 14) (2 ^ 57) (blendedVelocity p) k r ⌝ }
+{
+    let sway = p.second_sway;
+    let once = blended_pace(p, 0, k);
+    match sway {
+        SecondSway::Absent => once,
+        SecondSway::HalfPeriod(d) => {
+            let again = blended_pace(p, d, k);
+            common(once.change + again.change, once, again)
+        }
+    }
+}
