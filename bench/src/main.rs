@@ -1,5 +1,6 @@
 //! Nanoseconds for a plan, for the search for its arrival and for a row and axis, of the static library and of plain Rust
-//! with the same formulas, in one run; beside them also the engine by ticks, in plain Rust.
+//! with the same formulas, in one run; beside them also the engine by ticks, in plain Rust. Plain Rust makes the same call,
+//! with the job by value in the header's layout; where it lends a typed job instead, that stands beside it.
 //!
 //!     cargo run --release --offline
 //!
@@ -8,6 +9,7 @@
 //! cell of its table, whatever stood there.
 
 mod budgets;
+mod call;
 mod plain;
 mod raises;
 mod searches;
@@ -59,8 +61,9 @@ fn now() -> f64 {
     time.seconds as f64 * 1e9 + time.nanoseconds as f64
 }
 
-/// The times of some calls in one round, in nanoseconds a call: of the library and of plain Rust.
-type Round<const N: usize> = [(f64, f64); N];
+/// The times of some calls in one round, in nanoseconds a call: of the library, of plain Rust and of plain Rust with the job
+/// lent.
+type Round<const N: usize> = [[f64; 3]; N];
 
 /// The rounds of some calls. A call is a job and how many cells it is lent. The batches of all calls alternate, so that a
 /// disturbance does not fall on one of them alone.
@@ -73,10 +76,10 @@ fn rounds<const N: usize>(calls: [(&Job, usize); N]) -> Vec<Round<N>> {
             let (job, cells) = calls[i];
             let lent = &mut table[..cells];
             let laid_out = CJob::of(job, 0);
-            let proved = || library::plan_c_job(laid_out, black_box(&mut *lent)).arrival;
-            let proved = batch(counts[i], proved);
-            let plain = || plain::plan(job, Engine::Areas, black_box(&mut *lent)).arrival;
-            (proved, batch(counts[i], plain))
+            let proved = batch(counts[i], || library::plan_c_job(laid_out, black_box(&mut *lent)).arrival);
+            let plain = batch(counts[i], || call::plan(laid_out, black_box(&mut *lent)).arrival);
+            let lending = batch(counts[i], || plain::plan(job, Engine::Areas, black_box(&mut *lent)).arrival);
+            [proved, plain, lending]
         })
     };
     (0..count).map(|_| round()).collect()
@@ -85,8 +88,8 @@ fn rounds<const N: usize>(calls: [(&Job, usize); N]) -> Vec<Round<N>> {
 /// The least time of each call.
 fn time<const N: usize>(calls: [(&Job, usize); N]) -> Round<N> {
     let rounds = rounds(calls);
-    let least = |of: &dyn Fn(&Round<N>) -> f64| rounds.iter().map(of).fold(f64::INFINITY, f64::min);
-    std::array::from_fn(|i| (least(&|round| round[i].0), least(&|round| round[i].1)))
+    let least = |i: usize, side: usize| rounds.iter().map(|round| round[i][side]).fold(f64::INFINITY, f64::min);
+    std::array::from_fn(|i| std::array::from_fn(|side| least(i, side)))
 }
 
 /// The round of one side in which the calls took least in all: a difference of least times may join rounds of different
@@ -102,7 +105,7 @@ fn once(job: &Job, lent: &mut [i64]) -> f64 {
     let took = now() - start;
     let written = lent.to_vec();
     lent.fill(0);
-    let plain = plain::plan(job, Engine::Areas, lent);
+    let plain = call::plan(CJob::of(job, 0), lent);
     assert_eq!(plain, answer);
     let cells = if answer.number == 0 { cells_of(job, answer.arrival) } else { 0 };
     assert!(lent[..cells] == written[..cells], "the two sides write different cells");
@@ -134,10 +137,10 @@ fn by_ticks(job: &Job, lent: &mut [i64], answer: Answer) -> f64 {
 fn whole(name: &str, job: &Job) -> u32 {
     let mut table = vec![0; 3 * 6 * 4_097];
     let answer = library::plan_typed(job, &mut table);
-    let [(proved, plain)] = time([(job, table.len())]);
+    let [[proved, plain, lending]] = time([(job, table.len())]);
     let took = by_ticks(job, &mut table, answer);
     let rows = answer.arrival + 1;
-    println!("| {name} | {rows} rows | {proved:.0} | {plain:.0} | {:.2} | {took:.0} |", proved / plain);
+    println!("| {name} | {rows} rows | {proved:.0} | {plain:.0} | {:.2} | {lending:.0} | {took:.0} |", proved / plain);
     answer.arrival
 }
 
@@ -147,7 +150,7 @@ fn search(name: &str, job: &Job) {
     let mut table = vec![0; 3 * 6 * 4_097];
     let answer = library::plan_typed(&Job { asked: 0, ..*job }, &mut table);
     let cells = if answer.number == 0 { cells_of(job, answer.arrival) - 1 } else { 0 };
-    let [(proved, plain)] = time([(job, cells)]);
+    let [[proved, plain, _]] = time([(job, cells)]);
     let stopped = if answer.number == 0 { Answer { number: 10, mask: 0, ..answer } } else { answer };
     let took = by_ticks(job, &mut table[..cells], stopped);
     let what = if answer.number == 0 { format!("arrival {}", answer.arrival) } else { "refused 9".to_string() };
@@ -162,8 +165,8 @@ fn by_row(name: &str, job: &Job, arrival: u32) {
     let rounds = rounds([(&asked, cells), (&asked, cells - 1)]);
     let count = (cells / 3) as f64;
     let written = |[accepted, refused]: [f64; 2]| (accepted - refused) / count;
-    let proved = written(fastest(rounds.iter().map(|round| round.map(|times| times.0))));
-    let plain = written(fastest(rounds.iter().map(|round| round.map(|times| times.1))));
+    let proved = written(fastest(rounds.iter().map(|round| round.map(|times| times[0]))));
+    let plain = written(fastest(rounds.iter().map(|round| round.map(|times| times[1]))));
     println!("| {name} | {} rows | {proved:.1} | {plain:.1} | {:.2} |", arrival + 1, proved / plain);
 }
 
@@ -273,8 +276,8 @@ fn main() {
 
     // The first second or two of a process run slower here, and are not counted.
     time([(&short, 60), (&long, 6_000)]);
-    println!("| a job, whole call | outcome | library, ns | plain Rust, ns | ratio | by ticks, ns |");
-    println!("|---|---|---|---|---|---|");
+    println!("| a job, whole call | outcome | library, ns | plain Rust, ns | ratio | job lent, ns | by ticks, ns |");
+    println!("|---|---|---|---|---|---|---|");
     let short_arrival = whole("one axis, short, least arrival", &short);
     let long_arrival = whole("one axis, long, least arrival", &long);
     let wide_arrival = whole("six axes, least arrival", &wide);

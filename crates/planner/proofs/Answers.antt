@@ -8,18 +8,21 @@ use mathlib.Core.Option.{Option, none, some}
 use mathlib.Core.List.{List, [], _∷_}
 use lib.Dec.{eqb, leb}
 use lib.IntN.{ℤ}
-use borrow.Author.Tests.{ne-eqb, eqb-true, eqb-false}
+use borrow.Author.Tests.{eq-eqb, ne-eqb}
 use Rattle.model.specs.declared.Axis.{Axis}
 use Rattle.model.specs.declared.Answer.{Answer}
 use Rattle.model.specs.declared.Job as Typed
 use Rattle.model.specs.declared.Windows.{Windows}
-use Rattle.model.specs.Windows.{refused13}
+use Rattle.model.specs.Windows as W
 use Rattle.model.specs.Job.{Job, JobAxis, jobOf}
 use Rattle.model.specs.Words.{Decoded, noMask, badWord, badLong, job, decode, goodMask}
 use Rattle.model.specs.Refusals.{lastTick, AllPassed}
-use Rattle.model.specs.Outcome.{outcomeOf, refuse, filled, jobOutcome, firstAxis}
+use Rattle.model.specs.Outcome.{Outcome, Input, call, outcomeOf, refuse, filled, jobOutcome, firstAxis}
 use Rattle.model.specs.Outcome.{axisRefusals, leastFrom, allReach, words, typed, jobRead, inputJob, beforeTen, answerOf}
-use Rattle.model.proofs.BeforeTen.{before-filled}
+use Rattle.model.specs.Verdict.{Verdict, refused3, refused4, refused12, refused5, refused15, refused6, refused16, refused17, refused13, refused8, refused9, refused10}
+use Rattle.model.specs.Verdict.{accepted, CallVerdict, words1, words2, words14, wordsJob, typed1, typedJobs}
+use Rattle.model.proofs.BeforeTen.{same-answer}
+use Rattle.model.proofs.CallVerdict.{call-verdict}
 use Rattle.words.specs.declared.DecodedJob.{DecodedJob}
 use Rattle.words.specs.Decoding.{decodedJob, Decodes}
 use Rattle.model.proofs.CheckingOrder.{Lacks, lacks}
@@ -28,7 +31,7 @@ use Rattle.arrival.specs.Arrivals.{leastOr, askedOr, arrivesIn, arrivalFor}
 use Rattle.planner.specs.declared.Refusal.{Refusal}
 use Rattle.planner.specs.Stages.{windowRefusal, firstRefusal, checkedFor, Settled}
 use Rattle.planner.specs.Promise.{Answered}
-use Rattle.planner.proofs.Calls.{mask-refused, mask-passed, words-refused, words-passed}
+use Rattle.planner.proofs.Calls.{words-refused, words-passed}
 
 -- ---- where the stage ends
 
@@ -64,7 +67,58 @@ module _ (j : Job) (r : Answer) where
         reached = λ z. ap (λ (k : ℕ). allReach (j .axes) k) arrival ∙ a;
       }
 
--- ---- it is the answer of the definitions
+-- ---- the answer of the definitions: 10 is read as acceptance
+
+-- no call answers with an arrival past 4,096
+of-verdict : (j : Job) (lent : List ℤ) (o : Outcome) → Verdict j lent o → o .arrival ≤ lastTick
+of-verdict j lent o (refused3 a r) = omega (arith, r .arrival)
+of-verdict j lent o (refused4 i a b r) = omega (arith, r .arrival)
+of-verdict j lent o (refused12 i a b c r) = omega (arith, r .arrival)
+of-verdict j lent o (refused5 i a b c d r) = omega (arith, r .arrival)
+of-verdict j lent o (refused15 i a b c d f r) = omega (arith, r .arrival)
+of-verdict j lent o (refused6 i a b c d f g r) = omega (arith, r .arrival)
+of-verdict j lent o (refused16 i a b c d f g h r) = omega (arith, r .arrival)
+of-verdict j lent o (refused17 i a b c d f g h k r) = omega (arith, r .arrival)
+of-verdict j lent o (refused13 p a b c d r) = omega (arith, r .arrival)
+of-verdict j lent o (refused8 n a b c w d f r) = omega (arith, r .arrival)
+of-verdict j lent o (refused9 n a b w c d r) = omega (arith, r .arrival)
+of-verdict j lent o (refused10 n a w b h r) = omega (arith, r .arrival, b .last)
+of-verdict j lent o (accepted n a w b c r) = omega (arith, r .arrival, b .last)
+
+of-call : (lent : List ℤ) (o : Outcome) (q : Input) → CallVerdict lent o q → o .arrival ≤ lastTick
+of-call lent o q (words1 ws a r) = omega (arith, r .arrival)
+of-call lent o q (words2 ws p a r) = omega (arith, r .arrival)
+of-call lent o q (words14 ws p a b r) = omega (arith, r .arrival)
+of-call lent o q (wordsJob ws j d v) = of-verdict j lent o v
+of-call lent o q (typed1 t a r) = omega (arith, r .arrival)
+of-call lent o q (typedJobs t a b v) = of-verdict (jobOf t) lent o v
+
+-- the answer r to a call, whatever was lent
+module _ (t : Typed.Job) (r : Answer) (lent exit : List ℤ) (is : outcomeOf r exit ≡ call (typed t) lent) where
+  late : r .arrival ≤ lastTick
+  late = omega (arith, ap (λ (o : Outcome). o .arrival) is, of-call lent (call (typed t) lent) (typed t) (call-verdict (typed t) lent))
+
+  read : beforeTen (t .mask) (outcomeOf r exit) ≡ answerOf (typed t)
+  read = ap (beforeTen (t .mask)) is ∙ same-answer (typed t) lent
+
+  abbrev by-ten : Bool → Answer
+  by-ten b =
+      elim b [
+        | true ↦ record { number = 0; place = 0; mask = t .mask; arrival = r .arrival }
+        | false ↦ record { number = r .number; place = r .place; mask = r .mask; arrival = r .arrival }
+      ]
+
+  pub ten-accepts : (s : Answer) → s ≡ record { number = 0; place = 0; mask = t .mask; arrival = r .arrival } → r .number ≡ 10 → Answered t s
+  ten-accepts s e h =
+      record {
+        is = e ∙ sym (ap by-ten (eq-eqb (r .number) 10 h)) ∙ read;
+        last = let a = ap (λ (z : Answer). z .arrival) e in omega (arith, late);
+      }
+
+  pub other-stays : (r .number ≡ 10 → ⊥) → Answered t r
+  other-stays h = record { is = sym (ap by-ten (ne-eqb (r .number) 10 h)) ∙ read; last = late }
+
+-- ---- words: the answer, and the job, are those of the typed values that the words hold
 
 before-ten : (m : ℕ) (r : Answer) → (r .number ≡ 10 → ⊥) → beforeTen m (outcomeOf r []) ≡ r
 before-ten m r not-ten = go (eqb (r .number) 10) (ne-eqb (r .number) 10 not-ten)
@@ -75,34 +129,6 @@ before-ten m r not-ten = go (eqb (r .number) 10) (ne-eqb (r .number) 10 not-ten)
     ]) ≡ r
     go false e = refl
     go true e = absurd (false≢true (sym e))
-
-settled-is : (j : Job) (r : Answer) → Settled j r → r ≡ beforeTen (j .mask) (jobOutcome j [])
-settled-is j r s = go (eqb (r .number) 0) refl
-  where
-    go : (b : Bool) → eqb (r .number) 0 ≡ b → r ≡ beforeTen (j .mask) (jobOutcome j [])
-    go true e =
-        let zero = eqb-true (r .number) 0 e in
-        s .accepted zero ∙ sym (before-filled j (r .arrival) []) ∙ ap (beforeTen (j .mask)) (s .found zero [])
-    go false e = sym (before-ten (j .mask) r (s .not-ten)) ∙ ap (beforeTen (j .mask)) (s .refused (eqb-false (r .number) 0 e) [])
-
-module _ (t : Typed.Job) (r : Answer) where
-  pub answered : goodMask (t .mask) ≡ true → Settled (jobOf t) r → Answered t r
-  unfolding answerOf
-  answered good s =
-      record {
-        is = settled-is (jobOf t) r s ∙ ap (beforeTen (t .mask)) (mask-passed t [] good);
-        last = s .last;
-      }
-
-  pub no-mask : goodMask (t .mask) ≡ false → r ≡ record { number = 1; place = 0; mask = 0; arrival = 0 } → Answered t r
-  unfolding answerOf
-  no-mask bad e =
-      record {
-        is = e ∙ ap (beforeTen (t .mask)) (mask-refused t [] bad);
-        last = let a = ap (λ (s : Answer). s .arrival) e in omega arith;
-      }
-
--- ---- words: the answer, and the job, are those of the typed values that the words hold
 
 module _ (ws : List ℕ) (d : DecodedJob) (is : Decodes ws d) where
   pub job-of-words : d .number ≡ 0 → jobOf (d .job) ≡ inputJob (words ws)
@@ -130,7 +156,7 @@ module _ (ws : List ℕ) (d : DecodedJob) (is : Decodes ws d) where
 -- ---- no check and no search answers 10
 
 windows-not-ten : (w : Windows) → windowRefusal w .number ≡ 10 → ⊥
-windows-not-ten w e = go (refused13 w) e
+windows-not-ten w e = go (W.refused13 w) e
   where
     go : (o : Option ℕ) → (elim o as (λ _. Refusal) [ some p ↦ record { number = 13; place = p } | none ↦ record { number = 0; place = 0 } ]) .number ≡ 10 → ⊥
     go (some p) e = omega arith
