@@ -253,19 +253,29 @@ fn next_reached(axis: &Axis, n: u32, last: u32) -> u32 {
     ends(axis, first).leg.next_with_list(drift, latest) as u32 + delay
 }
 
-/// The least common arrival in the ticks of a span: in each turn every axis leads on from the candidate so far to the next
-/// one that it reaches, until a turn moves nothing.
+/// The least common arrival in the ticks of a span: the axes lead on one after the other, each to the next candidate that it
+/// reaches, until as many in a row as there are have left one. The axis that led to it is the first of these.
 fn least_in(job: &Job, span: RangeInclusive<u32>) -> Option<u32> {
     let last = *span.end();
     let mut n = *span.start();
-    while n <= last {
-        let next = job.set().fold(n, |k, (_, axis)| next_reached(axis, k, last));
-        if next == n {
-            return Some(n);
-        }
-        n = next;
+    if last < n {
+        return None;
     }
-    None
+    let axes = job.set().count();
+    let mut left = 0;
+    loop {
+        for (_, axis) in job.set() {
+            let next = next_reached(axis, n, last);
+            if last < next {
+                return None;
+            }
+            left = if next == n { left + 1 } else { 1 };
+            n = next;
+            if left == axes {
+                return Some(n);
+            }
+        }
+    }
 }
 
 /// The least common arrival; of a job with windows, window by window.

@@ -2,7 +2,7 @@
 use Prim.Native.Nat.{ℕ, zero, suc, _+_, _-_, _<_, _≤_}
 use Rattle.whole.proofs.Counting.{one-less, none-left, next-one}
 use native.Mathlib.Omega.{arith}
-use mathlib.Core.Path.{_≡_, refl, ap, _∙_}
+use mathlib.Core.Path.{_≡_, refl, sym, ap, _∙_}
 use mathlib.Core.Bool.{Bool, true, false}
 use mathlib.Core.Option.{Option, none, some}
 use Rattle.model.specs.Outcome.{leastFrom}
@@ -47,6 +47,26 @@ module _ (test : ℕ → Bool) (after : ℕ) where
   pub begun : (n : ℕ) → rest n ≡ leastFrom test n (after - n)
   unfolding rest
   begun n = refl
+
+-- ---- what a search from a first candidate on gives back, none before n passing
+
+module _ (test : ℕ → Bool) (first after : ℕ) where
+  past : (n : ℕ) → first ≤ n → n ≤ after → ((k : ℕ) → first ≤ k → k < n → test k ≡ false) → leastFrom test first (after - first) ≡ rest test after n
+  past n h l e =
+      let there : first + (n - first) ≡ n = omega arith in
+      sym (begun test after first)
+      ∙ skip test after (n - first) first (omega arith) (λ k p q. e k p (omega arith))
+      ∙ ap (rest test after) there
+
+  pub none-passes : ((k : ℕ) → first ≤ k → k < after → test k ≡ false) → first ≤ after → 0 ≡ orZero (leastFrom test first (after - first))
+  none-passes e h = sym (ap orZero (past after h (omega arith) e ∙ nowhere test after after (omega arith)))
+
+  pub none-to-try : after ≤ first → 0 ≡ orZero (leastFrom test first (after - first))
+  none-to-try h = sym (ap orZero (sym (begun test after first) ∙ nowhere test after first h))
+
+  pub first-passes : (n : ℕ) → first ≤ n → n < after → ((k : ℕ) → first ≤ k → k < n → test k ≡ false) → test n ≡ true
+      → n ≡ orZero (leastFrom test first (after - first))
+  first-passes n h l e t = sym (ap orZero (past n h (omega arith) e ∙ here test after n l t))
 
 -- ---- 0 stands for none, since no candidate is 0
 

@@ -2,38 +2,54 @@
 use Prim.Native.Nat.{ℕ, zero, suc, _+_, _/_, _%_, _^_, _<_, _≤_}
 use native.Mathlib.Omega.{arith}
 use mathlib.Core.Path.{_≡_, refl, sym, ap, _∙_}
-use mathlib.Core.Bool.{Bool, true, false, cond, not}
+use mathlib.Core.Bool.{Bool, true, false, cond, not, false≢true}
+use mathlib.Core.Logic.{_⊎_, inl, inr}
 use mathlib.Core.Option.{Option, none, some}
 use mathlib.Core.List.{List, [], _∷_}
-use lib.ListN.{length, replicate}
+use lib.ListN.{length}
 use lib.Dec.{eqb}
-use borrow.Author.Tests.{ne-eqb}
+use borrow.Author.Tests.{eq-eqb, ne-eqb}
+use Rattle.whole.proofs.Tests.{lt-or-le}
+use Rattle.running.specs.Running.{Next}
 use Rattle.model.specs.declared.Axis.{Axis}
 use Rattle.model.specs.Motion.{reachable}
 use Rattle.model.specs.Job.{JobAxis, setAxes, maskWhere}
-use Rattle.model.specs.Outcome.{allReach, leastFrom, leastArrival}
-use Rattle.arrival.specs.Arrivals.{orZero, cannotArrive, bitOf}
+use Rattle.model.specs.Outcome.{allReach, leastArrival}
+use Rattle.arrival.specs.Arrivals.{cannotArrive, bitOf}
 use Rattle.arrival.proofs.SetAxes.{pick, from, axisAt, from-more, from-none}
 use Rattle.model.proofs.LeastTick.{Result, result}
 
 -- ---- one axis
 
--- 0 stands for none, since no candidate is 0
-zero-is-none : (test : ℕ → Bool) (o : Option ℕ) → Result test 1 4096 o → eqb (orZero o) 0 ≡ elim o as (λ _. Bool) [ some n ↦ false | none ↦ true ]
-zero-is-none test none h = refl
-zero-is-none test (some n) h = ne-eqb n 0 (λ e. omega (arith, h .first))
+module _ (x : Axis) where
+  abbrev alone : List JobAxis
+  alone = record { number = 0; axis = x } ∷ []
 
--- the axis alone, as axis 0 of mask 1
-pub reaches-none : (n asked : ℕ) (x : Axis) → asked ≡ 0
-    → n ≡ orZero (leastFrom (allReach (setAxes 0 1 (replicate 6 x))) 1 4096) → eqb n 0 ≡ cannotArrive asked x
-unfolding cannotArrive
-reaches-none n asked x z e =
-    ap (λ (k : ℕ). eqb k 0) e
-    ∙ zero-is-none (allReach alone) (leastArrival alone) (result (allReach alone) 1 4096)
-    ∙ sym (ap (λ (k : ℕ). cannotArrive k x) z)
-  where
-    alone : List JobAxis
-    alone = record { number = 0; axis = x } ∷ []
+  alone-is : (k : ℕ) → allReach alone k ≡ reachable x k
+  alone-is k = go (reachable x k)
+    where
+      go : (b : Bool) → (elim b as (λ _. Bool) [ true ↦ true | false ↦ false ]) ≡ b
+      go true = refl
+      go false = refl
+
+  -- one past the last stands for none
+  past-is-none : (n : ℕ) (o : Option ℕ) → Next (reachable x) 1 4096 n → Result (allReach alone) 1 4096 o
+      → eqb n 4097 ≡ elim o as (λ _. Bool) [ some n ↦ false | none ↦ true ]
+  past-is-none n none w h = go (lt-or-le n 4097)
+    where
+      go : (n < 4097) ⊎ (4097 ≤ n) → eqb n 4097 ≡ true
+      go (inl l) = absurd (h n (w .low) l (alone-is n ∙ w .passed (omega arith)))
+      go (inr l) = eq-eqb n 4097 (omega (arith, w .high))
+  past-is-none n (some m) w h = go (lt-or-le m n)
+    where
+      go : (m < n) ⊎ (n ≤ m) → eqb n 4097 ≡ false
+      go (inl l) = absurd (false≢true (sym (w .missed m (h .first) l) ∙ sym (alone-is m) ∙ h .passes))
+      go (inr l) = ne-eqb n 4097 (λ e. omega (arith, h .last))
+
+  pub reaches-none : (n asked : ℕ) → asked ≡ 0 → Next (reachable x) 1 4096 n → eqb n 4097 ≡ cannotArrive asked x
+  unfolding cannotArrive
+  reaches-none n asked z w =
+      past-is-none n (leastArrival alone) w (result (allReach alone) 1 4096) ∙ sym (ap (λ (k : ℕ). cannotArrive k x) z)
 
 pub misses-asked : (asked : ℕ) (x : Axis) → (asked ≡ 0 → ⊥) → not (reachable x asked) ≡ cannotArrive asked x
 unfolding cannotArrive

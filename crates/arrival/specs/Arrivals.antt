@@ -1,9 +1,10 @@
 -- What the search for an arrival gives back, from the definitions of `Outcome`.
-use Prim.Native.Nat.{ℕ, zero, suc, _-_, _%_, _≤_, _<_}
+use Prim.Native.Nat.{ℕ, zero, suc, _-_, _/_, _%_, _≤_}
 use mathlib.Core.Path.{_≡_}
 use mathlib.Core.Bool.{Bool, true, false, cond, not, _&&_}
 use mathlib.Core.Option.{Option, none, some}
 use mathlib.Core.List.{List, [], _∷_}
+use mathlib.Core.Logic.{_⊎_}
 use lib.Dec.{eqb}
 use Rattle.model.specs.declared.Axis.{Axis}
 use Rattle.model.specs.declared.Window.{Window}
@@ -84,9 +85,14 @@ bitOf m x asked bit = cond (cond (eqb (m % 2) 1) (cannotArrive asked x) false) b
 abbrev pub reachedBy : ℕ → Axis → ℕ → Bool
 reachedBy m x n = not (missedBy m x n)
 
--- a candidate r from n on, up to one past the last: none before it passes the test, and where it is n, n does
-pub record LeadsTo (test : ℕ → Bool) (n last r : ℕ) : Type 0 where
-  pub low : n ≤ r
-  pub high : r ≤ suc last
-  pub missed : (k : ℕ) → n ≤ k → k < r → test k ≡ false
-  pub here : r ≡ n → test n ≡ true
+-- the axes have their turns one after the other, axis 0 after axis 5: i has its turn after number
+abbrev pub After : ℕ → ℕ → Type 0
+After number i = ((number ≡ 5) × (i ≡ 0)) ⊎ ((number ≡ 5 → ⊥) × (i ≡ suc number))
+
+-- and m are the bits of the mask from i on, bits being those from the axis before i on
+abbrev pub BitsAfter : ℕ → ℕ → ℕ → ℕ → Type 0
+BitsAfter mask bits i m = ((i ≡ 0) × (m ≡ mask)) ⊎ ((i ≡ 0 → ⊥) × (m ≡ bits / 2))
+
+-- a turn leaves the candidate n, which t turns in a row have then left, turns being those before it; or it leads on to another, which it has left
+abbrev pub Left : ℕ → ℕ → ℕ → ℕ → Type 0
+Left turns n next t = ((next ≡ n) × (t ≡ suc turns)) ⊎ ((next ≡ n → ⊥) × (t ≡ 1))

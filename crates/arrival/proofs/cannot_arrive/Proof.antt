@@ -1,3 +1,4 @@
+use native.Mathlib.Omega.{arith}
 use mathlib.Core.Bool.{not}
 use mathlib.Core.Path.{ap, _∙_}
 use borrow.Author.Needs.{needs}
@@ -5,13 +6,13 @@ use Rattle.arrival.proofs.Unable.{reaches-none, misses-asked}
 use Rattle.arrival.proofs.cannot_arrive.Statement.{statement}
 use Rattle.arrival.proofs.cannot_arrive.Tie as tie
 
-least-between-requires : tie.Need-least-between-requires
-least-between-requires c κs = search needs
+next-reached-requires : tie.Need-next-reached-requires
+next-reached-requires c κs = (c .before .pre .0, (omega arith, omega arith))
 
 returns : tie.Need-returns
 returns c =
     let a = c .before .before .args in
-    reaches-none (c .least-between .result) (a .asked) (a .axis) (c .before .if1 .taken) (c .least-between .ensures)
+    reaches-none (a .axis) (c .next-reached .result) (a .asked) (c .before .if1 .taken) (c .next-reached .ensures)
 
 reaches-requires : tie.Need-reaches-requires
 reaches-requires c κs = search needs
@@ -22,4 +23,4 @@ returns-2 c =
     ap not (c .reaches .ensures) ∙ misses-asked (a .asked) (a .axis) (c .before .if1 .left)
 
 pub cannot-arrive-spec : {M : Type 1} → statement M
-cannot-arrive-spec = tie.close (tie.spec least-between-requires returns reaches-requires returns-2)
+cannot-arrive-spec = tie.close (tie.spec next-reached-requires returns reaches-requires returns-2)
