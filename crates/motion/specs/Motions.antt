@@ -1,9 +1,7 @@
 -- The ranges of an axis that passed the refusals of one axis, and what the functions of this crate give back.
 use Prim.Native.Nat.{ℕ, _^_, _≤_, _<_}
 use mathlib.Core.Path.{_≡_}
-use mathlib.Core.Bool.{Bool, true, false}
-use mathlib.Core.List.{List, [], _∷_}
-use lib.Dec.{eqb}
+use mathlib.Core.Bool.{Bool, true, false, cond}
 use lib.IntN.{ℤ, pos, _+ℤ_, _-ℤ_, _*ℤ_}
 use Rattle.whole.specs.Ranges.{Within, Is}
 use Rattle.model.specs.declared.Axis.{Axis}
@@ -15,8 +13,7 @@ use Rattle.model.specs.declared.Weight.the-variants.{Given, Measured}
 use Rattle.model.specs.Quantities.{fineSteps, speedLimit, accelerationLimit, halfPeriod, secondWeight, secondHalfPeriod, asMoving, twicePositionAt, velocityAt}
 use Rattle.model.specs.Quantities.{onGrid, speedSteps, accelerationSteps}
 use Rattle.model.specs.Motion.{shift, startVelocity, landingTick, landingPosition, landingVelocity, landingAcceleration}
-use Rattle.model.specs.Refusals.{lastTick}
-use Rattle.model.specs.Outcome.{axisRefusals}
+use Rattle.model.specs.Refusals.{lastTick, limitsRefused, dampingRefused, blendRefused, swayRefused, valuesRefused, accelerationRefused, flyingRefused}
 use Rattle.profile.specs.declared.Profile.{Profile}
 use Rattle.profile.specs.Profiles.{Ranged}
 use Rattle.motion.specs.declared.Landing.{Landing}
@@ -108,11 +105,13 @@ driftOf (Moving m) = pos fineSteps *ℤ m .velocity
 abbrev pub drift : Axis → ℤ
 drift x = onGrid x (driftOf (x .target))
 
--- ---- the refusals of one axis: the test of a number in a list of numbered tests, and in the list of `model`
+-- ---- the refusals of one axis
 
-abbrev pub testOf : List (ℕ × (Axis → Bool)) → ℕ → Axis → Bool
-testOf [] n x = false
-testOf (t ∷ ts) n x = elim (eqb n (t .0)) [ true ↦ t .1 x | false ↦ testOf ts n x ]
+-- the rank of the first of seven tests that holds, or one past the last; without the seventh where nothing need rest
+abbrev pub rankOf : Bool → Bool → Bool → Bool → Bool → Bool → Bool → Bool → ℕ
+rankOf resting l d b s v a f =
+    cond l 0 (cond d 1 (cond b 2 (cond s 3 (cond v 4 (cond a 5 (cond resting (cond f 6 7) 6))))))
 
-abbrev pub refusalTest : ℕ → Axis → Bool
-refusalTest = testOf axisRefusals
+unfoldable pub firstRefused : Bool → Axis → ℕ
+firstRefused resting x =
+    rankOf resting (limitsRefused x) (dampingRefused x) (blendRefused x) (swayRefused x) (valuesRefused x) (accelerationRefused x) (flyingRefused x)

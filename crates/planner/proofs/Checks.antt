@@ -1,101 +1,23 @@
 -- Refusals 3, 4, 12, 5, 15, 6, 16, 17 and 13, in checking order.
-use Prim.Native.Nat.{ℕ, zero, suc, _+_, _<_, _≤_}
+use Prim.Native.Nat.{ℕ, _<_, _≤_}
 use native.Mathlib.Omega.{arith}
 use mathlib.Core.Path.{_≡_, refl, sym, ap, _∙_}
 use mathlib.Core.Bool.{Bool, true, false, cond}
 use mathlib.Core.Option.{Option, none, some}
-use mathlib.Core.List.{List, [], _∷_, map}
+use mathlib.Core.List.{List, [], _∷_}
 use lib.IntN.{ℤ}
-use lib.ListN.{length, drop, getD}
 use lib.Dec.{eqb, leb}
 use borrow.Author.Tests.{le-leb, lt-leb, leb-true, ne-eqb}
 use Rattle.model.specs.declared.Axis.{Axis}
 use Rattle.model.specs.declared.Windows.{Windows}
-use Rattle.model.specs.Windows.{refused13}
+use Rattle.model.specs.Windows.{refused13, windowsRefused}
 use Rattle.model.specs.Job.{Job, JobAxis}
 use Rattle.model.specs.Refusals.{AllPassed, lastTick, limitsRefused, dampingRefused}
 use Rattle.model.specs.Refusals.{blendRefused, swayRefused, valuesRefused, accelerationRefused, flyingRefused}
 use Rattle.model.specs.Outcome.{Outcome, refuse, firstAxis, Tests, axisRefusals, tested, arrived, jobOutcome}
 use Rattle.model.proofs.CheckingOrder.{Lacks, lacks}
-use Rattle.motion.specs.Motions.{refusalTest}
 use Rattle.planner.specs.declared.Refusal.{Refusal}
-use Rattle.planner.specs.Stages.{windowRefusal, testsFor, firstRefusal, checkedFor, Checked}
-
--- ---- the loop over the numbers in checking order
-
--- the numbers in checking order, and that of test i
-abbrev pub numbers : List ℕ
-numbers = map (λ t. t .0) axisRefusals
-
-abbrev pub numberAt : ℕ → ℕ
-numberAt i = getD numbers i 0
-
-module _ (resting : Bool) where
-  abbrev pub count : ℕ
-  count = length (testsFor resting)
-
-  -- the tests from test i on
-  abbrev rulesFrom : ℕ → Tests
-  rulesFrom i = drop i (testsFor resting)
-
-pub count-few : (resting : Bool) → count resting ≤ 7
-count-few true = omega arith
-count-few false = omega arith
-
-rules-more : (resting : Bool) (i : ℕ) → i < count resting
-    → rulesFrom resting i ≡ (numberAt i, refusalTest (numberAt i)) ∷ rulesFrom resting (i + 1)
-rules-more true zero h = refl
-rules-more true (suc zero) h = refl
-rules-more true (suc (suc zero)) h = refl
-rules-more true (suc (suc (suc zero))) h = refl
-rules-more true (suc (suc (suc (suc zero)))) h = refl
-rules-more true (suc (suc (suc (suc (suc zero))))) h = refl
-rules-more true (suc (suc (suc (suc (suc (suc zero)))))) h = refl
-rules-more true (suc (suc (suc (suc (suc (suc (suc i))))))) h = absurd (omega arith)
-rules-more false zero h = refl
-rules-more false (suc zero) h = refl
-rules-more false (suc (suc zero)) h = refl
-rules-more false (suc (suc (suc zero))) h = refl
-rules-more false (suc (suc (suc (suc zero)))) h = refl
-rules-more false (suc (suc (suc (suc (suc zero))))) h = refl
-rules-more false (suc (suc (suc (suc (suc (suc i)))))) h = absurd (omega arith)
-
-module _ (resting : Bool) (xs : List JobAxis) (w : Windows) where
-  -- the first refusal of the tests from test i on
-  pub from : ℕ → Refusal
-  from i = firstRefusal (rulesFrom resting i) xs w
-
-  by : ℕ → Option ℕ → Refusal
-  by i o = elim o [ some k ↦ record { number = numberAt i; place = k } | none ↦ firstRefusal (rulesFrom resting (i + 1)) xs w ]
-
-  opened : (i : ℕ) → i < count resting → from i ≡ by i (firstAxis (refusalTest (numberAt i)) xs)
-  unfolding from by
-  opened i h = ap (λ (ts : Tests). firstRefusal ts xs w) (rules-more resting i h)
-
-  -- n is the number of test i
-  module _ (i n : ℕ) (h : i < count resting) (is : n ≡ numberAt i) where
-    answered : from i ≡ by i (firstAxis (refusalTest n) xs)
-    answered = opened i h ∙ ap (λ (k : ℕ). by i (firstAxis (refusalTest k) xs)) (sym is)
-
-    pub refused-here : (k : ℕ) → firstAxis (refusalTest n) xs ≡ some k → from i ≡ record { number = n; place = k }
-    unfolding by
-    refused-here k e = answered ∙ ap (by i) e ∙ ap (λ (q : ℕ). record { number = q; place = k }) (sym is)
-
-    pub refused-later : firstAxis (refusalTest n) xs ≡ none → from i ≡ from (i + 1)
-    unfolding from by
-    refused-later e = answered ∙ ap (by i) e
-
-  pub none-refused : (i : ℕ) → i ≡ count resting → from i ≡ windowRefusal w
-  unfolding from
-  none-refused i e = ap (λ (k : ℕ). firstRefusal (rulesFrom resting k) xs w) e ∙ ended resting
-    where
-      ended : (b : Bool) → firstRefusal (rulesFrom b (count b)) xs w ≡ windowRefusal w
-      ended true = refl
-      ended false = refl
-
-  pub begun : from 0 ≡ firstRefusal (testsFor resting) xs w
-  unfolding from
-  begun = refl
+use Rattle.planner.specs.Stages.{windowRefusal, firstRefusal, checkedFor, Checked}
 
 -- ---- what number 0 says
 
@@ -231,3 +153,6 @@ module _ (w : Windows) where
   pub window-right : refused13 w ≡ none → record { number = 0; place = 0 } ≡ windowRefusal w
   unfolding by-window
   window-right e = sym (ap by-window e)
+
+  pub no-windows : w .given ≡ false → record { number = 0; place = 0 } ≡ windowRefusal w
+  no-windows e = window-right (ap (λ (b : Bool). elim b as (λ _. Option ℕ) [ true ↦ windowsRefused w | false ↦ none ]) e)

@@ -1,11 +1,12 @@
 -- What the stages of a call give back to one another.
-use Prim.Native.Nat.{ℕ, _%_, _≤_}
+use Prim.Native.Nat.{ℕ, suc, _%_, _≤_}
 use mathlib.Core.Path.{_≡_}
 use mathlib.Core.Bool.{Bool, true, false, cond}
 use mathlib.Core.Option.{none, some}
 use mathlib.Core.List.{List, [], _∷_}
 use lib.IntN.{ℤ}
-use lib.Dec.{eqb, leb}
+use lib.Dec.{eqb, leb, ltb}
+use lib.ListN.{length}
 use Rattle.model.specs.declared.Axis.{Axis}
 use Rattle.model.specs.declared.Answer.{Answer}
 use Rattle.model.specs.declared.Order.{Order}
@@ -13,10 +14,11 @@ use Rattle.model.specs.declared.Windows.{Windows}
 use Rattle.model.specs.Windows.{refused13}
 use Rattle.model.specs.Job.{Job, JobAxis, axesOf}
 use Rattle.model.specs.Refusals.{AllPassed, lastTick}
-use Rattle.model.specs.Outcome.{Outcome, outcomeOf, firstAxis, axisRefusals, allReach, filled, jobOutcome, ordered}
+use Rattle.model.specs.Outcome.{Outcome, outcomeOf, firstAxis, Tests, axisRefusals, allReach, filled, jobOutcome, ordered}
 use Rattle.model.specs.Converter.{oldRefusals}
-use Rattle.motion.specs.Motions.{refusalTest}
+use Rattle.motion.specs.Motions.{firstRefused}
 use Rattle.planner.specs.declared.Refusal.{Refusal}
+use Rattle.planner.specs.declared.Ranked.{Ranked}
 use Rattle.planner.specs.Promise.{Fitted}
 
 -- the outcome of a job, and of one whose arrival is known, with the rows in an order
@@ -70,6 +72,22 @@ pub record Checked (j : Job) (r : Refusal) : Type 0 where
   pub passed : r .number ≡ 0 → AllPassed (j .axes)
   pub windows : r .number ≡ 0 → refused13 (j .windows) ≡ none
 
--- the lowest bit of m names the axis, and a number refuses it
-unfoldable pub refusedHere : ℕ → Axis → ℕ → Bool
-refusedHere m x number = cond (eqb (m % 2) 1) (refusalTest number x) false
+-- ---- the first refusal in one walk over the axes
+
+-- the rank of the first test of a list that holds of an axis, or the number of tests
+abbrev pub firstMet : Tests → Axis → ℕ
+firstMet [] x = 0
+firstMet (t ∷ ts) x = cond (t .1 x) 0 (suc (firstMet ts x))
+
+-- a rank and its axis, or those of later axes where their rank is lower
+abbrev pub lower : ℕ → ℕ → Ranked → Ranked
+lower rank i later = cond (ltb (later .rank) rank) later (record { rank = rank; place = i })
+
+-- the least rank of all axes, and the lowest axis that has it
+abbrev pub firstRanked : Tests → List JobAxis → Ranked
+firstRanked ts [] = record { rank = length ts; place = 0 }
+firstRanked ts (x ∷ xs) = lower (firstMet ts (x .axis)) (x .number) (firstRanked ts xs)
+
+-- an axis that the lowest bit of m names, and the later ones
+unfoldable pub orLater : Bool → ℕ → ℕ → Axis → Ranked → Ranked
+orLater resting m i x later = cond (eqb (m % 2) 1) (lower (firstRefused resting x) i later) later
