@@ -10,25 +10,25 @@ use outside::reference::{Answer, Axis, Damping, Job, Target, Window};
 
 const LATEST: u32 = 4096;
 
-struct Leg {
-    limit: i64,
-    slope: i64,
-    first: i64,
-    last: i64,
-    ticks: i64,
-    sum: i64,
+pub struct Leg {
+    pub limit: i64,
+    pub slope: i64,
+    pub first: i64,
+    pub last: i64,
+    pub ticks: i64,
+    pub sum: i64,
 }
 
-struct Ends {
+pub struct Ends {
     first_position: i64,
-    change_after: i64,
+    pub change_after: i64,
     /// Grid steps in a fine step.
-    finer: i64,
-    leg: Leg,
+    pub finer: i64,
+    pub leg: Leg,
 }
 
 /// The ticks from the landing to the arrival.
-fn delay_of(axis: &Axis) -> u32 {
+pub fn delay_of(axis: &Axis) -> u32 {
     axis.half_period + axis.second.unwrap_or(0)
 }
 
@@ -41,7 +41,7 @@ fn grid_of(axis: &Axis, acceleration: i64) -> i64 {
     }
 }
 
-fn ends(axis: &Axis, arrival: u32) -> Ends {
+pub fn ends(axis: &Axis, arrival: u32) -> Ends {
     let (h, b) = (i64::from(axis.half_period), i64::from(weight_of(axis)));
     let ticks = i64::from(arrival) - i64::from(delay_of(axis));
     let (p, v, a, t) = match axis.target {
@@ -184,14 +184,20 @@ impl Leg {
         Ramps { rise, up: slope(self.first), fall, down: slope(self.last) }
     }
 
-    /// The sum at a cruise, by a ramp, a level part and a ramp.
-    fn area_at(&self, cruise: i64) -> i64 {
+    /// The sum at a cruise, by a ramp, a level part and a ramp, and how many ticks each of the three has.
+    pub fn area_in_parts(&self, cruise: i64) -> (i64, [i64; 3]) {
         let Ramps { rise, up, fall, down } = self.ramps(cruise);
         let inner = self.ticks - 1;
         let rising = rise.min(inner);
         let falling = fall.min(inner - rising);
+        let level = inner - rising - falling;
         let ramp = |from: i64, change: i64, ticks: i64| ticks * from + ticks * (ticks + 1) / 2 * change;
-        ramp(self.first, up, rising) + (inner - rising - falling) * cruise + ramp(self.last, down, falling)
+        let area = ramp(self.first, up, rising) + level * cruise + ramp(self.last, down, falling);
+        (area, [rising, level, falling])
+    }
+
+    fn area_at(&self, cruise: i64) -> i64 {
+        self.area_in_parts(cruise).0
     }
 
     fn running_sums(&self) -> Running {

@@ -3,7 +3,7 @@
 use outside::library::{CRaise, CRaises};
 use outside::reference::{Axis, Job};
 
-use crate::plain::{reaches, Engine};
+use crate::plain::{delay_of, ends, reaches, Ends, Engine, Leg};
 
 /// The limit, 1 for M and 2 for L, and what is added to it; 0 in both where there is none.
 type Raise = (u32, u32);
@@ -14,33 +14,95 @@ pub fn returned(raises: CRaises) -> [[Raise; 2]; 6] {
     raises.axes.map(|axis| [pair(axis.first), pair(axis.second)])
 }
 
-/// The least raise of a limit that takes the axis to the tick, by halving: the limit as it is does not.
-fn least(axis: &Axis, limit: u32, tick: u32) -> Raise {
-    let with = |value| match limit {
-        1 => Axis { acceleration_limit: value, ..*axis },
-        _ => Axis { speed_limit: value, ..*axis },
-    };
-    let (mut low, mut high) = match limit {
-        1 => (axis.acceleration_limit, 1 << 16),
-        _ => (axis.speed_limit, 1 << 20),
-    };
-    let current = low;
-    if !reaches(Engine::Areas, &with(high), tick) {
-        return (0, 0);
+/// What the leg of an arrival asks of the limits, with every sign turned where it does not go as far as the straight line
+/// between the velocities of its ends: only the upper envelope can fall short.
+struct Task {
+    first: i64,
+    last: i64,
+    ticks: i64,
+    /// The greatest speed at the start, at the landing and at the arrival.
+    fastest: i64,
+    sum: i64,
+    /// Grid steps in a unit.
+    steps: i64,
+    /// M and L as they are, in units.
+    limits: [i64; 2],
+}
+
+impl Task {
+    fn of(axis: &Axis, tick: u32) -> Option<Task> {
+        let delay = delay_of(axis);
+        if tick <= delay {
+            return None;
+        }
+        let Ends { change_after, finer, leg: Leg { first, last, ticks, sum, .. }, .. } = ends(axis, tick);
+        let arrived = last + change_after * i64::from(delay);
+        let fastest = first.abs().max(last.abs()).max(arrived.abs());
+        let sign = if 2 * sum + first + last < ticks * (first + last) { -1 } else { 1 };
+        let limits = [axis.acceleration_limit, axis.speed_limit].map(i64::from);
+        let steps = 256 * finer;
+        Some(Task { first: sign * first, last: sign * last, ticks, fastest, sum: sign * sum, steps, limits })
     }
-    while low + 1 < high {
-        let middle = (low + high) / 2;
-        match reaches(Engine::Areas, &with(middle), tick) {
-            true => high = middle,
-            false => low = middle,
+
+    /// What the ends ask of a limit, and how much of it a unit of the limit makes.
+    fn need(&self, limit: usize) -> (i64, i64) {
+        match limit {
+            0 => ((self.last - self.first).abs(), self.steps * self.ticks),
+            _ => (self.fastest, self.steps),
         }
     }
-    (limit, high - current)
+
+    /// The value itself where it is enough; else a higher one, at most `after`, below which none is.
+    fn lead(&self, limit: usize, value: i64, after: i64) -> i64 {
+        let mut limits = self.limits;
+        limits[limit] = value;
+        let [slope, limit_of_speed] = limits.map(|limit| self.steps * limit);
+        let Task { first, last, ticks, sum, .. } = *self;
+        let leg = Leg { limit: limit_of_speed, slope, first, last, ticks, sum };
+        let (area, [rising, level, falling]) = leg.area_in_parts(limit_of_speed);
+        if sum <= area {
+            return value;
+        }
+        let gain = match limit {
+            0 => rising * (rising + 1) / 2 + falling * (falling + 1) / 2,
+            _ => level,
+        };
+        match (self.steps * gain) as u64 {
+            0 => after,
+            gain => after.min(value + ((sum - area - 1) as u64 / gain) as i64 + 1),
+        }
+    }
+
+    /// The least raise of a limit, 0 for M and 1 for L, that is enough.
+    fn least(&self, limit: usize) -> Raise {
+        let (other, unit) = self.need(1 - limit);
+        if other > unit * self.limits[1 - limit] {
+            return (0, 0);
+        }
+        let (need, unit) = self.need(limit);
+        let current = self.limits[limit];
+        let after = [(1 << 16) + 1, (1 << 20) + 1][limit];
+        let (mut low, mut high) = (after.min((current + 1).max((need + unit - 1) / unit)), after);
+        let mut tests = 0;
+        while low < high {
+            let value = if tests < 10 { low } else { (low + high) / 2 };
+            tests += 1;
+            match self.lead(limit, value, high) {
+                next if next == value => high = value,
+                next => low = next,
+            }
+        }
+        match low == after {
+            true => (0, 0),
+            false => (limit as u32 + 1, (low - current) as u32),
+        }
+    }
 }
 
 /// Both raises of an axis, the smaller first; one that does not exist is left out.
 fn both(axis: &Axis, tick: u32) -> [Raise; 2] {
-    match [least(axis, 1, tick), least(axis, 2, tick)] {
+    let Some(task) = Task::of(axis, tick) else { return [(0, 0); 2] };
+    match [task.least(0), task.least(1)] {
         [m, l] if m.1 == 0 || l.1 != 0 && l.1 < m.1 => [l, m],
         raises => raises,
     }

@@ -20,7 +20,6 @@ use Rattle.model.specs.Words.{kind, payload, twos, longPosition, longAll
 use Rattle.model.specs.Words.{Reading, got, wrong, Reader, _>>=_, give, field, signed, next, positionBy, position, swayBy, secondSway, target, axis, axes}
 use Rattle.model.specs.Words.{ending, readJob, afterMask, goodMask, Decoded, noMask, job, spelled, decided, decode}
 use Rattle.model.specs.Spelling.{word}
-use Rattle.model.specs.Refusals.{flies}
 use Rattle.model.specs.Converter.{begins, flyingWord, converted, convertedTarget, convertedAxis, convertedAxes, convertedJob}
 use Rattle.model.proofs.CallVerdict.{before}
 use Rattle.model.proofs.LongWrong.{bad}

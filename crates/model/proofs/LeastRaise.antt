@@ -1,6 +1,6 @@
--- The least raise of a limit: what it says (`raise-is`), and how halving finds it (`raise-found`, `raise-missing`).
+-- The least raise of a limit: what it says (`raise-is`), and that there is none where the highest limit is not enough (`raise-missing`).
 use Prim.Native.Nat.{ℕ, zero, suc, _+_, _-_, _≤_, _<_}
-use mathlib.Core.Path.{_≡_, refl, sym, ap, subst, _∙_}
+use mathlib.Core.Path.{_≡_, refl, sym, subst, _∙_}
 use mathlib.Core.Bool.{Bool, true, false, false≢true}
 use mathlib.Core.Option.{Option, none, some}
 use mathlib.Core.Logic.{_↔_}
@@ -23,17 +23,17 @@ use Rattle.model.proofs.WiderLimits.{wider-decided, wider-passes}
 
 -- ---- one limit alone, within its range
 
-pub limit-range : (q : Limit) (x : Axis) → Passed x → limitOf q x ≤ highest q
+limit-range : (q : Limit) (x : Axis) → Passed x → limitOf q x ≤ highest q
 limit-range Acceleration x p = acceleration-limit x p
 limit-range Speed x p = speed-limit x p
 
 -- an axis with a higher limit has passed too
-pub limit-passes : (q : Limit) (x : Axis) → Passed x → (k : ℕ) → limitOf q x ≤ k → k ≤ highest q → Passed (withLimit q k x)
+limit-passes : (q : Limit) (x : Axis) → Passed x → (k : ℕ) → limitOf q x ≤ k → k ≤ highest q → Passed (withLimit q k x)
 limit-passes Acceleration x p k a b = wider-passes x (speedLimit x) k (omega arith) a p (speed-limit x p) b
 limit-passes Speed x p k a b = wider-passes x k (accelerationLimit x) a (omega arith) p b (acceleration-limit x p)
 
 -- with the limit as it is
-pub own-limit : (q : Limit) (x : Axis) → withLimit q (limitOf q x) x ≡ x
+own-limit : (q : Limit) (x : Axis) → withLimit q (limitOf q x) x ≡ x
 own-limit Acceleration x = refl
 own-limit Speed x = refl
 
@@ -49,29 +49,13 @@ module _ (q : Limit) (x : Axis) (n : ℕ) (p : Passed x) where
       go Acceleration s k m = wider-decided (withLimit Acceleration a x) (speedLimit x) b (omega arith) k n (some-acceleration _ s) (speed-limit x p)
       go Speed s k m = wider-decided (withLimit Speed a x) b (accelerationLimit x) k (omega arith) n (some-acceleration _ s) m
 
-  -- ---- how halving finds the least raise
+  -- ---- what the definition tries
 
   abbrev tried : ℕ → Bool
   tried r = test (limitOf q x + r)
 
   abbrev most : ℕ
   most = highest q - limitOf q x
-
-  -- the limit `low` is not enough, and the next is
-  pub raise-found : (low : ℕ) → limitOf q x ≤ low → suc low ≤ highest q → reachable (withLimit q low x) n ≡ false
-      → reachable (withLimit q (suc low) x) n ≡ true → raiseOf q x n ≡ some (suc low - limitOf q x)
-  unfolding raiseOf
-  raise-found low a b short enough =
-      one-result tried 1 most (leastFrom tried 1 most) (some (suc low - limitOf q x)) (result tried 1 most)
-      (record {
-        first = omega arith;
-        last = omega arith;
-        passes = ap test there ∙ enough;
-        least = λ i h k e. false≢true (sym short ∙ rises (limitOf q x + i) low (omega arith) (omega arith) (omega arith) e);
-      })
-    where
-      there : limitOf q x + (suc low - limitOf q x) ≡ suc low
-      there = omega arith
 
   -- the highest of the range is not enough
   pub raise-missing : reachable (withLimit q (highest q) x) n ≡ false → raiseOf q x n ≡ none

@@ -56,12 +56,12 @@ ramp-next v u n =
     law v u n t m = same (v ∷ u ∷ n ∷ t ∷ m ∷ []) (search pol depth 20 fits 9000) tt
 
 -- n ticks of a ramp that begins there, of a level part, and of a ramp that ends after them
-ramp-sum : (f : ℕ → ℤ) (v u : ℤ) (n : ℕ) → ((k : ℕ) → 0 < k → k ≤ n → f k ≡ v +ℤ pos k *ℤ u) → sumTo f n ≡ rampArea v u n
+pub ramp-sum : (f : ℕ → ℤ) (v u : ℤ) (n : ℕ) → ((k : ℕ) → 0 < k → k ≤ n → f k ≡ v +ℤ pos k *ℤ u) → sumTo f n ≡ rampArea v u n
 ramp-sum f v u zero e = sym (ramp-none v u)
 ramp-sum f v u (suc n) e =
     ap₂ (λ (a b : ℤ). a +ℤ b) (ramp-sum f v u n (λ k h q. e k h (omega arith))) (e (suc n) (omega arith) (omega arith)) ∙ sym (ramp-next v u n)
 
-level-sum : (f : ℕ → ℤ) (c : ℤ) (n : ℕ) → ((k : ℕ) → 0 < k → k ≤ n → f k ≡ c) → sumTo f n ≡ pos n *ℤ c
+pub level-sum : (f : ℕ → ℤ) (c : ℤ) (n : ℕ) → ((k : ℕ) → 0 < k → k ≤ n → f k ≡ c) → sumTo f n ≡ pos n *ℤ c
 level-sum f c zero e = same (c ∷ []) (search pol depth 20 fits 9000) tt
 level-sum f c (suc n) e =
     ap₂ (λ (a b : ℤ). a +ℤ b) (level-sum f c n (λ k h q. e k h (omega arith))) (e (suc n) (omega arith) (omega arith))
@@ -71,7 +71,7 @@ level-sum f c (suc n) e =
     one-more : (n c : ℤ) → n *ℤ c +ℤ c ≡ (n +ℤ pos 1) *ℤ c
     one-more n c = same (n ∷ c ∷ []) (search pol depth 20 fits 9000) tt
 
-back-sum : (f : ℕ → ℤ) (v u : ℤ) (n : ℕ) → ((k : ℕ) → 0 < k → k ≤ n → f k ≡ v +ℤ pos (suc n - k) *ℤ u) → sumTo f n ≡ rampArea v u n
+pub back-sum : (f : ℕ → ℤ) (v u : ℤ) (n : ℕ) → ((k : ℕ) → 0 < k → k ≤ n → f k ≡ v +ℤ pos (suc n - k) *ℤ u) → sumTo f n ≡ rampArea v u n
 back-sum f v u zero e = sym (ramp-none v u)
 back-sum f v u (suc n) e =
     sum-first f n

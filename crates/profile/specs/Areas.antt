@@ -5,8 +5,12 @@ use mathlib.Core.Path.{_≡_}
 use mathlib.Core.Bool.{Bool, true, false, _&&_}
 use lib.IntN.{ℤ, pos, negℤ, natAbs, _+ℤ_, _-ℤ_, _*ℤ_}
 use lib.Signed.{leZ}
-use Rattle.model.specs.Leg.{Leg, required, sumIsWhole, climbSteps, feasible, cruise, remainder}
+use Rattle.whole.specs.Integers.{sumTo}
+use Rattle.whole.specs.Ranges.{Is}
+use Rattle.model.specs.Leg.{Leg, upper, required, sumIsWhole, climbSteps, feasible, cruise, remainder}
+use Rattle.profile.specs.declared.Parts.{Parts}
 use Rattle.profile.specs.declared.Regions.{Regions}
+use Rattle.profile.specs.declared.UpperArea.{UpperArea}
 use Rattle.profile.specs.Profiles.{endsAllowed}
 use Rattle.profile.specs.Regions.{regionsOf}
 
@@ -28,6 +32,9 @@ fallingTicks r = min (r .fall) (r .ticks - 1 - risingTicks r)
 abbrev pub levelTicks : Regions → ℕ
 levelTicks r = r .ticks - 1 - risingTicks r - fallingTicks r
 
+abbrev pub partsOf : Regions → Parts
+partsOf r = record { rising = risingTicks r; level = levelTicks r; falling = fallingTicks r }
+
 -- the area under the velocities of ticks 1 to T − 1, before any is raised
 unfoldable pub areaOf : Regions → ℤ
 areaOf r = rampArea (r .start) (r .up) (risingTicks r) +ℤ pos (levelTicks r) *ℤ r .cruise +ℤ rampArea (r .end) (r .down) (fallingTicks r)
@@ -35,6 +42,24 @@ areaOf r = rampArea (r .start) (r .up) (risingTicks r) +ℤ pos (levelTicks r) *
 -- at cruise c
 abbrev pub areaAt : Leg → ℤ → ℤ
 areaAt g c = areaOf (regionsOf g c 0)
+
+-- ---- the upper envelope
+
+-- its parts, the velocities being those at the highest cruise
+abbrev pub upperParts : Leg → Parts
+upperParts g = partsOf (regionsOf g (pos (g .speedLimit)) 0)
+
+-- what `upper_area` gives
+pub record UpperAreaIs (g : Leg) (r : UpperArea) : Type 0 where
+  pub sum : Is (2 ^ 60) (r .sum) (sumTo (upper g) (g .ticks - 1))
+  pub parts : r .parts ≡ upperParts g
+
+-- a ramp up from the start, a level part at the speed limit and a ramp down to the end, of given numbers of ticks
+unfoldable pub splitArea : Leg → Parts → ℤ
+splitArea g p =
+    rampArea (g .start) (pos (g .accelerationLimit)) (p .rising)
+    +ℤ pos (p .level) *ℤ pos (g .speedLimit)
+    +ℤ rampArea (g .end) (pos (g .accelerationLimit)) (p .falling)
 
 -- ---- rule 4: the required sum is between the areas under the two envelopes
 

@@ -1,4 +1,4 @@
 pub mod AllAxes
 pub mod BothRaises
-pub mod Halving
+pub mod LeastRaises
 pub mod Calls

@@ -1,12 +1,15 @@
 -- What the calls for raises promise, `raises_job` and `raises_words`. Neither asks anything of its caller.
-use Prim.Native.Nat.{ℕ}
+use Prim.Native.Nat.{ℕ, _+_, _-_}
 use mathlib.Core.Path.{_≡_}
 use mathlib.Core.Bool.{true, false}
 use mathlib.Core.Option.{Option, none, some}
 use lib.Dec.{eqb}
+use Rattle.model.specs.declared.Limit.{Limit}
 use Rattle.model.specs.declared.RaisesAnswer.{RaisesAnswer}
-use Rattle.model.specs.Outcome.{Input, inputJob}
-use Rattle.model.specs.Raises.{raisesCall, RaisesHold}
+use Rattle.model.specs.Outcome.{Input, inputJob, leastFrom}
+use Rattle.model.specs.Raises.{highest, raisesCall, RaisesHold}
+use Rattle.limits.specs.declared.Task.{Task}
+use Rattle.limits.specs.Limits.{limitIn, enoughWith}
 
 -- q is what the call was given, r the answer
 pub record RaisesPromise (q : Input) (r : RaisesAnswer) : Type 0 where
@@ -19,3 +22,7 @@ pub record RaisesPromise (q : Input) (r : RaisesAnswer) : Type 0 where
 -- a raise as a number, 0 where there is none
 abbrev pub orNone : ℕ → Option ℕ
 orNone k = elim (eqb k 0) [ true ↦ none | false ↦ some k ]
+
+-- the least that is added to a limit of a task, within the limit's range, for which it is enough
+unfoldable pub leastRaise : Limit → Task → Option ℕ
+leastRaise q t = leastFrom (λ r. enoughWith q t (limitIn q t + r)) 1 (highest q - limitIn q t)

@@ -4,7 +4,10 @@
 // The way of a job:
 //     raises_words    words::decode         refusals 1, 2 and 14, then as raises_job
 //     raises_job      planner::answer_of    every other answer
-//     raises_for      raises_of             the axes that do not reach the asked arrival, each by least_raise for M and for L, in_order
+//     raises_for      raises_of             the axes that do not reach the asked arrival
+//     raises_of       task_of               what does not depend on the limits, once an axis
+//                     limits::least_limit   by least_raise, for M and for L, in_order
+use limits::Task;
 use model::Answer;
 use model::Axis;
 use model::AxisRaises;
@@ -12,15 +15,19 @@ use model::Job;
 use model::Limit;
 use model::Raise;
 use model::RaisesAnswer;
+use motion::Landing;
 ghost use mathlib.Core.Path.{_≡_};
-ghost use mathlib.Core.Bool.{false};
-ghost use Prim.Native.Nat.{_≤_};
+ghost use Prim.Native.Nat.{_^_, _≤_, _<_, max};
+ghost use lib.IntN.{pos, _+ℤ_, _*ℤ_};
+ghost use Rattle.whole.specs.Ranges.{Within};
 ghost use Rattle.model.specs.Job.{setAxes};
-ghost use Rattle.model.specs.Motion.{reachable};
+ghost use Rattle.model.specs.Quantities.{delay};
 ghost use Rattle.model.specs.Refusals.{Passed, AllPassed, lastTick};
 ghost use Rattle.model.specs.Outcome as Input;
-ghost use Rattle.model.specs.Raises.{withLimits, limitOf, highest, withLimit, raiseOf, inOrder, raisesOf, raisesFrom, noneRaised};
-ghost use Rattle.raises.specs.Promise.{RaisesPromise, orNone};
+ghost use Rattle.model.specs.Raises.{highest, inOrder, raisesOf, raisesFrom, noneRaised};
+ghost use Rattle.limits.specs.Limits.{TaskRanged};
+ghost use Rattle.limits.specs.Tasks.{taskWith, fastestOf, TaskIs};
+ghost use Rattle.raises.specs.Promise.{RaisesPromise, orNone, leastRaise};
 
 // The answer to a job with no table lent, so that 10 never comes; where its number is 8, with the raises of each axis that its mask names, and else
 // with none.
@@ -92,16 +99,19 @@ fn raises_for(mask: u32, asked: u32, axes: [Axis; 6]) -> [AxisRaises; 6]
 
 // ---- one axis
 
-// The least raises of an axis that does not reach tick n. Damping as measured is turned into the number B once.
+// The least raises of an axis for tick n. Damping as measured is turned into the number B once.
 fn raises_of(x: Axis, n: u32) -> AxisRaises
     requires { ⌜ Passed x ⌝ }
     requires { ⌜ n ≤ lastTick ⌝ }
-    requires { ⌜ reachable x n ≡ false ⌝ }
     ensures { λ r. ⌜ r ≡ raisesOf x n ⌝ }
 {
     let given = motion::by_hand(x);
-    let m = least_raise(given, Limit::Acceleration, n);
-    let l = least_raise(given, Limit::Speed, n);
+    if n <= motion::delay_of(given) {
+        return pair(Raise::NoRaise, Raise::NoRaise);
+    }
+    let task = task_of(given, n);
+    let m = least_raise(task, Limit::Acceleration);
+    let l = least_raise(task, Limit::Speed);
     in_order(m, l)
 }
 
@@ -135,55 +145,22 @@ fn pair(first: Raise, second: Raise) -> AxisRaises
 
 // ---- one limit
 
-// The least raise of a limit, within its range, for which an axis that does not reach tick n does; 0 where there is none. A limit that is enough
-// stays enough when it is raised, so that halving finds the least: at most 21 tests.
-fn least_raise(x: Axis, limit: Limit, n: u32) -> u32
-    requires { ⌜ Passed x ⌝ }
-    requires { ⌜ n ≤ lastTick ⌝ }
-    requires { ⌜ reachable x n ≡ false ⌝ }
-    ensures { λ r. ⌜ orNone r ≡ raiseOf limit x n ⌝ }
+// The least raise of a limit, within its range, that is enough for a task; 0 where there is none.
+fn least_raise(t: Task, limit: Limit) -> u32
+    requires { ⌜ TaskRanged t ⌝ }
+    ensures { λ r. ⌜ orNone r ≡ leastRaise limit t ⌝ }
 {
-    let current = limit_of(x, limit);
+    let current = limits::limit_in(t, limit);
     let most = highest(limit);
-    if !reaches_with(x, limit, most, n) {
+    let found = limits::least_limit(t, limit, most);
+    if most < found {
         return 0;
     }
-    let mut low = current;
-    let mut high = most;
-    while low + 1 < high {
-        let middle = (low + high) / 2;
-        if reaches_with(x, limit, middle, n) {
-            high = middle;
-        } else {
-            low = middle;
-        }
-    }
-    high - current
-}
-
-// Whether an axis with another limit, at least its own and within the range, reaches tick n.
-fn reaches_with(x: Axis, limit: Limit, value: u32, n: u32) -> bool
-    requires { ⌜ Passed x ⌝ }
-    requires { ⌜ limitOf limit x ≤ value ⌝ }
-    requires { ⌜ value ≤ highest limit ⌝ }
-    requires { ⌜ n ≤ lastTick ⌝ }
-    ensures { λ r. ⌜ r ≡ reachable (withLimit limit value x) n ⌝ }
-{
-    let raised = with_limit(x, limit, value);
-    motion::reaches(raised, n)
-}
-
-fn limit_of(x: Axis, limit: Limit) -> u32
-    ensures { λ r. ⌜ r ≡ limitOf limit x ⌝ }
-{
-    match limit {
-        Limit::Acceleration => x.acceleration_limit,
-        Limit::Speed => x.speed_limit,
-    }
+    (found - current) as u32
 }
 
 // The highest of a limit's range.
-fn highest(limit: Limit) -> u32
+fn highest(limit: Limit) -> u64
     ensures { λ r. ⌜ r ≡ highest limit ⌝ }
 {
     match limit {
@@ -192,21 +169,70 @@ fn highest(limit: Limit) -> u32
     }
 }
 
-// The axis with one limit set.
-fn with_limit(x: Axis, limit: Limit, value: u32) -> Axis
-    ensures { λ r. ⌜ r ≡ withLimit limit value x ⌝ }
+// ---- what the leg of an arrival asks of the limits
+
+// The task of an axis for tick n. A leg that does not go as far as the straight line between the velocities of its ends is taken with every sign turned, so
+// that only the upper envelope can fall short.
+fn task_of(x: Axis, n: u32) -> Task
+    requires { ⌜ Passed x ⌝ }
+    requires { ⌜ n ≤ lastTick ⌝ }
+    requires { ⌜ delay x < n ⌝ }
+    ensures { λ r. ⌜ TaskIs x n r ⌝ }
 {
-    match limit {
-        Limit::Acceleration => with_limits(x, x.speed_limit, value),
-        Limit::Speed => with_limits(x, value, x.acceleration_limit),
+    let landing = motion::landing_at(x, n);
+    let start = motion::start_velocity(x);
+    let end = landing.velocity;
+    let ticks = motion::landing_tick(x, n);
+    let travel = motion::displacement(x, landing);
+    let fastest = fastest_of(start, landing, motion::delay_of(x));
+    let line = (ticks as i64) * (start + end);
+    if travel < line {
+        return task_with(x, -start, -end, -travel, ticks, fastest);
+    }
+    task_with(x, start, end, travel, ticks, fastest)
+}
+
+// The task of a leg between two velocities that goes so many half steps in so many ticks.
+fn task_with(x: Axis, start: i64, end: i64, travel: i64, ticks: u32, fastest: u64) -> Task
+    requires { ⌜ Within (2 ^ 48) start ⌝ }
+    requires { ⌜ Within (2 ^ 48) end ⌝ }
+    requires { ⌜ Within (2 ^ 60) travel ⌝ }
+    ensures { λ r. ⌜ r ≡ taskWith x start end travel ticks fastest ⌝ }
+{
+    let twice = travel - start - end;
+    Task {
+        start: start,
+        end: end,
+        ticks: ticks as u64,
+        fastest: fastest,
+        sum: twice >> 1,
+        steps: motion::finer(x) as u64 * 256,
+        speed: x.speed_limit as u64,
+        acceleration: x.acceleration_limit as u64,
     }
 }
 
-fn with_limits(x: Axis, speed: u32, acceleration: u32) -> Axis
-    ensures { λ r. ⌜ r ≡ withLimits speed acceleration x ⌝ }
+// The greatest speed at the start, at the landing and at the arrival.
+fn fastest_of(start: i64, landing: Landing, delay: u32) -> u64
+    requires { ⌜ Within (2 ^ 47) start ⌝ }
+    requires { ⌜ Within (2 ^ 47) (landing .velocity) ⌝ }
+    requires { ⌜ Within (2 ^ 32) (landing .acceleration) ⌝ }
+    requires { ⌜ delay ≤ 512 ⌝ }
+    ensures { λ r. ⌜ r ≡ fastestOf start (landing .velocity) (landing .velocity +ℤ pos delay *ℤ landing .acceleration) ⌝ }
 {
-    let mut y = x;
-    y.speed_limit = speed;
-    y.acceleration_limit = acceleration;
-    y
+    let end = landing.velocity;
+    let arrived = motion::arrival_velocity(landing, delay);
+    greater(
+        whole::size(start),
+        greater(whole::size(end), whole::size(arrived)),
+    )
+}
+
+fn greater(a: u64, b: u64) -> u64
+    ensures { λ r. ⌜ r ≡ max a b ⌝ }
+{
+    if a <= b {
+        return b;
+    }
+    a
 }

@@ -1,2 +1,3 @@
 pub mod RunningSums
 pub mod NextTicks
+pub mod RoundedUp

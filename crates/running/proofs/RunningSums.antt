@@ -172,7 +172,7 @@ module _ (g : Leg) (joined : Joined g) (some : 0 < g .accelerationLimit) where
 
 -- ---- the lower envelope mirrors the upper one
 
-abbrev mirrored : Leg → Leg
+abbrev pub mirrored : Leg → Leg
 mirrored g =
     record {
       ticks = g .ticks;

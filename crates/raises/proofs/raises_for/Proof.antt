@@ -60,7 +60,7 @@ raises-of-requires c κs =
     let l = c .before .before .before .before .loop in
     let b = c .before .before .before .before .before .before in
     let m = missed-is (l .bits) (axisAt (b .args .t3) (l .number)) (b .args .asked) (sym (c .before .misses .ensures) ∙ c .if1 .taken) in
-    (passed-from (l .number) (l .bits) (b .args .t3) (omega arith) (l .inv .passed) .here (m .0), (b .pre .1, m .1))
+    (passed-from (l .number) (l .bits) (b .args .t3) (omega arith) (l .inv .passed) .here (m .0), b .pre .1)
 
 mul-raises : tie.Need-mul-raises Inv-loop μ-loop
 mul-raises c = omega arith

@@ -1,6 +1,5 @@
-use Prim.Native.Nat.{ℕ, suc, _+_, _-_, _*_, _/_, _^_, _≤_, _<_}
+use Prim.Native.Nat.{ℕ, _+_, _-_, _/_, _^_, _≤_}
 use mathlib.Core.Path.{_≡_, ap, _∙_}
-use native.Mathlib.Nat.{mul-comm, mul-suc, le-div-iff-mul-le, div-lt-iff-lt-mul}
 use native.Mathlib.Omega.{arith}
 use lib.IntN.{natAbs, _-ℤ_}
 use mir.Syntax.{w64}
@@ -8,6 +7,7 @@ use mir.Val.{toZ, ofZ}
 use Rattle.whole.specs.Ranges.{Within}
 use Rattle.whole.proofs.Bounds.{sfits, within, exactly, computed}
 use borrow.Author.Needs.{needs}
+use Rattle.running.proofs.RoundedUp.{enough, too-few}
 use Rattle.running.proofs.near_tick.Statement.{statement}
 use Rattle.running.proofs.near_tick.Tie as tie
 
@@ -35,15 +35,6 @@ not-far : (a : tie.Start) → apart a ≤ 2 ^ 38
 not-far a =
     let w : Within (2 ^ 38) (a .args .p .end -ℤ a .args .p .start) = within (search computed depth 9) tt in
     w .within
-
--- the ticks to cover w at a limit of a a tick, rounded up
-enough : (w a t : ℕ) → 0 < a → (w + (a - 1)) / a ≤ t → w ≤ a * t
-enough w a t h l =
-    let less : (w + (a - 1)) / a < suc t = omega arith in
-    omega (arith, div-lt-iff-lt-mul {k = a} {x = w + (a - 1)} {y = suc t} h .0 less, mul-comm (suc t) a, mul-suc a t)
-
-too-few : (w a k : ℕ) → 0 < a → k < (w + (a - 1)) / a → a * k < w
-too-few w a k h l = omega (arith, le-div-iff-mul-le {k = a} {x = suc k} {y = w + (a - 1)} h .0 l, mul-comm (suc k) a, mul-suc a k)
 
 add-first : tie.Need-add-first
 add-first c = omega (arith, apart-is (c .before), not-far (c .before .before .before .before), c .before .before .before .before .pre .0 .«acceleration_limit»)

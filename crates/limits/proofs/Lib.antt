@@ -1,0 +1,4 @@
+pub mod FallsShort
+pub mod Mirrors
+pub mod StraightLine
+pub mod Decisions
