@@ -50,7 +50,11 @@ fn refusal(job: Job) -> Refusal
     }
     let axes = job.axes;
     let windows = job.windows;
-    planner::check_axes(job.mask, axes, windows, asked == 0)
+    let checked = planner::check(job.mask, axes, windows, asked == 0);
+    Refusal {
+        number: checked.number,
+        place: checked.place,
+    }
 }
 
 // ---- refusal 10, or the converted words

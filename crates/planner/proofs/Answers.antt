@@ -1,49 +1,40 @@
 -- The stage before refusal 10: what it hands on where it refuses and where it has found an arrival, and that it gives the answer of the
 -- definitions with no table lent.
-use Prim.Native.Nat.{ℕ, zero, suc, _≤_}
+use Prim.Native.Nat.{ℕ, _≤_}
 use native.Mathlib.Omega.{arith}
 use mathlib.Core.Path.{_≡_, refl, sym, ap, ap₂, _∙_}
 use mathlib.Core.Bool.{Bool, true, false, false≢true}
-use mathlib.Core.Option.{Option, none, some}
-use mathlib.Core.List.{List, [], _∷_}
-use lib.Dec.{eqb, leb}
+use mathlib.Core.List.{List, []}
+use lib.Dec.{eqb}
 use lib.IntN.{ℤ}
 use borrow.Author.Tests.{eq-eqb, ne-eqb}
-use Rattle.model.specs.declared.Axis.{Axis}
 use Rattle.model.specs.declared.Answer.{Answer}
 use Rattle.model.specs.declared.Job as Typed
-use Rattle.model.specs.declared.Windows.{Windows}
-use Rattle.model.specs.Windows as W
-use Rattle.model.specs.Job.{Job, JobAxis, jobOf}
-use Rattle.model.specs.Words.{Decoded, noMask, badWord, badLong, job, decode, goodMask}
+use Rattle.model.specs.Job.{Job, jobOf}
+use Rattle.model.specs.Words.{Decoded, noMask, badWord, badLong, job, decode}
 use Rattle.model.specs.Refusals.{lastTick, AllPassed}
-use Rattle.model.specs.Outcome.{Outcome, Input, call, outcomeOf, refuse, filled, jobOutcome, firstAxis}
-use Rattle.model.specs.Outcome.{axisRefusals, leastFrom, allReach, words, typed, jobRead, inputJob, beforeTen, answerOf}
+use Rattle.model.specs.Outcome.{Outcome, Input, call, outcomeOf, refuse, filled, jobOutcome}
+use Rattle.model.specs.Outcome.{allReach, words, typed, jobRead, inputJob, beforeTen, answerOf}
 use Rattle.model.specs.Verdict.{Verdict, refused3, refused4, refused12, refused5, refused15, refused6, refused16, refused17, refused13, refused8, refused9, refused10}
 use Rattle.model.specs.Verdict.{accepted, CallVerdict, words1, words2, words14, wordsJob, typed1, typedJobs}
 use Rattle.model.proofs.BeforeTen.{same-answer}
 use Rattle.model.proofs.CallVerdict.{call-verdict}
 use Rattle.words.specs.declared.DecodedJob.{DecodedJob}
 use Rattle.words.specs.Decoding.{decodedJob, Decodes}
-use Rattle.model.proofs.CheckingOrder.{Lacks, lacks}
-use Rattle.arrival.specs.declared.Arrival.{Arrival}
-use Rattle.arrival.specs.Arrivals.{leastOr, askedOr, arrivesIn, arrivalFor}
-use Rattle.planner.specs.declared.Refusal.{Refusal}
-use Rattle.planner.specs.Stages.{windowRefusal, firstRefusal, checkedFor, Settled}
+use Rattle.planner.specs.Stages.{Settled}
 use Rattle.planner.specs.Promise.{Answered}
 use Rattle.planner.proofs.Calls.{words-refused, words-passed}
 
 -- ---- where the stage ends
 
 module _ (j : Job) (r : Answer) where
-  -- a refusal, which is not 10
-  pub settled-refused : (k p n : ℕ) → (k ≡ 0 → ⊥) → (k ≡ 10 → ⊥) → r ≡ record { number = k; place = p; mask = n; arrival = 0 }
+  -- a refusal
+  pub settled-refused : (k p n : ℕ) → (k ≡ 0 → ⊥) → r ≡ record { number = k; place = p; mask = n; arrival = 0 }
       → ((lent : List ℤ) → refuse k p n 0 lent ≡ jobOutcome j lent) → Settled j r
-  settled-refused k p n not-zero not-ten e is =
+  settled-refused k p n not-zero e is =
       let number = ap (λ (s : Answer). s .number) e in
       record {
         refused = λ h lent. ap (λ (s : Answer). outcomeOf s lent) e ∙ is lent;
-        not-ten = λ z. not-ten (sym number ∙ z);
         last = let a = ap (λ (s : Answer). s .arrival) e in omega arith;
         found = λ z. absurd (not-zero (sym number ∙ z));
         accepted = λ z. absurd (not-zero (sym number ∙ z));
@@ -59,7 +50,6 @@ module _ (j : Job) (r : Answer) where
       let number = ap (λ (s : Answer). s .number) e in
       record {
         refused = λ h. absurd (h number);
-        not-ten = λ z. omega arith;
         last = omega arith;
         found = λ z lent. ap (λ (k : ℕ). filled j k lent) arrival ∙ is lent;
         accepted = λ z. e ∙ ap (λ (k : ℕ). record { number = 0; place = 0; mask = j .mask; arrival = k }) (sym arrival);
@@ -152,44 +142,3 @@ module _ (ws : List ℕ) (d : DecodedJob) (is : Decodes ws d) where
           go (badWord p) e = omega arith
           go (badLong p) e = omega arith
           go (job j) e = omega arith
-
--- ---- no check and no search answers 10
-
-windows-not-ten : (w : Windows) → windowRefusal w .number ≡ 10 → ⊥
-windows-not-ten w e = go (W.refused13 w) e
-  where
-    go : (o : Option ℕ) → (elim o as (λ _. Refusal) [ some p ↦ record { number = 13; place = p } | none ↦ record { number = 0; place = 0 } ]) .number ≡ 10 → ⊥
-    go (some p) e = omega arith
-    go none e = omega arith
-
-tests-not-ten : (ts : List (ℕ × (Axis → Bool))) (xs : List JobAxis) (w : Windows) → Lacks 10 ts → firstRefusal ts xs w .number ≡ 10 → ⊥
-tests-not-ten [] xs w n e = windows-not-ten w e
-tests-not-ten (t ∷ ts) xs w (n, ns) e = go (firstAxis (t .1) xs) (tests-not-ten ts xs w ns) e
-  where
-    go : (o : Option ℕ) → (firstRefusal ts xs w .number ≡ 10 → ⊥)
-        → (elim o as (λ _. Refusal) [ some i ↦ record { number = t .0; place = i } | none ↦ firstRefusal ts xs w ]) .number ≡ 10 → ⊥
-    go (some i) h e = n e
-    go none h e = h e
-
-pub check-not-ten : (j : Job) (c : Refusal) → c ≡ checkedFor j → c .number ≡ 10 → ⊥
-check-not-ten j c is e = go (leb (j .asked) lastTick) (sym (ap (λ (r : Refusal). r .number) is) ∙ e)
-  where
-    go : (b : Bool)
-        → (elim b as (λ _. Refusal) [ true ↦ firstRefusal axisRefusals (j .axes) (j .windows) | false ↦ record { number = 3; place = 1 } ]) .number ≡ 10 → ⊥
-    go true e = tests-not-ten axisRefusals (j .axes) (j .windows) (lacks 10 axisRefusals refl) e
-    go false e = omega arith
-
-pub arrival-not-ten : (w : Windows) (xs : List JobAxis) (asked : ℕ) (f : Arrival) → f ≡ arrivalFor w xs asked → f .number ≡ 10 → ⊥
-arrival-not-ten w xs asked f is e = go asked (sym (ap (λ (r : Arrival). r .number) is) ∙ e)
-  where
-    least : (o : Option ℕ) → leastOr xs o .number ≡ 10 → ⊥
-    least (some n) e = omega arith
-    least none e = omega arith
-
-    one : (n : ℕ) (b : Bool) → askedOr xs n b .number ≡ 10 → ⊥
-    one n true e = omega arith
-    one n false e = omega arith
-
-    go : (n : ℕ) → arrivalFor w xs n .number ≡ 10 → ⊥
-    go zero e = least (leastFrom (arrivesIn w xs) 1 lastTick) e
-    go (suc n) e = one (suc n) (arrivesIn w xs (suc n)) e

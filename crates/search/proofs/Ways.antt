@@ -11,9 +11,9 @@ use Rattle.model.specs.declared.Windows.{Windows}
 use Rattle.model.specs.declared.Job as Typed
 use Rattle.model.specs.declared.SearchAnswer.{SearchAnswer}
 use Rattle.model.specs.Windows.{inWindows}
-use Rattle.model.specs.Job.{Job, JobAxis, jobOf, jobWith, setAxes, byHand}
+use Rattle.model.specs.Job.{Job, jobOf, jobWith, setAxes, byHand}
 use Rattle.model.specs.Words.{goodMask, Decoded, noMask, badWord, badLong, job, decode}
-use Rattle.model.specs.Outcome.{Input, words, typed, allReach, arrives}
+use Rattle.model.specs.Outcome.{Input, words, typed, arrives}
 use Rattle.model.specs.Search.{searchFrom, refuseSearch, searchAnswer, firstAllowed, firstChecked, searchJob, searchCall}
 use Rattle.model.proofs.SearchCalls.{search-verdict, call-says}
 use Rattle.arrival.specs.Arrivals.{arrivesIn}

@@ -63,14 +63,14 @@ fn search_allowed(
 ) -> SearchAnswer
     ensures { λ r. ⌜ r ≡ searchJob (jobWith mask 0 axes windows) first budget ⌝ }
 {
-    let checked = planner::check(mask, 0, axes, windows);
+    let checked = planner::check(mask, axes, windows, true);
     if checked.number != 0 {
         return refused(checked.number, checked.place);
     }
     if !first_allowed(first) {
         return refused(18, 0);
     }
-    let given = planner::by_hand(axes);
+    let given = checked.axes;
     let found = search_from(mask, given, windows, first, budget);
     answered(mask, found)
 }

@@ -7,13 +7,13 @@ use Rattle.converter.proofs.refusal.Tie as tie
 returns : tie.Need-returns
 returns c = asked-late (c .before .args .job) (c .if1 .taken)
 
-check-axes-requires : tie.Need-check-axes-requires
-check-axes-requires c κs = search needs
+check-requires : tie.Need-check-requires
+check-requires c κs = search needs
 
 returns-2 : tie.Need-returns-2
 returns-2 c =
     let a = c .before .before .before .before .args in
-    c .check-axes .ensures ∙ asked-in-time (a .job) (c .before .before .before .if1 .left)
+    c .check .ensures .refusal ∙ asked-in-time (a .job) (c .before .before .before .if1 .left)
 
 pub refusal-spec : {M : Type 1} → statement M
-refusal-spec = tie.close (tie.spec returns check-axes-requires returns-2)
+refusal-spec = tie.close (tie.spec returns check-requires returns-2)
