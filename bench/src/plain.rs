@@ -6,7 +6,7 @@
 
 use std::ops::{Range, RangeInclusive};
 
-use outside::reference::{Answer, Axis, Damping, Job, Target, Window};
+use outside::reference::{Answer, Axis, Damping, Job, Target, Window, RAIL};
 
 const LATEST: u32 = 4096;
 
@@ -483,18 +483,34 @@ fn refusal(number: u32, mask: u32, arrival: u32) -> Answer {
     Answer { number, place: 0, mask, arrival }
 }
 
-/// Refusals 3 to 6, 12 and 15 to 17 are tested as the library tests them, and 13 where windows are brought; the jobs that are timed pass.
+/// The refusals of one axis, 4 to 6 and 15 to 17.
+fn axis_passes(x: &Axis) -> bool {
+    let fast = |v: i64| v.unsigned_abs() > u64::from(x.speed_limit);
+    let bounded = match x.target {
+        Target::Fixed { .. } => true,
+        Target::Moving { acceleration, tick, .. } => {
+            acceleration.unsigned_abs() <= u64::from(x.acceleration_limit) && tick.unsigned_abs() <= u64::from(LATEST)
+        }
+    };
+    (1..=1 << 20).contains(&x.speed_limit)
+        && (1..=1 << 16).contains(&x.acceleration_limit)
+        && x.half_period <= 256
+        && (1..=128).contains(&weight_of(x))
+        && x.second.map_or(true, |second| (1..=256).contains(&second))
+        && RAIL.contains(&x.start_position)
+        && !fast(x.start_velocity)
+        && RAIL.contains(&x.target.position())
+        && !fast(x.target.velocity())
+        && bounded
+        && (x.second.is_none() || x.target.acceleration() == 0)
+        && !x.target.flies()
+}
+
+/// Refusals 1, 3 to 6 and 15 to 17 are tested as the library tests them, and 13 where windows are brought; the jobs that are timed pass.
 fn passes(job: &Job) -> bool {
-    job.asked <= LATEST
-        && job
-            .set()
-            .all(|(_, x)| (1..=1 << 20).contains(&x.speed_limit) && (1..=1 << 16).contains(&x.acceleration_limit))
-        && job.set().all(|(_, x)| x.half_period <= 256 && (1..=128).contains(&weight_of(x)))
-        && job.set().all(|(_, x)| x.second.map_or(true, |second| (1..=256).contains(&second)))
-        && job.set().all(|(_, x)| x.start_velocity.unsigned_abs() <= u64::from(x.speed_limit))
-        && job.set().all(|(_, x)| x.target.velocity().unsigned_abs() <= u64::from(x.speed_limit))
-        && job.set().all(|(_, x)| x.second.is_none() || x.target.acceleration() == 0)
-        && job.set().all(|(_, x)| !matches!(x.target, Target::Fixed { velocity, .. } if velocity != 0))
+    (1..=63).contains(&job.mask)
+        && job.asked <= LATEST
+        && job.set().all(|(_, x)| axis_passes(x))
         && job.windows.as_ref().map_or(true, |windows| windows.refused().is_none())
 }
 
