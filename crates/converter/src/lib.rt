@@ -50,11 +50,7 @@ fn refusal(job: Job) -> Refusal
     }
     let axes = job.axes;
     let windows = job.windows;
-    let checked = planner::check(job.mask, axes, windows, asked == 0);
-    Refusal {
-        number: checked.number,
-        place: checked.place,
-    }
+    planner::check(job.mask, axes, windows, asked == 0)
 }
 
 // ---- refusal 10, or the converted words

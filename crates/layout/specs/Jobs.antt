@@ -1,7 +1,7 @@
 -- What the structs of include/polgamir.h stand for.
-use Prim.Native.Nat.{ℕ}
-use mathlib.Core.Bool.{cond, not}
-use mathlib.Core.List.{map}
+use Prim.Native.Nat.{ℕ, _/_, _%_}
+use mathlib.Core.Bool.{true, cond}
+use mathlib.Core.List.{List, [], _∷_}
 use lib.Dec.{eqb}
 use lib.Ieee.{Float}
 use Rattle.model.specs.declared.Answer.{Answer}
@@ -17,6 +17,8 @@ use Rattle.model.specs.declared.Target.the-variants.{Fixed, Moving}
 use Rattle.model.specs.declared.Weight.{Weight}
 use Rattle.model.specs.declared.Weight.the-variants.{Given, Measured}
 use Rattle.model.specs.declared.Windows.{Windows}
+use Rattle.model.specs.Job.{unsetAxis}
+use Rattle.model.specs.Windows.{noWindows}
 use Rattle.layout.specs.declared.PolgamirAnswer.{PolgamirAnswer}
 use Rattle.layout.specs.declared.PolgamirAxis.{PolgamirAxis}
 use Rattle.layout.specs.declared.PolgamirJob.{PolgamirJob}
@@ -66,11 +68,17 @@ axisOf a =
 
 -- ---- a job
 
-abbrev pub windowsOf : PolgamirWindows → Windows
-windowsOf w = record { given = not (eqb (w .given) 0); dwell = w .dwell; count = w .count; list = w .list }
+-- the axes that the mask names, its lowest bit standing for the first; the others are not looked at, and unset
+unfoldable pub axesOf : ℕ → List PolgamirAxis → List Axis
+axesOf m [] = []
+axesOf m (x ∷ xs) = cond (eqb (m % 2) 1) (axisOf x) unsetAxis ∷ axesOf (m / 2) xs
+
+-- none where they are given by 0: what follows is then not looked at; by any other number as they stand
+unfoldable pub windowsOf : PolgamirWindows → Windows
+windowsOf w = cond (eqb (w .given) 0) noWindows (record { given = true; dwell = w .dwell; count = w .count; list = w .list })
 
 abbrev pub jobOf : PolgamirJob → Job
-jobOf j = record { mask = j .mask; asked = j .asked; axes = map axisOf (j .axes); windows = windowsOf (j .windows) }
+jobOf j = record { mask = j .mask; asked = j .asked; axes = axesOf (j .mask) (j .axes); windows = windowsOf (j .windows) }
 
 -- ---- an answer
 

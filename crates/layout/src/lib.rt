@@ -15,8 +15,7 @@ use model::Weight;
 use model::Window;
 use model::Windows;
 ghost use mathlib.Core.Path.{_≡_};
-ghost use mathlib.Core.List.{map};
-ghost use Rattle.layout.specs.Jobs.{startOf, fixedOf, movingOf, targetOf, weightOf, swayOf, axisOf, windowsOf, jobOf, answerOf};
+ghost use Rattle.layout.specs.Jobs.{startOf, fixedOf, movingOf, targetOf, weightOf, swayOf, axisOf, axesOf, windowsOf, jobOf, answerOf};
 
 // What a call gives back, laid out as the header's `polgamir_answer`.
 #[repr(C)]
@@ -171,17 +170,21 @@ fn axis_of(a: PolgamirAxis) -> Axis
     }
 }
 
-fn axes_of(list: [PolgamirAxis; 6]) -> [Axis; 6]
-    ensures { λ r. ⌜ r ≡ map axisOf list ⌝ }
+// The axes that the mask names. The others are not read, and unset.
+fn axes_of(mask: u32, list: [PolgamirAxis; 6]) -> [Axis; 6]
+    ensures { λ r. ⌜ r ≡ axesOf mask list ⌝ }
 {
-    let front = list[0];
-    let first = axis_of(front);
-    let mut axes = [first; 6];
+    let unset = words::unset_axis();
+    let mut axes = [unset; 6];
+    let mut bits = mask;
     let mut i: usize = 0;
     while i < 6 {
-        let entry = list[i];
-        let next = axis_of(entry);
-        axes[i] = next;
+        if bits % 2 == 1 {
+            let entry = list[i];
+            let axis = axis_of(entry);
+            axes[i] = axis;
+        }
+        bits = bits / 2;
         i += 1;
     }
     axes
@@ -189,12 +192,16 @@ fn axes_of(list: [PolgamirAxis; 6]) -> [Axis; 6]
 
 // ---- a job
 
+// The windows where they are given. Where they are not, nothing else of them is read.
 fn windows_of(w: PolgamirWindows) -> Windows
     ensures { λ r. ⌜ r ≡ windowsOf w ⌝ }
 {
+    if w.given == 0 {
+        return windows::no_windows();
+    }
     let list = w.list;
     Windows {
-        given: w.given != 0,
+        given: true,
         dwell: w.dwell,
         count: w.count,
         list: list,
@@ -205,7 +212,7 @@ pub fn job_of(job: PolgamirJob) -> Job
     ensures { λ r. ⌜ r ≡ jobOf job ⌝ }
 {
     let list = job.axes;
-    let axes = axes_of(list);
+    let axes = axes_of(job.mask, list);
     let brought = job.windows;
     let windows = windows_of(brought);
     Job {

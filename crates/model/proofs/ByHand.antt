@@ -13,19 +13,21 @@ use Rattle.model.specs.declared.Target.{Target}
 use Rattle.model.specs.declared.Target.the-variants.{Fixed, Moving}
 use Rattle.model.specs.declared.SecondSway.{SecondSway}
 use Rattle.model.specs.declared.SecondSway.the-variants.{Absent, HalfPeriod}
+use Rattle.model.specs.declared.Order.{Order}
+use Rattle.model.specs.declared.Order.the-variants.{Forwards, Backwards}
 use Rattle.model.specs.declared.Job as Typed
 use Rattle.model.specs.Windows.{noWindows}
 use Rattle.model.specs.Motion.{Tick}
 use Rattle.model.specs.Rows.{track, blend, blendBy, cells}
-use Rattle.model.specs.Job.{Job, JobAxis, jobOf, setAxes, byHand, axesByHand, jobByHand}
+use Rattle.model.specs.Job.{Job, JobAxis, jobOf, setAxes, axesOf, byHand, axesByHand, jobByHand}
 use Rattle.model.specs.Words.{goodMask}
 use Rattle.model.specs.Quantities.{finer}
 use Rattle.model.specs.Refusals.{lastTick, limitsRefused, dampingRefused, blendRefused, swayRefused, valuesRefused, accelerationRefused, flyingRefused}
 use Rattle.model.specs.Refusals.{restAllowed, targetAllowed, AllPassed}
-use Rattle.model.specs.Outcome.{Outcome, typed, call, refuse, allReach, leastFrom, arrives, reachesNone}
+use Rattle.model.specs.Outcome.{Outcome, outcomeOf, answerIn, typed, call, refuse, ordered, allReach, leastFrom, arrives, reachesNone}
 use Rattle.model.specs.Outcome.{filled, arrived, firstAxis, Tests, axisRefusals, tested, jobOutcome}
 use Rattle.model.proofs.MappedAxes.{cells-alike, Blind, AllBlind, first-mapped}
-use Rattle.model.proofs.MappedAxes.{mask-mapped, reach-mapped, arrives-mapped, filled-mapped, asked-mapped, tested-mapped}
+use Rattle.model.proofs.MappedAxes.{mask-mapped, reach-mapped, arrives-mapped, over-mapped, filled-mapped, asked-mapped, tested-mapped}
 
 -- ---- the axes
 
@@ -110,6 +112,17 @@ afterDamping-blind = ((λ x. refl), ((λ x. refl), (values-by-hand, ((λ x. refl
 pub filled-by-hand : (j : Job) (n : ℕ) (lent : List ℤ) → filled (jobByHand j) n lent ≡ filled j n lent
 unfolding finer
 filled-by-hand j n lent = filled-mapped byHand n (cells-by-hand n) j lent
+
+-- the same with the rows in an order
+pub ordered-by-hand : (o : Order) (j : Job) (lent : List ℤ) (r : Outcome) → ordered o (axesOf (jobByHand j)) lent r ≡ ordered o (axesOf j) lent r
+unfolding finer
+ordered-by-hand Forwards j lent r = refl
+ordered-by-hand Backwards j lent r =
+    λ i.
+    elim (eqb (r .number) 0) as (λ _. Outcome) [
+      | true ↦ outcomeOf (answerIn r) (over-mapped byHand (r .arrival) (cells-by-hand (r .arrival)) Backwards j lent i)
+      | false ↦ r
+    ]
 
 pub arrived-by-hand : (j : Job) (asked : ℕ) (lent : List ℤ) → arrived (jobByHand j) asked lent ≡ arrived j asked lent
 unfolding finer

@@ -11,10 +11,11 @@ use lib.Dec.{ltb}
 use lib.ListN.{length, drop}
 use Rattle.whole.specs.Integers.{nearest}
 use Rattle.model.specs.declared.Axis.{Axis}
+use Rattle.model.specs.declared.Order.{Order}
 use Rattle.model.specs.declared.Order.the-variants.{Forwards}
 use Rattle.model.specs.Windows.{inWindows, refused13}
 use Rattle.model.specs.Motion.{Tick, reachable}
-use Rattle.model.specs.Rows.{track, blend, divisor, row, table, cells, concat, tabulate}
+use Rattle.model.specs.Rows.{track, blend, divisor, row, rowAt, table, cells, concat, tabulate}
 use Rattle.model.specs.Job.{Job, JobAxis, axesOf, maskWhere}
 use Rattle.model.specs.Outcome.{Outcome, refuse, allReach, arrives, cellsNeeded, tableOver, filled, arrived, firstAxis, Tests, tested}
 
@@ -73,18 +74,18 @@ module _ (F : Axis → Axis) where
     row-mapped [] k = refl
     row-mapped (x ∷ l) k = ap₂ (λ (c r : List ℤ). c ++ r) (same k (x .axis)) (row-mapped l k)
 
-    table-mapped : (j : Job) → table Forwards (axesOf (mappedJob j)) n ≡ table Forwards (axesOf j) n
-    table-mapped j = ap (λ (f : ℕ → List ℤ). concat (tabulate f 0 (suc n))) (λ i k. row-mapped (j .axes) k i)
+    table-mapped : (o : Order) (j : Job) → table o (axesOf (mappedJob j)) n ≡ table o (axesOf j) n
+    table-mapped o j = ap (λ (f : ℕ → List ℤ). concat (tabulate f 0 (suc n))) (λ i k. row-mapped (j .axes) (rowAt o n k) i)
 
     axes-length : (l : List JobAxis) → length (map (λ x. x .axis) (mapped l)) ≡ length (map (λ x. x .axis) l)
     axes-length [] = refl
     axes-length (x ∷ l) = ap suc (axes-length l)
 
-    over-mapped : (j : Job) (lent : List ℤ) → tableOver Forwards (axesOf (mappedJob j)) n lent ≡ tableOver Forwards (axesOf j) n lent
-    over-mapped j lent = ap₂ (λ (t : List ℤ) (k : ℕ). t ++ drop (cellsNeeded k n) lent) (table-mapped j) (axes-length (j .axes))
+    pub over-mapped : (o : Order) (j : Job) (lent : List ℤ) → tableOver o (axesOf (mappedJob j)) n lent ≡ tableOver o (axesOf j) n lent
+    over-mapped o j lent = ap₂ (λ (t : List ℤ) (k : ℕ). t ++ drop (cellsNeeded k n) lent) (table-mapped o j) (axes-length (j .axes))
 
     pub filled-mapped : (j : Job) (lent : List ℤ) → filled (mappedJob j) n lent ≡ filled j n lent
-    filled-mapped j lent = λ i. by-room (ltb (length lent) (cellsNeeded (length-mapped (j .axes) i) n)) (over-mapped j lent i)
+    filled-mapped j lent = λ i. by-room (ltb (length lent) (cellsNeeded (length-mapped (j .axes) i) n)) (over-mapped Forwards j lent i)
       where
         by-room : Bool → List ℤ → Outcome
         by-room b cs =

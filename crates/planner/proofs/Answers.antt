@@ -1,5 +1,4 @@
--- The stage before refusal 10: what it hands on where it refuses and where it has found an arrival, and that it gives the answer of the
--- definitions with no table lent.
+-- The answer of the definitions with no table lent: 10 is read as acceptance.
 use Prim.Native.Nat.{ℕ, _≤_}
 use native.Mathlib.Omega.{arith}
 use mathlib.Core.Path.{_≡_, refl, sym, ap, ap₂, _∙_}
@@ -12,50 +11,17 @@ use Rattle.model.specs.declared.Answer.{Answer}
 use Rattle.model.specs.declared.Job as Typed
 use Rattle.model.specs.Job.{Job, jobOf}
 use Rattle.model.specs.Words.{Decoded, noMask, badWord, badLong, job, decode}
-use Rattle.model.specs.Refusals.{lastTick, AllPassed}
-use Rattle.model.specs.Outcome.{Outcome, Input, call, outcomeOf, refuse, filled, jobOutcome}
-use Rattle.model.specs.Outcome.{allReach, words, typed, jobRead, inputJob, beforeTen, answerOf}
+use Rattle.model.specs.Refusals.{lastTick}
+use Rattle.model.specs.Outcome.{Outcome, Input, call, outcomeOf}
+use Rattle.model.specs.Outcome.{words, typed, jobRead, inputJob, beforeTen, answerOf}
 use Rattle.model.specs.Verdict.{Verdict, refused3, refused4, refused12, refused5, refused15, refused6, refused16, refused17, refused13, refused8, refused9, refused10}
 use Rattle.model.specs.Verdict.{accepted, CallVerdict, words1, words2, words14, wordsJob, typed1, typedJobs}
 use Rattle.model.proofs.BeforeTen.{same-answer}
 use Rattle.model.proofs.CallVerdict.{call-verdict}
 use Rattle.words.specs.declared.DecodedJob.{DecodedJob}
 use Rattle.words.specs.Decoding.{decodedJob, Decodes}
-use Rattle.planner.specs.Stages.{Settled}
 use Rattle.planner.specs.Promise.{Answered}
 use Rattle.planner.proofs.Calls.{words-refused, words-passed}
-
--- ---- where the stage ends
-
-module _ (j : Job) (r : Answer) where
-  -- a refusal
-  pub settled-refused : (k p n : ℕ) → (k ≡ 0 → ⊥) → r ≡ record { number = k; place = p; mask = n; arrival = 0 }
-      → ((lent : List ℤ) → refuse k p n 0 lent ≡ jobOutcome j lent) → Settled j r
-  settled-refused k p n not-zero e is =
-      let number = ap (λ (s : Answer). s .number) e in
-      record {
-        refused = λ h lent. ap (λ (s : Answer). outcomeOf s lent) e ∙ is lent;
-        last = let a = ap (λ (s : Answer). s .arrival) e in omega arith;
-        found = λ z. absurd (not-zero (sym number ∙ z));
-        accepted = λ z. absurd (not-zero (sym number ∙ z));
-        passed = λ z. absurd (not-zero (sym number ∙ z));
-        reached = λ z. absurd (not-zero (sym number ∙ z));
-      }
-
-  -- an arrival that all axes reach
-  pub settled-found : (n : ℕ) → r ≡ record { number = 0; place = 0; mask = j .mask; arrival = n } → n ≤ lastTick
-      → AllPassed (j .axes) → allReach (j .axes) n ≡ true → ((lent : List ℤ) → filled j n lent ≡ jobOutcome j lent) → Settled j r
-  settled-found n e l p a is =
-      let arrival : r .arrival ≡ n = ap (λ (s : Answer). s .arrival) e in
-      let number = ap (λ (s : Answer). s .number) e in
-      record {
-        refused = λ h. absurd (h number);
-        last = omega arith;
-        found = λ z lent. ap (λ (k : ℕ). filled j k lent) arrival ∙ is lent;
-        accepted = λ z. e ∙ ap (λ (k : ℕ). record { number = 0; place = 0; mask = j .mask; arrival = k }) (sym arrival);
-        passed = λ z. p;
-        reached = λ z. ap (λ (k : ℕ). allReach (j .axes) k) arrival ∙ a;
-      }
 
 -- ---- the answer of the definitions: 10 is read as acceptance
 

@@ -1,30 +1,26 @@
--- The first refusal in checking order, each number over all axes before the next, is the least rank of all axes and the lowest axis that has it: `first-is`.
-use Prim.Native.Nat.{ℕ, zero, suc, _+_, _/_, _%_, _<_, _≤_}
+-- The first refusal in checking order, each number over all axes before the next, is the least rank of all axes, at the lowest axis that has it: `first-is`.
+use Prim.Native.Nat.{ℕ, zero, suc, _+_, _/_, _%_, _<_, _≤_, min, compare·suc-suc}
 use native.Mathlib.Omega.{arith}
-use mathlib.Core.Path.{_≡_, refl, sym, ap, _∙_}
+use mathlib.Core.Path.{_≡_, refl, sym, ap, ap₂, _∙_}
 use mathlib.Core.Bool.{Bool, true, false, cond}
 use mathlib.Core.Option.{Option, none, some}
 use mathlib.Core.Logic.{_⊎_, inl, inr}
-use Rattle.whole.proofs.Tests.{lt-or-le, true-T}
+use Rattle.whole.proofs.Tests.{lt-or-le}
 use mathlib.Core.List.{List, [], _∷_, map}
 use lib.ListN.{length, getD}
-use lib.Dec.{eqb, ltb, ltb→lt}
-use borrow.Author.Tests.{lt-ltb, le-ltb}
+use lib.Dec.{eqb, ltb, isEq}
+use borrow.Author.Tests.{lt-ltb, le-ltb, ne-eqb, eq-eqb}
 use Rattle.model.specs.declared.Axis.{Axis}
 use Rattle.model.specs.declared.Windows.{Windows}
 use Rattle.model.specs.Job.{JobAxis}
-use Rattle.model.specs.Outcome.{firstAxis, Tests, axisRefusals}
+use Rattle.model.specs.Outcome.{firstAxis, Tests}
 use Rattle.model.specs.Refusals.{limitsRefused, dampingRefused, blendRefused, swayRefused, valuesRefused, accelerationRefused, flyingRefused}
 use Rattle.motion.specs.Motions.{rankOf, firstRefused}
 use Rattle.arrival.proofs.SetAxes.{pick, from, axisAt, from-more, from-none}
 use Rattle.planner.specs.declared.Refusal.{Refusal}
-use Rattle.planner.specs.declared.Ranked.{Ranked}
-use Rattle.planner.specs.Stages.{windowRefusal, testsFor, firstRefusal, firstMet, lower, firstRanked, orEarlier, numberOf}
+use Rattle.planner.specs.Stages.{windowRefusal, testsFor, firstRefusal, firstMet, leastRank, lowestAxis, numberOf}
 
 -- ---- one test, and those after it
-
-up : Ranked → Ranked
-up r = record { rank = suc (r .rank); place = r .place }
 
 less-suc : (m n : ℕ) → ltb (suc m) (suc n) ≡ ltb m n
 less-suc m n = go (lt-or-le m n)
@@ -33,73 +29,99 @@ less-suc m n = go (lt-or-le m n)
     go (inl h) = lt-ltb (suc m) (suc n) (omega arith) ∙ sym (lt-ltb m n h)
     go (inr h) = le-ltb (suc m) (suc n) (omega arith) ∙ sym (le-ltb m n h)
 
+same-suc : (m n : ℕ) → eqb (suc m) (suc n) ≡ eqb m n
+same-suc m n = ap isEq (compare·suc-suc m n)
+
+-- the first axis that has a rank, axis by axis
+abbrev ranked-first : Tests → ℕ → List JobAxis → Option ℕ
+ranked-first ts k xs = firstAxis (λ x. eqb (firstMet ts x) k) xs
+
+abbrev one-more : JobAxis → Bool → Option ℕ → Option ℕ
+one-more x b o = elim b [ true ↦ some (x .number) | false ↦ o ]
+
 module _ (t : ℕ × (Axis → Bool)) (ts : Tests) where
-  -- the first test holds of an axis
-  met : (xs : List JobAxis) (i : ℕ) → firstAxis (t .1) xs ≡ some i → firstRanked (t ∷ ts) xs ≡ record { rank = 0; place = i }
+  -- the axes of rank 0 are those for which the first test holds
+  rank-zero : (xs : List JobAxis) → ranked-first (t ∷ ts) 0 xs ≡ firstAxis (t .1) xs
+  rank-zero [] = refl
+  rank-zero (x ∷ xs) = go (t .1 (x .axis)) (rank-zero xs)
+    where
+      go : (b : Bool) → ranked-first (t ∷ ts) 0 xs ≡ firstAxis (t .1) xs
+          → one-more x (eqb (cond b 0 (suc (firstMet ts (x .axis)))) 0) (ranked-first (t ∷ ts) 0 xs) ≡ one-more x b (firstAxis (t .1) xs)
+      go true h = refl
+      go false h =
+          ap (λ (c : Bool). one-more x c (ranked-first (t ∷ ts) 0 xs)) (ne-eqb (suc (firstMet ts (x .axis))) 0 (λ z. omega arith)) ∙ h
+
+  -- it holds of an axis
+  met : (xs : List JobAxis) (i : ℕ) → firstAxis (t .1) xs ≡ some i → leastRank (t ∷ ts) xs ≡ 0
   met [] i e = absurd (let z : _≡_ {A = ℕ} 0 1 = cc in omega arith)
   met (x ∷ xs) i e = go (t .1 (x .axis)) e (met xs i)
     where
-      go : (b : Bool) → _≡_ {A = Option ℕ} (elim b as (λ _. Option ℕ) [ true ↦ some (x .number) | false ↦ firstAxis (t .1) xs ]) (some i)
-          → (firstAxis (t .1) xs ≡ some i → firstRanked (t ∷ ts) xs ≡ record { rank = 0; place = i })
-          → lower (cond b 0 (suc (firstMet ts (x .axis)))) (x .number) (firstRanked (t ∷ ts) xs) ≡ record { rank = 0; place = i }
-      go true e h =
-          let n : x .number ≡ i = cc in
-          ap (λ (b : Bool). cond b (firstRanked (t ∷ ts) xs) (record { rank = 0; place = x .number })) (le-ltb (firstRanked (t ∷ ts) xs .rank) 0 (omega arith))
-          ∙ ap (λ (k : ℕ). record { rank = 0; place = k }) n
-      go false e h =
-          let k : ℕ = suc (firstMet ts (x .axis)) in
-          ap (lower (suc (firstMet ts (x .axis))) (x .number)) (h e)
-          ∙ ap (λ (b : Bool). cond b (record { rank = 0; place = i }) (record { rank = suc (firstMet ts (x .axis)); place = x .number })) (lt-ltb 0 k (omega arith))
+      go : (b : Bool) → one-more x b (firstAxis (t .1) xs) ≡ some i → (firstAxis (t .1) xs ≡ some i → leastRank (t ∷ ts) xs ≡ 0)
+          → min (cond b 0 (suc (firstMet ts (x .axis)))) (leastRank (t ∷ ts) xs) ≡ 0
+      go true e h = omega arith
+      go false e h = let z = h e in omega arith
 
-  -- it holds of none
-  not-met : (xs : List JobAxis) → firstAxis (t .1) xs ≡ none → firstRanked (t ∷ ts) xs ≡ up (firstRanked ts xs)
-  unfolding up
-  not-met [] e = refl
+  -- it holds of none: every rank is one more than among the other tests
+  not-met : (xs : List JobAxis) → firstAxis (t .1) xs ≡ none
+      → (leastRank (t ∷ ts) xs ≡ suc (leastRank ts xs)) × ((k : ℕ) → ranked-first (t ∷ ts) (suc k) xs ≡ ranked-first ts k xs)
+  not-met [] e = (refl, λ k. refl)
   not-met (x ∷ xs) e = go (t .1 (x .axis)) e (not-met xs)
     where
-      higher : (n i : ℕ) (r : Ranked) → lower (suc n) i (up r) ≡ up (lower n i r)
-      higher n i r = ap (λ (b : Bool). cond b (up r) (record { rank = suc n; place = i })) (less-suc (r .rank) n) ∙ by (ltb (r .rank) n)
-        where
-          by : (b : Bool) → cond b (up r) (record { rank = suc n; place = i }) ≡ up (cond b r (record { rank = n; place = i }))
-          by true = refl
-          by false = refl
-
-      go : (b : Bool) → _≡_ {A = Option ℕ} (elim b as (λ _. Option ℕ) [ true ↦ some (x .number) | false ↦ firstAxis (t .1) xs ]) none
-          → (firstAxis (t .1) xs ≡ none → firstRanked (t ∷ ts) xs ≡ up (firstRanked ts xs))
-          → lower (cond b 0 (suc (firstMet ts (x .axis)))) (x .number) (firstRanked (t ∷ ts) xs) ≡ up (lower (firstMet ts (x .axis)) (x .number) (firstRanked ts xs))
+      go : (b : Bool) → one-more x b (firstAxis (t .1) xs) ≡ none
+          → (firstAxis (t .1) xs ≡ none
+          → (leastRank (t ∷ ts) xs ≡ suc (leastRank ts xs)) × ((k : ℕ) → ranked-first (t ∷ ts) (suc k) xs ≡ ranked-first ts k xs))
+          → (min (cond b 0 (suc (firstMet ts (x .axis)))) (leastRank (t ∷ ts) xs) ≡ suc (min (firstMet ts (x .axis)) (leastRank ts xs)))
+          × ((k : ℕ) → one-more x (eqb (cond b 0 (suc (firstMet ts (x .axis)))) (suc k)) (ranked-first (t ∷ ts) (suc k) xs)
+          ≡ one-more x (eqb (firstMet ts (x .axis)) k) (ranked-first ts k xs))
       go true e h = absurd (let z : _≡_ {A = ℕ} 0 1 = cc in omega arith)
-      go false e h =
-          ap (lower (suc (firstMet ts (x .axis))) (x .number)) (h e) ∙ higher (firstMet ts (x .axis)) (x .number) (firstRanked ts xs)
+      go false e h = (
+        let l = h e .0 in omega arith,
+        λ k. ap₂ (one-more x) (same-suc (firstMet ts (x .axis)) k) (h e .1 k),
+      )
 
 -- ---- all tests
 
--- what comes of a rank in a list of tests
-abbrev pub ranked : Tests → Windows → Ranked → Refusal
-ranked ts w r = cond (ltb (r .rank) (length ts)) (record { number = getD (map (λ t. t .0) ts) (r .rank) 0; place = r .place }) (windowRefusal w)
+abbrev numbers : Tests → List ℕ
+numbers ts = map (λ t. t .0) ts
 
-pub first-is : (ts : Tests) (xs : List JobAxis) (w : Windows) → ranked ts w (firstRanked ts xs) ≡ firstRefusal ts xs w
-unfolding up
-first-is [] xs w = ap (λ (b : Bool). cond b (record { number = 0; place = firstRanked [] xs .place }) (windowRefusal w)) (le-ltb (firstRanked [] xs .rank) 0 (omega arith))
+-- what comes of a rank in a list of tests
+abbrev pub ranked : Tests → List JobAxis → Windows → ℕ → Refusal
+ranked ts xs w k = cond (ltb k (length ts)) (record { number = getD (numbers ts) k 0; place = lowestAxis ts k xs }) (windowRefusal w)
+
+abbrev placed : ℕ → Option ℕ → Refusal
+placed n o = record { number = n; place = elim o as (λ _. ℕ) [ some i ↦ i | none ↦ 0 ] }
+
+pub first-is : (ts : Tests) (xs : List JobAxis) (w : Windows) → ranked ts xs w (leastRank ts xs) ≡ firstRefusal ts xs w
+first-is [] xs w =
+    ap (λ (b : Bool). cond b (record { number = 0; place = lowestAxis [] (leastRank [] xs) xs }) (windowRefusal w)) (le-ltb (leastRank [] xs) 0 (omega arith))
 first-is (t ∷ ts) xs w = go (firstAxis (t .1) xs) refl (first-is ts xs w)
   where
-    go : (o : Option ℕ) → firstAxis (t .1) xs ≡ o → ranked ts w (firstRanked ts xs) ≡ firstRefusal ts xs w
-        → ranked (t ∷ ts) w (firstRanked (t ∷ ts) xs) ≡ (elim o as (λ _. Refusal) [ some i ↦ record { number = t .0; place = i } | none ↦ firstRefusal ts xs w ])
+    go : (o : Option ℕ) → firstAxis (t .1) xs ≡ o → ranked ts xs w (leastRank ts xs) ≡ firstRefusal ts xs w
+        → ranked (t ∷ ts) xs w (leastRank (t ∷ ts) xs)
+        ≡ (elim o as (λ _. Refusal) [ some i ↦ record { number = t .0; place = i } | none ↦ firstRefusal ts xs w ])
     go (some i) e h =
-        ap (ranked (t ∷ ts) w) (met t ts xs i e) ∙ ap (λ (b : Bool). cond b (record { number = t .0; place = i }) (windowRefusal w)) (lt-ltb 0 (suc (length ts)) (omega arith))
+        ap (ranked (t ∷ ts) xs w) (met t ts xs i e)
+        ∙ ap (λ (b : Bool). cond b (placed (t .0) (ranked-first (t ∷ ts) 0 xs)) (windowRefusal w)) (lt-ltb 0 (suc (length ts)) (omega arith))
+        ∙ ap (placed (t .0)) (rank-zero t ts xs ∙ e)
     go none e h =
-        let r = firstRanked ts xs in
-        ap (ranked (t ∷ ts) w) (not-met t ts xs e) ∙ ap (λ (b : Bool). cond b (record { number = getD (map (λ t. t .0) ts) (r .rank) 0; place = r .place }) (windowRefusal w)) (less-suc (r .rank) (length ts)) ∙ h
+        let k = leastRank ts xs in
+        let n = getD (numbers ts) k 0 in
+        let others = not-met t ts xs e in
+        ap (ranked (t ∷ ts) xs w) (others .0)
+        ∙ ap₂ (λ (b : Bool) (o : Option ℕ). cond b (placed n o) (windowRefusal w)) (less-suc k (length ts)) (others .1 k)
+        ∙ h
+
+pub least-few : (ts : Tests) (xs : List JobAxis) → leastRank ts xs ≤ length ts
+least-few ts [] = omega arith
+least-few ts (x ∷ xs) = let h = least-few ts xs in omega arith
 
 -- ---- the numbers in checking order
 
-abbrev pub numbers : List ℕ
-numbers = map (λ t. t .0) axisRefusals
-
-pub count-few : (resting : Bool) → length (testsFor resting) ≤ 7
+count-few : (resting : Bool) → length (testsFor resting) ≤ 7
 count-few true = omega arith
 count-few false = omega arith
 
-number-is : (resting : Bool) (k : ℕ) → k < length (testsFor resting) → getD numbers k 0 ≡ getD (map (λ t. t .0) (testsFor resting)) k 0
+number-is : (resting : Bool) (k : ℕ) → k < length (testsFor resting) → numberOf k ≡ getD (numbers (testsFor resting)) k 0
 number-is true k h = refl
 number-is false zero h = refl
 number-is false (suc zero) h = refl
@@ -109,47 +131,36 @@ number-is false (suc (suc (suc (suc zero)))) h = refl
 number-is false (suc (suc (suc (suc (suc zero))))) h = refl
 number-is false (suc (suc (suc (suc (suc (suc k)))))) h = absurd (omega arith)
 
--- no number is 0
-numbered : (k : ℕ) → k < 7 → getD numbers k 0 ≡ 0 → ⊥
-numbered zero h e = omega arith
-numbered (suc zero) h e = omega arith
-numbered (suc (suc zero)) h e = omega arith
-numbered (suc (suc (suc zero))) h e = omega arith
-numbered (suc (suc (suc (suc zero)))) h e = omega arith
-numbered (suc (suc (suc (suc (suc zero))))) h e = omega arith
-numbered (suc (suc (suc (suc (suc (suc zero)))))) h e = omega arith
-numbered (suc (suc (suc (suc (suc (suc (suc k))))))) h e = absurd (omega arith)
+pub rank-known : (resting : Bool) (count k : ℕ) → count ≡ length (testsFor resting) → k < count → k < 7
+rank-known resting count k all h = omega (arith, count-few resting)
 
--- a rank at which the walk has ended, whatever the windows are, with its number
-module _ (resting : Bool) (xs : List JobAxis) (f : Ranked) (n count : ℕ) (all : count ≡ length (testsFor resting)) (is : n ≡ numberOf (f .rank) count)
-    (ends : (w : Windows) → ranked (testsFor resting) w f ≡ firstRefusal (testsFor resting) xs w) where
-  pub some-refused : (n ≡ 0 → ⊥) → (w : Windows) → record { number = n; place = f .place } ≡ firstRefusal (testsFor resting) xs w
-  some-refused h w = go (lt-or-le (f .rank) count)
-    where
-      go : (f .rank < count) ⊎ (count ≤ f .rank) → record { number = n; place = f .place } ≡ firstRefusal (testsFor resting) xs w
-      go (inl l) =
-          ap (λ (k : ℕ). record { number = k; place = f .place })
-          (is ∙ ap (λ (b : Bool). cond b (getD numbers (f .rank) 0) 0) (lt-ltb (f .rank) count l) ∙ number-is resting (f .rank) (omega arith))
-          ∙ sym (ap (λ (b : Bool). cond b (record { number = getD (map (λ t. t .0) (testsFor resting)) (f .rank) 0; place = f .place }) (windowRefusal w))
-          (lt-ltb (f .rank) (length (testsFor resting)) (omega arith)))
-          ∙ ends w
-      go (inr l) = absurd (h (is ∙ ap (λ (b : Bool). cond b (getD numbers (f .rank) 0) 0) (le-ltb (f .rank) count l)))
+-- what a call comes to that knows the least rank, and how many tests there are
+module _ (resting : Bool) (xs : List JobAxis) (w : Windows) (count k : ℕ) (all : count ≡ length (testsFor resting))
+    (is : k ≡ leastRank (testsFor resting) xs) where
+  abbrev tests : Tests
+  tests = testsFor resting
 
-  pub none-refused : n ≡ 0 → (w : Windows) → windowRefusal w ≡ firstRefusal (testsFor resting) xs w
-  none-refused z w = go (lt-or-le (f .rank) count)
-    where
-      go : (f .rank < count) ⊎ (count ≤ f .rank) → windowRefusal w ≡ firstRefusal (testsFor resting) xs w
-      go (inl l) =
-          absurd (numbered (f .rank) (omega (arith, count-few resting))
-          (sym (ap (λ (b : Bool). cond b (getD numbers (f .rank) 0) 0) (lt-ltb (f .rank) count l)) ∙ sym is ∙ z))
-      go (inr l) =
-          sym (ap (λ (b : Bool). cond b (record { number = getD (map (λ t. t .0) (testsFor resting)) (f .rank) 0; place = f .place }) (windowRefusal w))
-          (le-ltb (f .rank) (length (testsFor resting)) (omega arith)))
-          ∙ ends w
+  ends : ranked tests xs w k ≡ firstRefusal tests xs w
+  ends = ap (ranked tests xs w) is ∙ first-is tests xs w
+
+  -- the number of the rank, and the lowest axis that has it
+  pub some-refused : k < count → (n i : ℕ) → n ≡ numberOf k → i ≡ lowestAxis tests k xs → record { number = n; place = i } ≡ firstRefusal tests xs w
+  some-refused l n i e f =
+      ap₂ (λ (m j : ℕ). record { number = m; place = j }) (e ∙ number-is resting k (omega arith)) f
+      ∙ sym (ap (λ (b : Bool). cond b (record { number = getD (numbers tests) k 0; place = lowestAxis tests k xs }) (windowRefusal w))
+      (lt-ltb k (length tests) (omega arith)))
+      ∙ ends
+
+  -- no axis is refused, and 13 comes next
+  pub none-refused : count ≤ k → windowRefusal w ≡ firstRefusal tests xs w
+  none-refused l =
+      sym (ap (λ (b : Bool). cond b (record { number = getD (numbers tests) k 0; place = lowestAxis tests k xs }) (windowRefusal w))
+      (le-ltb k (length tests) (omega arith)))
+      ∙ ends
 
 -- ---- axis by axis
 
-met-is : (resting : Bool) (x : Axis) → firstMet (testsFor resting) x ≡ firstRefused resting x
+pub met-is : (resting : Bool) (x : Axis) → firstMet (testsFor resting) x ≡ firstRefused resting x
 unfolding firstRefused
 met-is true x = go (limitsRefused x) (dampingRefused x) (blendRefused x) (swayRefused x) (valuesRefused x) (accelerationRefused x) (flyingRefused x)
   where
@@ -175,97 +186,56 @@ met-is false x = go (limitsRefused x) (dampingRefused x) (blendRefused x) (swayR
     go false false false false false true = refl
     go false false false false false false = refl
 
--- ---- the walk: what is found so far, and then the axes that are left
-
--- one axis more is what it was with that axis among those that are left
-module _ (f r : Ranked) (k i : ℕ) where
-  abbrev own : Ranked
-  own = record { rank = k; place = i }
-
-  abbrev sooner : Ranked
-  sooner = cond (ltb k (f .rank)) own f
-
-  left : (b c : Bool) → ltb (r .rank) k ≡ b → ltb (cond b r own .rank) (f .rank) ≡ c → lower (f .rank) (f .place) (lower k i r) ≡ cond c (cond b r own) f
-  left b c e h =
-      ap (λ (z : Bool). lower (f .rank) (f .place) (cond z r own)) e ∙ ap (λ (z : Bool). cond z (cond b r own) f) h
-
-  right : (b c : Bool) → ltb k (f .rank) ≡ b → ltb (r .rank) (cond b own f .rank) ≡ c → lower (sooner .rank) (sooner .place) r ≡ cond c r (cond b own f)
-  right true c e h =
-      ap (λ (z : Bool). lower (cond z own f .rank) (cond z own f .place) r) e ∙ ap (λ (z : Bool). cond z r own) h
-  right false c e h =
-      ap (λ (z : Bool). lower (cond z own f .rank) (cond z own f .place) r) e ∙ ap (λ (z : Bool). cond z r f) h
-
-  joined : lower (f .rank) (f .place) (lower k i r) ≡ lower (sooner .rank) (sooner .place) r
-  joined = go (lt-or-le k (f .rank)) (lt-or-le (r .rank) k) (lt-or-le (r .rank) (f .rank))
-    where
-      go : (k < f .rank) ⊎ (f .rank ≤ k) → (r .rank < k) ⊎ (k ≤ r .rank) → (r .rank < f .rank) ⊎ (f .rank ≤ r .rank)
-          → lower (f .rank) (f .place) (lower k i r) ≡ lower (sooner .rank) (sooner .place) r
-      go (inl a) (inl b) d =
-          left true true (lt-ltb (r .rank) k b) (lt-ltb (r .rank) (f .rank) (omega arith)) ∙ sym (right true true (lt-ltb k (f .rank) a) (lt-ltb (r .rank) k b))
-      go (inl a) (inr b) d =
-          left false true (le-ltb (r .rank) k b) (lt-ltb k (f .rank) a) ∙ sym (right true false (lt-ltb k (f .rank) a) (le-ltb (r .rank) k b))
-      go (inr a) (inl b) (inl d) =
-          left true true (lt-ltb (r .rank) k b) (lt-ltb (r .rank) (f .rank) d) ∙ sym (right false true (le-ltb k (f .rank) a) (lt-ltb (r .rank) (f .rank) d))
-      go (inr a) (inl b) (inr d) =
-          left true false (lt-ltb (r .rank) k b) (le-ltb (r .rank) (f .rank) d) ∙ sym (right false false (le-ltb k (f .rank) a) (le-ltb (r .rank) (f .rank) d))
-      go (inr a) (inr b) d =
-          left false false (le-ltb (r .rank) k b) (le-ltb k (f .rank) a) ∙ sym (right false false (le-ltb k (f .rank) a) (le-ltb (r .rank) (f .rank) (omega arith)))
-
--- no rank before a rank
-none-first : (ts : Tests) (w : Windows) (count : ℕ) (r : Ranked) → count ≡ length ts → ranked ts w (lower count 0 r) ≡ ranked ts w r
-none-first ts w count r all = go (lt-or-le (r .rank) count)
-  where
-    go : (r .rank < count) ⊎ (count ≤ r .rank) → ranked ts w (lower count 0 r) ≡ ranked ts w r
-    go (inl l) = ap (λ (b : Bool). ranked ts w (cond b r (record { rank = count; place = 0 }))) (lt-ltb (r .rank) count l)
-    go (inr l) =
-        ap (λ (b : Bool). ranked ts w (cond b r (record { rank = count; place = 0 }))) (le-ltb (r .rank) count l)
-        ∙ ap (λ (b : Bool). cond b (record { number = getD (map (λ t. t .0) ts) count 0; place = 0 }) (windowRefusal w)) (le-ltb count (length ts) (omega arith))
-        ∙ sym (ap (λ (b : Bool). cond b (record { number = getD (map (λ t. t .0) ts) (r .rank) 0; place = r .place }) (windowRefusal w))
-        (le-ltb (r .rank) (length ts) (omega arith)))
-
 module _ (resting : Bool) (six : List Axis) where
-  -- what is found so far and the axes from number i on, m being the bits from there on
-  abbrev pub foundOn : Ranked → ℕ → ℕ → Ranked
-  foundOn f i m = lower (f .rank) (f .place) (firstRanked (testsFor resting) (from i m six))
+  -- the axes from number i on, m being the bits from there on
+  abbrev pub leastOn : ℕ → ℕ → ℕ
+  leastOn i m = leastRank (testsFor resting) (from i m six)
 
-  pub axis-found : (i m : ℕ) (f g : Ranked) → i < length six → g ≡ orEarlier resting m i (axisAt six i) f → foundOn g (i + 1) (m / 2) ≡ foundOn f i m
-  unfolding orEarlier
-  axis-found i m f g h e =
-      ap (λ (q : Ranked). foundOn q (i + 1) (m / 2)) e
-      ∙ go (eqb (m % 2) 1)
-      ∙ sym (ap (λ (xs : List JobAxis). lower (f .rank) (f .place) (firstRanked (testsFor resting) xs)) (from-more i m six h))
-    where
-      go : (b : Bool) → foundOn (cond b (cond (ltb (firstRefused resting (axisAt six i)) (f .rank)) (record { rank = firstRefused resting (axisAt six i); place = i }) f) f) (i + 1) (m / 2)
-          ≡ lower (f .rank) (f .place) (firstRanked (testsFor resting) (pick b i (axisAt six i) (from (i + 1) (m / 2) six)))
-      go true =
-          sym (joined f (firstRanked (testsFor resting) (from (i + 1) (m / 2) six)) (firstRefused resting (axisAt six i)) i)
-          ∙ ap (λ (n : ℕ). lower (f .rank) (f .place) (lower n i (firstRanked (testsFor resting) (from (i + 1) (m / 2) six)))) (sym (met-is resting (axisAt six i)))
-      go false = refl
+  least-more : (i m : ℕ) → i < length six → (b : Bool) → eqb (m % 2) 1 ≡ b
+      → leastOn i m ≡ leastRank (testsFor resting) (pick b i (axisAt six i) (from (i + 1) (m / 2) six))
+  least-more i m h b e =
+      ap (leastRank (testsFor resting)) (from-more i m six h ∙ ap (λ (c : Bool). pick c i (axisAt six i) (from (i + 1) (m / 2) six)) e)
 
-  -- before the first axis nothing is found, and 13 comes where no axis has a rank
-  pub none-found : (count m : ℕ) (f : Ranked) → count ≡ length (testsFor resting) → f ≡ record { rank = count; place = 0 } → (w : Windows)
-      → ranked (testsFor resting) w (foundOn f 0 m) ≡ firstRefusal (testsFor resting) (from 0 m six) w
-  none-found count m f all e w =
-      ap (λ (q : Ranked). ranked (testsFor resting) w (foundOn q 0 m)) e
-      ∙ none-first (testsFor resting) w count (firstRanked (testsFor resting) (from 0 m six)) all
-      ∙ first-is (testsFor resting) (from 0 m six) w
+  pub least-named : (i m : ℕ) → i < length six → m % 2 ≡ 1 → leastOn i m ≡ min (firstRefused resting (axisAt six i)) (leastOn (i + 1) (m / 2))
+  least-named i m h e =
+      least-more i m h true (eq-eqb (m % 2) 1 e) ∙ ap (λ (k : ℕ). min k (leastOn (i + 1) (m / 2))) (met-is resting (axisAt six i))
 
-  -- after the last axis it is the first refusal
-  pub all-found : (i m : ℕ) (f : Ranked) → length six ≤ i → f .rank ≤ length (testsFor resting) → foundOn f i m ≡ f
-  all-found i m f h l =
-      ap (λ (xs : List JobAxis). lower (f .rank) (f .place) (firstRanked (testsFor resting) xs)) (from-none i m six h)
-      ∙ ap (λ (b : Bool). cond b (record { rank = length (testsFor resting); place = 0 }) f) (le-ltb (length (testsFor resting)) (f .rank) l)
+  pub least-unnamed : (i m : ℕ) → i < length six → (m % 2 ≡ 1 → ⊥) → leastOn i m ≡ leastOn (i + 1) (m / 2)
+  least-unnamed i m h e = least-more i m h false (ne-eqb (m % 2) 1 e)
 
--- a rank is never more than it was
-pub not-higher : (resting : Bool) (m i : ℕ) (x : Axis) (f g : Ranked) → g ≡ orEarlier resting m i x f → g .rank ≤ f .rank
-unfolding orEarlier
-not-higher resting m i x f g e =
-    omega (arith, ap (λ (q : Ranked). q .rank) e, go (eqb (m % 2) 1) (ltb (firstRefused resting x) (f .rank)) (ltb-or (firstRefused resting x) (f .rank)))
-  where
-    go : (b c : Bool) → (c ≡ true → firstRefused resting x ≤ f .rank) → cond b (cond c (record { rank = firstRefused resting x; place = i }) f) f .rank ≤ f .rank
-    go true true l = l refl
-    go true false l = omega arith
-    go false c l = omega arith
+  pub least-none : (i m : ℕ) → length six ≤ i → leastOn i m ≡ length (testsFor resting)
+  least-none i m h = ap (leastRank (testsFor resting)) (from-none i m six h)
 
-    ltb-or : (a b : ℕ) → ltb a b ≡ true → a ≤ b
-    ltb-or a b t = let h = ltb→lt a b (true-T t) in omega arith
+  module _ (k : ℕ) where
+    abbrev pub lowestOn : ℕ → ℕ → ℕ
+    lowestOn i m = lowestAxis (testsFor resting) k (from i m six)
+
+    lowest-more : (i m : ℕ) → i < length six → (b : Bool) → eqb (m % 2) 1 ≡ b
+        → lowestOn i m ≡ lowestAxis (testsFor resting) k (pick b i (axisAt six i) (from (i + 1) (m / 2) six))
+    lowest-more i m h b e =
+        ap (lowestAxis (testsFor resting) k) (from-more i m six h ∙ ap (λ (q : Bool). pick q i (axisAt six i) (from (i + 1) (m / 2) six)) e)
+
+    by-rank : ℕ → List JobAxis → Bool → ℕ
+    by-rank i xs b =
+        elim (elim b as (λ _. Option ℕ) [ true ↦ some i | false ↦ ranked-first (testsFor resting) k xs ]) as (λ _. ℕ) [ some j ↦ j | none ↦ 0 ]
+
+    lowest-named : (i m : ℕ) → i < length six → m % 2 ≡ 1 → (b : Bool) → eqb (firstRefused resting (axisAt six i)) k ≡ b
+        → lowestOn i m ≡ by-rank i (from (i + 1) (m / 2) six) b
+    unfolding by-rank
+    lowest-named i m h e b f =
+        lowest-more i m h true (eq-eqb (m % 2) 1 e)
+        ∙ ap (by-rank i (from (i + 1) (m / 2) six)) (ap (λ (n : ℕ). eqb n k) (met-is resting (axisAt six i)) ∙ f)
+
+    pub lowest-here : (i m : ℕ) → i < length six → m % 2 ≡ 1 → eqb (firstRefused resting (axisAt six i)) k ≡ true → lowestOn i m ≡ i
+    unfolding by-rank
+    lowest-here i m h e f = lowest-named i m h e true f
+
+    pub lowest-later : (i m : ℕ) → i < length six → m % 2 ≡ 1 → eqb (firstRefused resting (axisAt six i)) k ≡ false → lowestOn i m ≡ lowestOn (i + 1) (m / 2)
+    unfolding by-rank
+    lowest-later i m h e f = lowest-named i m h e false f
+
+    pub lowest-unnamed : (i m : ℕ) → i < length six → (m % 2 ≡ 1 → ⊥) → lowestOn i m ≡ lowestOn (i + 1) (m / 2)
+    lowest-unnamed i m h e = lowest-more i m h false (ne-eqb (m % 2) 1 e)
+
+    pub lowest-none : (i m : ℕ) → length six ≤ i → lowestOn i m ≡ 0
+    lowest-none i m h = ap (lowestAxis (testsFor resting) k) (from-none i m six h)

@@ -15,17 +15,17 @@ use Rattle.model.specs.declared.Answer.{Answer}
 use Rattle.model.specs.declared.Order.{Order}
 use Rattle.model.specs.declared.Order.the-variants.{Forwards, Backwards}
 use Rattle.model.specs.declared.Windows.{Windows}
-use Rattle.model.specs.Job.{Job, JobAxis, setBits, setAxes, axesOf, typedJob, jobWith, byHand, axesByHand}
+use Rattle.model.specs.Job.{Job, JobAxis, setBits, setAxes, axesOf, typedJob, jobWith, byHand, axesByHand, jobByHand}
 use Rattle.model.specs.Refusals.{lastTick, AllPassed}
 use Rattle.model.specs.Outcome.{accept, Outcome, outcomeOf, refuse, allReach, leastFrom, arrives, cellsNeeded, tableOver, filled, arrived, jobOutcome, ordered}
 use Rattle.arrival.specs.declared.Arrival.{Arrival}
 use Rattle.arrival.specs.Arrivals.{leastOr, askedOr, arrivalFor}
 use Rattle.arrival.proofs.SetAxes.{six-axes-bits, six-bits}
 use Rattle.model.proofs.Ordered.{refusal-stays}
-use Rattle.model.proofs.ByHand.{set-by-hand, passed-by-hand, reach-by-hand, filled-by-hand, arrived-by-hand}
+use Rattle.model.proofs.ByHand.{set-by-hand, passed-by-hand, reach-by-hand, ordered-by-hand, arrived-by-hand}
 use Rattle.planner.specs.declared.Refusal.{Refusal}
 use Rattle.planner.specs.Promise.{Fitted}
-use Rattle.planner.specs.Stages.{checkedFor, filledIn, Gives}
+use Rattle.planner.specs.Stages.{checkedFor, arrivedIn, filledIn, Gives}
 use Rattle.planner.proofs.Checks.{afterChecks, checks-are}
 
 -- ---- where a stage ends a call
@@ -77,21 +77,15 @@ module _ (m asked : ℕ) (axes given : List Axis) (w : Windows) (is : given ≡ 
   pub given-passed : AllPassed (setAxes 0 m axes) → AllPassed (setAxes 0 m given)
   given-passed p = subst AllPassed (sym axes-given) (passed-by-hand (setAxes 0 m axes) p)
 
-  pub given-arrives : (lent : List ℤ) → arrived (jobWith m asked given w) asked lent ≡ arrived (jobWith m asked axes w) asked lent
-  given-arrives lent =
-      ap (λ (l : List JobAxis). arrived (record { mask = m; asked = asked; axes = l; windows = w }) asked lent) axes-given
-      ∙ arrived-by-hand (jobWith m asked axes w) asked lent
-
-  pub given-filled : (n : ℕ) (lent : List ℤ) → filled (jobWith m asked given w) n lent ≡ filled (jobWith m asked axes w) n lent
-  given-filled n lent =
-      ap (λ (l : List JobAxis). filled (record { mask = m; asked = asked; axes = l; windows = w }) n lent) axes-given
-      ∙ filled-by-hand (jobWith m asked axes w) n lent
+  pub given-arrives : (o : Order) (lent : List ℤ) → arrivedIn o (jobWith m asked given w) lent ≡ arrivedIn o (jobWith m asked axes w) lent
+  given-arrives o lent =
+      let j = jobWith m asked axes w in
+      ap (λ (l : List JobAxis). arrivedIn o (record { mask = m; asked = asked; axes = l; windows = w }) lent) axes-given
+      ∙ ordered-by-hand o j lent (arrived (jobByHand j) asked lent)
+      ∙ ap (λ (r : Outcome). ordered o (axesOf j) lent r) (arrived-by-hand j asked lent)
 
   pub given-reaches : (n : ℕ) → allReach (setAxes 0 m given) n ≡ allReach (setAxes 0 m axes) n
   given-reaches n = ap (λ (l : List JobAxis). allReach l n) axes-given ∙ reach-by-hand (setAxes 0 m axes) n
-
-  pub given-reached : (n : ℕ) → allReach (setAxes 0 m given) n ≡ true → allReach (setAxes 0 m axes) n ≡ true
-  given-reached n e = sym (given-reaches n) ∙ e
 
 -- ---- after the arrival
 

@@ -13,7 +13,7 @@ check-requires c κs = search needs
 returns-2 : tie.Need-returns-2
 returns-2 c =
     let a = c .before .before .before .before .args in
-    c .check .ensures .refusal ∙ asked-in-time (a .job) (c .before .before .before .if1 .left)
+    c .check .ensures ∙ asked-in-time (a .job) (c .before .before .before .if1 .left)
 
 pub refusal-spec : {M : Type 1} → statement M
 refusal-spec = tie.close (tie.spec returns check-requires returns-2)
