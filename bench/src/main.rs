@@ -5,7 +5,8 @@
 //!     cargo run --release --offline
 //!
 //! Every time is processor time, the least of some batches; a difference is that of the fastest round. The batches of
-//! all sides alternate. One table is lent to all calls and is not cleared between them: an accepted call writes every
+//! all sides alternate, and each round of them runs at another depth of the stack, whose beginning the system draws by
+//! lot for each process: a copy takes longer where it falls across lines of the cache. One table is lent to all calls and is not cleared between them: an accepted call writes every
 //! cell of its table, whatever stood there.
 
 mod budgets;
@@ -65,6 +66,15 @@ fn now() -> f64 {
 /// lent.
 type Round<const N: usize> = [[f64; 3]; N];
 
+/// Makes a call some frames further down the stack.
+#[inline(never)]
+fn deeper<T>(frames: usize, call: &mut dyn FnMut() -> T) -> T {
+    let frame = black_box([0u8; 16]);
+    let result = if frames == 0 { call() } else { deeper(frames - 1, call) };
+    black_box(frame);
+    result
+}
+
 /// The rounds of some calls. A call is a job and how many cells it is lent. The batches of all calls alternate, so that a
 /// disturbance does not fall on one of them alone.
 fn rounds<const N: usize>(calls: [(&Job, usize); N]) -> Vec<Round<N>> {
@@ -82,7 +92,7 @@ fn rounds<const N: usize>(calls: [(&Job, usize); N]) -> Vec<Round<N>> {
             [proved, plain, lending]
         })
     };
-    (0..count).map(|_| round()).collect()
+    (0..count).map(|depth| deeper(depth, &mut round)).collect()
 }
 
 /// The least time of each call.

@@ -56,10 +56,9 @@ loop-again c =
     record {
       low = omega arith;
       six = l .inv .six;
-      long = length-set (l .given) (l .i) (r .result) ∙ l .inv .long;
-      stored =
-          stored-next byHand axes unsetAxis (l .given) (l .i) (r .result) (omega (arith, l .inv .six)) (omega (arith, l .inv .long)) put (l .inv .stored);
-      kept = λ j h. getD-set-other (l .given) (l .i) j (r .result) unsetAxis (λ q. omega arith) ∙ l .inv .kept j (omega arith);
+      long = length-set (l .given) (l .i) _ ∙ l .inv .long;
+      stored = stored-next byHand axes unsetAxis (l .given) (l .i) _ (omega (arith, l .inv .six)) (omega (arith, l .inv .long)) put (l .inv .stored);
+      kept = λ j h. getD-set-other (l .given) (l .i) j _ unsetAxis (λ q. omega arith) ∙ l .inv .kept j (omega arith);
     }
 
 returns : tie.Need-returns Inv-loop μ-loop
