@@ -177,7 +177,10 @@ in-order : (w : Windows) → refused13 w ≡ none → w .given ≡ true → firs
 in-order w e t = by-given (w .given) t e
   where
     by-count : (a b : Bool)
-        → _≡_ {A = Option ℕ} (elim a as (λ _. Option ℕ) [ true ↦ some 0 | false ↦ elim b as (λ _. Option ℕ) [ true ↦ firstWrong 0 0 (brought w) | false ↦ some 32 ] ]) none
+        → _≡_ {A = Option ℕ} (elim a as (λ _. Option ℕ) [
+          | true ↦ some 0
+          | false ↦ elim b as (λ _. Option ℕ) [ true ↦ firstWrong 0 0 (brought w) | false ↦ some 32 ]
+        ]) none
         → firstWrong 0 0 (brought w) ≡ none
     by-count true b e = absurd (none-some (sym e))
     by-count false true e = e

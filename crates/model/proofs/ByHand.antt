@@ -61,7 +61,9 @@ set-by-hand i m (x ∷ xs) = go (eqb (m % 2) 1) (set-by-hand (suc i) (m / 2) xs)
         → (elim b as (λ _. List JobAxis) [
           | true ↦ record { number = i; axis = byHand x } ∷ setAxes (suc i) (m / 2) (map byHand xs)
           | false ↦ setAxes (suc i) (m / 2) (map byHand xs)
-        ]) ≡ axesByHand (elim b as (λ _. List JobAxis) [ true ↦ record { number = i; axis = x } ∷ setAxes (suc i) (m / 2) xs | false ↦ setAxes (suc i) (m / 2) xs ])
+        ])
+        ≡ axesByHand
+        (elim b as (λ _. List JobAxis) [ true ↦ record { number = i; axis = x } ∷ setAxes (suc i) (m / 2) xs | false ↦ setAxes (suc i) (m / 2) xs ])
     go true h = ap (λ (l : List JobAxis). record { number = i; axis = byHand x } ∷ l) h
     go false h = h
 

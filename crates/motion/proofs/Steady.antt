@@ -117,7 +117,9 @@ module _ (x : Axis) where
     allowed = not-false-T (restAllowed x (x .start) && targetAllowed x (x .target)) (passed .values)
 
     pub start-slow : natAbs (startVelocity x) ≤ speedSteps x
-    start-slow = grid-slow (finer x) (x .start .velocity) (speedLimit x) (rest-slow x (x .start) (left (restAllowed x (x .start)) (targetAllowed x (x .target)) allowed))
+    start-slow =
+        let rest = left (restAllowed x (x .start)) (targetAllowed x (x .target)) allowed in
+        grid-slow (finer x) (x .start .velocity) (speedLimit x) (rest-slow x (x .start) rest)
 
     pub speed-slow : natAbs (speedOf (x .target)) ≤ speedLimit x
     speed-slow = target-slow x (x .target) (right (restAllowed x (x .start)) (targetAllowed x (x .target)) allowed)

@@ -32,7 +32,9 @@ all-numbered = lacks 0 axisRefusals refl
 clear : (ts : Tests) (xs : List JobAxis) (w : Windows) → Lacks 0 ts → firstRefusal ts xs w .number ≡ 0 → Clear ts xs w
 clear [] xs w n z = go (refused13 w) z
   where
-    go : (o : Option ℕ) → (elim o as (λ _. Refusal) [ some p ↦ record { number = 13; place = p } | none ↦ record { number = 0; place = 0 } ]) .number ≡ 0 → o ≡ none
+    go : (o : Option ℕ)
+        → (elim o as (λ _. Refusal) [ some p ↦ record { number = 13; place = p } | none ↦ record { number = 0; place = 0 } ]) .number ≡ 0
+        → o ≡ none
     go (some p) z = absurd (omega arith)
     go none z = refl
 clear (t ∷ ts) xs w (n, ns) z = go (firstAxis (t .1) xs) refl z (clear ts xs w ns)

@@ -151,7 +151,13 @@ six-is d l e = ext-getD d l (getD l 0 d ∷ getD l 1 d ∷ getD l 2 d ∷ getD l
     go (suc (suc (suc (suc (suc (suc i)))))) h = absurd (omega arith)
 
 pub six-legs : (t : TourSettings) (here there : List ℤ) → length (t .limits) ≡ 6 → length here ≡ 6 → length there ≡ 6
-    → legAxisAt t here there 0 ∷ legAxisAt t here there 1 ∷ legAxisAt t here there 2 ∷ legAxisAt t here there 3 ∷ legAxisAt t here there 4 ∷ legAxisAt t here there 5 ∷ []
+    → legAxisAt t here there 0
+    ∷ legAxisAt t here there 1
+    ∷ legAxisAt t here there 2
+    ∷ legAxisAt t here there 3
+    ∷ legAxisAt t here there 4
+    ∷ legAxisAt t here there 5
+    ∷ []
     ≡ legAxes (t .limits) here there
 six-legs t here there l p q =
     sym ((λ j. legAxes (six-is noLimits (t .limits) l j) (six-is (pos 0) here p j) (six-is (pos 0) there q j)))

@@ -86,6 +86,7 @@ module _ (t : TourSettings) (count : ℕ) (stops : List Stop) (lent : List ℕ) 
             → record { number = 0; place = 0; mask = g .mask; arrival = 0; total = g .total; arrivals = take count (g .arrivals) ++ drop count lent } ≡ answered
         unfolding by-room by-zero
         list-written n =
-            sym (ap (λ (b : Bool). record { number = 0; place = 0; mask = g .mask; arrival = 0; total = g .total; arrivals = by-zero b ++ drop count lent }) (eq-eqb (g .number) 0 z))
+            sym (ap (λ (b : Bool). record { number = 0; place = 0; mask = g .mask; arrival = 0; total = g .total; arrivals = by-zero b ++ drop count lent })
+            (eq-eqb (g .number) 0 z))
             ∙ sym (ap by-room (le-ltb (length lent) count n))
             ∙ legs-made

@@ -13,7 +13,8 @@ use borrow.Author.Tests.{eqb-true, eqb-false}
 use Rattle.model.specs.declared.Answer.{Answer}
 use Rattle.model.specs.declared.Stop.{Stop}
 use Rattle.model.specs.declared.TourSettings.{TourSettings}
-use Rattle.model.specs.Tour.{Legs, TourOutcome, legJob, legAnswer, legsFrom, refusedLeg, refuseTour, arrivalsOver, afterLegs, firstLongDwell, dwellsChecked, stopsChecked, mostStops, tourOutcome}
+use Rattle.model.specs.Tour.{Legs, TourOutcome, legJob, legAnswer, legsFrom, refusedLeg, refuseTour, arrivalsOver, afterLegs}
+use Rattle.model.specs.Tour.{firstLongDwell, dwellsChecked, stopsChecked, mostStops, tourOutcome}
 use Rattle.stops.specs.Rows.{noStop}
 use Rattle.stops.specs.Promise.{leavesFrom, departsAt, legTo, LegPlanned}
 use Rattle.model.specs.Outcome.{typed}
@@ -59,7 +60,8 @@ module _ (t : TourSettings) where
 
   -- ---- by index; the lent list has the arrivals in front
 
-  at : (ss : List Stop) (n : ℕ) (here : List ℤ) (m e : List ℕ) (total : ℕ) → Plan t ss n here m total → (i : ℕ) → i < length ss → LegPlanned t here n ss (m ++ e) i
+  at : (ss : List Stop) (n : ℕ) (here : List ℤ) (m e : List ℕ) (total : ℕ) → Plan t ss n here m total
+      → (i : ℕ) → i < length ss → LegPlanned t here n ss (m ++ e) i
   at [] n here m e total p i h = absurd (omega arith)
   at (s ∷ ss) n here m e total (z, (m', (q, p))) zero h =
       record {
@@ -88,7 +90,9 @@ module _ (t : TourSettings) where
       first : ℕ
       first = n + legAnswer t here (s .positions) .arrival + s .dwell
 
-      next : (us : List Stop) → departsAt first us (m' ++ e) (length us) ≡ departsAt n (s ∷ us) (((n + legAnswer t here (s .positions) .arrival) ∷ m') ++ e) (suc (length us))
+      next : (us : List Stop)
+          → departsAt first us (m' ++ e) (length us)
+          ≡ departsAt n (s ∷ us) (((n + legAnswer t here (s .positions) .arrival) ∷ m') ++ e) (suc (length us))
       next [] = refl
       next (u ∷ us) = refl
 
@@ -125,7 +129,10 @@ module _ (t : TourSettings) (lent : List ℕ) where
           (r .0, (ap (λ (l : List ℕ). l ++ drop (length stops) lent) (r .1 .0), r .1 .1))
 
       by-legs : (b : Bool) → eqb (g .number) 0 ≡ b
-          → (elim b as (λ _. TourOutcome) [ true ↦ arrivalsOver (length stops) g lent | false ↦ refuseTour (g .number) (g .place) (g .mask) (g .arrival) lent ]) .number ≡ 0
+          → (elim b as (λ _. TourOutcome) [
+            | true ↦ arrivalsOver (length stops) g lent
+            | false ↦ refuseTour (g .number) (g .place) (g .mask) (g .arrival) lent
+          ]) .number ≡ 0
           → Accepted stops (elim b [ true ↦ arrivalsOver (length stops) g lent | false ↦ refuseTour (g .number) (g .place) (g .mask) (g .arrival) lent ])
       by-legs true e z = by-room (ltb (length lent) (length stops)) (eqb-true (g .number) 0 e) z
       by-legs false e z = absurd (eqb-false (g .number) 0 e z)
@@ -135,7 +142,8 @@ module _ (t : TourSettings) (lent : List ℕ) where
       by-dwell (some i) z = absurd (omega arith)
       by-dwell none z = by-legs (eqb (g .number) 0) refl z
 
-      by-most : (b : Bool) → (elim b as (λ _. TourOutcome) [ true ↦ dwellsChecked t (length stops) stops lent | false ↦ refuseTour 11 mostStops 0 0 lent ]) .number ≡ 0
+      by-most : (b : Bool)
+          → (elim b as (λ _. TourOutcome) [ true ↦ dwellsChecked t (length stops) stops lent | false ↦ refuseTour 11 mostStops 0 0 lent ]) .number ≡ 0
           → Accepted stops (elim b [ true ↦ dwellsChecked t (length stops) stops lent | false ↦ refuseTour 11 mostStops 0 0 lent ])
       by-most true z = by-dwell (firstLongDwell 0 stops) z
       by-most false z = absurd (omega arith)

@@ -79,7 +79,8 @@ module _ (t : TourSettings) (entry : List ℕ) (r : TourAnswer) (exit : List ℕ
       go true e =
           let few = leb-true (w .lent) 64 e in
           let none : 0 ≡ w .lent - 64 = omega arith in
-          ap (λ (f : List Stop). tourBy t (w .lent) f entry) (sym (append-nil (take (w .lent) (w .stops))) ∙ ap (λ (k : ℕ). take (w .lent) (w .stops) ++ replicate k noStop) none)
+          ap (λ (f : List Stop). tourBy t (w .lent) f entry)
+          (sym (append-nil (take (w .lent) (w .stops))) ∙ ap (λ (k : ℕ). take (w .lent) (w .stops) ++ replicate k noStop) none)
       go false e = many (w .lent) (take (w .lent) (w .stops)) (rowStops w) (leb-false (w .lent) 64 e)
 
   pub row-promise : (w : StopRow) → length (w .stops) ≡ 64

@@ -19,7 +19,8 @@ module _ (count : ℕ) (list : List Window) (dwell : ℕ) where
   none-brought e = sym (ap (λ (a : Bool). by a (leb count 32 && leb dwell 4096)) (eq-eqb count 0 e))
 
   module _ (some-brought : count ≡ 0 → ⊥) where
-    tested : (a b : Bool) → leb count 32 ≡ a → leb dwell 4096 ≡ b → by false (a && b) ≡ windowsRefused (record { given = true; dwell = dwell; count = count; list = list })
+    tested : (a b : Bool) → leb count 32 ≡ a → leb dwell 4096 ≡ b
+        → by false (a && b) ≡ windowsRefused (record { given = true; dwell = dwell; count = count; list = list })
     unfolding by
     tested a b e f = sym (ap₂ (λ (c d : Bool). by c d) (ne-eqb count 0 some-brought) (ap₂ (λ (c d : Bool). c && d) e f))
 
@@ -31,6 +32,7 @@ module _ (count : ℕ) (list : List Window) (dwell : ℕ) where
     unfolding by
     too-long h k = tested true false (le-leb count 32 h) (lt-leb dwell 4096 k)
 
-    pub one-by-one : count ≤ 32 → dwell ≤ 4096 → firstWrong 0 0 (take count list) ≡ windowsRefused (record { given = true; dwell = dwell; count = count; list = list })
+    pub one-by-one : count ≤ 32 → dwell ≤ 4096
+        → firstWrong 0 0 (take count list) ≡ windowsRefused (record { given = true; dwell = dwell; count = count; list = list })
     unfolding by
     one-by-one h k = tested true true (le-leb count 32 h) (le-leb dwell 4096 k)

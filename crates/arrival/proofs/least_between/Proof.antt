@@ -4,7 +4,8 @@ use mathlib.Core.Path.{_≡_}
 use lib.ListN.{length}
 use Rattle.model.specs.Outcome.{allReach}
 use Rattle.model.specs.Job.{setAxes}
-use Rattle.arrival.proofs.Leading.{bitsFrom, bits-first, bits-after, reach, passed-at, reach-of, axis-misses, every-axis, Turns, gone, turn-done, six-turns, fewer-left}
+use Rattle.arrival.proofs.Leading.{bitsFrom, bits-first, bits-after, reach, passed-at, reach-of, axis-misses, every-axis}
+use Rattle.arrival.proofs.Leading.{Turns, gone, turn-done, six-turns, fewer-left}
 use Rattle.arrival.proofs.Search.{none-passes, none-to-try, first-passes}
 use Rattle.arrival.proofs.least_between.Statement.{statement}
 use Rattle.arrival.proofs.least_between.Tie as tie
@@ -82,7 +83,8 @@ bits-after-requires c κs = tt
 loop-less : tie.Need-loop-less Inv-loop μ-loop
 loop-less c =
     let n = c .before .before .before .before .next-for in
-    fewer-left _ _ _ _ _ (c .before .before .turns-left .ensures) (omega (arith, c .before .before .before .before .before .before .loop-test .taken)) (n .ensures .low)
+    let few = c .before .before .before .before .before .before .loop-test .taken in
+    fewer-left _ _ _ _ _ (c .before .before .turns-left .ensures) (omega (arith, few)) (n .ensures .low)
     (omega (arith, c .before .before .before .if2 .left, c .before .before .before .before .before .before .before .before .if1 .left))
 
 loop-again : tie.Need-loop-again Inv-loop μ-loop

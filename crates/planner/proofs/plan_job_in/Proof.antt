@@ -38,7 +38,8 @@ returns-2 c =
     let lent = c .before .before .before .before .before .before .before .args .table .now in
     let o = c .before .before .before .before .before .before .before .args .order in
     let w = c .before .plan-allowed in
-    let good = sym (c .before .before .before .before .before .before .mask-allowed .ensures) ∙ not-false _ (c .before .before .before .before .before .if1 .left) in
+    let e = c .before .before .before .before .before in
+    let good = sym (e .before .mask-allowed .ensures) ∙ not-false _ (e .if1 .left) in
     let exit = w .last .1 .1 .1 .1 .1 .0 in
     promise o (typed t) lent (w .result) exit (onward-in o _ lent _ _ (w .result) exit (mask-passed t lent good) (w .ensures))
 

@@ -56,7 +56,8 @@ returns c =
     let a = c .before .before .before .before .before in
     let g = legOf (a .args .p) in
     and-yes _ _ (sym (low (c .before .before .before)) ∙ c .before .before .if1 .taken)
-    (le-is (search computed depth 9) tt ∙ (λ i. leZ (a .args .sum) ((ap (sumAt g) (highest-is (c .before)) ∙ highest-sum g (ends-joined g (a .pre .0 .ends))) i)))
+    (le-is (search computed depth 9) tt
+    ∙ (λ i. leZ (a .args .sum) ((ap (sumAt g) (highest-is (c .before)) ∙ highest-sum g (ends-joined g (a .pre .0 .ends))) i)))
 
 returns-2 : tie.Need-returns-2
 returns-2 c = and-no _ _ (sym (low (c .before)) ∙ c .if1 .left)

@@ -136,7 +136,10 @@ returns c =
     let plans = sym (plans-put (a .n) (h .i) (h .rest) (a .t2) (take (h .count) (h .plans)) (omega (arith, h .inv .six))) ∙ h .inv .done in
     record {
       plans = plans;
-      count = sym (length-take-le (h .count) (h .plans) (omega (arith, h .inv .long, h .inv .few))) ∙ ap length plans ∙ length-map (setAxes 0 (a .mask) (a .t2)) _;
+      count =
+          sym (length-take-le (h .count) (h .plans) (omega (arith, h .inv .long, h .inv .few)))
+          ∙ ap length plans
+          ∙ length-map (setAxes 0 (a .mask) (a .t2)) _;
       few = omega (arith, h .inv .few);
       unset = h .inv .unset;
       mask = refl;

@@ -48,7 +48,9 @@ loop-again c =
     let l = c .before .loop in
     let a = c .before .before .args in
     record {
-      front = ap (λ (r : List _). set r (l .i) (getD (a .t1) (l .i) 0)) (l .inv .front) ∙ front-next (a .t1) (a .arrivals .now) (l .i) 0 (omega arith) (omega arith);
+      front =
+          ap (λ (r : List _). set r (l .i) (getD (a .t1) (l .i) 0)) (l .inv .front)
+          ∙ front-next (a .t1) (a .arrivals .now) (l .i) 0 (omega arith) (omega arith);
       low = omega arith;
       long = l .inv .long;
     }

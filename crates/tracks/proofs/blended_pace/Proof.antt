@@ -36,8 +36,9 @@ blended-requires c κs =
 abbrev Change : tie.After-blended → Type 0
 Change c =
     let p = c .before .before .before .before .before .before .args .p in
-    Is (2 ^ 56) (c .blended .result)
-    (mix (p .«first_weight») (p .«second_weight») (c .before .before .before .before .before .pace-back .result .change) (c .before .before .before .pace-back2 .result .change))
+    let ahead = c .before .before .before .before .before .pace-back .result in
+    let behind = c .before .before .before .pace-back2 .result in
+    Is (2 ^ 56) (c .blended .result) (mix (p .«first_weight») (p .«second_weight») (ahead .change) (behind .change))
 
 change-is : (c : tie.After-blended) → Change c
 change-is c =

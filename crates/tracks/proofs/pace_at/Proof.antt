@@ -55,11 +55,11 @@ returns-2 c =
     let a = c .before .before .before .before .before .before .before .before .before .before in
     let s = c .before .before .before .before .before .before .before .before .before .blended-pace .ensures in
     let t = c .before .before .before .before .before .blended-pace2 .ensures in
+    let sway = c .before .before .before .before .before .before .before .sway .given .1 in
     let w = s .small in
     let z = t .small in
     subst (PaceAt (2 ^ 14) (2 ^ 57) (blendedVelocity (a .args .p)) (a .args .k)) (sym (c .common .ensures))
-    (shared-at s t (pace-added (a .args .p) (c .before .before .before .before .before .before .before .sway .given .1) (pace-sum (s .paced) (t .paced))) (exactly (search exact depth 20) tt)
-    (within (search exact depth 9) tt))
+    (shared-at s t (pace-added (a .args .p) sway (pace-sum (s .paced) (t .paced))) (exactly (search exact depth 20) tt) (within (search exact depth 9) tt))
 
 pub pace-at-spec : {M : Type 1} → statement M
 pace-at-spec =
