@@ -21,8 +21,8 @@ use Rattle.model.specs.Converter.{oldOutcome, converted, Conversion, unconverte
 use Rattle.model.proofs.Conversion.{conversion-kept, conversion-plans}
 use Rattle.words.specs.declared.DecodedJob.{DecodedJob}
 use Rattle.words.specs.Decoding.{decodedJob, Decodes}
-use Rattle.planner.specs.declared.Refusal.{Refusal}
-use Rattle.planner.specs.Stages.{testsFor, firstRefusal}
+use Rattle.checks.specs.declared.Refusal.{Refusal}
+use Rattle.checks.specs.Checks.{testsFor, firstRefusal}
 use Rattle.model.proofs.CheckingOrder.{Lacks, lacks}
 use Rattle.converter.specs.Promise.{Converts, refusalOf, Gives}
 

@@ -12,8 +12,8 @@ use Rattle.model.specs.Job.{setAxes}
 use Rattle.model.specs.Refusals.{lastTick}
 use Rattle.model.specs.Outcome.{outcomeOfWords}
 use Rattle.model.specs.Converter.{oldOutcome, Conversion, conversion}
-use Rattle.planner.specs.declared.Refusal.{Refusal}
-use Rattle.planner.specs.Stages.{testsFor, firstRefusal}
+use Rattle.checks.specs.declared.Refusal.{Refusal}
+use Rattle.checks.specs.Checks.{testsFor, firstRefusal}
 
 -- ws are the words of the job, entry and exit the lent words before and after the call, r is the answer
 pub record Converts (ws entry : List ℕ) (r : Answer) (exit : List ℕ) : Type 0 where

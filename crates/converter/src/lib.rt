@@ -7,7 +7,7 @@
 //                       write_converted        10, or the converted words
 use model::Answer;
 use model::Job;
-use planner::Refusal;
+use checks::Refusal;
 ghost use mathlib.Core.Path.{_≡_};
 ghost use Prim.Native.Nat.{_<_, _≤_};
 ghost use lib.ListN.{length};
@@ -50,7 +50,7 @@ fn refusal(job: Job) -> Refusal
     }
     let axes = job.axes;
     let windows = job.windows;
-    planner::check(job.mask, axes, windows, asked == 0)
+    checks::check(job.mask, axes, windows, asked == 0)
 }
 
 // ---- refusal 10, or the converted words

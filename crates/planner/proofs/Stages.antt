@@ -15,18 +15,20 @@ use Rattle.model.specs.declared.Answer.{Answer}
 use Rattle.model.specs.declared.Order.{Order}
 use Rattle.model.specs.declared.Order.the-variants.{Forwards, Backwards}
 use Rattle.model.specs.declared.Windows.{Windows}
-use Rattle.model.specs.Job.{Job, JobAxis, setBits, setAxes, axesOf, typedJob, jobWith, byHand, axesByHand, jobByHand}
-use Rattle.model.specs.Refusals.{lastTick, AllPassed}
-use Rattle.model.specs.Outcome.{accept, Outcome, outcomeOf, refuse, allReach, leastFrom, arrives, cellsNeeded, tableOver, filled, arrived, jobOutcome, ordered}
+use Rattle.model.specs.Job.{Job, JobAxis, setBits, setAxes, axesOf, typedJob, jobWith, byHand, jobByHand}
+use Rattle.model.specs.Refusals.{lastTick}
+use Rattle.model.specs.Outcome.{accept, Outcome, outcomeOf, refuse, leastFrom, arrives, cellsNeeded, tableOver, filled, arrived, jobOutcome, ordered}
 use Rattle.arrival.specs.declared.Arrival.{Arrival}
 use Rattle.arrival.specs.Arrivals.{leastOr, askedOr, arrivalFor}
 use Rattle.arrival.proofs.SetAxes.{six-axes-bits, six-bits}
 use Rattle.model.proofs.Ordered.{refusal-stays}
-use Rattle.model.proofs.ByHand.{set-by-hand, passed-by-hand, reach-by-hand, ordered-by-hand, arrived-by-hand}
-use Rattle.planner.specs.declared.Refusal.{Refusal}
+use Rattle.model.proofs.ByHand.{ordered-by-hand, arrived-by-hand}
+use Rattle.checks.specs.declared.Refusal.{Refusal}
 use Rattle.planner.specs.Promise.{Fitted}
-use Rattle.planner.specs.Stages.{checkedFor, arrivedIn, filledIn, Gives}
-use Rattle.planner.proofs.Checks.{afterChecks, checks-are}
+use Rattle.checks.specs.Checks.{checkedFor}
+use Rattle.planner.specs.Stages.{arrivedIn, filledIn, Gives}
+use Rattle.checks.proofs.Checks.{afterChecks, checks-are}
+use Rattle.checks.proofs.Weights.{axes-given}
 
 -- ---- where a stage ends a call
 
@@ -71,21 +73,12 @@ module _ (j : Job) (lent : List ℤ) (c : Refusal) (is : c ≡ checkedFor j) whe
 -- ---- with the weights by hand
 
 module _ (m asked : ℕ) (axes given : List Axis) (w : Windows) (is : given ≡ map byHand axes) where
-  axes-given : setAxes 0 m given ≡ axesByHand (setAxes 0 m axes)
-  axes-given = ap (setAxes 0 m) is ∙ set-by-hand 0 m axes
-
-  pub given-passed : AllPassed (setAxes 0 m axes) → AllPassed (setAxes 0 m given)
-  given-passed p = subst AllPassed (sym axes-given) (passed-by-hand (setAxes 0 m axes) p)
-
   pub given-arrives : (o : Order) (lent : List ℤ) → arrivedIn o (jobWith m asked given w) lent ≡ arrivedIn o (jobWith m asked axes w) lent
   given-arrives o lent =
       let j = jobWith m asked axes w in
-      ap (λ (l : List JobAxis). arrivedIn o (record { mask = m; asked = asked; axes = l; windows = w }) lent) axes-given
+      ap (λ (l : List JobAxis). arrivedIn o (record { mask = m; asked = asked; axes = l; windows = w }) lent) (axes-given m axes given is)
       ∙ ordered-by-hand o j lent (arrived (jobByHand j) asked lent)
       ∙ ap (λ (r : Outcome). ordered o (axesOf j) lent r) (arrived-by-hand j asked lent)
-
-  pub given-reaches : (n : ℕ) → allReach (setAxes 0 m given) n ≡ allReach (setAxes 0 m axes) n
-  given-reaches n = ap (λ (l : List JobAxis). allReach l n) axes-given ∙ reach-by-hand (setAxes 0 m axes) n
 
 -- ---- after the arrival
 

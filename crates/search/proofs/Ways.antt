@@ -19,10 +19,10 @@ use Rattle.model.proofs.SearchCalls.{search-verdict, call-says}
 use Rattle.arrival.specs.Arrivals.{arrivesIn}
 use Rattle.words.specs.declared.DecodedJob.{DecodedJob}
 use Rattle.words.specs.Decoding.{decodedJob, Decodes}
-use Rattle.planner.specs.declared.Refusal.{Refusal}
-use Rattle.planner.specs.Stages.{checkedFor}
-use Rattle.planner.proofs.Checks.{after, after-tests}
-use Rattle.planner.proofs.Stages.{given-reaches}
+use Rattle.checks.specs.declared.Refusal.{Refusal}
+use Rattle.checks.specs.Checks.{checkedFor}
+use Rattle.checks.proofs.Checks.{after, after-tests}
+use Rattle.checks.proofs.Weights.{given-reaches}
 use Rattle.search.specs.Promise.{SearchPromise}
 
 pub promise : (q : Input) (first budget : ℕ) (r : SearchAnswer) → r ≡ searchCall q first budget → SearchPromise q first budget r
@@ -69,7 +69,7 @@ module _ (m : ℕ) (axes : List Axis) (w : Windows) (first budget : ℕ) where
     searched z e given is =
         ap (λ (test : ℕ → Bool). searchAnswer m (searchFrom test first budget))
         {x = arrivesIn w (setAxes 0 m given)} {y = arrives j}
-        (λ i n. inWindows w n && given-reaches m 0 axes given w is n i)
+        (λ i n. inWindows w n && given-reaches m axes given is n i)
         ∙ choice-yes (firstAllowed first) (searchAnswer m (searchFrom (arrives j) first budget)) (refuseSearch 18 0) e
         ∙ checks-pass z
 

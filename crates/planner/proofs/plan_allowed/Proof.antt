@@ -4,10 +4,10 @@ use mathlib.Core.List.{map}
 use mathlib.Core.Logic.{⊎-elim}
 use borrow.Author.Needs.{needs}
 use Rattle.model.specs.Job.{Job, jobWith, byHand}
-use Rattle.planner.specs.Stages.{Checked}
-use Rattle.planner.proofs.Checks.{asked-late, asked-in-time}
-use Rattle.planner.proofs.Stages.{refused-in, onward, onward-in, checks-refuse, checks-pass, given-passed, given-arrives}
-use Rattle.planner.proofs.Weights.{given-are}
+use Rattle.checks.specs.Checks.{Checked}
+use Rattle.checks.proofs.Checks.{asked-late, asked-in-time}
+use Rattle.planner.proofs.Stages.{refused-in, onward, onward-in, checks-refuse, checks-pass, given-arrives}
+use Rattle.checks.proofs.Weights.{given-are, given-passed}
 use Rattle.planner.proofs.plan_allowed.Statement.{statement}
 use Rattle.planner.proofs.plan_allowed.Tie as tie
 
@@ -66,7 +66,7 @@ plan-checked-requires c κs =
     let a = s .args in
     let zero = g .before .before .if2 .left in
     let k = checked d in
-    let passed = given-passed (a .mask) (a .asked) (a .axes) (g .if3 .given) (a .windows) (by-hand g) (k .passed zero) in
+    let passed = given-passed (a .mask) (a .axes) (g .if3 .given) (by-hand g) (k .passed zero) in
     (s .pre, (k .asked zero, (passed, k .windows zero)))
 
 same-length : tie.Need-same-length

@@ -6,9 +6,8 @@ use borrow.Author.Needs.{needs}
 use borrow.Author.Tests.{not-true, not-false}
 use Rattle.model.specs.Search.{searchAnswer}
 use Rattle.model.specs.Job.{jobWith, byHand}
-use Rattle.planner.proofs.Checks.{checked}
-use Rattle.planner.proofs.Stages.{given-passed}
-use Rattle.planner.proofs.Weights.{given-are}
+use Rattle.checks.proofs.Checks.{checked}
+use Rattle.checks.proofs.Weights.{given-are, given-passed}
 use Rattle.search.proofs.Ways.{checks-refuse, first-range, first-refused, searched}
 use Rattle.search.proofs.search_allowed.Statement.{statement}
 use Rattle.search.proofs.search_allowed.Tie as tie
@@ -62,7 +61,7 @@ search-from-requires c κs =
     let r = b .before .before .check in
     let k = checked (jobWith (a .mask) 0 (a .axes) (a .windows)) (r .result) (r .ensures) in
     let zero = b .if1 .left in
-    let given = given-passed (a .mask) 0 (a .axes) (c .if3 .given) (a .windows) (by-hand c) in
+    let given = given-passed (a .mask) (a .axes) (c .if3 .given) (by-hand c) in
     let range = first-range (a .first) (sym (c .before .before .before .first-allowed .ensures) ∙ not-false _ (c .before .before .if2 .left)) in
     (given (k .passed zero), (k .windows zero, (range .0, omega (arith, range .1))))
 

@@ -7,8 +7,8 @@ use lib.Seq.{getD-set-other}
 use borrow.Author.Needs.{needs}
 use Rattle.whole.proofs.Mapped.{Stored, stored-next, stored-all}
 use Rattle.model.specs.Job.{byHand, unsetAxis}
-use Rattle.planner.proofs.by_hand.Statement.{statement}
-use Rattle.planner.proofs.by_hand.Tie as tie
+use Rattle.checks.proofs.by_hand.Statement.{statement}
+use Rattle.checks.proofs.by_hand.Tie as tie
 
 abbrev Inv-loop : tie.InvT-loop
 Inv-loop given₀ i₀ given i =

@@ -6,10 +6,10 @@ use mathlib.Core.Logic.{⊎-elim}
 use lib.ListN.{length}
 use borrow.Author.Needs.{needs}
 use Rattle.model.specs.Job.{setAxes}
-use Rattle.planner.specs.Stages.{testsFor, lowestAxis}
-use Rattle.planner.proofs.Ranks.{lowestOn, lowest-here, lowest-later, lowest-unnamed, lowest-none}
-use Rattle.planner.proofs.lowest_axis.Statement.{statement}
-use Rattle.planner.proofs.lowest_axis.Tie as tie
+use Rattle.checks.specs.Checks.{testsFor, lowestAxis}
+use Rattle.checks.proofs.Ranks.{lowestOn, lowest-here, lowest-later, lowest-unnamed, lowest-none}
+use Rattle.checks.proofs.lowest_axis.Statement.{statement}
+use Rattle.checks.proofs.lowest_axis.Tie as tie
 
 abbrev Inv-loop : tie.InvT-loop
 Inv-loop mask resting rank axes bits₀ i₀ bits i =

@@ -1,7 +1,7 @@
 use mathlib.Core.Path.{refl}
 use borrow.Author.Needs.{needs}
-use Rattle.planner.proofs.number_of.Statement.{statement}
-use Rattle.planner.proofs.number_of.Tie as tie
+use Rattle.checks.proofs.number_of.Statement.{statement}
+use Rattle.checks.proofs.number_of.Tie as tie
 
 mul-result : tie.Need-mul-result
 mul-result c = search needs

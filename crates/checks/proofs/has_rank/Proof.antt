@@ -2,8 +2,8 @@ use mathlib.Core.Path.{ap}
 use lib.Dec.{eqb}
 use borrow.Author.Needs.{needs}
 use Prim.Native.Nat.{ℕ}
-use Rattle.planner.proofs.has_rank.Statement.{statement}
-use Rattle.planner.proofs.has_rank.Tie as tie
+use Rattle.checks.proofs.has_rank.Statement.{statement}
+use Rattle.checks.proofs.has_rank.Tie as tie
 
 first-refused-requires : tie.Need-first-refused-requires
 first-refused-requires c κs = search needs

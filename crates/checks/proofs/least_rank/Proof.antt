@@ -6,10 +6,10 @@ use mathlib.Core.Logic.{⊎-elim}
 use lib.ListN.{length}
 use borrow.Author.Needs.{needs}
 use Rattle.model.specs.Job.{setAxes}
-use Rattle.planner.specs.Stages.{testsFor, leastRank}
-use Rattle.planner.proofs.Ranks.{leastOn, least-named, least-unnamed, least-none, least-few}
-use Rattle.planner.proofs.least_rank.Statement.{statement}
-use Rattle.planner.proofs.least_rank.Tie as tie
+use Rattle.checks.specs.Checks.{testsFor, leastRank}
+use Rattle.checks.proofs.Ranks.{leastOn, least-named, least-unnamed, least-none, least-few}
+use Rattle.checks.proofs.least_rank.Statement.{statement}
+use Rattle.checks.proofs.least_rank.Tie as tie
 
 abbrev Inv-loop : tie.InvT-loop
 Inv-loop mask resting axes least₀ bits₀ i₀ least bits i =

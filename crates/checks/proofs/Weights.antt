@@ -1,17 +1,20 @@
--- Axes of which no weight is to be worked out are the axes by hand.
+-- Axes of which no weight is to be worked out are the axes by hand, and the axes by hand pass and reach what the axes do.
 use Prim.Native.Nat.{ℕ, _+_, _<_, _≤_}
 use Rattle.whole.proofs.Counting.{next-one}
-use mathlib.Core.Path.{_≡_, refl, sym, ap, ap₂, _∙_}
+use mathlib.Core.Path.{_≡_, refl, sym, ap, ap₂, subst, _∙_}
 use mathlib.Core.Bool.{Bool, true, false, cond, false≢true}
 use mathlib.Core.List.{List, [], _∷_, map}
 use lib.ListN.{length, drop, drop-of-length-le}
 use lib.Seq.{drop-cons}
 use Rattle.model.specs.declared.Axis.{Axis}
-use Rattle.model.specs.Job.{byHand, unsetAxis}
+use Rattle.model.specs.Job.{JobAxis, setAxes, byHand, axesByHand, unsetAxis}
+use Rattle.model.specs.Refusals.{AllPassed}
+use Rattle.model.specs.Outcome.{allReach}
+use Rattle.model.proofs.ByHand.{set-by-hand, passed-by-hand, reach-by-hand}
 use Rattle.motion.specs.Motions.{measured}
 use Rattle.motion.proofs.WeightGiven.{given-is}
 use Rattle.arrival.proofs.SetAxes.{axisAt}
-use Rattle.planner.specs.Stages.{anyMeasured}
+use Rattle.checks.specs.Checks.{anyMeasured}
 
 pub given-are : (xs : List Axis) → anyMeasured xs ≡ false → xs ≡ map byHand xs
 given-are [] e = refl
@@ -36,3 +39,15 @@ module _ (i : ℕ) (six : List Axis) where
 
   pub measured-none : length six ≤ i → anyMeasured (drop i six) ≡ false
   measured-none h = ap anyMeasured (drop-of-length-le six {i = i} h)
+
+-- ---- the axes of a mask
+
+module _ (m : ℕ) (axes given : List Axis) (is : given ≡ map byHand axes) where
+  pub axes-given : setAxes 0 m given ≡ axesByHand (setAxes 0 m axes)
+  axes-given = ap (setAxes 0 m) is ∙ set-by-hand 0 m axes
+
+  pub given-passed : AllPassed (setAxes 0 m axes) → AllPassed (setAxes 0 m given)
+  given-passed p = subst AllPassed (sym axes-given) (passed-by-hand (setAxes 0 m axes) p)
+
+  pub given-reaches : (n : ℕ) → allReach (setAxes 0 m given) n ≡ allReach (setAxes 0 m axes) n
+  given-reaches n = ap (λ (l : List JobAxis). allReach l n) axes-given ∙ reach-by-hand (setAxes 0 m axes) n

@@ -1,7 +1,7 @@
 use native.Mathlib.Omega.{arith}
 use borrow.Author.Needs.{needs}
-use Rattle.planner.proofs.lower_rank.Statement.{statement}
-use Rattle.planner.proofs.lower_rank.Tie as tie
+use Rattle.checks.proofs.lower_rank.Statement.{statement}
+use Rattle.checks.proofs.lower_rank.Tie as tie
 
 first-refused-requires : tie.Need-first-refused-requires
 first-refused-requires c κs = search needs

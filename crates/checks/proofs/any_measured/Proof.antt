@@ -4,10 +4,10 @@ use native.Mathlib.Omega.{arith}
 use mathlib.Core.Path.{_≡_, refl, sym, _∙_}
 use lib.ListN.{length, drop}
 use borrow.Author.Needs.{needs}
-use Rattle.planner.specs.Stages.{anyMeasured}
-use Rattle.planner.proofs.Weights.{measured-here, measured-later, measured-none}
-use Rattle.planner.proofs.any_measured.Statement.{statement}
-use Rattle.planner.proofs.any_measured.Tie as tie
+use Rattle.checks.specs.Checks.{anyMeasured}
+use Rattle.checks.proofs.Weights.{measured-here, measured-later, measured-none}
+use Rattle.checks.proofs.any_measured.Statement.{statement}
+use Rattle.checks.proofs.any_measured.Tie as tie
 
 abbrev Inv-loop : tie.InvT-loop
 Inv-loop axes i₀ i =

@@ -16,8 +16,8 @@ use Rattle.model.specs.Refusals.{AllPassed, lastTick, limitsRefused, dampingRef
 use Rattle.model.specs.Refusals.{blendRefused, swayRefused, valuesRefused, accelerationRefused, flyingRefused}
 use Rattle.model.specs.Outcome.{Outcome, refuse, firstAxis, Tests, axisRefusals, tested, arrived, jobOutcome}
 use Rattle.model.proofs.CheckingOrder.{Lacks, lacks}
-use Rattle.planner.specs.declared.Refusal.{Refusal}
-use Rattle.planner.specs.Stages.{windowRefusal, firstRefusal, checkedFor, Checked}
+use Rattle.checks.specs.declared.Refusal.{Refusal}
+use Rattle.checks.specs.Checks.{windowRefusal, firstRefusal, checkedFor, Checked}
 
 -- ---- what number 0 says
 

@@ -2,9 +2,9 @@ use mathlib.Core.Path.{sym, ap, _∙_}
 use borrow.Author.Tests.{not-true}
 use borrow.Author.Needs.{needs}
 use Rattle.windows.specs.Places.{placeOf}
-use Rattle.planner.proofs.Checks.{window-wrong, window-right, no-windows}
-use Rattle.planner.proofs.window_refusal.Statement.{statement}
-use Rattle.planner.proofs.window_refusal.Tie as tie
+use Rattle.checks.proofs.Checks.{window-wrong, window-right, no-windows}
+use Rattle.checks.proofs.window_refusal.Statement.{statement}
+use Rattle.checks.proofs.window_refusal.Tie as tie
 
 refusal-of-requires : tie.Need-refusal-of-requires
 refusal-of-requires c κs = search needs
