@@ -15,10 +15,9 @@ use Rattle.model.specs.declared.Windows.{Windows}
 use Rattle.model.specs.Job.{JobAxis}
 use Rattle.model.specs.Outcome.{firstAxis, Tests}
 use Rattle.model.specs.Refusals.{limitsRefused, dampingRefused, blendRefused, swayRefused, valuesRefused, accelerationRefused, flyingRefused}
-use Rattle.motion.specs.Motions.{rankOf, firstRefused}
 use Rattle.arrival.proofs.SetAxes.{pick, from, axisAt, from-more, from-none}
 use Rattle.checks.specs.declared.Refusal.{Refusal}
-use Rattle.checks.specs.Checks.{windowRefusal, testsFor, firstRefusal, firstMet, leastRank, lowestAxis, numberOf}
+use Rattle.checks.specs.Checks.{rankOf, firstRefused, windowRefusal, testsFor, firstRefusal, firstMet, leastRank, lowestAxis, numberOf}
 
 -- ---- one test, and those after it
 

@@ -5,9 +5,9 @@
 //     convert           words::decode          refusals 1, 2 and 14
 //                       refusal                3, 4, 5, 15, 6, 16, and 17 where the least arrival is sought
 //                       write_converted        10, or the converted words
+use checks::Refusal;
 use model::Answer;
 use model::Job;
-use checks::Refusal;
 ghost use mathlib.Core.Path.{_≡_};
 ghost use Prim.Native.Nat.{_<_, _≤_};
 ghost use lib.ListN.{length};

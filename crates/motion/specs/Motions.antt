@@ -1,7 +1,7 @@
 -- The ranges of an axis that passed the refusals of one axis, and what the functions of this crate give back.
 use Prim.Native.Nat.{ℕ, _^_, _≤_, _<_}
 use mathlib.Core.Path.{_≡_}
-use mathlib.Core.Bool.{Bool, true, false, cond}
+use mathlib.Core.Bool.{Bool, true, false}
 use lib.IntN.{ℤ, pos, _+ℤ_, _-ℤ_, _*ℤ_}
 use Rattle.whole.specs.Ranges.{Within, Is}
 use Rattle.model.specs.declared.Axis.{Axis}
@@ -13,7 +13,7 @@ use Rattle.model.specs.declared.Weight.the-variants.{Given, Measured}
 use Rattle.model.specs.Quantities.{fineSteps, speedLimit, accelerationLimit, halfPeriod, secondWeight, secondHalfPeriod, asMoving, twicePositionAt, velocityAt}
 use Rattle.model.specs.Quantities.{onGrid, speedSteps, accelerationSteps}
 use Rattle.model.specs.Motion.{shift, startVelocity, landingTick, landingPosition, landingVelocity, landingAcceleration}
-use Rattle.model.specs.Refusals.{lastTick, limitsRefused, dampingRefused, blendRefused, swayRefused, valuesRefused, accelerationRefused, flyingRefused}
+use Rattle.model.specs.Refusals.{lastTick}
 use Rattle.profile.specs.declared.Profile.{Profile}
 use Rattle.profile.specs.Profiles.{Ranged}
 use Rattle.motion.specs.declared.Landing.{Landing}
@@ -104,14 +104,3 @@ driftOf (Moving m) = pos fineSteps *ℤ m .velocity
 
 abbrev pub drift : Axis → ℤ
 drift x = onGrid x (driftOf (x .target))
-
--- ---- the refusals of one axis
-
--- the rank of the first of seven tests that holds, or one past the last; without the seventh where nothing need rest
-abbrev pub rankOf : Bool → Bool → Bool → Bool → Bool → Bool → Bool → Bool → ℕ
-rankOf resting l d b s v a f =
-    cond l 0 (cond d 1 (cond b 2 (cond s 3 (cond v 4 (cond a 5 (cond resting (cond f 6 7) 6))))))
-
-unfoldable pub firstRefused : Bool → Axis → ℕ
-firstRefused resting x =
-    rankOf resting (limitsRefused x) (dampingRefused x) (blendRefused x) (swayRefused x) (valuesRefused x) (accelerationRefused x) (flyingRefused x)

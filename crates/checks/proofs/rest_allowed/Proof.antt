@@ -5,8 +5,8 @@ use Rattle.whole.proofs.Bounds.{exactly, loose}
 use Rattle.whole.proofs.Tests.{and-no, and-yes}
 use Rattle.model.specs.Refusals.{positionAllowed, velocityAllowed}
 use borrow.Author.Needs.{needs}
-use Rattle.motion.proofs.rest_allowed.Statement.{statement}
-use Rattle.motion.proofs.rest_allowed.Tie as tie
+use Rattle.checks.proofs.rest_allowed.Statement.{statement}
+use Rattle.checks.proofs.rest_allowed.Tie as tie
 
 position-allowed-requires : tie.Need-position-allowed-requires
 position-allowed-requires c κs = search needs

@@ -3,8 +3,8 @@ use mathlib.Core.Bool.{not}
 use Rattle.whole.proofs.Bounds.{bits-zero}
 use Rattle.model.specs.Refusals.{flies}
 use borrow.Author.Needs.{needs}
-use Rattle.motion.proofs.flies.Statement.{statement}
-use Rattle.motion.proofs.flies.Tie as tie
+use Rattle.checks.proofs.flies.Statement.{statement}
+use Rattle.checks.proofs.flies.Tie as tie
 
 enum-known-target : tie.Need-enum-known-target
 enum-known-target c = search needs

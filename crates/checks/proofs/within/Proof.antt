@@ -1,8 +1,8 @@
 use mathlib.Core.Path.{refl}
 use lib.Dec.{leb}
 use Rattle.whole.proofs.Tests.{and-no, and-yes, leb-yes, leb-no}
-use Rattle.motion.proofs.within.Statement.{statement}
-use Rattle.motion.proofs.within.Tie as tie
+use Rattle.checks.proofs.within.Statement.{statement}
+use Rattle.checks.proofs.within.Tie as tie
 
 returns : tie.Need-returns
 returns c =

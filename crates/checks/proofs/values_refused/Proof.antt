@@ -3,8 +3,8 @@ use mathlib.Core.Bool.{not}
 use Rattle.whole.proofs.Tests.{and-no, and-yes}
 use Rattle.model.specs.Refusals.{restAllowed, targetAllowed}
 use borrow.Author.Needs.{needs}
-use Rattle.motion.proofs.values_refused.Statement.{statement}
-use Rattle.motion.proofs.values_refused.Tie as tie
+use Rattle.checks.proofs.values_refused.Statement.{statement}
+use Rattle.checks.proofs.values_refused.Tie as tie
 
 rest-allowed-requires : tie.Need-rest-allowed-requires
 rest-allowed-requires c κs = search needs

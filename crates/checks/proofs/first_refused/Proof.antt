@@ -5,9 +5,9 @@ use borrow.Author.Tests.{not-true, not-false}
 use borrow.Author.Needs.{needs}
 use Rattle.model.specs.declared.Axis.{Axis}
 use Rattle.model.specs.Refusals.{dampingRefused, blendRefused, swayRefused, valuesRefused, accelerationRefused, flyingRefused}
-use Rattle.motion.specs.Motions.{rankOf, firstRefused}
-use Rattle.motion.proofs.first_refused.Statement.{statement}
-use Rattle.motion.proofs.first_refused.Tie as tie
+use Rattle.checks.specs.Checks.{rankOf, firstRefused}
+use Rattle.checks.proofs.first_refused.Statement.{statement}
+use Rattle.checks.proofs.first_refused.Tie as tie
 
 -- the rank by one test, those before it having failed
 abbrev by1 : Bool → Axis → Bool → ℕ

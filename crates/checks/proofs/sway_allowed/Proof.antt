@@ -1,8 +1,8 @@
 use mathlib.Core.Path.{sym, ap, _∙_}
 use Rattle.model.specs.Refusals.{swayAllowed}
 use borrow.Author.Needs.{needs}
-use Rattle.motion.proofs.sway_allowed.Statement.{statement}
-use Rattle.motion.proofs.sway_allowed.Tie as tie
+use Rattle.checks.proofs.sway_allowed.Statement.{statement}
+use Rattle.checks.proofs.sway_allowed.Tie as tie
 
 enum-told : tie.Need-enum-told
 enum-told c = search needs

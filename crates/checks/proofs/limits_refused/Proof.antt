@@ -3,8 +3,8 @@ use mathlib.Core.Bool.{not}
 use Rattle.whole.proofs.Tests.{and-no, and-yes}
 use Rattle.model.specs.Refusals.{within}
 use borrow.Author.Needs.{needs}
-use Rattle.motion.proofs.limits_refused.Statement.{statement}
-use Rattle.motion.proofs.limits_refused.Tie as tie
+use Rattle.checks.proofs.limits_refused.Statement.{statement}
+use Rattle.checks.proofs.limits_refused.Tie as tie
 
 within-requires : tie.Need-within-requires
 within-requires c κs = search needs

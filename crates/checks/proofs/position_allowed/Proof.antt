@@ -3,8 +3,8 @@ use lib.IntN.{pos, negsuc}
 use lib.Signed.{leZ}
 use Rattle.whole.proofs.Bounds.{loose, le-is}
 use Rattle.whole.proofs.Tests.{and-no, and-yes}
-use Rattle.motion.proofs.position_allowed.Statement.{statement}
-use Rattle.motion.proofs.position_allowed.Tie as tie
+use Rattle.checks.proofs.position_allowed.Statement.{statement}
+use Rattle.checks.proofs.position_allowed.Tie as tie
 
 returns : tie.Need-returns
 returns c =

@@ -4,8 +4,8 @@ use mir.Val.{toZ, ofZ}
 use Rattle.whole.proofs.Bounds.{exactly, loose}
 use Rattle.model.specs.Refusals.{velocityAllowed}
 use borrow.Author.Needs.{needs}
-use Rattle.motion.proofs.velocity_allowed.Statement.{statement}
-use Rattle.motion.proofs.velocity_allowed.Tie as tie
+use Rattle.checks.proofs.velocity_allowed.Statement.{statement}
+use Rattle.checks.proofs.velocity_allowed.Tie as tie
 
 cast-size-at-most : tie.Need-cast-size-at-most
 cast-size-at-most c = search needs

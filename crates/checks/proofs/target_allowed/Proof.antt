@@ -1,8 +1,8 @@
 use mathlib.Core.Path.{sym, ap, _∙_}
 use Rattle.model.specs.Refusals.{targetAllowed}
 use borrow.Author.Needs.{needs}
-use Rattle.motion.proofs.target_allowed.Statement.{statement}
-use Rattle.motion.proofs.target_allowed.Tie as tie
+use Rattle.checks.proofs.target_allowed.Statement.{statement}
+use Rattle.checks.proofs.target_allowed.Tie as tie
 
 enum-known-target : tie.Need-enum-known-target
 enum-known-target c = search needs

@@ -8,8 +8,8 @@ use Rattle.whole.proofs.Tests.{and-no, and-yes}
 use Rattle.model.specs.Quantities.{accelerationLimit}
 use Rattle.model.specs.Refusals.{lastTick}
 use borrow.Author.Needs.{needs}
-use Rattle.motion.proofs.motion_allowed.Statement.{statement}
-use Rattle.motion.proofs.motion_allowed.Tie as tie
+use Rattle.checks.proofs.motion_allowed.Statement.{statement}
+use Rattle.checks.proofs.motion_allowed.Tie as tie
 
 cast-size-at-most : tie.Need-cast-size-at-most
 cast-size-at-most c = search needs

@@ -7,8 +7,8 @@ use Rattle.model.specs.declared.RestPoint.{RestPoint}
 use Rattle.model.specs.declared.State.{State}
 use Rattle.model.specs.Refusals.{restAllowed, motionAllowed}
 use borrow.Author.Needs.{needs}
-use Rattle.motion.proofs.moving_allowed.Statement.{statement}
-use Rattle.motion.proofs.moving_allowed.Tie as tie
+use Rattle.checks.proofs.moving_allowed.Statement.{statement}
+use Rattle.checks.proofs.moving_allowed.Tie as tie
 
 rest-allowed-requires : tie.Need-rest-allowed-requires
 rest-allowed-requires c κs = search needs

@@ -4,8 +4,8 @@ use Rattle.whole.proofs.Tests.{and-no, and-yes}
 use Rattle.model.specs.Quantities.{halfPeriod, secondWeight}
 use Rattle.model.specs.Refusals.{within}
 use borrow.Author.Needs.{needs}
-use Rattle.motion.proofs.blend_refused.Statement.{statement}
-use Rattle.motion.proofs.blend_refused.Tie as tie
+use Rattle.checks.proofs.blend_refused.Statement.{statement}
+use Rattle.checks.proofs.blend_refused.Tie as tie
 
 within-requires : tie.Need-within-requires
 within-requires c κs = search needs
