@@ -47,12 +47,18 @@ set-past (x ∷ l) zero a h = absurd (omega arith)
 set-past (x ∷ l) (suc i) a h = ap (λ (r : List _). x ∷ r) (set-past l i a (omega arith))
 
 -- a row's one machine value
+abbrev pub IsRow : StopRow → Type 0
+IsRow r = Is T.the-row r (T′.lowered r ∷ [])
+
 pub head-is : (r : StopRow) (u : Val) → Is T.the-row r (u ∷ []) → u ≡ T′.lowered r
 head-is r u is = ap first (T′.lowers .val-is r (u ∷ []) is)
   where
     first : List Val → Val
     first [] = vunit
     first (v ∷ vs) = v
+
+pub row-is : (r : StopRow) (u : Val) → Is T.the-row r (u ∷ []) → IsRow r
+row-is r u is = subst (λ (v : Val). Is T.the-row r (v ∷ [])) (head-is r u is) is
 
 pub held-few : (n : ℕ) → n ≤ 64 → heldOf n ≡ n
 unfolding heldOf

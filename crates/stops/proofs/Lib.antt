@@ -1,4 +1,5 @@
 pub mod Held
+pub mod Locals
 pub mod Legs
 pub mod Outcomes
 pub mod Promise
