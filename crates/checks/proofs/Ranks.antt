@@ -14,10 +14,9 @@ use Rattle.model.specs.declared.Axis.{Axis}
 use Rattle.model.specs.declared.Windows.{Windows}
 use Rattle.model.specs.Job.{JobAxis}
 use Rattle.model.specs.Outcome.{firstAxis, Tests}
-use Rattle.model.specs.Refusals.{limitsRefused, dampingRefused, blendRefused, swayRefused, valuesRefused, accelerationRefused, flyingRefused}
 use Rattle.arrival.proofs.SetAxes.{pick, from, axisAt, from-more, from-none}
 use Rattle.checks.specs.declared.Refusal.{Refusal}
-use Rattle.checks.specs.Checks.{rankOf, firstRefused, windowRefusal, testsFor, firstRefusal, firstMet, leastRank, lowestAxis, numberOf}
+use Rattle.checks.specs.Checks.{windowRefusal, testsFor, firstRefusal, firstMet, leastRank, lowestAxis, numberOf}
 
 -- ---- one test, and those after it
 
@@ -159,32 +158,6 @@ module _ (resting : Bool) (xs : List JobAxis) (w : Windows) (count k : ℕ) (all
 
 -- ---- axis by axis
 
-pub met-is : (resting : Bool) (x : Axis) → firstMet (testsFor resting) x ≡ firstRefused resting x
-unfolding firstRefused
-met-is true x = go (limitsRefused x) (dampingRefused x) (blendRefused x) (swayRefused x) (valuesRefused x) (accelerationRefused x) (flyingRefused x)
-  where
-    go : (l d b s v a f : Bool) → cond l 0 (suc (cond d 0 (suc (cond b 0 (suc (cond s 0 (suc (cond v 0 (suc (cond a 0 (suc (cond f 0 1))))))))))))
-        ≡ rankOf true l d b s v a f
-    go true d b s v a f = refl
-    go false true b s v a f = refl
-    go false false true s v a f = refl
-    go false false false true v a f = refl
-    go false false false false true a f = refl
-    go false false false false false true f = refl
-    go false false false false false false true = refl
-    go false false false false false false false = refl
-met-is false x = go (limitsRefused x) (dampingRefused x) (blendRefused x) (swayRefused x) (valuesRefused x) (accelerationRefused x)
-  where
-    go : (l d b s v a : Bool) → cond l 0 (suc (cond d 0 (suc (cond b 0 (suc (cond s 0 (suc (cond v 0 (suc (cond a 0 1))))))))))
-        ≡ rankOf false l d b s v a (flyingRefused x)
-    go true d b s v a = refl
-    go false true b s v a = refl
-    go false false true s v a = refl
-    go false false false true v a = refl
-    go false false false false true a = refl
-    go false false false false false true = refl
-    go false false false false false false = refl
-
 module _ (resting : Bool) (six : List Axis) where
   -- the axes from number i on, m being the bits from there on
   abbrev pub leastOn : ℕ → ℕ → ℕ
@@ -195,9 +168,9 @@ module _ (resting : Bool) (six : List Axis) where
   least-more i m h b e =
       ap (leastRank (testsFor resting)) (from-more i m six h ∙ ap (λ (c : Bool). pick c i (axisAt six i) (from (i + 1) (m / 2) six)) e)
 
-  pub least-named : (i m : ℕ) → i < length six → m % 2 ≡ 1 → leastOn i m ≡ min (firstRefused resting (axisAt six i)) (leastOn (i + 1) (m / 2))
+  pub least-named : (i m : ℕ) → i < length six → m % 2 ≡ 1 → leastOn i m ≡ min (firstMet (testsFor resting) (axisAt six i)) (leastOn (i + 1) (m / 2))
   least-named i m h e =
-      least-more i m h true (eq-eqb (m % 2) 1 e) ∙ ap (λ (k : ℕ). min k (leastOn (i + 1) (m / 2))) (met-is resting (axisAt six i))
+      least-more i m h true (eq-eqb (m % 2) 1 e)
 
   pub least-unnamed : (i m : ℕ) → i < length six → (m % 2 ≡ 1 → ⊥) → leastOn i m ≡ leastOn (i + 1) (m / 2)
   least-unnamed i m h e = least-more i m h false (ne-eqb (m % 2) 1 e)
@@ -218,18 +191,18 @@ module _ (resting : Bool) (six : List Axis) where
     by-rank i xs b =
         elim (elim b as (λ _. Option ℕ) [ true ↦ some i | false ↦ ranked-first (testsFor resting) k xs ]) as (λ _. ℕ) [ some j ↦ j | none ↦ 0 ]
 
-    lowest-named : (i m : ℕ) → i < length six → m % 2 ≡ 1 → (b : Bool) → eqb (firstRefused resting (axisAt six i)) k ≡ b
+    lowest-named : (i m : ℕ) → i < length six → m % 2 ≡ 1 → (b : Bool) → eqb (firstMet (testsFor resting) (axisAt six i)) k ≡ b
         → lowestOn i m ≡ by-rank i (from (i + 1) (m / 2) six) b
     unfolding by-rank
     lowest-named i m h e b f =
         lowest-more i m h true (eq-eqb (m % 2) 1 e)
-        ∙ ap (by-rank i (from (i + 1) (m / 2) six)) (ap (λ (n : ℕ). eqb n k) (met-is resting (axisAt six i)) ∙ f)
+        ∙ ap (by-rank i (from (i + 1) (m / 2) six)) f
 
-    pub lowest-here : (i m : ℕ) → i < length six → m % 2 ≡ 1 → eqb (firstRefused resting (axisAt six i)) k ≡ true → lowestOn i m ≡ i
+    pub lowest-here : (i m : ℕ) → i < length six → m % 2 ≡ 1 → eqb (firstMet (testsFor resting) (axisAt six i)) k ≡ true → lowestOn i m ≡ i
     unfolding by-rank
     lowest-here i m h e f = lowest-named i m h e true f
 
-    pub lowest-later : (i m : ℕ) → i < length six → m % 2 ≡ 1 → eqb (firstRefused resting (axisAt six i)) k ≡ false → lowestOn i m ≡ lowestOn (i + 1) (m / 2)
+    pub lowest-later : (i m : ℕ) → i < length six → m % 2 ≡ 1 → eqb (firstMet (testsFor resting) (axisAt six i)) k ≡ false → lowestOn i m ≡ lowestOn (i + 1) (m / 2)
     unfolding by-rank
     lowest-later i m h e f = lowest-named i m h e false f
 

@@ -1,52 +1,66 @@
-use Prim.Native.Nat.{ℕ}
-use mathlib.Core.Path.{_≡_, sym, ap, _∙_}
-use mathlib.Core.Bool.{Bool, true, false}
+use Prim.Native.Nat.{ℕ, suc}
+use mathlib.Core.Path.{_≡_, refl, sym, ap, _∙_}
+use mathlib.Core.Bool.{Bool, true, false, cond}
 use borrow.Author.Tests.{not-true, not-false}
 use borrow.Author.Needs.{needs}
 use Rattle.model.specs.declared.Axis.{Axis}
-use Rattle.model.specs.Refusals.{dampingRefused, blendRefused, swayRefused, valuesRefused, accelerationRefused, flyingRefused}
-use Rattle.checks.specs.Checks.{rankOf, firstRefused}
+use Rattle.model.specs.Refusals.{limitsRefused, dampingRefused, blendRefused, swayRefused, valuesRefused, accelerationRefused, flyingRefused}
+use Rattle.checks.specs.Checks.{testsFor, firstMet}
 use Rattle.checks.proofs.first_refused.Statement.{statement}
 use Rattle.checks.proofs.first_refused.Tie as tie
 
+-- the rank by what each test says; where fixed targets may fly the last is none of them
+abbrev ranks : Bool → Bool → Bool → Bool → Bool → Bool → Bool → Bool → ℕ
+ranks r l d b s v a f =
+    cond l 0 (suc (cond d 0 (suc (cond b 0 (suc (cond s 0 (suc (cond v 0 (suc (cond a 0 (suc (cond r (cond f 0 1) 0))))))))))))
+
+abbrev rank : Bool → Axis → ℕ
+rank r x = firstMet (testsFor r) x
+
+by-tests : (r : Bool) (x : Axis)
+    → rank r x
+    ≡ ranks r (limitsRefused x) (dampingRefused x) (blendRefused x) (swayRefused x) (valuesRefused x) (accelerationRefused x) (flyingRefused x)
+by-tests true x = refl
+by-tests false x = refl
+
 -- the rank by one test, those before it having failed
 abbrev by1 : Bool → Axis → Bool → ℕ
-by1 r x b = rankOf r b (dampingRefused x) (blendRefused x) (swayRefused x) (valuesRefused x) (accelerationRefused x) (flyingRefused x)
+by1 r x b = ranks r b (dampingRefused x) (blendRefused x) (swayRefused x) (valuesRefused x) (accelerationRefused x) (flyingRefused x)
 
 abbrev by2 : Bool → Axis → Bool → ℕ
-by2 r x b = rankOf r false b (blendRefused x) (swayRefused x) (valuesRefused x) (accelerationRefused x) (flyingRefused x)
+by2 r x b = ranks r false b (blendRefused x) (swayRefused x) (valuesRefused x) (accelerationRefused x) (flyingRefused x)
 
 abbrev by3 : Bool → Axis → Bool → ℕ
-by3 r x b = rankOf r false false b (swayRefused x) (valuesRefused x) (accelerationRefused x) (flyingRefused x)
+by3 r x b = ranks r false false b (swayRefused x) (valuesRefused x) (accelerationRefused x) (flyingRefused x)
 
 abbrev by4 : Bool → Axis → Bool → ℕ
-by4 r x b = rankOf r false false false b (valuesRefused x) (accelerationRefused x) (flyingRefused x)
+by4 r x b = ranks r false false false b (valuesRefused x) (accelerationRefused x) (flyingRefused x)
 
 abbrev by5 : Bool → Axis → Bool → ℕ
-by5 r x b = rankOf r false false false false b (accelerationRefused x) (flyingRefused x)
+by5 r x b = ranks r false false false false b (accelerationRefused x) (flyingRefused x)
 
 abbrev by6 : Bool → Axis → Bool → ℕ
-by6 r x b = rankOf r false false false false false b (flyingRefused x)
+by6 r x b = ranks r false false false false false b (flyingRefused x)
 
 abbrev by7 : Bool → Axis → Bool → ℕ
-by7 r x b = rankOf r false false false false false false b
+by7 r x b = ranks r false false false false false false b
 
 limits-refused-requires : tie.Need-limits-refused-requires
 limits-refused-requires c κs = search needs
 
 returns : tie.Need-returns
-unfolding firstRefused
 returns c =
     let s = c .before .before .args in
-    sym (ap (by1 (s .resting) (s .x)) (sym (c .before .limits-refused .ensures) ∙ c .if1 .taken))
+    sym (by-tests (s .resting) (s .x) ∙ ap (by1 (s .resting) (s .x)) (sym (c .before .limits-refused .ensures) ∙ c .if1 .taken))
 
 -- after each test that fails, what is left
 abbrev start1 : tie.Else1 → tie.Start
 start1 d = d .before .before
 
-left1 : (d : tie.Else1) → let s = start1 d .args in firstRefused (s .resting) (s .x) ≡ by1 (s .resting) (s .x) false
-unfolding firstRefused
-left1 d = let s = start1 d .args in ap (by1 (s .resting) (s .x)) (sym (d .before .limits-refused .ensures) ∙ d .if1 .left)
+left1 : (d : tie.Else1) → let s = start1 d .args in rank (s .resting) (s .x) ≡ by1 (s .resting) (s .x) false
+left1 d =
+    let s = start1 d .args in
+    by-tests (s .resting) (s .x) ∙ ap (by1 (s .resting) (s .x)) (sym (d .before .limits-refused .ensures) ∙ d .if1 .left)
 
 damping-refused-requires : tie.Need-damping-refused-requires
 damping-refused-requires c κs = search needs
@@ -60,7 +74,7 @@ returns-2 c =
 abbrev start2 : tie.Else2 → tie.Start
 start2 d = start1 (d .before .before)
 
-left2 : (d : tie.Else2) → let s = start2 d .args in firstRefused (s .resting) (s .x) ≡ by2 (s .resting) (s .x) false
+left2 : (d : tie.Else2) → let s = start2 d .args in rank (s .resting) (s .x) ≡ by2 (s .resting) (s .x) false
 left2 d =
     let s = start2 d .args in
     left1 (d .before .before) ∙ ap (by2 (s .resting) (s .x)) (sym (d .before .damping-refused .ensures) ∙ d .if2 .left)
@@ -77,7 +91,7 @@ returns-3 c =
 abbrev start3 : tie.Else3 → tie.Start
 start3 d = start2 (d .before .before)
 
-left3 : (d : tie.Else3) → let s = start3 d .args in firstRefused (s .resting) (s .x) ≡ by3 (s .resting) (s .x) false
+left3 : (d : tie.Else3) → let s = start3 d .args in rank (s .resting) (s .x) ≡ by3 (s .resting) (s .x) false
 left3 d =
     let s = start3 d .args in
     left2 (d .before .before) ∙ ap (by3 (s .resting) (s .x)) (sym (d .before .blend-refused .ensures) ∙ d .if3 .left)
@@ -94,7 +108,7 @@ returns-4 c =
 abbrev start4 : tie.Else4 → tie.Start
 start4 d = start3 (d .before .before)
 
-left4 : (d : tie.Else4) → let s = start4 d .args in firstRefused (s .resting) (s .x) ≡ by4 (s .resting) (s .x) false
+left4 : (d : tie.Else4) → let s = start4 d .args in rank (s .resting) (s .x) ≡ by4 (s .resting) (s .x) false
 left4 d =
     let s = start4 d .args in
     left3 (d .before .before) ∙ ap (by4 (s .resting) (s .x)) (sym (d .before .sway-refused .ensures) ∙ d .if4 .left)
@@ -111,7 +125,7 @@ returns-5 c =
 abbrev start5 : tie.Else5 → tie.Start
 start5 d = start4 (d .before .before)
 
-left5 : (d : tie.Else5) → let s = start5 d .args in firstRefused (s .resting) (s .x) ≡ by5 (s .resting) (s .x) false
+left5 : (d : tie.Else5) → let s = start5 d .args in rank (s .resting) (s .x) ≡ by5 (s .resting) (s .x) false
 left5 d =
     let s = start5 d .args in
     left4 (d .before .before) ∙ ap (by5 (s .resting) (s .x)) (sym (d .before .values-refused .ensures) ∙ d .if5 .left)
@@ -128,7 +142,7 @@ returns-6 c =
 abbrev start6 : tie.Else6 → tie.Start
 start6 d = start5 (d .before .before)
 
-left6 : (d : tie.Else6) → let s = start6 d .args in firstRefused (s .resting) (s .x) ≡ by6 (s .resting) (s .x) false
+left6 : (d : tie.Else6) → let s = start6 d .args in rank (s .resting) (s .x) ≡ by6 (s .resting) (s .x) false
 left6 d =
     let s = start6 d .args in
     left5 (d .before .before) ∙ ap (by6 (s .resting) (s .x)) (sym (d .before .acceleration-refused .ensures) ∙ d .if6 .left)
@@ -145,7 +159,7 @@ returns-7 c =
 flying-refused-requires : tie.Need-flying-refused-requires
 flying-refused-requires c κs = search needs
 
-left7 : (d : tie.Else7) → let s = start6 (d .before) .args in firstRefused (s .resting) (s .x) ≡ by7 true (s .x) (flyingRefused (s .x))
+left7 : (d : tie.Else7) → let s = start6 (d .before) .args in rank (s .resting) (s .x) ≡ by7 true (s .x) (flyingRefused (s .x))
 left7 d = let s = start6 (d .before) .args in left6 (d .before) ∙ ap (at-rest (s .x)) (not-false (s .resting) (d .if7 .left))
 
 returns-8 : tie.Need-returns-8

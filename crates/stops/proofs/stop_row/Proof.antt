@@ -1,4 +1,4 @@
--- `tour::stop_row` meets its contract: a walk of its MIR, by hand, since no function over a slice of structs is covered. The slice is Copy: in
+-- `stops::stop_row` meets its contract: a walk of its MIR, by hand, since no function over a slice of structs is covered. The slice is Copy: in
 -- each turn what it owns is had twice, one copy is kept, and the other is looked into for one element.
 --     exits      from what is had at exit to the contract
 --     Upto, At   the loop's variant, k stops stored with k at most the number held, and its invariant: local 2 has the row of the first k
