@@ -169,8 +169,7 @@ module _ (resting : Bool) (six : List Axis) where
       ap (leastRank (testsFor resting)) (from-more i m six h ∙ ap (λ (c : Bool). pick c i (axisAt six i) (from (i + 1) (m / 2) six)) e)
 
   pub least-named : (i m : ℕ) → i < length six → m % 2 ≡ 1 → leastOn i m ≡ min (firstMet (testsFor resting) (axisAt six i)) (leastOn (i + 1) (m / 2))
-  least-named i m h e =
-      least-more i m h true (eq-eqb (m % 2) 1 e)
+  least-named i m h e = least-more i m h true (eq-eqb (m % 2) 1 e)
 
   pub least-unnamed : (i m : ℕ) → i < length six → (m % 2 ≡ 1 → ⊥) → leastOn i m ≡ leastOn (i + 1) (m / 2)
   least-unnamed i m h e = least-more i m h false (ne-eqb (m % 2) 1 e)
@@ -202,7 +201,8 @@ module _ (resting : Bool) (six : List Axis) where
     unfolding by-rank
     lowest-here i m h e f = lowest-named i m h e true f
 
-    pub lowest-later : (i m : ℕ) → i < length six → m % 2 ≡ 1 → eqb (firstMet (testsFor resting) (axisAt six i)) k ≡ false → lowestOn i m ≡ lowestOn (i + 1) (m / 2)
+    pub lowest-later : (i m : ℕ) → i < length six → m % 2 ≡ 1 → eqb (firstMet (testsFor resting) (axisAt six i)) k ≡ false
+        → lowestOn i m ≡ lowestOn (i + 1) (m / 2)
     unfolding by-rank
     lowest-later i m h e f = lowest-named i m h e false f
 
