@@ -151,7 +151,7 @@ Short lent o j = length lent < cellsNeeded (length (j .axes)) (o .arrival)
 
 -- 10 comes where the table is too short, and there alone
 module _ (lent : List ℤ) (o : Outcome) (e : o .number ≡ 10) where
-  of-job : (j : Job) → Verdict j lent o → Short lent o j
+  of-job : (j : Job) → Verdict Forwards j lent o → Short lent o j
   of-job j (refused3 a r) = let z = r .number in absurd (omega arith)
   of-job j (refused4 i a b r) = let z = r .number in absurd (omega arith)
   of-job j (refused12 i a b c r) = let z = r .number in absurd (omega arith)
@@ -166,11 +166,11 @@ module _ (lent : List ℤ) (o : Outcome) (e : o .number ≡ 10) where
   of-job j (refused10 n a w b h r) = subst (λ (k : ℕ). length lent < cellsNeeded (length (j .axes)) k) (sym (r .arrival)) h
   of-job j (accepted n a w b c r) = let z = r .number in absurd (omega arith)
 
-  ten-short : (q : Input) → CallVerdict lent o q → Short lent o (inputJob q)
+  ten-short : (q : Input) → CallVerdict Forwards lent o q → Short lent o (inputJob q)
   ten-short q (words1 ws a r) = let z = r .number in absurd (omega arith)
   ten-short q (words2 ws p a r) = let z = r .number in absurd (omega arith)
   ten-short q (words14 ws p a b r) = let z = r .number in absurd (omega arith)
-  ten-short q (wordsJob ws j d v) = subst (Short lent o) (sym (ap jobRead d)) (of-job j v)
+  ten-short q (wordsJob ws j f l d v) = subst (Short lent o) (sym (ap jobRead d)) (of-job j v)
   ten-short q (typed1 t a r) = let z = r .number in absurd (omega arith)
   ten-short q (typedJobs t a b v) = of-job (jobOf t) v
 

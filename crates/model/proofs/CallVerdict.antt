@@ -1,24 +1,27 @@
 -- Every call, from words or from typed values, whatever was lent, ends in a verdict: `call-verdict`.
 use Prim.Native.Nat.{ℕ, zero, suc, _/_, _%_, _≤_, _<_}
-use mathlib.Core.Path.{_≡_, refl, subst}
+use mathlib.Core.Path.{_≡_, refl, ap, subst}
 use mathlib.Core.Bool.{Bool, true, false, not, _&&_}
 use mathlib.Core.Option.{Option, none, some}
 use mathlib.Core.List.{List, [], _∷_}
-use mathlib.Core.Logic.{_⊎_, inl, inr}
+use mathlib.Core.Logic.{_↔_, _⊎_, inl, inr}
 use native.Mathlib.Omega.{arith}
 use lib.Dec.{T, eqb, leb, ltb, leb→le, ltb→lt, nltb→le, nleb→lt}
 use lib.IntN.{ℤ}
-use borrow.Author.Tests.{eq-eqb}
+use borrow.Author.Tests.{eq-eqb, eqb-true}
 use Rattle.model.specs.declared.Axis.{Axis}
 use Rattle.model.specs.declared.Job as Typed
+use Rattle.model.specs.declared.Order.the-variants.{Forwards}
 use Rattle.model.specs.Job.{Job, JobAxis, setFrom, setAxes, jobOf, setBits}
 use Rattle.model.specs.Words.{Reading, Reader, got, wrong, _>>=_, field, axis, axes, ending}
 use Rattle.model.specs.Words.{readJob, afterMask, kind, payload, goodMask, firstBadLong, Decoded, noMask, badWord, badLong, job, spelled, decided, decode}
 use Rattle.model.specs.Outcome.{Outcome, Input, words, typed, call, refuse, jobOutcome}
-use Rattle.model.specs.Verdict.{MaskOutside, MaskWordWrong, CallVerdict, words1, words2, words14, wordsJob, typed1, typedJobs}
+use Rattle.model.specs.Grammar.{WellFormed, FirstWrong}
+use Rattle.model.specs.Verdict.{MaskOutside, MaskWordWrong, WordWrong, WordWrongIs, CallVerdict, words1, words2, words14, wordsJob, typed1, typedJobs}
 use Rattle.model.proofs.Masks.{Ascends, ascends-from}
 use Rattle.model.proofs.Verdict.{verdict, is-refusal}
-use Rattle.model.proofs.LongWrong.{first-long-wrong}
+use Rattle.model.proofs.LongWrong.{first-long-wrong, none-long-wrong}
+use Rattle.model.proofs.FirstWrongWord.{MaskWord, read-through, first-wrong-word, none-wrong, one-first}
 
 -- ---- the numbers of the axes ascend
 
@@ -131,6 +134,18 @@ word-wrong w ws t = go (eqb (kind w) 1) (goodMask (payload w)) (not-kind (kind w
     go true b f g t = inr (g t)
     go false b f g t = inl (f tt)
 
+word-right : (w : ℕ) → T (eqb (kind w) 1 && goodMask (payload w)) → MaskWord w
+word-right w t = go (eqb (kind w) 1) (goodMask (payload w)) (eqb-true (kind w) 1) (mask-inside (payload w)) t
+  where
+    go : (a b : Bool) → (a ≡ true → kind w ≡ 1) → (T b → (1 ≤ payload w) × (payload w ≤ 63)) → T (a && b) → MaskWord w
+    go true b f g t = (f refl, g t)
+    go false b f g t = absurd t
+
+not-wrong : (w : ℕ) (ws : List ℕ) → MaskWord w → MaskWordWrong (w ∷ ws) → ⊥
+not-wrong w ws m (inl n) = n (m .0)
+not-wrong w ws m (inr (inl z)) = omega (arith, m .1 .0, z)
+not-wrong w ws m (inr (inr z)) = omega (arith, m .1 .1, z)
+
 -- ---- the calls
 
 abbrev outcomeBy : List ℤ → Decoded → Outcome
@@ -142,29 +157,54 @@ outcomeBy lent d = elim d as (λ z. Outcome) [
 ]
 
 -- by what the words are read as
-by-long : (lent : List ℤ) (ws : List ℕ) (j : Job) (o : Option ℕ) → Ascends 0 (j .axes) → firstBadLong 0 ws ≡ o → decode ws ≡ spelled o j
-    → CallVerdict lent (outcomeBy lent (spelled o j)) (words ws)
-by-long lent ws j (some p) a f d = words14 ws p d (first-long-wrong p ws f) is-refusal
-by-long lent ws j none a f d = wordsJob ws j d (verdict j lent a)
+by-long : (lent : List ℤ) (ws : List ℕ) (j : Job) (o : Option ℕ) → WellFormed ws → Ascends 0 (j .axes) → firstBadLong 0 ws ≡ o → decode ws ≡ spelled o j
+    → CallVerdict Forwards lent (outcomeBy lent (spelled o j)) (words ws)
+by-long lent ws j (some p) g a f d = words14 ws p g (first-long-wrong p ws f) is-refusal
+by-long lent ws j none g a f d = wordsJob ws j g (none-long-wrong 0 ws f) d (verdict j lent a)
 
-by-reading : (lent : List ℤ) (w : ℕ) (ws : List ℕ) (r : Reading Job) → afterMask (payload w) 1 ws ≡ r
-    → decode (w ∷ ws) ≡ decided (w ∷ ws) r → CallVerdict lent (outcomeBy lent (decided (w ∷ ws) r)) (words (w ∷ ws))
-by-reading lent w ws (got j i rest) e d = by-long lent (w ∷ ws) j (firstBadLong 0 (w ∷ ws)) (job-ascends (payload w) 1 ws j i rest e) refl d
-by-reading lent w ws (wrong p) e d = words2 (w ∷ ws) p d is-refusal
+by-reading : (lent : List ℤ) (w : ℕ) (ws : List ℕ) (r : Reading Job) → MaskWord w → afterMask (payload w) 1 ws ≡ r
+    → decode (w ∷ ws) ≡ decided (w ∷ ws) r → CallVerdict Forwards lent (outcomeBy lent (decided (w ∷ ws) r)) (words (w ∷ ws))
+by-reading lent w ws (got j i rest) m e d =
+    by-long lent (w ∷ ws) j (firstBadLong 0 (w ∷ ws)) (read-through w ws m j i rest e) (job-ascends (payload w) 1 ws j i rest e) refl d
+by-reading lent w ws (wrong p) m e d = words2 (w ∷ ws) p (record { mask = not-wrong w ws m; first = first-wrong-word w ws m p e }) is-refusal
 
-by-mask : (lent : List ℤ) (w : ℕ) (ws : List ℕ) (b : Bool) → (T (not b) → MaskWordWrong (w ∷ ws))
+by-mask : (lent : List ℤ) (w : ℕ) (ws : List ℕ) (b : Bool) → (T b → MaskWord w) → (T (not b) → MaskWordWrong (w ∷ ws))
     → decode (w ∷ ws) ≡ (elim b as (λ z. Decoded) [ true ↦ decided (w ∷ ws) (afterMask (payload w) 1 ws) | false ↦ noMask ])
-    → CallVerdict lent (outcomeBy lent (elim b as (λ z. Decoded) [ true ↦ decided (w ∷ ws) (afterMask (payload w) 1 ws) | false ↦ noMask ]))
+    → CallVerdict Forwards lent (outcomeBy lent (elim b as (λ z. Decoded) [ true ↦ decided (w ∷ ws) (afterMask (payload w) 1 ws) | false ↦ noMask ]))
     (words (w ∷ ws))
-by-mask lent w ws true f d = by-reading lent w ws (afterMask (payload w) 1 ws) refl d
-by-mask lent w ws false f d = words1 (w ∷ ws) (f tt) is-refusal
+by-mask lent w ws true g f d = by-reading lent w ws (afterMask (payload w) 1 ws) (g tt) refl d
+by-mask lent w ws false g f d = words1 (w ∷ ws) (f tt) is-refusal
 
 by-typed-mask : (lent : List ℤ) (t : Typed.Job) (b : Bool) → (T b → (1 ≤ t .mask) × (t .mask ≤ 63)) → (T (not b) → MaskOutside (t .mask))
-    → CallVerdict lent (elim b as (λ z. Outcome) [ true ↦ jobOutcome (jobOf t) lent | false ↦ refuse 1 0 0 0 lent ]) (typed t)
+    → CallVerdict Forwards lent (elim b as (λ z. Outcome) [ true ↦ jobOutcome (jobOf t) lent | false ↦ refuse 1 0 0 0 lent ]) (typed t)
 by-typed-mask lent t true f g = typedJobs t (f tt .0) (f tt .1) (verdict (jobOf t) lent (set-ascends 0 (t .mask) (t .axes)))
 by-typed-mask lent t false f g = typed1 t (g tt) is-refusal
 
-pub call-verdict : (q : Input) (lent : List ℤ) → CallVerdict lent (call q lent) q
+pub call-verdict : (q : Input) (lent : List ℤ) → CallVerdict Forwards lent (call q lent) q
 call-verdict (words []) lent = words1 [] tt is-refusal
-call-verdict (words (w ∷ ws)) lent = by-mask lent w ws (eqb (kind w) 1 && goodMask (payload w)) (word-wrong w ws) refl
+call-verdict (words (w ∷ ws)) lent = by-mask lent w ws (eqb (kind w) 1 && goodMask (payload w)) (word-right w) (word-wrong w ws) refl
 call-verdict (typed t) lent = by-typed-mask lent t (goodMask (t .mask)) (mask-inside (t .mask)) (mask-outside (t .mask))
+
+-- ---- refusal 2, both ways
+
+word-of : {p q : ℕ} → badWord p ≡ badWord q → p ≡ q
+word-of e = cc
+
+pub word-wrong-is : WordWrongIs
+word-wrong-is [] p = (λ e. absurd (let z : _≡_ {A = ℕ} 0 1 = cc in omega arith), λ h. absurd (h .mask tt))
+word-wrong-is (w ∷ ws) p = by-mask-word (eqb (kind w) 1 && goodMask (payload w)) (word-right w) (word-wrong w ws)
+  where
+    read : MaskWord w → (r : Reading Job) → afterMask (payload w) 1 ws ≡ r → (decided (w ∷ ws) r ≡ badWord p) ↔ WordWrong (w ∷ ws) p
+    read m (wrong q) e =
+        let h = first-wrong-word w ws m q e in
+        (λ s. record { mask = not-wrong w ws m; first = subst (FirstWrong WellFormed (w ∷ ws)) (word-of s) h }, λ k. ap badWord (one-first WellFormed (w ∷ ws) q p h (k .first)))
+    read m (got j i vs) e = (λ s. absurd (other (firstBadLong 0 (w ∷ ws)) s), λ k. absurd (none-wrong WellFormed (w ∷ ws) p (read-through w ws m j i vs e) (k .first)))
+      where
+        other : (o : Option ℕ) → spelled o j ≡ badWord p → ⊥
+        other (some q) s = let z : _≡_ {A = ℕ} 0 1 = cc in omega arith
+        other none s = let z : _≡_ {A = ℕ} 0 1 = cc in omega arith
+
+    by-mask-word : (b : Bool) → (T b → MaskWord w) → (T (not b) → MaskWordWrong (w ∷ ws))
+        → ((elim b as (λ z. Decoded) [ true ↦ decided (w ∷ ws) (afterMask (payload w) 1 ws) | false ↦ noMask ]) ≡ badWord p) ↔ WordWrong (w ∷ ws) p
+    by-mask-word true g f = read (g tt) (afterMask (payload w) 1 ws) refl
+    by-mask-word false g f = (λ e. absurd (let z : _≡_ {A = ℕ} 0 1 = cc in omega arith), λ h. absurd (h .mask (f tt)))

@@ -1,7 +1,7 @@
 -- Where a cell stands in the table: axis i of row k has its three cells from 3 (axes × k + i) on.
 use Prim.Native.Nat.{ℕ, zero, suc, _+_, _*_, _≤_, _<_}
 use mathlib.Core.Path.{_≡_, refl, sym, ap, ap₂, _∙_, subst}
-use mathlib.Core.List.{List, [], _∷_, _++_, map}
+use mathlib.Core.List.{List, [], _∷_, _++_, map, flatten}
 use mathlib.Core.Option.{some}
 use native.Mathlib.Omega.{arith}
 use native.Mathlib.Nat.{zero-add, add-zero, add-comm, mul-zero, mul-suc, mul-assoc}
@@ -12,31 +12,33 @@ use Rattle.whole.proofs.Elements.{none-some, at-below, map-at}
 use Rattle.model.specs.declared.Axis.{Axis}
 use Rattle.model.specs.declared.Order.{Order}
 use Rattle.model.specs.declared.Order.the-variants.{Forwards, Backwards}
-use Rattle.model.specs.Rows.{Track, track, cells, tabulate, concat, row, rowAt, table}
+use Rattle.model.specs.Rows.{Track, track, cells, tabulate, row, rowAt, table}
 
 -- ---- lists of blocks of one length
 
 module _ (b : ℕ) (f : ℕ → List ℤ) (even : (k : ℕ) → length (f k) ≡ b) where
-  pub rows-length : (k m : ℕ) → length (concat (tabulate f k m)) ≡ b * m
+  pub rows-length : (k m : ℕ) → length (flatten (tabulate f k m)) ≡ b * m
+  unfolding flatten
   rows-length k zero = sym (mul-zero b)
   rows-length k (suc m) =
-      length-append (f k) (concat (tabulate f (suc k) m))
+      length-append (f k) (flatten (tabulate f (suc k) m))
       ∙ ap₂ _+_ (even k) (rows-length (suc k) m)
       ∙ add-comm b (b * m)
       ∙ sym (mul-suc b m)
 
-  rows-at : (k m i r : ℕ) (d : ℤ) → i < m → r < b → getD (concat (tabulate f k m)) (b * i + r) d ≡ getD (f (k + i)) r d
+  rows-at : (k m i r : ℕ) (d : ℤ) → i < m → r < b → getD (flatten (tabulate f k m)) (b * i + r) d ≡ getD (f (k + i)) r d
+  unfolding flatten
   rows-at k zero i r d h q = absurd (omega arith)
   rows-at k (suc m) zero r d h q =
-      ap (λ (j : ℕ). getD (f k ++ concat (tabulate f (suc k) m)) j d) e
-      ∙ List·getD-append (f k) (concat (tabulate f (suc k) m)) d r (subst (λ (l : ℕ). r < l) (sym (even k)) q)
+      ap (λ (j : ℕ). getD (f k ++ flatten (tabulate f (suc k) m)) j d) e
+      ∙ List·getD-append (f k) (flatten (tabulate f (suc k) m)) d r (subst (λ (l : ℕ). r < l) (sym (even k)) q)
       ∙ ap (λ (j : ℕ). getD (f j) r d) (sym (add-zero k))
     where
       e : b * 0 + r ≡ r
       e = omega (arith, mul-zero b)
   rows-at k (suc m) (suc i) r d h q =
-      ap (λ (j : ℕ). getD (f k ++ concat (tabulate f (suc k) m)) j d) e
-      ∙ getD-append-add (f k) (concat (tabulate f (suc k) m)) (b * i + r) d
+      ap (λ (j : ℕ). getD (f k ++ flatten (tabulate f (suc k) m)) j d) e
+      ∙ getD-append-add (f k) (flatten (tabulate f (suc k) m)) (b * i + r) d
       ∙ rows-at (suc k) m i r d (omega arith) q
       ∙ ap (λ (j : ℕ). getD (f j) r d) next
     where
@@ -47,27 +49,29 @@ module _ (b : ℕ) (f : ℕ → List ℤ) (even : (k : ℕ) → length (f k) ≡
       next = omega arith
 
 module _ {A : Type 0} (b : ℕ) (f : A → List ℤ) (even : (a : A) → length (f a) ≡ b) where
-  pub blocks-length : (l : List A) → length (concat (map f l)) ≡ b * length l
+  pub blocks-length : (l : List A) → length (flatten (map f l)) ≡ b * length l
+  unfolding flatten
   blocks-length [] = sym (mul-zero b)
   blocks-length (a ∷ l) =
-      length-append (f a) (concat (map f l))
+      length-append (f a) (flatten (map f l))
       ∙ ap₂ _+_ (even a) (blocks-length l)
       ∙ add-comm b (b * length l)
       ∙ sym (mul-suc b (length l))
 
   blocks-at : (l : List A) (i r : ℕ) (d : ℤ) (a : A) → getElem? l i ≡ some a → r < b
-      → getD (concat (map f l)) (b * i + r) d ≡ getD (f a) r d
+      → getD (flatten (map f l)) (b * i + r) d ≡ getD (f a) r d
+  unfolding flatten
   blocks-at [] i r d a e q = absurd (none-some e)
   blocks-at (x ∷ l) zero r d a e q =
-      ap (λ (j : ℕ). getD (f x ++ concat (map f l)) j d) start
-      ∙ List·getD-append (f x) (concat (map f l)) d r (subst (λ (n : ℕ). r < n) (sym (even x)) q)
+      ap (λ (j : ℕ). getD (f x ++ flatten (map f l)) j d) start
+      ∙ List·getD-append (f x) (flatten (map f l)) d r (subst (λ (n : ℕ). r < n) (sym (even x)) q)
       ∙ ap (λ (y : A). getD (f y) r d) (cc)
     where
       start : b * 0 + r ≡ r
       start = omega (arith, mul-zero b)
   blocks-at (x ∷ l) (suc i) r d a e q =
-      ap (λ (j : ℕ). getD (f x ++ concat (map f l)) j d) next
-      ∙ getD-append-add (f x) (concat (map f l)) (b * i + r) d
+      ap (λ (j : ℕ). getD (f x ++ flatten (map f l)) j d) next
+      ∙ getD-append-add (f x) (flatten (map f l)) (b * i + r) d
       ∙ blocks-at l i r d a e q
     where
       next : b * suc i + r ≡ length (f x) + (b * i + r)

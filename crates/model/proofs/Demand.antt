@@ -130,6 +130,7 @@ module _ (o : Order) (xs : List Axis) (n : ℕ) (lent rest : List ℤ) (is : len
     unfolding a
     stills =
         record {
+          once = λ k h. cell-is i 2 k x e (omega arith) h;
           exact = λ m w h s. cancelled-exact x n g m w h s;
           rounded = λ m G w h s b.
               subst (λ (z : ℤ). natAbs z ≤ n * G) (sway-same a (accelerationCell (tableIn o xs n lent) i) w m n a-is)
@@ -189,7 +190,7 @@ module _ (Claim : List Axis → ℕ → List ℤ → Type 0)
     (holds : (xs : List Axis) (n : ℕ) (lent rest : List ℤ) → lent ≡ table Forwards xs n ++ rest
     → ((i : ℕ) (x : Axis) → getElem? xs i ≡ some x → Ready x n) → Claim xs n lent) where
   -- only an accepted job has number 0
-  by-verdict : (j : Job) (lent : List ℤ) (o : Outcome) → Verdict j lent o → o .number ≡ 0 → Claim (axesOf j) (o .arrival) (o .cells)
+  by-verdict : (j : Job) (lent : List ℤ) (o : Outcome) → Verdict Forwards j lent o → o .number ≡ 0 → Claim (axesOf j) (o .arrival) (o .cells)
   by-verdict j lent o (accepted n p w a room e) z =
       subst (λ (m : ℕ). Claim (axesOf j) m (o .cells)) (sym (e .arrival))
       (holds (axesOf j) n (o .cells) (drop (cellsNeeded (length (axesOf j)) n) lent) (e .cells) (all-ready j n p a))
@@ -206,11 +207,11 @@ module _ (Claim : List Axis → ℕ → List ℤ → Type 0)
   by-verdict j lent o (refused9 m a b w c d e) z = absurd (let n = e .number in omega arith)
   by-verdict j lent o (refused10 n a w b c e) z = absurd (let n = e .number in omega arith)
 
-  by-call : (q : Input) (lent : List ℤ) (o : Outcome) → CallVerdict lent o q → o .number ≡ 0 → Claim (inputAxes q) (o .arrival) (o .cells)
+  by-call : (q : Input) (lent : List ℤ) (o : Outcome) → CallVerdict Forwards lent o q → o .number ≡ 0 → Claim (inputAxes q) (o .arrival) (o .cells)
   by-call q lent o (words1 ws a e) z = absurd (let n = e .number in omega arith)
   by-call q lent o (words2 ws p a e) z = absurd (let n = e .number in omega arith)
   by-call q lent o (words14 ws p a b e) z = absurd (let n = e .number in omega arith)
-  by-call q lent o (wordsJob ws j d v) z =
+  by-call q lent o (wordsJob ws j f l d v) z =
       subst (λ (xs : List Axis). Claim xs (o .arrival) (o .cells)) (sym (ap (λ (r : Decoded). axesOf (jobRead r)) d)) (by-verdict j lent o v z)
   by-call q lent o (typed1 t a e) z = absurd (let n = e .number in omega arith)
   by-call q lent o (typedJobs t a b v) z = by-verdict (jobOf t) lent o v z

@@ -8,7 +8,7 @@ use lib.IntN.{ℤ, natAbs, _-ℤ_}
 use lib.Signed.{_≤ℤ_, leZ-yes}
 use Rattle.whole.specs.Integers.{sumTo}
 use Rattle.whole.proofs.Tests.{both, and}
-use Rattle.model.specs.Leg.{Leg, upper, lower, cruise, IsCruise, required, twiceRequired, all, tests, feasible}
+use Rattle.model.specs.Leg.{Leg, upper, lower, cruise, IsCruise, required, twiceRequired, allHold, tests, feasible}
 use Rattle.model.proofs.Envelopes.{Joined}
 use Rattle.model.proofs.CruiseIsLargest.{cruise-is}
 
@@ -16,13 +16,13 @@ abbrev pub Each : List Bool → Type 0
 Each [] = Unit {0}
 Each (b ∷ bs) = T b × Each bs
 
-pub every : (bs : List Bool) → Each bs → T (all bs)
+pub every : (bs : List Bool) → Each bs → T (allHold bs)
 every [] e = tt
-every (b ∷ bs) e = and b (all bs) (e .0) (every bs (e .1))
+every (b ∷ bs) e = and b (allHold bs) (e .0) (every bs (e .1))
 
-pub each : (bs : List Bool) → T (all bs) → Each bs
+pub each : (bs : List Bool) → T (allHold bs) → Each bs
 each [] t = tt
-each (b ∷ bs) t = let p : T b × T (all bs) = both b (all bs) t in (p .0, each bs (p .1))
+each (b ∷ bs) t = let p : T b × T (allHold bs) = both b (allHold bs) t in (p .0, each bs (p .1))
 
 module _ (g : Leg) (δ : ℤ) (t : T (feasible g δ)) where
   passed : Each (tests g δ)

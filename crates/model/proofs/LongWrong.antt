@@ -3,7 +3,7 @@ use Prim.Native.Nat.{ℕ, zero, suc, _+_, _<_}
 use native.Mathlib.Omega.{arith}
 use mathlib.Core.Path.{_≡_, refl, sym, ap, subst, _∙_}
 use mathlib.Core.Bool.{Bool, true, false, not, _&&_, true≢false}
-use mathlib.Core.Option.{Option, some}
+use mathlib.Core.Option.{Option, none, some}
 use mathlib.Core.List.{List, [], _∷_}
 use mathlib.Core.Logic.{_⊎_, inl, inr}
 use lib.Dec.{eqb}
@@ -11,7 +11,7 @@ use lib.IntN.{pos, negsuc}
 use lib.ListN.{getElem?}
 use borrow.Author.Tests.{eq-eqb, eqb-true}
 use Rattle.model.specs.Words.{kind, payload, twos, longPosition, between, fitsWord, longAllowed, firstBadLong}
-use Rattle.model.specs.Verdict.{LongWrong, FirstLongWrong}
+use Rattle.model.specs.Verdict.{LongWrong, FirstLongWrong, NoneLongWrong}
 
 -- the test of refusal 14
 abbrev pub bad : ℕ → ℕ → Bool
@@ -98,3 +98,20 @@ first-long-wrong p ws e =
     let f = first-past 0 p ws e in
     let is : f .0 ≡ p = omega (arith, f .1 .0) in
     subst (FirstLongWrong ws) is (f .1 .1)
+
+-- where the test finds none, no word is wrong
+pub none-long-wrong : (i : ℕ) (ws : List ℕ) → firstBadLong i ws ≡ none → NoneLongWrong ws
+none-long-wrong i [] e k w u a b h = absurd (let z : _≡_ {A = ℕ} 0 1 = cc in omega arith)
+none-long-wrong i (v ∷ []) e zero w u a b h = absurd (let z : _≡_ {A = ℕ} 0 1 = cc in omega arith)
+none-long-wrong i (v ∷ []) e (suc k) w u a b h = absurd (let z : _≡_ {A = ℕ} 0 1 = cc in omega arith)
+none-long-wrong i (v ∷ t ∷ ws) e k w u a b h = go (bad v t) refl e (none-long-wrong (suc i) (t ∷ ws)) k a b
+  where
+    go : (c : Bool) → bad v t ≡ c → _≡_ {A = Option ℕ} (elim c as (λ _. Option ℕ) [ true ↦ some i | false ↦ firstBadLong (suc i) (t ∷ ws) ]) none
+        → (firstBadLong (suc i) (t ∷ ws) ≡ none → NoneLongWrong (t ∷ ws))
+        → (k : ℕ) → getElem? (v ∷ t ∷ ws) k ≡ some w → getElem? (v ∷ t ∷ ws) (suc k) ≡ some u → ⊥
+    go true c e more k a b = let z : _≡_ {A = ℕ} 0 1 = cc in omega arith
+    go false c e more zero a b =
+        let s : v ≡ w = cc in
+        let t : t ≡ u = cc in
+        true≢false (sym (wrong-bad w u h) ∙ (λ l. bad (sym s l) (sym t l)) ∙ c)
+    go false c e more (suc k) a b = more e k w u a b h

@@ -5,7 +5,7 @@ use native.Mathlib.Omega.{arith}
 use mathlib.Core.Path.{_≡_, refl, ap, ap₂}
 use mathlib.Core.Bool.{Bool, true, false, not, _&&_}
 use mathlib.Core.Option.{Option, none, some}
-use mathlib.Core.List.{List, [], _∷_, _++_, map}
+use mathlib.Core.List.{List, [], _∷_, _++_, map, flatten}
 use lib.IntN.{ℤ}
 use lib.Dec.{ltb}
 use lib.ListN.{length, drop}
@@ -15,7 +15,7 @@ use Rattle.model.specs.declared.Order.{Order}
 use Rattle.model.specs.declared.Order.the-variants.{Forwards}
 use Rattle.model.specs.Windows.{inWindows, refused13}
 use Rattle.model.specs.Motion.{Tick, reachable}
-use Rattle.model.specs.Rows.{track, blend, divisor, row, rowAt, table, cells, concat, tabulate}
+use Rattle.model.specs.Rows.{track, blend, divisor, row, rowAt, table, cells, tabulate}
 use Rattle.model.specs.Job.{Job, JobAxis, axesOf, maskWhere}
 use Rattle.model.specs.Outcome.{Outcome, refuse, allReach, arrives, cellsNeeded, tableOver, filled, arrived, firstAxis, Tests, tested}
 
@@ -71,11 +71,12 @@ module _ (F : Axis → Axis) where
   module _ (n : ℕ) (same : (k : ℕ) (x : Axis) → cells k (track n (F x)) ≡ cells k (track n x)) where
     row-mapped : (l : List JobAxis) (k : ℕ)
         → row (map (track n) (map (λ x. x .axis) (mapped l))) k ≡ row (map (track n) (map (λ x. x .axis) l)) k
+    unfolding flatten
     row-mapped [] k = refl
     row-mapped (x ∷ l) k = ap₂ (λ (c r : List ℤ). c ++ r) (same k (x .axis)) (row-mapped l k)
 
     table-mapped : (o : Order) (j : Job) → table o (axesOf (mappedJob j)) n ≡ table o (axesOf j) n
-    table-mapped o j = ap (λ (f : ℕ → List ℤ). concat (tabulate f 0 (suc n))) (λ i k. row-mapped (j .axes) (rowAt o n k) i)
+    table-mapped o j = ap (λ (f : ℕ → List ℤ). flatten (tabulate f 0 (suc n))) (λ i k. row-mapped (j .axes) (rowAt o n k) i)
 
     axes-length : (l : List JobAxis) → length (map (λ x. x .axis) (mapped l)) ≡ length (map (λ x. x .axis) l)
     axes-length [] = refl

@@ -12,7 +12,7 @@ use Rattle.model.specs.declared.Order.the-variants.{Forwards, Backwards}
 use Rattle.model.specs.Outcome.{Outcome, outcomeOf, answerIn, tableOver, ordered}
 
 -- an accepted job's outcome with its rows backwards
-abbrev turned : List Axis → List ℤ → Outcome → Outcome
+abbrev pub turned : List Axis → List ℤ → Outcome → Outcome
 turned xs lent r = outcomeOf (answerIn r) (tableOver Backwards xs (r .arrival) lent)
 
 module _ (xs : List Axis) (lent : List ℤ) (r : Outcome) where

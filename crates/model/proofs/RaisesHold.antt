@@ -16,6 +16,7 @@ use Rattle.whole.proofs.Elements.{none-some}
 use Rattle.model.specs.declared.Answer.{Answer}
 use Rattle.model.specs.declared.Axis.{Axis}
 use Rattle.model.specs.declared.Job as Typed
+use Rattle.model.specs.declared.Order.the-variants.{Forwards}
 use Rattle.model.specs.declared.Limit.{Limit}
 use Rattle.model.specs.declared.Limit.the-variants.{Acceleration, Speed}
 use Rattle.model.specs.declared.AxisRaises.{AxisRaises}
@@ -183,7 +184,7 @@ pub record Eight (j : Job) (m : ℕ) : Type 0 where
   pub names : Names (λ x. Reachable x (j .asked) → ⊥) (j .axes) m
 
 module _ (j : Job) (o : Outcome) (e : o .number ≡ 8) where
-  by-verdict : Verdict j [] o → Eight j (o .mask)
+  by-verdict : Verdict Forwards j [] o → Eight j (o .mask)
   by-verdict (refused8 m a b p w n f r) =
       record { last = b; passed = p; names = subst (Names (λ x. Reachable x (j .asked) → ⊥) (j .axes)) (sym (r .mask)) f }
   by-verdict (refused3 a r) = let z = r .number in absurd (omega arith)
@@ -210,7 +211,7 @@ module _ (t : Typed.Job) where
       let s = same-refusal (t .mask) o 8 (λ z. omega arith) e in
       go (s .0) (s .1) (call-verdict (typed t) [])
     where
-      go : o .number ≡ 8 → o .mask ≡ answerOf (typed t) .mask → CallVerdict [] o (typed t) → Eight (jobOf t) (answerOf (typed t) .mask) × (t .mask < 64)
+      go : o .number ≡ 8 → o .mask ≡ answerOf (typed t) .mask → CallVerdict Forwards [] o (typed t) → Eight (jobOf t) (answerOf (typed t) .mask) × (t .mask < 64)
       go n m (typed1 _ h r) = let z = r .number in absurd (omega arith)
       go n m (typedJobs _ h k v) = (subst (Eight (jobOf t)) m (by-verdict (jobOf t) o n v), omega arith)
 

@@ -1,13 +1,13 @@
 -- The rows of a backward table are the forward rows in reverse order: `rows-reversed`.
 use Prim.Native.Nat.{ℕ, zero, suc, _+_, _-_, _<_}
 use mathlib.Core.Path.{_≡_, refl, sym, ap, ap₂, _∙_}
-use mathlib.Core.List.{List, [], _∷_, _++_, map, reverse, reverse-append}
+use mathlib.Core.List.{List, [], _∷_, _++_, map, reverse, reverse-append, flatten}
 use native.Mathlib.Omega.{arith}
 use native.Mathlib.Nat.{add-zero}
 use lib.IntN.{ℤ}
 use Rattle.model.specs.declared.Axis.{Axis}
 use Rattle.model.specs.declared.Order.the-variants.{Backwards}
-use Rattle.model.specs.Rows.{track, tabulate, concat, row, table}
+use Rattle.model.specs.Rows.{track, tabulate, row, table}
 
 -- one more at the end, the same by two functions, and from one later on
 pub tabulate-more : (f : ℕ → List ℤ) (k n : ℕ) → tabulate f k (suc n) ≡ tabulate f k n ++ (f (k + n) ∷ [])
@@ -41,5 +41,5 @@ reversed f (suc n) =
         tabulate-same (λ j. f (n - j)) (λ j. f (suc n - suc j)) 0 (suc n) (λ j q. ap f (one j))
         ∙ tabulate-later (λ j. f (suc n - j)) 0 (suc n)
 
-pub rows-reversed : (xs : List Axis) (n : ℕ) → table Backwards xs n ≡ concat (reverse (tabulate (row (map (track n) xs)) 0 (suc n)))
-rows-reversed xs n = ap concat (sym (reversed (row (map (track n) xs)) n))
+pub rows-reversed : (xs : List Axis) (n : ℕ) → table Backwards xs n ≡ flatten (reverse (tabulate (row (map (track n) xs)) 0 (suc n)))
+rows-reversed xs n = ap flatten (sym (reversed (row (map (track n) xs)) n))

@@ -1,5 +1,6 @@
 -- The starred field cases A to J, cases of laser windows, of a second sway, of raises and of the converter, by computing the definitions.
 use mathlib.Core.Path.{refl}
+use mathlib.Core.List.{flatten}
 use Rattle.model.specs.Quantities.{finer}
 use Rattle.model.specs.Leg.{cruise}
 use Rattle.model.specs.Outcome.{answerOf}
@@ -7,7 +8,7 @@ use Rattle.model.specs.Raises.{raiseOf, raisesCall}
 use Rattle.model.specs.Cases.{Starred, WindowCasesHold, SwayCasesHold, RaisesCasesHold, ConversionsHold, RunCasesHold}
 
 pub starred : Starred
-unfolding cruise finer
+unfolding cruise finer flatten
 starred = refl
 
 pub window-cases : WindowCasesHold
@@ -15,7 +16,7 @@ unfolding cruise finer
 window-cases = refl
 
 pub sway-cases : SwayCasesHold
-unfolding cruise finer
+unfolding cruise finer flatten
 sway-cases = refl
 
 pub raises-cases : RaisesCasesHold

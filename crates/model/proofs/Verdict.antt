@@ -13,6 +13,7 @@ use lib.ListN.{length, getElem?}
 use Rattle.whole.proofs.Tests.{by-bool, by-option, both, and, T-true, true-T}
 use Rattle.whole.proofs.Elements.{none-some}
 use Rattle.model.specs.declared.Axis.{Axis}
+use Rattle.model.specs.declared.Order.the-variants.{Forwards}
 use Rattle.model.specs.Motion.{Reachable, reachable}
 use Rattle.model.specs.Windows as W
 use Rattle.model.specs.Windows.{inWindows}
@@ -151,7 +152,7 @@ none-reached-is x p =
 pub is-refusal : {n p m a : ℕ} {lent : List ℤ} → Refuses (refuse n p m a lent) n p m a lent
 is-refusal = record { number = refl; place = refl; mask = refl; arrival = refl; cells = refl }
 
-is-accepted : {j : Job} {n : ℕ} {lent : List ℤ} → Accepts (accept j n lent) j n lent
+is-accepted : {j : Job} {n : ℕ} {lent : List ℤ} → Accepts Forwards (accept j n lent) j n lent
 is-accepted = record { number = refl; place = refl; mask = refl; arrival = refl; cells = refl }
 
 module _ (j : Job) (n : ℕ) (p : AllPassed (j .axes)) where
@@ -166,9 +167,9 @@ module _ (j : Job) (n : ℕ) (p : AllPassed (j .axes)) where
 
 module _ (j : Job) (lent : List ℤ) (numbered : Ascends 0 (j .axes)) where
   abbrev Q : Outcome → Type 0
-  Q o = Verdict j lent o
+  Q o = Verdict Forwards j lent o
 
-  filled-is : (n : ℕ) → AllPassed (j .axes) → WindowsPass j → IsArrival j n → Verdict j lent (filled j n lent)
+  filled-is : (n : ℕ) → AllPassed (j .axes) → WindowsPass j → IsArrival j n → Verdict Forwards j lent (filled j n lent)
   filled-is n p w a =
       by-bool Q (ltb (length lent) (cellsNeeded (length (j .axes)) n)) _ _
       (λ t. refused10 n p w a (ltb→lt (length lent) (cellsNeeded (length (j .axes)) n) t) is-refusal)
@@ -183,7 +184,7 @@ module _ (j : Job) (lent : List ℤ) (numbered : Ascends 0 (j .axes)) where
         asked = inr (z, λ k a b r. l .least k a b (T-true (arrives j k) (is-arrives j k p r)));
       }
 
-  arrived-is : (a : ℕ) → j .asked ≡ a → a ≤ lastTick → AllPassed (j .axes) → WindowsPass j → Verdict j lent (arrived j a lent)
+  arrived-is : (a : ℕ) → j .asked ≡ a → a ≤ lastTick → AllPassed (j .axes) → WindowsPass j → Verdict Forwards j lent (arrived j a lent)
   arrived-is zero z h p w =
       by-option Q (leastFrom (arrives j) 1 lastTick) _ _
       (λ n e. filled-is n p w (least-arrival n p z (least-is (arrives j) 1 lastTick n e)))
@@ -208,7 +209,7 @@ module _ (j : Job) (lent : List ℤ) (numbered : Ascends 0 (j .axes)) where
           clash true f t = f
           clash false f t = t
 
-  pub verdict : Verdict j lent (jobOutcome j lent)
+  pub verdict : Verdict Forwards j lent (jobOutcome j lent)
   verdict =
       by-bool Q (leb (j .asked) lastTick) _ _
       (λ t.

@@ -1,5 +1,5 @@
--- What each number of a call for a table says, in the words of docs/METHOD.md, section 7: its named case, the first in checking order, by the existence of
--- a list (rule 4) and not by the decision. The theorem `verdict` says it of every job from refusal 3 on, `call-verdict` of every call.
+-- What each number of a call for a table says, with its rows in either order w, in the words of docs/METHOD.md, section 7: its named case, the first in checking order, by the existence of
+-- a list (rule 4) and not by the decision. The theorem `verdict` says it of every job from refusal 3 on, `call-verdict` of every call, `verdict-in` of both orders.
 use Prim.Native.Nat.{ℕ, suc, _≤_, _<_}
 use mathlib.Core.Path.{_≡_}
 use mathlib.Core.Bool.{Bool, true, false}
@@ -10,12 +10,13 @@ use lib.IntN.{ℤ, pos, negsuc}
 use lib.ListN.{length, drop, getElem?}
 use Rattle.model.specs.declared.Axis.{Axis}
 use Rattle.model.specs.declared.Job as Typed
-use Rattle.model.specs.declared.Order.the-variants.{Forwards}
+use Rattle.model.specs.declared.Order.{Order}
 use Rattle.model.specs.Motion.{Reachable}
 use Rattle.model.specs.Windows.{brought, FitsOne, WindowsWrong, WindowsRight}
 use Rattle.model.specs.Rows.{table}
 use Rattle.model.specs.Job.{Job, JobAxis, axesOf, jobOf, bit}
-use Rattle.model.specs.Words.{kind, payload, twos, longPosition, between, fitsWord, decode, badWord, badLong, job}
+use Rattle.model.specs.Words.{kind, payload, twos, longPosition, between, fitsWord, decode, badWord, job}
+use Rattle.model.specs.Grammar.{WellFormed, FirstWrong}
 use Rattle.model.specs.Refusals.{limitsRefused, dampingRefused, blendRefused, swayRefused, valuesRefused, accelerationRefused, flyingRefused, AllPassed}
 use Rattle.model.specs.Outcome.{Outcome, Input, words, typed, cellsNeeded, jobOutcome}
 
@@ -30,12 +31,12 @@ pub record Refuses (o : Outcome) (n p m a : ℕ) (lent : List ℤ) : Type 0 wher
   pub cells : o .cells ≡ lent
 
 -- an accepted job: its own mask and its arrival, the rows in the table's first cells, and the cells after the last row as they were
-pub record Accepts (o : Outcome) (j : Job) (n : ℕ) (lent : List ℤ) : Type 0 where
+pub record Accepts (w : Order) (o : Outcome) (j : Job) (n : ℕ) (lent : List ℤ) : Type 0 where
   pub number : o .number ≡ 0
   pub place : o .place ≡ 0
   pub mask : o .mask ≡ j .mask
   pub arrival : o .arrival ≡ n
-  pub cells : o .cells ≡ table Forwards (axesOf j) n ++ drop (cellsNeeded (length (axesOf j)) n) lent
+  pub cells : o .cells ≡ table w (axesOf j) n ++ drop (cellsNeeded (length (axesOf j)) n) lent
 
 -- ---- axes of a list
 
@@ -88,39 +89,39 @@ WindowsPass j = j .windows .given ≡ true → WindowsRight (j .windows)
 
 -- ---- from refusal 3 on: a job whose mask and words passed
 
-pub data Verdict (j : Job) (lent : List ℤ) (o : Outcome) : Type 0 where
-  refused3 : 4096 < j .asked → Refuses o 3 1 0 0 lent → Verdict j lent o
-  refused4 : (i : ℕ) → j .asked ≤ 4096 → FirstRefused limitsRefused (j .axes) i → Refuses o 4 i 0 0 lent → Verdict j lent o
+pub data Verdict (w : Order) (j : Job) (lent : List ℤ) (o : Outcome) : Type 0 where
+  refused3 : 4096 < j .asked → Refuses o 3 1 0 0 lent → Verdict w j lent o
+  refused4 : (i : ℕ) → j .asked ≤ 4096 → FirstRefused limitsRefused (j .axes) i → Refuses o 4 i 0 0 lent → Verdict w j lent o
   refused12 : (i : ℕ) → j .asked ≤ 4096 → NoneRefused limitsRefused (j .axes) → FirstRefused dampingRefused (j .axes) i
-      → Refuses o 12 i 0 0 lent → Verdict j lent o
+      → Refuses o 12 i 0 0 lent → Verdict w j lent o
   refused5 : (i : ℕ) → j .asked ≤ 4096 → NoneRefused limitsRefused (j .axes) → NoneRefused dampingRefused (j .axes)
-      → FirstRefused blendRefused (j .axes) i → Refuses o 5 i 0 0 lent → Verdict j lent o
+      → FirstRefused blendRefused (j .axes) i → Refuses o 5 i 0 0 lent → Verdict w j lent o
   refused15 : (i : ℕ) → j .asked ≤ 4096 → NoneRefused limitsRefused (j .axes) → NoneRefused dampingRefused (j .axes)
-      → NoneRefused blendRefused (j .axes) → FirstRefused swayRefused (j .axes) i → Refuses o 15 i 0 0 lent → Verdict j lent o
+      → NoneRefused blendRefused (j .axes) → FirstRefused swayRefused (j .axes) i → Refuses o 15 i 0 0 lent → Verdict w j lent o
   refused6 : (i : ℕ) → j .asked ≤ 4096 → NoneRefused limitsRefused (j .axes) → NoneRefused dampingRefused (j .axes)
       → NoneRefused blendRefused (j .axes) → NoneRefused swayRefused (j .axes) → FirstRefused valuesRefused (j .axes) i
-      → Refuses o 6 i 0 0 lent → Verdict j lent o
+      → Refuses o 6 i 0 0 lent → Verdict w j lent o
   refused16 : (i : ℕ) → j .asked ≤ 4096 → NoneRefused limitsRefused (j .axes) → NoneRefused dampingRefused (j .axes)
       → NoneRefused blendRefused (j .axes) → NoneRefused swayRefused (j .axes) → NoneRefused valuesRefused (j .axes)
-      → FirstRefused accelerationRefused (j .axes) i → Refuses o 16 i 0 0 lent → Verdict j lent o
+      → FirstRefused accelerationRefused (j .axes) i → Refuses o 16 i 0 0 lent → Verdict w j lent o
   refused17 : (i : ℕ) → j .asked ≤ 4096 → NoneRefused limitsRefused (j .axes) → NoneRefused dampingRefused (j .axes)
       → NoneRefused blendRefused (j .axes) → NoneRefused swayRefused (j .axes) → NoneRefused valuesRefused (j .axes)
-      → NoneRefused accelerationRefused (j .axes) → FirstRefused flyingRefused (j .axes) i → Refuses o 17 i 0 0 lent → Verdict j lent o
+      → NoneRefused accelerationRefused (j .axes) → FirstRefused flyingRefused (j .axes) i → Refuses o 17 i 0 0 lent → Verdict w j lent o
   -- windows are brought, and they are not right
   refused13 : (p : ℕ) → j .asked ≤ 4096 → AllPassed (j .axes) → j .windows .given ≡ true → WindowsWrong (j .windows) p
-      → Refuses o 13 p 0 0 lent → Verdict j lent o
+      → Refuses o 13 p 0 0 lent → Verdict w j lent o
   -- an arrival is asked for that an axis does not reach or that fits no window, and the mask names exactly the axes that do not reach it
   refused8 : (m : ℕ) → 1 ≤ j .asked → j .asked ≤ 4096 → AllPassed (j .axes) → WindowsPass j
       → (Arrives j (j .asked) → ⊥) → Names (λ x. Reachable x (j .asked) → ⊥) (j .axes) m
-      → Refuses o 8 0 m 0 lent → Verdict j lent o
+      → Refuses o 8 0 m 0 lent → Verdict w j lent o
   -- none is asked for, none exists, and the mask names exactly the axes that alone reach none, whatever the windows
   refused9 : (m : ℕ) → j .asked ≡ 0 → AllPassed (j .axes) → WindowsPass j
       → ((n : ℕ) → 1 ≤ n → n ≤ 4096 → Arrives j n → ⊥) → Names ReachesNone (j .axes) m
-      → Refuses o 9 0 m 0 lent → Verdict j lent o
+      → Refuses o 9 0 m 0 lent → Verdict w j lent o
   refused10 : (n : ℕ) → AllPassed (j .axes) → WindowsPass j → IsArrival j n → length lent < cellsNeeded (length (j .axes)) n
-      → Refuses o 10 0 0 n lent → Verdict j lent o
+      → Refuses o 10 0 0 n lent → Verdict w j lent o
   accepted : (n : ℕ) → AllPassed (j .axes) → WindowsPass j → IsArrival j n → cellsNeeded (length (j .axes)) n ≤ length lent
-      → Accepts o j n lent → Verdict j lent o
+      → Accepts w o j n lent → Verdict w j lent o
 
 -- ---- 8 and 9 of a job that every refusal before them lets pass
 
@@ -156,6 +157,12 @@ abbrev pub MaskWordWrong : List ℕ → Type 0
 MaskWordWrong [] = Unit
 MaskWordWrong (w ∷ ws) = (kind w ≡ 1 → ⊥) ⊎ MaskOutside (payload w)
 
+-- The mask word is right, and the word of index p is the first that is not of a kind allowed next, or an end word whose payload is not 0, or one too
+-- many; or words are lacking and p is their count.
+pub record WordWrong (ws : List ℕ) (p : ℕ) : Type 0 where
+  pub mask : MaskWordWrong ws → ⊥
+  pub first : FirstWrong WellFormed ws p
+
 -- a word of kind 14, before the word u, whose payload is outside −64 to 63 or whose position fits a single word
 pub record LongWrong (w u : ℕ) : Type 0 where
   pub long : kind w ≡ 14
@@ -170,10 +177,20 @@ pub record FirstLongWrong (ws : List ℕ) (p : ℕ) : Type 0 where
   pub wrong : LongWrong high low
   pub before : (k w u : ℕ) → k < p → getElem? ws k ≡ some w → getElem? ws (suc k) ≡ some u → LongWrong w u → ⊥
 
-pub data CallVerdict (lent : List ℤ) (o : Outcome) : Input → Type 0 where
-  words1 : (ws : List ℕ) → MaskWordWrong ws → Refuses o 1 0 0 0 lent → CallVerdict lent o (words ws)
-  words2 : (ws : List ℕ) (p : ℕ) → decode ws ≡ badWord p → Refuses o 2 p 0 0 lent → CallVerdict lent o (words ws)
-  words14 : (ws : List ℕ) (p : ℕ) → decode ws ≡ badLong p → FirstLongWrong ws p → Refuses o 14 p 0 0 lent → CallVerdict lent o (words ws)
-  wordsJob : (ws : List ℕ) (j : Job) → decode ws ≡ job j → Verdict j lent o → CallVerdict lent o (words ws)
-  typed1 : (t : Typed.Job) → MaskOutside (t .mask) → Refuses o 1 0 0 0 lent → CallVerdict lent o (typed t)
-  typedJobs : (t : Typed.Job) → 1 ≤ t .mask → t .mask ≤ 63 → Verdict (jobOf t) lent o → CallVerdict lent o (typed t)
+-- no word is such
+abbrev pub NoneLongWrong : List ℕ → Type 0
+NoneLongWrong ws = (k w u : ℕ) → getElem? ws k ≡ some w → getElem? ws (suc k) ≡ some u → LongWrong w u → ⊥
+
+-- Words fall into four cases that exclude one another: the mask word is wrong; another word is; all are allowed but one of kind 14 is wrong; or none is, and
+-- they are the words of a job.
+pub data CallVerdict (w : Order) (lent : List ℤ) (o : Outcome) : Input → Type 0 where
+  words1 : (ws : List ℕ) → MaskWordWrong ws → Refuses o 1 0 0 0 lent → CallVerdict w lent o (words ws)
+  words2 : (ws : List ℕ) (p : ℕ) → WordWrong ws p → Refuses o 2 p 0 0 lent → CallVerdict w lent o (words ws)
+  words14 : (ws : List ℕ) (p : ℕ) → WellFormed ws → FirstLongWrong ws p → Refuses o 14 p 0 0 lent → CallVerdict w lent o (words ws)
+  wordsJob : (ws : List ℕ) (j : Job) → WellFormed ws → NoneLongWrong ws → decode ws ≡ job j → Verdict w j lent o → CallVerdict w lent o (words ws)
+  typed1 : (t : Typed.Job) → MaskOutside (t .mask) → Refuses o 1 0 0 0 lent → CallVerdict w lent o (typed t)
+  typedJobs : (t : Typed.Job) → 1 ≤ t .mask → t .mask ≤ 63 → Verdict w (jobOf t) lent o → CallVerdict w lent o (typed t)
+
+-- the decoder's word of refusal 2 is exactly that one
+abbrev pub WordWrongIs : Type 0
+WordWrongIs = (ws : List ℕ) (p : ℕ) → (decode ws ≡ badWord p) ↔ WordWrong ws p

@@ -9,6 +9,7 @@ use lib.IntN.{ℤ}
 use borrow.Author.Tests.{eq-eqb, ne-eqb}
 use Rattle.model.specs.declared.Answer.{Answer}
 use Rattle.model.specs.declared.Job as Typed
+use Rattle.model.specs.declared.Order.the-variants.{Forwards}
 use Rattle.model.specs.Job.{Job, jobOf}
 use Rattle.model.specs.Words.{Decoded, noMask, badWord, badLong, job, decode}
 use Rattle.model.specs.Refusals.{lastTick}
@@ -26,7 +27,7 @@ use Rattle.planner.proofs.Calls.{words-refused, words-passed}
 -- ---- the answer of the definitions: 10 is read as acceptance
 
 -- no call answers with an arrival past 4,096
-of-verdict : (j : Job) (lent : List ℤ) (o : Outcome) → Verdict j lent o → o .arrival ≤ lastTick
+of-verdict : (j : Job) (lent : List ℤ) (o : Outcome) → Verdict Forwards j lent o → o .arrival ≤ lastTick
 of-verdict j lent o (refused3 a r) = omega (arith, r .arrival)
 of-verdict j lent o (refused4 i a b r) = omega (arith, r .arrival)
 of-verdict j lent o (refused12 i a b c r) = omega (arith, r .arrival)
@@ -41,11 +42,11 @@ of-verdict j lent o (refused9 n a b w c d r) = omega (arith, r .arrival)
 of-verdict j lent o (refused10 n a w b h r) = omega (arith, r .arrival, b .last)
 of-verdict j lent o (accepted n a w b c r) = omega (arith, r .arrival, b .last)
 
-of-call : (lent : List ℤ) (o : Outcome) (q : Input) → CallVerdict lent o q → o .arrival ≤ lastTick
+of-call : (lent : List ℤ) (o : Outcome) (q : Input) → CallVerdict Forwards lent o q → o .arrival ≤ lastTick
 of-call lent o q (words1 ws a r) = omega (arith, r .arrival)
 of-call lent o q (words2 ws p a r) = omega (arith, r .arrival)
 of-call lent o q (words14 ws p a b r) = omega (arith, r .arrival)
-of-call lent o q (wordsJob ws j d v) = of-verdict j lent o v
+of-call lent o q (wordsJob ws j f l d v) = of-verdict j lent o v
 of-call lent o q (typed1 t a r) = omega (arith, r .arrival)
 of-call lent o q (typedJobs t a b v) = of-verdict (jobOf t) lent o v
 

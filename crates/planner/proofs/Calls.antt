@@ -1,6 +1,7 @@
 -- The calls: what they promise follows from the outcome of their stages.
 use Prim.Native.Nat.{ℕ, _<_}
-use Rattle.model.proofs.Demand.{demand3}
+use Rattle.model.proofs.Demand.{demand3, cell-limits, exact-start}
+use Rattle.model.proofs.VerdictIn.{verdict-in}
 use native.Mathlib.Omega.{arith}
 use mathlib.Core.Path.{_≡_, refl, sym, ap, ap₂, subst, _∙_}
 use mathlib.Core.Bool.{Bool, true, false, _&&_, false≢true}
@@ -14,20 +15,26 @@ use Rattle.model.specs.declared.Order.{Order}
 use Rattle.model.specs.Job.{Job, jobOf, axesOf}
 use Rattle.model.specs.Words.{goodMask, Decoded, noMask, badWord, badLong, job, decode}
 use Rattle.model.specs.Outcome.{Outcome, Input, refuse, jobOutcome, outcomeOfJob, outcomeOfWords, ordered, callIn, inputAxes, words, typed, jobRead}
-use Rattle.model.specs.Demand.{Demand3}
+use Rattle.model.specs.Verdict.{CallVerdict}
+use Rattle.model.specs.Demand.{Demand3, CellLimits, ExactStart}
 use Rattle.words.specs.declared.DecodedJob.{DecodedJob}
 use Rattle.words.specs.Decoding.{decodedJob, Decodes}
 use Rattle.planner.specs.Promise.{Promise}
 use Rattle.planner.specs.Stages.{Gives}
 
--- demand 3 of the definitions, carried to what the call leaves
+-- the verdict, demand 3, the limits and the start of the definitions, carried to what the call leaves
 pub promise : (o : Order) (q : Input) (entry : List ℤ) (r : Answer) (exit : List ℤ) → Gives (callIn o q entry) r exit → Promise o q entry r exit
 promise o q entry r exit g =
     let number = ap (λ (s : Outcome). s .number) (g .outcome) in
     record {
       outcome = g .outcome;
+      verdict = subst (λ (s : Outcome). CallVerdict o entry s q) (sym (g .outcome)) (verdict-in o q entry);
       demand3 = λ z.
           subst (λ (s : Outcome). Demand3 o (inputAxes q) (s .arrival) (s .cells)) (sym (g .outcome)) (demand3 o q entry (sym number ∙ z));
+      limits = λ z.
+          subst (λ (s : Outcome). CellLimits o (inputAxes q) (s .arrival) (s .cells)) (sym (g .outcome)) (cell-limits o q entry (sym number ∙ z));
+      start = λ z.
+          subst (λ (s : Outcome). ExactStart o (inputAxes q) (s .arrival) (s .cells)) (sym (g .outcome)) (exact-start o q entry (sym number ∙ z));
       fitted = g .fitted;
     }
 

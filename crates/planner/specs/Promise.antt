@@ -11,7 +11,8 @@ use Rattle.model.specs.declared.Order.{Order}
 use Rattle.model.specs.Job.{setBits}
 use Rattle.model.specs.Refusals.{lastTick}
 use Rattle.model.specs.Outcome.{Input, typed, outcomeOf, callIn, inputAxes, cellsNeeded, answerOf}
-use Rattle.model.specs.Demand.{Demand3}
+use Rattle.model.specs.Verdict.{CallVerdict}
+use Rattle.model.specs.Demand.{Demand3, CellLimits, ExactStart}
 
 -- the rows are in the lent table: a caller may walk them by the mask and the arrival of the answer
 pub record Fitted (r : Answer) (exit : List ℤ) : Type 0 where
@@ -25,8 +26,15 @@ pub record Promise (o : Order) (q : Input) (entry : List ℤ) (r : Answer) (exit
   -- the number, the place, the mask, the arrival and every cell of the lent table, refused or not, are those of the definitions: an accepted
   -- job's rows stand in front and the cells after them are as they were; a refused job leaves every cell as it was
   pub outcome : outcomeOf r exit ≡ callIn o q entry
+  -- the number comes only in its named case, the first in checking order, with the place, the mask and the arrival that the case names; the case is said
+  -- by the words' kinds and by the existence of velocity lists, and not by the decisions that the definitions compute
+  pub verdict : CallVerdict o entry (outcomeOf r exit) q
   -- an accepted job meets demand 3: all its axes land on their targets, its rows carry on to one another, and the sway is cancelled
   pub demand3 : r .number ≡ 0 → Demand3 o (inputAxes q) (r .arrival) exit
+  -- no velocity cell of it exceeds 256L in size and no acceleration cell 256M
+  pub limits : r .number ≡ 0 → CellLimits o (inputAxes q) (r .arrival) exit
+  -- its row 0 is on the start exactly
+  pub start : r .number ≡ 0 → ExactStart o (inputAxes q) (r .arrival) exit
   pub fitted : r .number ≡ 0 → Fitted r exit
 
 -- what `answer_of` promises: the answer to a job of typed values before refusal 10

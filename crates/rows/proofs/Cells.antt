@@ -3,7 +3,7 @@ use mathlib.Core.Path.{_≡_, refl, sym, ap, _∙_}
 use Rattle.model.proofs.CellPlaces.{blocks-length}
 use Rattle.model.proofs.CellPlaces as Places
 use Rattle.model.proofs.Reversed.{tabulate-more}
-use mathlib.Core.List.{List, [], _∷_, _++_, map, append-assoc, append-nil, map-append}
+use mathlib.Core.List.{List, [], _∷_, _++_, map, append-assoc, append-nil, map-append, flatten}
 use Prim.Native.Nat.{ℕ, suc, _+_, _*_, _<_, _≤_}
 use native.Mathlib.Omega.{arith}
 use native.Mathlib.Numerals.{add-one}
@@ -11,41 +11,43 @@ use lib.IntN.{ℤ}
 use lib.ListN.{length, getD, take}
 use lib.Seq.{take-suc, take-length, length-take-le}
 use Rattle.model.specs.declared.Order.{Order}
-use Rattle.model.specs.Rows.{concat, tabulate, rowAt}
+use Rattle.model.specs.Rows.{tabulate, rowAt}
 use Rattle.tracks.specs.declared.AxisPlan.{AxisPlan}
 use Rattle.rows.specs.Plans.{unsetPlan}
 use Rattle.tracks.specs.Tracks.{axisCells}
 use Rattle.rows.specs.Table.{planRow}
 
-concat-append : (l m : List (List ℤ)) → concat (l ++ m) ≡ concat l ++ concat m
-concat-append [] m = refl
-concat-append (x ∷ l) m = ap (λ (r : List ℤ). x ++ r) (concat-append l m) ∙ sym (append-assoc x (concat l) (concat m))
+flatten-append : (l m : List (List ℤ)) → flatten (l ++ m) ≡ flatten l ++ flatten m
+unfolding flatten
+flatten-append [] m = refl
+flatten-append (x ∷ l) m = ap (λ (r : List ℤ). x ++ r) (flatten-append l m) ∙ sym (append-assoc x (flatten l) (flatten m))
 
 -- the last of a list of lists
-concat-last : (l : List (List ℤ)) (m : List ℤ) → concat (l ++ (m ∷ [])) ≡ concat l ++ m
-concat-last l m = concat-append l (m ∷ []) ∙ ap (λ (r : List ℤ). concat l ++ r) (append-nil m)
+flatten-last : (l : List (List ℤ)) (m : List ℤ) → flatten (l ++ (m ∷ [])) ≡ flatten l ++ m
+unfolding flatten
+flatten-last l m = flatten-append l (m ∷ []) ∙ ap (λ (r : List ℤ). flatten l ++ r) (append-nil m)
 
 -- ---- in a row
 
 unfoldable pub rowTo : List AxisPlan → ℕ → ℕ → List ℤ
-rowTo ps k i = concat (map (axisCells k) (take i ps))
+rowTo ps k i = flatten (map (axisCells k) (take i ps))
 
 module _ (ps : List AxisPlan) (k : ℕ) where
   pub row-none : rowTo ps k 0 ≡ []
-  unfolding rowTo
+  unfolding rowTo flatten
   row-none = refl
 
   pub row-more : (i : ℕ) → i < length ps → rowTo ps k i ++ axisCells k (getD ps i unsetPlan) ≡ rowTo ps k (i + 1)
   unfolding rowTo
   row-more i h =
-      sym (concat-last (map (axisCells k) (take i ps)) (axisCells k (getD ps i unsetPlan)))
-      ∙ ap concat (sym (map-append (axisCells k) (take i ps) (getD ps i unsetPlan ∷ [])))
-      ∙ ap (λ (l : List AxisPlan). concat (map (axisCells k) l)) (sym (take-suc ps i unsetPlan h))
-      ∙ ap (λ (j : ℕ). concat (map (axisCells k) (take j ps))) (sym (add-one i))
+      sym (flatten-last (map (axisCells k) (take i ps)) (axisCells k (getD ps i unsetPlan)))
+      ∙ ap flatten (sym (map-append (axisCells k) (take i ps) (getD ps i unsetPlan ∷ [])))
+      ∙ ap (λ (l : List AxisPlan). flatten (map (axisCells k) l)) (sym (take-suc ps i unsetPlan h))
+      ∙ ap (λ (j : ℕ). flatten (map (axisCells k) (take j ps))) (sym (add-one i))
 
   pub row-all : (i : ℕ) → i ≡ length ps → rowTo ps k i ≡ planRow ps k
   unfolding rowTo
-  row-all i e = ap (λ (l : List AxisPlan). concat (map (axisCells k) l)) (ap (λ (j : ℕ). take j ps) e ∙ take-length ps)
+  row-all i e = ap (λ (l : List AxisPlan). flatten (map (axisCells k) l)) (ap (λ (j : ℕ). take j ps) e ∙ take-length ps)
 
   pub row-long : (i : ℕ) → i ≤ length ps → length (rowTo ps k i) ≡ 3 * i
   unfolding rowTo
@@ -58,20 +60,20 @@ abbrev rowOf : Order → List AxisPlan → ℕ → ℕ → List ℤ
 rowOf o ps n j = planRow ps (rowAt o n j)
 
 unfoldable pub rowsTo : Order → List AxisPlan → ℕ → ℕ → List ℤ
-rowsTo o ps n k = concat (tabulate (rowOf o ps n) 0 k)
+rowsTo o ps n k = flatten (tabulate (rowOf o ps n) 0 k)
 
 module _ (o : Order) (ps : List AxisPlan) (n : ℕ) where
   pub rows-none : rowsTo o ps n 0 ≡ []
-  unfolding rowsTo
+  unfolding rowsTo flatten
   rows-none = refl
 
   pub rows-more : (k : ℕ) → rowsTo o ps n k ++ planRow ps (rowAt o n k) ≡ rowsTo o ps n (k + 1)
   unfolding rowsTo
   rows-more k =
-      sym (concat-last (tabulate (rowOf o ps n) 0 k) (rowOf o ps n k))
-      ∙ ap (λ (j : ℕ). concat (tabulate (rowOf o ps n) 0 k ++ (rowOf o ps n j ∷ []))) {x = k} {y = 0 + k} (omega arith)
-      ∙ ap concat (sym (tabulate-more (rowOf o ps n) 0 k))
-      ∙ ap (λ (j : ℕ). concat (tabulate (rowOf o ps n) 0 j)) (sym (add-one k))
+      sym (flatten-last (tabulate (rowOf o ps n) 0 k) (rowOf o ps n k))
+      ∙ ap (λ (j : ℕ). flatten (tabulate (rowOf o ps n) 0 k ++ (rowOf o ps n j ∷ []))) {x = k} {y = 0 + k} (omega arith)
+      ∙ ap flatten (sym (tabulate-more (rowOf o ps n) 0 k))
+      ∙ ap (λ (j : ℕ). flatten (tabulate (rowOf o ps n) 0 j)) (sym (add-one k))
 
   pub rows-length : (k : ℕ) → length (rowsTo o ps n k) ≡ 3 * length ps * k
   unfolding rowsTo
@@ -79,6 +81,6 @@ module _ (o : Order) (ps : List AxisPlan) (n : ℕ) where
       Places.rows-length (3 * length ps) (rowOf o ps n) (λ j. blocks-length 3 (axisCells (rowAt o n j)) (λ p. refl) ps) 0 k
 
   -- all rows
-  pub rows-all : (k : ℕ) → k ≡ suc n → rowsTo o ps n k ≡ concat (tabulate (rowOf o ps n) 0 (suc n))
+  pub rows-all : (k : ℕ) → k ≡ suc n → rowsTo o ps n k ≡ flatten (tabulate (rowOf o ps n) 0 (suc n))
   unfolding rowsTo
-  rows-all k e = ap (λ (j : ℕ). concat (tabulate (rowOf o ps n) 0 j)) e
+  rows-all k e = ap (λ (j : ℕ). flatten (tabulate (rowOf o ps n) 0 j)) e

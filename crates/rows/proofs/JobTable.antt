@@ -1,13 +1,13 @@
 -- The rows of a job's plan are the definition's table.
 use mathlib.Core.Path.{_≡_, refl, sym, ap, ap₂, subst, _∙_}
-use mathlib.Core.List.{List, [], _∷_, _++_, map}
+use mathlib.Core.List.{List, [], _∷_, _++_, map, flatten}
 use Prim.Native.Nat.{ℕ, suc, _≤_}
 use native.Mathlib.Omega.{arith}
 use lib.IntN.{ℤ}
 use lib.ListN.{length, drop, length-map}
 use Rattle.model.specs.declared.Axis.{Axis}
 use Rattle.model.specs.declared.Order.{Order}
-use Rattle.model.specs.Rows.{track, concat, tabulate, row, rowAt, table}
+use Rattle.model.specs.Rows.{track, tabulate, row, rowAt, table}
 use Rattle.model.specs.Job.{JobAxis, setAxes, axesOf, typedJob}
 use Rattle.model.specs.Refusals.{lastTick}
 use Rattle.model.specs.Outcome.{cellsNeeded, tableOver}
@@ -23,6 +23,7 @@ use Rattle.tracks.proofs.BlendedTicks.{cells-are, lands}
 use Rattle.rows.proofs.ReadyAxes.{AllReady, all-ranged, all-arrive}
 
 row-is : (n k : ℕ) (xs : List JobAxis) → AllReady n xs → k ≤ n → planRow (plansFor n xs) k ≡ row (map (track n) (map (λ (x : JobAxis). x .axis) xs)) k
+unfolding flatten
 row-is n k [] r h = refl
 row-is n k (x ∷ xs) r h =
     ap₂ _++_ (cells-are (x .axis) n k (r .0) h) (row-is n k xs (r .1) h)
@@ -56,8 +57,8 @@ module _ (m n : ℕ) (xs : List Axis) (ready : AllReady n (setAxes 0 m xs)) (pla
 
   table-is : (o : Order) → planTable o plan ≡ table o (axesOf (typedJob m n xs)) n
   table-is o =
-      ap₂ (λ (ps : List AxisPlan) (k : ℕ). concat (tabulate (λ j. planRow ps (rowAt o k j)) 0 (suc k))) (is .plans) (is .arrival)
-      ∙ ap concat
+      ap₂ (λ (ps : List AxisPlan) (k : ℕ). flatten (tabulate (λ j. planRow ps (rowAt o k j)) 0 (suc k))) (is .plans) (is .arrival)
+      ∙ ap flatten
       (tabulate-same (λ j. planRow (plansFor n (setAxes 0 m xs)) (rowAt o n j))
       (λ j. row (map (track n) (axesOf (typedJob m n xs))) (rowAt o n j)) 0 (suc n)
       (λ j q. row-is n (rowAt o n j) (setAxes 0 m xs) ready (row-place o n j (omega arith))))

@@ -1,0 +1,65 @@
+-- Every call with its rows in either order ends in a verdict: `verdict-in`.
+use Prim.Native.Nat.{ℕ}
+use native.Mathlib.Omega.{arith}
+use mathlib.Core.Path.{_≡_, refl, sym, ap, subst}
+use mathlib.Core.List.{List}
+use lib.IntN.{ℤ}
+use Rattle.model.specs.declared.Axis.{Axis}
+use Rattle.model.specs.declared.Order.{Order}
+use Rattle.model.specs.declared.Order.the-variants.{Forwards, Backwards}
+use Rattle.model.specs.Job.{Job, axesOf, jobOf}
+use Rattle.model.specs.Words.{Decoded}
+use Rattle.model.specs.Outcome.{Outcome, Input, tableOver, call, callIn, ordered, inputAxes, jobRead}
+use Rattle.model.specs.Verdict.{Refuses, Accepts, Verdict, CallVerdict, words1, words2, words14, wordsJob, typed1, typedJobs}
+use Rattle.model.specs.Verdict.{refused3, refused4, refused12, refused5, refused15, refused6, refused16, refused17, refused13, refused8}
+use Rattle.model.specs.Verdict.{refused9, refused10, accepted}
+use Rattle.model.proofs.Ordered.{turned, refusal-stays, rows-turn}
+use Rattle.model.proofs.CallVerdict.{call-verdict}
+
+-- a refusal is the same
+still : (xs : List Axis) (lent : List ℤ) (o : Outcome) (n p m a : ℕ) → (n ≡ 0 → ⊥) → Refuses o n p m a lent
+    → Refuses (ordered Backwards xs lent o) n p m a lent
+still xs lent o n p m a h r =
+    subst (λ (s : Outcome). Refuses s n p m a lent) (refusal-stays xs lent o Backwards (λ z. h (let e = r .number in omega (arith, e, z)))) r
+
+-- an accepted job has its rows the other way round
+rows-in : (j : Job) (n : ℕ) (lent : List ℤ) (o : Outcome) → Accepts Forwards o j n lent → Accepts Backwards (ordered Backwards (axesOf j) lent o) j n lent
+rows-in j n lent o r =
+    subst (λ (s : Outcome). Accepts Backwards s j n lent) (rows-turn (axesOf j) lent o (r .number))
+    (record {
+      number = r .number;
+      place = r .place;
+      mask = r .mask;
+      arrival = r .arrival;
+      cells = ap (λ (k : ℕ). tableOver Backwards (axesOf j) k lent) (r .arrival);
+    })
+
+job-turned : (j : Job) (lent : List ℤ) (o : Outcome) → Verdict Forwards j lent o → Verdict Backwards j lent (ordered Backwards (axesOf j) lent o)
+job-turned j lent o (refused3 a e) = refused3 a (still (axesOf j) lent o _ _ _ _ (λ z. omega (arith, z)) e)
+job-turned j lent o (refused4 i a b e) = refused4 i a b (still (axesOf j) lent o _ _ _ _ (λ z. omega (arith, z)) e)
+job-turned j lent o (refused12 i a b c e) = refused12 i a b c (still (axesOf j) lent o _ _ _ _ (λ z. omega (arith, z)) e)
+job-turned j lent o (refused5 i a b c d e) = refused5 i a b c d (still (axesOf j) lent o _ _ _ _ (λ z. omega (arith, z)) e)
+job-turned j lent o (refused15 i a b c d f e) = refused15 i a b c d f (still (axesOf j) lent o _ _ _ _ (λ z. omega (arith, z)) e)
+job-turned j lent o (refused6 i a b c d f g e) = refused6 i a b c d f g (still (axesOf j) lent o _ _ _ _ (λ z. omega (arith, z)) e)
+job-turned j lent o (refused16 i a b c d f g k e) = refused16 i a b c d f g k (still (axesOf j) lent o _ _ _ _ (λ z. omega (arith, z)) e)
+job-turned j lent o (refused17 i a b c d f g k l e) = refused17 i a b c d f g k l (still (axesOf j) lent o _ _ _ _ (λ z. omega (arith, z)) e)
+job-turned j lent o (refused13 p a b c d e) = refused13 p a b c d (still (axesOf j) lent o _ _ _ _ (λ z. omega (arith, z)) e)
+job-turned j lent o (refused8 m a b c w d f e) = refused8 m a b c w d f (still (axesOf j) lent o _ _ _ _ (λ z. omega (arith, z)) e)
+job-turned j lent o (refused9 m a b w c d e) = refused9 m a b w c d (still (axesOf j) lent o _ _ _ _ (λ z. omega (arith, z)) e)
+job-turned j lent o (refused10 n a w b c e) = refused10 n a w b c (still (axesOf j) lent o _ _ _ _ (λ z. omega (arith, z)) e)
+job-turned j lent o (accepted n a w b c e) = accepted n a w b c (rows-in j n lent o e)
+
+call-turned : (q : Input) (lent : List ℤ) (o : Outcome) → CallVerdict Forwards lent o q → CallVerdict Backwards lent (ordered Backwards (inputAxes q) lent o) q
+call-turned q lent o (words1 ws a e) = words1 ws a (still (inputAxes q) lent o _ _ _ _ (λ z. omega (arith, z)) e)
+call-turned q lent o (words2 ws p a e) = words2 ws p a (still (inputAxes q) lent o _ _ _ _ (λ z. omega (arith, z)) e)
+call-turned q lent o (words14 ws p a b e) = words14 ws p a b (still (inputAxes q) lent o _ _ _ _ (λ z. omega (arith, z)) e)
+call-turned q lent o (wordsJob ws j f l d v) =
+    wordsJob ws j f l d
+    (subst (λ (xs : List Axis). Verdict Backwards j lent (ordered Backwards xs lent o)) (sym (ap (λ (r : Decoded). axesOf (jobRead r)) d))
+    (job-turned j lent o v))
+call-turned q lent o (typed1 t a e) = typed1 t a (still (inputAxes q) lent o _ _ _ _ (λ z. omega (arith, z)) e)
+call-turned q lent o (typedJobs t a b v) = typedJobs t a b (job-turned (jobOf t) lent o v)
+
+pub verdict-in : (w : Order) (q : Input) (lent : List ℤ) → CallVerdict w lent (callIn w q lent) q
+verdict-in Forwards q lent = call-verdict q lent
+verdict-in Backwards q lent = call-turned q lent (call q lent) (call-verdict q lent)
