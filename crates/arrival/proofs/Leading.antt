@@ -1,13 +1,14 @@
 -- The search for the least common arrival: each turn of an axis leads on to a candidate before which every one is missed by some axis.
-use Prim.Native.Nat.{ℕ, zero, suc, _+_, _-_, _*_, _/_, _%_, _≤_, _<_}
+use Prim.Native.Nat.{ℕ, zero, suc, _+_, _/_, _%_, _≤_, _<_}
 use mathlib.Core.Path.{_≡_, refl, sym, ap, subst, _∙_}
 use mathlib.Core.Bool.{Bool, true, false, cond, not}
 use mathlib.Core.List.{List}
 use mathlib.Core.Logic.{_⊎_, inl, inr}
 use native.Mathlib.Omega.{arith}
+use lib.Dec.{T, eqb, eqb→eq}
 use lib.ListN.{length}
 use borrow.Author.Tests.{eq-eqb, ne-eqb, not-true, not-false}
-use Rattle.whole.proofs.Tests.{lt-or-le}
+use Rattle.whole.proofs.Tests.{true-T, either, lt-or-le}
 use Rattle.whole.proofs.Counting.{next-one}
 use Rattle.model.specs.declared.Axis.{Axis}
 use Rattle.model.specs.Motion.{reachable}
@@ -15,7 +16,8 @@ use Rattle.model.specs.Outcome.{allReach}
 use Rattle.running.specs.Running.{Next}
 use Rattle.model.specs.Job.{JobAxis, setAxes}
 use Rattle.model.specs.Refusals.{Passed, AllPassed}
-use Rattle.arrival.specs.Arrivals.{missedBy, reachedBy, After, BitsAfter, Left}
+use Rattle.model.proofs.Threshold.{reached-slow, reached-later}
+use Rattle.arrival.specs.Arrivals.{missedBy, reachedBy, Again}
 use Rattle.arrival.proofs.SetAxes.{from, axisAt, passed-from}
 use Rattle.arrival.proofs.Reaching.{missed, not-missed, no-more, later-missed}
 
@@ -46,6 +48,17 @@ next-unnamed m x n last e h =
       passed = λ p. ap (λ (b : Bool). not (cond b (not (reachable x n)) false)) (ne-eqb (m % 2) 1 e);
     }
 
+-- an axis that reaches two candidates reaches every one between them
+between : (m : ℕ) (x : Axis) → (m % 2 ≡ 1 → Passed x) → (j n k : ℕ) → j ≤ n → n ≤ k → reachedBy m x j ≡ true → reachedBy m x k ≡ true → reachedBy m x n ≡ true
+between m x f j n k p q d e = go (either (eqb (m % 2) 1))
+  where
+    go : (eqb (m % 2) 1 ≡ true) ⊎ (eqb (m % 2) 1 ≡ false) → reachedBy m x n ≡ true
+    go (inl t) =
+        let h = eqb→eq (m % 2) 1 (true-T t) in
+        let y = f h in
+        sym (named m x n h) ∙ reached-later x y j n k p q (reached-slow x y k (named m x k h ∙ e)) (named m x j h ∙ d)
+    go (inr t) = next-unnamed m x n n (λ h. subst T (sym (eq-eqb (m % 2) 1 h) ∙ t) tt) (omega arith) .passed (omega arith)
+
 -- ---- the axes by their numbers
 
 -- the bits of a mask from axis i on
@@ -57,12 +70,9 @@ pub bits-first : (m : ℕ) → m ≡ bitsFrom m 0
 unfolding bitsFrom
 bits-first m = refl
 
-pub bits-after : (m number i bits r : ℕ) → bits ≡ bitsFrom m number → After number i → BitsAfter m bits i r → r ≡ bitsFrom m i
+pub bits-later : (m i bits : ℕ) → bits ≡ bitsFrom m i → bits / 2 ≡ bitsFrom m (i + 1)
 unfolding bitsFrom
-bits-after m number i bits r e (inl (a, b)) (inl (z, w)) = w ∙ ap (bitsFrom m) (sym z)
-bits-after m number i bits r e (inl (a, b)) (inr (z, w)) = absurd (z b)
-bits-after m number i bits r e (inr (a, b)) (inl (z, w)) = absurd (omega arith)
-bits-after m number i bits r e (inr (a, b)) (inr (z, w)) = w ∙ ap (λ (k : ℕ). k / 2) e ∙ ap (bitsFrom m) (sym b)
+bits-later m i bits e = ap (λ (k : ℕ). k / 2) e ∙ ap (bitsFrom m) (next-one i)
 
 module _ (m : ℕ) (six : List Axis) where
   -- the axis of number i is not named, or reaches n
@@ -118,84 +128,100 @@ module _ (m : ℕ) (six : List Axis) where
   unfolding bitsFrom
   every-axis n e = all-on (length six) 0 n (omega arith) e
 
--- ---- turns of the axes: the search began at first and has come to n before the turn of axis `number`, and as many turns before it have left n
+  -- what a test of one axis says
+  pub reach-not : (i bits n : ℕ) → bits ≡ bitsFrom m i → missedBy bits (axisAt six i) n ≡ true → reach i n ≡ false
+  unfolding reach
+  reach-not i bits n e h = ap (λ (k : ℕ). not (missedBy k (axisAt six i) n)) (sym e) ∙ ap not h
 
-pub record Turns (test : ℕ → Bool) (reaches : ℕ → ℕ → Bool) (first last turns number n : ℕ) : Type 0 where
+  pub reach-yes : (i bits n : ℕ) → bits ≡ bitsFrom m i → missedBy bits (axisAt six i) n ≡ false → reach i n ≡ true
+  unfolding reach
+  reach-yes i bits n e h = ap (λ (k : ℕ). not (missedBy k (axisAt six i) n)) (sym e) ∙ ap not h
+
+  -- an axis that reaches two candidates reaches every one between them
+  pub reach-between : AllPassed (setAxes 0 m six) → (i : ℕ) → i < length six → (j n k : ℕ) → j ≤ n → n ≤ k → reach i j ≡ true → reach i k ≡ true
+      → reach i n ≡ true
+  unfolding reach
+  reach-between p i h = between (bitsFrom m i) (axisAt six i) (passed-at p i (bitsFrom m i) refl h)
+
+-- ---- the axes lead on: the search began at first and has come to n before the turn of axis `number`
+
+pub record Led (test : ℕ → Bool) (reaches : ℕ → ℕ → Bool) (first last number again n : ℕ) : Type 0 where
   pub low : first ≤ n
-  pub high : n ≤ last
-  pub few : turns ≤ 6
-  pub axis : number < 6
+  pub high : n ≤ suc last
   pub missed : (k : ℕ) → first ≤ k → k < n → test k ≡ false
-  -- the axes of these turns reach n: those before this one, and those of the round before, from the highest axis down
-  pub before : (j : ℕ) → j < number → number ≤ j + turns → reaches j n ≡ true
-  pub round : (j : ℕ) → number ≤ j → j < 6 → number + 6 ≤ j + turns → reaches j n ≡ true
+  -- an axis that had its turn and reaches a later candidate reaches n
+  pub held : (j : ℕ) → j < number → (k : ℕ) → n ≤ k → k ≤ last → reaches j k ≡ true → reaches j n ≡ true
+  -- the one that led on last and those after it reach n
+  pub few : again ≤ number
+  pub upper : (j : ℕ) → again ≤ j → j < number → n ≤ last → reaches j n ≡ true
 
-module _ (test : ℕ → Bool) (reaches : ℕ → ℕ → Bool) (first last turns number n : ℕ) (s : Turns test reaches first last turns number n) (r : ℕ)
-    (w : Next (reaches number) n last r) (one : (k : ℕ) → reaches number k ≡ false → test k ≡ false) where
-  pub gone : (k : ℕ) → first ≤ k → k < r → test k ≡ false
-  gone k p q = go (lt-or-le k n)
+module _ (test : ℕ → Bool) (reaches : ℕ → ℕ → Bool) (first last number again n : ℕ) (s : Led test reaches first last number again n) (r : ℕ)
+    (w : Next (reaches number) n last r) (one : (k : ℕ) → reaches number k ≡ false → test k ≡ false)
+    (between : (i : ℕ) → i ≤ number → (j k l : ℕ) → j ≤ k → k ≤ l → reaches i j ≡ true → reaches i l ≡ true → reaches i k ≡ true) where
+  here : (j : ℕ) → j ≡ number → r ≤ last → reaches j r ≡ true
+  here j e h = ap (λ (i : ℕ). reaches i r) e ∙ w .passed h
+
+  pub turn-done : (a : ℕ) → Again again number n r a → Led test reaches first last (number + 1) a r
+  turn-done a c =
+      record { low = omega (arith, s .low, w .low); high = w .high; missed = missed; held = held; few = few c; upper = upper c }
     where
-      go : (k < n) ⊎ (n ≤ k) → test k ≡ false
-      go (inl u) = s .missed k p u
-      go (inr u) = one k (w .missed k u q)
+      missed : (k : ℕ) → first ≤ k → k < r → test k ≡ false
+      missed k p q = go (lt-or-le k n)
+        where
+          go : (k < n) ⊎ (n ≤ k) → test k ≡ false
+          go (inl u) = s .missed k p u
+          go (inr u) = one k (w .missed k u q)
 
-  module _ (inside : r ≤ last) where
-    here : (j : ℕ) → j ≡ number → reaches j r ≡ true
-    here j e = ap (λ (k : ℕ). reaches k r) e ∙ w .passed inside
+      held : (j : ℕ) → j < number + 1 → (k : ℕ) → r ≤ k → k ≤ last → reaches j k ≡ true → reaches j r ≡ true
+      held j h k p q e = go (lt-or-le j number)
+        where
+          go : (j < number) ⊎ (number ≤ j) → reaches j r ≡ true
+          go (inl u) = between j (omega arith) n r k (w .low) p (s .held j u k (omega (arith, w .low)) q e) e
+          go (inr u) = here j (omega arith) (omega arith)
 
-    still : (j : ℕ) → r ≡ n → reaches j n ≡ true → reaches j r ≡ true
-    still j e h = ap (reaches j) e ∙ h
+      few : Again again number n r a → a ≤ number + 1
+      few (inl (e, f)) = omega (arith, s .few)
+      few (inr (e, f)) = omega arith
 
-    at-or-below : (j k : ℕ) → j < suc k → (j < k → reaches j r ≡ true) → (j ≡ k → reaches j r ≡ true) → reaches j r ≡ true
-    at-or-below j k h f g = go (lt-or-le j k)
-      where
-        go : (j < k) ⊎ (k ≤ j) → reaches j r ≡ true
-        go (inl u) = f u
-        go (inr u) = g (omega arith)
+      upper : Again again number n r a → (j : ℕ) → a ≤ j → j < number + 1 → r ≤ last → reaches j r ≡ true
+      upper (inl (e, f)) j p q h = go (lt-or-le j number)
+        where
+          go : (j < number) ⊎ (number ≤ j) → reaches j r ≡ true
+          go (inl u) = ap (reaches j) e ∙ s .upper j (omega arith) u (omega arith)
+          go (inr u) = here j (omega arith) h
+      upper (inr (e, f)) j p q h = here j (omega arith) h
 
-    pub turn-done : (t i : ℕ) → turns < 6 → Left turns n r t → After number i → Turns test reaches first last t i r
-    turn-done t i h l a =
-        record {
-          low = omega (arith, s .low, w .low);
-          high = inside;
-          few = few l;
-          axis = axis a;
-          missed = gone;
-          before = before l a;
-          round = round l a;
-        }
-      where
-        few : Left turns n r t → t ≤ 6
-        few (inl (e, f)) = omega arith
-        few (inr (e, f)) = omega arith
+-- ---- what they lead to: it is reached by all, or no candidate is
 
-        axis : After number i → i < 6
-        axis (inl (e, f)) = omega arith
-        axis (inr (e, f)) = omega (arith, s .axis)
+module _ (test : ℕ → Bool) (reaches : ℕ → ℕ → Bool) (first last again n : ℕ) (s : Led test reaches first last 6 again n)
+    (one : (i : ℕ) → i < 6 → (k : ℕ) → reaches i k ≡ false → test k ≡ false) (all : (k : ℕ) → ((i : ℕ) → i < 6 → reaches i k ≡ true) → test k ≡ true) where
+  -- past the last
+  pub led-past : last < n → Next test first last n
+  led-past h = record { low = s .low; high = s .high; missed = s .missed; passed = λ l. absurd (omega arith) }
 
-        before : Left turns n r t → After number i → (j : ℕ) → j < i → i ≤ j + t → reaches j r ≡ true
-        before l (inl (a, b)) j p q = absurd (omega arith)
-        before (inl (e, f)) (inr (a, b)) j p q =
-            at-or-below j number (omega arith) (λ u. still j e (s .before j u (omega arith))) (λ u. here j u)
-        before (inr (e, f)) (inr (a, b)) j p q = here j (omega arith)
+  -- those before the one that led on last reach it too
+  pub led-all : n ≤ last → ((j : ℕ) → j < again → reaches j n ≡ true) → Next test first last n
+  led-all h f = record { low = s .low; high = s .high; missed = s .missed; passed = λ l. all n each }
+    where
+      each : (j : ℕ) → j < 6 → reaches j n ≡ true
+      each j o = go (lt-or-le j again)
+        where
+          go : (j < again) ⊎ (again ≤ j) → reaches j n ≡ true
+          go (inl u) = f j u
+          go (inr u) = s .upper j u o h
 
-        round : Left turns n r t → After number i → (j : ℕ) → i ≤ j → j < 6 → i + 6 ≤ j + t → reaches j r ≡ true
-        round (inl (e, f)) (inl (a, b)) j p o q =
-            at-or-below j 5 (omega arith) (λ u. still j e (s .before j (omega arith) (omega arith))) (λ u. here j (omega arith))
-        round (inl (e, f)) (inr (a, b)) j p o q = still j e (s .round j (omega arith) o (omega arith))
-        round (inr (e, f)) (inl (a, b)) j p o q = here j (omega arith)
-        round (inr (e, f)) (inr (a, b)) j p o q = absurd (omega arith)
-
--- the axes of six turns are all
-pub six-turns : (test : ℕ → Bool) (reaches : ℕ → ℕ → Bool) (first last turns number n : ℕ) → Turns test reaches first last turns number n
-    → 6 ≤ turns → (j : ℕ) → j < 6 → reaches j n ≡ true
-six-turns test reaches first last turns number n s h j o = go (lt-or-le j number)
-  where
-    go : (j < number) ⊎ (number ≤ j) → reaches j n ≡ true
-    go (inl u) = s .before j u (omega (arith, s .axis))
-    go (inr u) = s .round j u o (omega (arith, s .axis))
-
--- a turn that leads on leaves fewer candidates, one that does not fewer turns
-pub fewer-left : (after turns n r t : ℕ) → Left turns n r t → turns < 6 → n ≤ r → r < after → 7 * (after - r) + (6 - t) < 7 * (after - n) + (6 - turns)
-fewer-left after turns n r t (inl (e, f)) h l o = omega arith
-fewer-left after turns n r t (inr (e, f)) h l o = omega arith
+  -- one of them does not
+  pub led-nowhere : (i : ℕ) → i < 6 → reaches i n ≡ false → Next test first last (last + 1)
+  led-nowhere i o e =
+      record { low = omega (arith, s .low, s .high); high = omega arith; missed = missed; passed = λ l. absurd (omega arith) }
+    where
+      missed : (k : ℕ) → first ≤ k → k < last + 1 → test k ≡ false
+      missed k p q = go (lt-or-le k n)
+        where
+          go : (k < n) ⊎ (n ≤ k) → test k ≡ false
+          go (inl l) = s .missed k p l
+          go (inr l) = by (either (reaches i k))
+            where
+              by : (reaches i k ≡ true) ⊎ (reaches i k ≡ false) → test k ≡ false
+              by (inl t) = absurd (subst T (sym (s .held i o k l (omega arith) t) ∙ e) tt)
+              by (inr f) = one i o k f

@@ -58,6 +58,11 @@ module _ (test : ℕ → Bool) (first after : ℕ) where
       ∙ skip test after (n - first) first (omega arith) (λ k p q. e k p (omega arith))
       ∙ ap (rest test after) there
 
+  -- the same from a later candidate on
+  pub from-later : (n : ℕ) → first ≤ n → n ≤ after → ((k : ℕ) → first ≤ k → k < n → test k ≡ false)
+      → leastFrom test n (after - n) ≡ leastFrom test first (after - first)
+  from-later n h l e = sym (past n h l e ∙ begun test after n)
+
   pub none-passes : ((k : ℕ) → first ≤ k → k < after → test k ≡ false) → first ≤ after → 0 ≡ orZero (leastFrom test first (after - first))
   none-passes e h = sym (ap orZero (past after h (omega arith) e ∙ nowhere test after after (omega arith)))
 

@@ -12,15 +12,14 @@ use lib.ListN.{length, getD, take, drop}
 use Rattle.whole.proofs.Elements.{none-some}
 use Rattle.model.specs.declared.Window.{Window}
 use Rattle.model.specs.declared.Windows.{Windows}
-use Rattle.model.specs.Windows.{brought, fits, fitsOne, inOrderAfter, firstWrong, windowsRefused, refused13}
-use Rattle.model.specs.Job.{JobAxis}
-use Rattle.model.specs.Outcome.{leastFrom, allReach}
+use Rattle.model.specs.Windows.{brought, fits, fitsOne, inOrderAfter, firstWrong, windowsRefused, refused13, inWindows}
+use Rattle.model.specs.Outcome.{leastFrom}
 use Rattle.model.proofs.WindowsInWords.{none-wrong}
 use Rattle.windows.specs.Ticks.{firstTick, afterLast}
 use Rattle.windows.proofs.Ticks.{Fit, fit-is, fit-ticks, ticks-fit, first-above}
 use Rattle.windows.proofs.Listed.{noWindow, split}
 use Rattle.model.proofs.LeastTick.{Least, Result, result, one-result}
-use Rattle.arrival.specs.Arrivals.{arrivesIn, searched, orZero}
+use Rattle.arrival.specs.Arrivals.{searched, orZero}
 use Rattle.arrival.proofs.Search.{is-some, is-none}
 
 -- ---- windows in order, the one before them having closed at tick c
@@ -191,15 +190,16 @@ in-order w e t = by-given (w .given) t e
     by-given true t e = by-count (eqb (w .count) 0) (leb (w .count) 32 && leb (w .dwell) 4096) e
     by-given false t e = absurd (false≢true t)
 
-module _ (w : Windows) (xs : List JobAxis) (first end : ℕ) where
-  tried : Bool → Option ℕ
-  tried b = leastFrom (λ n. (elim b as (λ _. Bool) [ true ↦ fitsOne n (w .dwell) (brought w) | false ↦ true ]) && allReach xs n) first (end - first)
+and-true : (b : Bool) → b && true ≡ b
+and-true true = refl
+and-true false = refl
 
-  pub with-windows : refused13 w ≡ none → w .given ≡ true
-      → searched (allReach xs) first end (w .dwell) (brought w) ≡ leastFrom (arrivesIn w xs) first (end - first)
-  unfolding tried
-  with-windows e t = searched-is (allReach xs) first end (w .dwell) (brought w) (in-order w e t) ∙ ap tried (sym t)
+pub with-windows : (w : Windows) (first end : ℕ) → refused13 w ≡ none → w .given ≡ true
+    → searched (λ n. true) first end (w .dwell) (brought w) ≡ leastFrom (inWindows w) first (end - first)
+with-windows w first end e t =
+    searched-is (λ n. true) first end (w .dwell) (brought w) (in-order w e t)
+    ∙ (λ i. leastFrom (λ n. and-true (fitsOne n (w .dwell) (brought w)) i) first (end - first))
+    ∙ ap (λ (b : Bool). leastFrom (λ n. elim b as (λ _. Bool) [ true ↦ fitsOne n (w .dwell) (brought w) | false ↦ true ]) first (end - first)) (sym t)
 
-  pub without-windows : w .given ≡ false → leastFrom (allReach xs) first (end - first) ≡ leastFrom (arrivesIn w xs) first (end - first)
-  unfolding tried
-  without-windows t = ap tried (sym t)
+pub no-windows : (w : Windows) (n : ℕ) → w .given ≡ false → inWindows w n ≡ true
+no-windows w n t = ap (λ (b : Bool). elim b as (λ _. Bool) [ true ↦ fitsOne n (w .dwell) (brought w) | false ↦ true ]) t

@@ -1,5 +1,5 @@
 -- What the search for an arrival gives back, from the definitions of `Outcome`.
-use Prim.Native.Nat.{ℕ, zero, suc, _-_, _/_, _%_, _≤_}
+use Prim.Native.Nat.{ℕ, zero, suc, _-_, _%_, _≤_, _<_}
 use mathlib.Core.Path.{_≡_}
 use mathlib.Core.Bool.{Bool, true, false, cond, not, _&&_}
 use mathlib.Core.Option.{Option, none, some}
@@ -85,14 +85,6 @@ bitOf m x asked bit = cond (cond (eqb (m % 2) 1) (cannotArrive asked x) false) b
 abbrev pub reachedBy : ℕ → Axis → ℕ → Bool
 reachedBy m x n = not (missedBy m x n)
 
--- the axes have their turns one after the other, axis 0 after axis 5: i has its turn after number
-abbrev pub After : ℕ → ℕ → Type 0
-After number i = ((number ≡ 5) × (i ≡ 0)) ⊎ ((number ≡ 5 → ⊥) × (i ≡ suc number))
-
--- and m are the bits of the mask from i on, bits being those from the axis before i on
-abbrev pub BitsAfter : ℕ → ℕ → ℕ → ℕ → Type 0
-BitsAfter mask bits i m = ((i ≡ 0) × (m ≡ mask)) ⊎ ((i ≡ 0 → ⊥) × (m ≡ bits / 2))
-
--- a turn leaves the candidate n, which t turns in a row have then left, turns being those before it; or it leads on to another, which it has left
-abbrev pub Left : ℕ → ℕ → ℕ → ℕ → Type 0
-Left turns n next t = ((next ≡ n) × (t ≡ suc turns)) ⊎ ((next ≡ n → ⊥) × (t ≡ 1))
+-- r axes are asked again after a turn of axis `number`: as many as before where it left n, else those before it
+abbrev pub Again : ℕ → ℕ → ℕ → ℕ → ℕ → Type 0
+Again again number n next r = ((next ≡ n) × (r ≡ again)) ⊎ ((next ≡ n → ⊥) × (r ≡ number))

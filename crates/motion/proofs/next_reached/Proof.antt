@@ -6,14 +6,14 @@ use Rattle.motion.proofs.next_reached.Tie as tie
 accelerates-requires : tie.Need-accelerates-requires
 accelerates-requires c κs = search needs
 
-next-by-each-requires : tie.Need-next-by-each-requires
-next-by-each-requires c κs = search needs
+next-by-areas-requires : tie.Need-next-by-areas-requires
+next-by-areas-requires c κs = search needs
 
 returns : tie.Need-returns
 returns c = search needs
 
-next-steady-requires : tie.Need-next-steady-requires
-next-steady-requires c κs =
+next-by-sums-requires : tie.Need-next-by-sums-requires
+next-by-sums-requires c κs =
     let a = c .before .before .pre in
     (a .0, (sym (c .before .accelerates .ensures) ∙ c .if1 .left, (a .1 .0, a .1 .1)))
 
@@ -23,4 +23,4 @@ returns-2 c = search needs
 pub next-reached-spec : {M : Type 1} → statement M
 next-reached-spec =
     tie.close
-    (tie.spec accelerates-requires next-by-each-requires returns next-steady-requires returns-2)
+    (tie.spec accelerates-requires next-by-areas-requires returns next-by-sums-requires returns-2)

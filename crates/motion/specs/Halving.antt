@@ -1,0 +1,41 @@
+-- What the functions promise that find the next arrival of an axis by halving (docs/METHOD.md, section 11).
+use Prim.Native.Nat.{ℕ, suc, _-_, _≤_, _<_}
+use mathlib.Core.Path.{_≡_}
+use mathlib.Core.Bool.{Bool, true, false, cond}
+use lib.IntN.{ℤ, pos, natAbs, _+ℤ_, _-ℤ_, _*ℤ_}
+use lib.Signed.{ltZ}
+use Rattle.motion.specs.declared.Span.{Span}
+
+-- ---- a velocity that changes by the same number each tick
+
+-- how much may come to it until it is past the limit
+abbrev pub roomToward : ℕ → ℤ → ℤ → ℤ
+roomToward limit velocity change = cond (ltZ change (pos 0)) (pos limit +ℤ velocity) (pos limit -ℤ velocity)
+
+-- the last of the ticks 0 to `most` at which it can be within the limit: where it is at one of them it is at r too, which is none before that
+pub record TicksWithin (limit : ℕ) (velocity change : ℤ) (most r : ℕ) : Type 0 where
+  pub high : r ≤ most
+  pub later : (k : ℕ) → k ≤ most → natAbs (velocity +ℤ pos k *ℤ change) ≤ limit → (k ≤ r) × (natAbs (velocity +ℤ pos r *ℤ change) ≤ limit)
+
+-- ---- a test of candidates
+
+-- where one from first to last passes, r does
+pub record LastPassing (test : ℕ → Bool) (first last r : ℕ) : Type 0 where
+  pub low : first ≤ r
+  pub high : r ≤ last
+  pub later : (k : ℕ) → first ≤ k → k ≤ last → test k ≡ true → test r ≡ true
+
+-- none from first on and before r passes
+pub record Skips (test : ℕ → Bool) (first last r : ℕ) : Type 0 where
+  pub low : first ≤ r
+  pub high : r ≤ suc last
+  pub missed : (k : ℕ) → first ≤ k → k < r → test k ≡ false
+
+-- a span of candidates whose last one passes, and a narrower one of which the same holds, none left out before it
+pub record Narrower (test : ℕ → Bool) (s r : Span) : Type 0 where
+  pub low : s .low ≤ r .low
+  pub ordered : r .low ≤ r .high
+  pub high : r .high ≤ s .high
+  pub less : r .high - r .low < s .high - s .low
+  pub missed : (k : ℕ) → s .low ≤ k → k < r .low → test k ≡ false
+  pub passed : test (r .high) ≡ true
