@@ -292,6 +292,25 @@ polgamir_answer polgamir_plan_words_backwards(const uint32_t *words, size_t word
 
 polgamir_answer polgamir_plan_job_backwards(polgamir_job job, int64_t *table, size_t table_cells);
 
+/* What a call for rows in parts returns: the answer to the job, and how many rows were written. */
+typedef struct polgamir_part_answer {
+    uint32_t number;  /* as in polgamir_answer; 10 never comes */
+    uint32_t mask;
+    uint64_t place;
+    uint32_t arrival;
+    uint32_t rows;    /* 0 where the job is refused, where no row fits and where `first` is above N */
+} polgamir_part_answer;
+
+/*
+ * The same rows in parts, for a caller that cannot lend the whole table: rows first, first + 1, .. to the start of the table, as many
+ * whole rows as it holds, up to row N; the cells after them stay. Row `first` + i of the axis that is the j-th of the set bits is
+ * table[3 * (axes * i + j)] and the two cells after it. The answer is that of the calls above with a table that is long enough, so
+ * that 10 never comes. Each row equals the whole table's, and no call works out the rows before its first.
+ */
+polgamir_part_answer polgamir_plan_words_part(const uint32_t *words, size_t word_count, uint32_t first, int64_t *table, size_t table_cells);
+
+polgamir_part_answer polgamir_plan_job_part(polgamir_job job, uint32_t first, int64_t *table, size_t table_cells);
+
 /* A limit of an axis, or none. */
 enum polgamir_limit {
     POLGAMIR_NO_LIMIT = 0,

@@ -1,6 +1,7 @@
 // The planner's calls for programs in C and Rust, as include/polgamir.h declares them. Each keeps the promise of the planner's call that it
 // makes, whatever it is given. A slice is a pointer and a count to C; a struct passes by value, and `layout` says what it stands for.
 mod limit_raises;
+mod row_parts;
 mod searches;
 mod tours;
 

@@ -1,4 +1,5 @@
 pub mod Jobs
 pub mod Raises
+pub mod Parts
 pub mod Searches
 pub mod Tours

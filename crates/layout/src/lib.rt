@@ -1,5 +1,6 @@
 // The structs of include/polgamir.h, and what they stand for: C's jobs, tours and settings to the model's, the model's answers to C's.
 pub mod limit_raises;
+pub mod row_parts;
 pub mod searches;
 pub mod tours;
 

@@ -24,7 +24,7 @@ use Rattle.model.specs.Words.{goodMask}
 use Rattle.model.specs.Quantities.{finer}
 use Rattle.model.specs.Refusals.{lastTick, limitsRefused, dampingRefused, blendRefused, swayRefused, valuesRefused, accelerationRefused, flyingRefused}
 use Rattle.model.specs.Refusals.{restAllowed, targetAllowed, AllPassed}
-use Rattle.model.specs.Outcome.{Outcome, outcomeOf, answerIn, typed, call, refuse, ordered, allReach, leastFrom, arrives, reachesNone}
+use Rattle.model.specs.Outcome.{Outcome, outcomeOf, answerIn, typed, call, refuse, partOver, ordered, allReach, leastFrom, arrives, reachesNone}
 use Rattle.model.specs.Outcome.{filled, arrived, firstAxis, Tests, axisRefusals, tested, jobOutcome}
 use Rattle.model.proofs.MappedAxes.{cells-alike, Blind, AllBlind, first-mapped}
 use Rattle.model.proofs.MappedAxes.{mask-mapped, reach-mapped, arrives-mapped, over-mapped, filled-mapped, asked-mapped, tested-mapped}
@@ -115,6 +115,11 @@ pub filled-by-hand : (j : Job) (n : ℕ) (lent : List ℤ) → filled (jobByHand
 unfolding finer
 filled-by-hand j n lent = filled-mapped byHand n (cells-by-hand n) j lent
 
+-- some of its rows
+pub part-by-hand : (o : Order) (j : Job) (n i c : ℕ) (lent : List ℤ) → partOver o (axesOf (jobByHand j)) n i c lent ≡ partOver o (axesOf j) n i c lent
+unfolding finer
+part-by-hand o j n i c lent = over-mapped byHand n (cells-by-hand n) o j i c lent
+
 -- the same with the rows in an order
 pub ordered-by-hand : (o : Order) (j : Job) (lent : List ℤ) (r : Outcome) → ordered o (axesOf (jobByHand j)) lent r ≡ ordered o (axesOf j) lent r
 unfolding finer
@@ -122,7 +127,7 @@ ordered-by-hand Forwards j lent r = refl
 ordered-by-hand Backwards j lent r =
     λ i.
     elim (eqb (r .number) 0) as (λ _. Outcome) [
-      | true ↦ outcomeOf (answerIn r) (over-mapped byHand (r .arrival) (cells-by-hand (r .arrival)) Backwards j lent i)
+      | true ↦ outcomeOf (answerIn r) (over-mapped byHand (r .arrival) (cells-by-hand (r .arrival)) Backwards j 0 (suc (r .arrival)) lent i)
       | false ↦ r
     ]
 

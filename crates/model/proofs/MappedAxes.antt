@@ -15,9 +15,9 @@ use Rattle.model.specs.declared.Order.{Order}
 use Rattle.model.specs.declared.Order.the-variants.{Forwards}
 use Rattle.model.specs.Windows.{inWindows, refused13}
 use Rattle.model.specs.Motion.{Tick, reachable}
-use Rattle.model.specs.Rows.{track, blend, divisor, row, rowAt, table, cells, tabulate}
+use Rattle.model.specs.Rows.{track, blend, divisor, row, rowAt, part, cells, tabulate}
 use Rattle.model.specs.Job.{Job, JobAxis, axesOf, maskWhere}
-use Rattle.model.specs.Outcome.{Outcome, refuse, allReach, arrives, cellsNeeded, tableOver, filled, arrived, firstAxis, Tests, tested}
+use Rattle.model.specs.Outcome.{Outcome, refuse, allReach, arrives, cellsNeeded, partOver, filled, arrived, firstAxis, Tests, tested}
 
 -- two axes have the same cells where they have the same blends and the same divisor
 pub cells-alike : (n k : ℕ) (x y : Axis) → ((f : Tick → ℤ) → blend (track n x) k f ≡ blend (track n y) k f) → divisor x ≡ divisor y
@@ -75,18 +75,18 @@ module _ (F : Axis → Axis) where
     row-mapped [] k = refl
     row-mapped (x ∷ l) k = ap₂ (λ (c r : List ℤ). c ++ r) (same k (x .axis)) (row-mapped l k)
 
-    table-mapped : (o : Order) (j : Job) → table o (axesOf (mappedJob j)) n ≡ table o (axesOf j) n
-    table-mapped o j = ap (λ (f : ℕ → List ℤ). flatten (tabulate f 0 (suc n))) (λ i k. row-mapped (j .axes) (rowAt o n k) i)
+    part-mapped : (o : Order) (j : Job) (i c : ℕ) → part o (axesOf (mappedJob j)) n i c ≡ part o (axesOf j) n i c
+    part-mapped o j i c = ap (λ (f : ℕ → List ℤ). flatten (tabulate f i c)) (λ m k. row-mapped (j .axes) (rowAt o n k) m)
 
     axes-length : (l : List JobAxis) → length (map (λ x. x .axis) (mapped l)) ≡ length (map (λ x. x .axis) l)
     axes-length [] = refl
     axes-length (x ∷ l) = ap suc (axes-length l)
 
-    pub over-mapped : (o : Order) (j : Job) (lent : List ℤ) → tableOver o (axesOf (mappedJob j)) n lent ≡ tableOver o (axesOf j) n lent
-    over-mapped o j lent = ap₂ (λ (t : List ℤ) (k : ℕ). t ++ drop (cellsNeeded k n) lent) (table-mapped o j) (axes-length (j .axes))
+    pub over-mapped : (o : Order) (j : Job) (i c : ℕ) (lent : List ℤ) → partOver o (axesOf (mappedJob j)) n i c lent ≡ partOver o (axesOf j) n i c lent
+    over-mapped o j i c lent = ap₂ (λ (t : List ℤ) (k : ℕ). t ++ drop (3 * k * c) lent) (part-mapped o j i c) (axes-length (j .axes))
 
     pub filled-mapped : (j : Job) (lent : List ℤ) → filled (mappedJob j) n lent ≡ filled j n lent
-    filled-mapped j lent = λ i. by-room (ltb (length lent) (cellsNeeded (length-mapped (j .axes) i) n)) (over-mapped Forwards j lent i)
+    filled-mapped j lent = λ i. by-room (ltb (length lent) (cellsNeeded (length-mapped (j .axes) i) n)) (over-mapped Forwards j 0 (suc n) lent i)
       where
         by-room : Bool → List ℤ → Outcome
         by-room b cs =

@@ -1,5 +1,5 @@
 -- The area under the velocities at a cruise is their sum over ticks 1 to T − 1.
-use Prim.Native.Nat.{ℕ, zero, suc, _+_, _-_, _*_, _/_, _≤_, _<_}
+use Prim.Native.Nat.{ℕ, zero, suc, _+_, _-_, _*_, _/_, _≤_, _<_, min}
 use mathlib.Core.Path.{_≡_, sym, ap, ap₂, _∙_}
 use mathlib.Core.List.{[], _∷_}
 use native.Mathlib.Omega.{arith}
@@ -70,6 +70,20 @@ level-sum f c (suc n) e =
   where
     one-more : (n c : ℤ) → n *ℤ c +ℤ c ≡ (n +ℤ pos 1) *ℤ c
     one-more n c = same (n ∷ c ∷ []) (search pol depth 20 fits 9000) tt
+
+-- the first of the level ones raised by one
+pub raised-sum : (f : ℕ → ℤ) (c : ℤ) (r n : ℕ) → ((k : ℕ) → 0 < k → k ≤ n → k ≤ r → f k ≡ c +ℤ pos 1)
+    → ((k : ℕ) → 0 < k → k ≤ n → r < k → f k ≡ c) → sumTo f n ≡ pos n *ℤ c +ℤ pos (min r n)
+raised-sum f c r n up level =
+    ap (sumTo f) {x = n} {y = min r n + (n - min r n)} (omega arith)
+    ∙ parts f (min r n) (n - min r n)
+    ∙ ap₂ (λ (x y : ℤ). x +ℤ y) (level-sum f (c +ℤ pos 1) (min r n) (λ k h q. up k h (omega arith) (omega arith)))
+    (level-sum (λ k. f (min r n + k)) c (n - min r n) (λ k h q. level (min r n + k) (omega arith) (omega arith) (omega arith)))
+    ∙ ring c (pos (min r n)) (pos (n - min r n))
+    ∙ ap (λ (m : ℕ). pos m *ℤ c +ℤ pos (min r n)) {x = min r n + (n - min r n)} {y = n} (omega arith)
+  where
+    ring : (c a b : ℤ) → a *ℤ (c +ℤ pos 1) +ℤ b *ℤ c ≡ (a +ℤ b) *ℤ c +ℤ a
+    ring c a b = same (c ∷ a ∷ b ∷ []) (search pol depth 20 fits 9000) tt
 
 pub back-sum : (f : ℕ → ℤ) (v u : ℤ) (n : ℕ) → ((k : ℕ) → 0 < k → k ≤ n → f k ≡ v +ℤ pos (suc n - k) *ℤ u) → sumTo f n ≡ rampArea v u n
 back-sum f v u zero e = sym (ramp-none v u)

@@ -39,6 +39,35 @@ partsOf r = record { rising = risingTicks r; level = levelTicks r; falling = fal
 unfoldable pub areaOf : Regions → ℤ
 areaOf r = rampArea (r .start) (r .up) (risingTicks r) +ℤ pos (levelTicks r) *ℤ r .cruise +ℤ rampArea (r .end) (r .down) (fallingTicks r)
 
+-- ---- the first k of these ticks
+
+-- the last tick before the ramp to the end
+abbrev pub lastLevel : Regions → ℕ
+lastLevel r = r .ticks - 1 - r .fall
+
+abbrev pub risingTo : Regions → ℕ → ℕ
+risingTo r k = min (r .rise) k
+
+abbrev pub levelTo : Regions → ℕ → ℕ
+levelTo r k = min k (lastLevel r) - r .rise
+
+abbrev pub fallingTo : Regions → ℕ → ℕ
+fallingTo r k = k - risingTo r k - levelTo r k
+
+abbrev pub partsTo : Regions → ℕ → Parts
+partsTo r k = record { rising = risingTo r k; level = levelTo r k; falling = fallingTo r k }
+
+-- n ticks of the ramp to the end, of which tick k is the last
+unfoldable pub fallArea : Regions → ℕ → ℕ → ℤ
+fallArea r k n = rampArea (r .end +ℤ pos (r .ticks - 1 - k) *ℤ r .down) (r .down) n
+
+-- the area under the velocities of ticks 1 to k, k below T, the first level ones raised
+unfoldable pub areaTo : Regions → ℕ → ℤ
+areaTo r k =
+    rampArea (r .start) (r .up) (risingTo r k)
+    +ℤ (pos (levelTo r k) *ℤ r .cruise +ℤ pos (min (r .raised) (levelTo r k)))
+    +ℤ fallArea r k (fallingTo r k)
+
 -- at cruise c
 abbrev pub areaAt : Leg → ℤ → ℤ
 areaAt g c = areaOf (regionsOf g c 0)

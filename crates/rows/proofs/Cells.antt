@@ -1,11 +1,10 @@
--- The cells of a plan's rows, as far as they are written: in the table the first k rows of an order, and in a row the axes before axis i.
+-- The cells of a plan's rows, as far as they are written: in the table the first k rows from a place on, in an order, and in a row the axes before axis i.
 use mathlib.Core.Path.{_≡_, refl, sym, ap, _∙_}
 use Rattle.model.proofs.CellPlaces.{blocks-length}
 use Rattle.model.proofs.CellPlaces as Places
 use Rattle.model.proofs.Reversed.{tabulate-more}
 use mathlib.Core.List.{List, [], _∷_, _++_, map, append-assoc, append-nil, map-append, flatten}
-use Prim.Native.Nat.{ℕ, suc, _+_, _*_, _<_, _≤_}
-use native.Mathlib.Omega.{arith}
+use Prim.Native.Nat.{ℕ, _+_, _*_, _<_, _≤_}
 use native.Mathlib.Numerals.{add-one}
 use lib.IntN.{ℤ}
 use lib.ListN.{length, getD, take}
@@ -55,32 +54,31 @@ module _ (ps : List AxisPlan) (k : ℕ) where
 
 -- ---- in the table
 
--- the row at place j of the rows 0 to n, and the first k of them
+-- the row at place i of the rows 0 to n, and the first k of them from place j on
 abbrev rowOf : Order → List AxisPlan → ℕ → ℕ → List ℤ
-rowOf o ps n j = planRow ps (rowAt o n j)
+rowOf o ps n i = planRow ps (rowAt o n i)
 
-unfoldable pub rowsTo : Order → List AxisPlan → ℕ → ℕ → List ℤ
-rowsTo o ps n k = flatten (tabulate (rowOf o ps n) 0 k)
+unfoldable pub rowsTo : Order → List AxisPlan → ℕ → ℕ → ℕ → List ℤ
+rowsTo o ps n j k = flatten (tabulate (rowOf o ps n) j k)
 
-module _ (o : Order) (ps : List AxisPlan) (n : ℕ) where
-  pub rows-none : rowsTo o ps n 0 ≡ []
+module _ (o : Order) (ps : List AxisPlan) (n j : ℕ) where
+  pub rows-none : rowsTo o ps n j 0 ≡ []
   unfolding rowsTo flatten
   rows-none = refl
 
-  pub rows-more : (k : ℕ) → rowsTo o ps n k ++ planRow ps (rowAt o n k) ≡ rowsTo o ps n (k + 1)
+  pub rows-more : (k : ℕ) → rowsTo o ps n j k ++ planRow ps (rowAt o n (j + k)) ≡ rowsTo o ps n j (k + 1)
   unfolding rowsTo
   rows-more k =
-      sym (flatten-last (tabulate (rowOf o ps n) 0 k) (rowOf o ps n k))
-      ∙ ap (λ (j : ℕ). flatten (tabulate (rowOf o ps n) 0 k ++ (rowOf o ps n j ∷ []))) {x = k} {y = 0 + k} (omega arith)
-      ∙ ap flatten (sym (tabulate-more (rowOf o ps n) 0 k))
-      ∙ ap (λ (j : ℕ). flatten (tabulate (rowOf o ps n) 0 j)) (sym (add-one k))
+      sym (flatten-last (tabulate (rowOf o ps n) j k) (rowOf o ps n (j + k)))
+      ∙ ap flatten (sym (tabulate-more (rowOf o ps n) j k))
+      ∙ ap (λ (i : ℕ). flatten (tabulate (rowOf o ps n) j i)) (sym (add-one k))
 
-  pub rows-length : (k : ℕ) → length (rowsTo o ps n k) ≡ 3 * length ps * k
+  pub rows-length : (k : ℕ) → length (rowsTo o ps n j k) ≡ 3 * length ps * k
   unfolding rowsTo
   rows-length k =
-      Places.rows-length (3 * length ps) (rowOf o ps n) (λ j. blocks-length 3 (axisCells (rowAt o n j)) (λ p. refl) ps) 0 k
+      Places.rows-length (3 * length ps) (rowOf o ps n) (λ i. blocks-length 3 (axisCells (rowAt o n i)) (λ p. refl) ps) j k
 
   -- all rows
-  pub rows-all : (k : ℕ) → k ≡ suc n → rowsTo o ps n k ≡ flatten (tabulate (rowOf o ps n) 0 (suc n))
+  pub rows-all : (c k : ℕ) → k ≡ c → rowsTo o ps n j k ≡ flatten (tabulate (rowOf o ps n) j c)
   unfolding rowsTo
-  rows-all k e = ap (λ (j : ℕ). flatten (tabulate (rowOf o ps n) 0 j)) e
+  rows-all c k e = ap (λ (i : ℕ). flatten (tabulate (rowOf o ps n) j i)) e

@@ -10,7 +10,6 @@ use lib.ListN.{length, getD, drop, length-append}
 use lib.Seq.{length-take-le}
 use Rattle.model.specs.declared.Order.{Order}
 use Rattle.model.specs.Rows.{rowAt}
-use Rattle.model.specs.Outcome.{cellsNeeded}
 use Rattle.tracks.specs.declared.AxisPlan.{AxisPlan}
 use Rattle.rows.specs.declared.Plan.{Plan}
 use Rattle.tracks.specs.declared.Track.{Track}
@@ -24,12 +23,14 @@ use Rattle.rows.proofs.Cells.{rowTo, row-none, row-more, row-all, row-l
 
 -- ---- a plan whose rows can be written, and a table that has room for them
 
-pub record Front (plan : Plan) (t₀ : List ℤ) : Type 0 where
+-- c rows from place j on
+pub record Front (plan : Plan) (j c : ℕ) (t₀ : List ℤ) : Type 0 where
   pub can : Fillable plan
   pub six : length (plan .axes) ≡ 6
-  pub fits : 3 * plan .count * suc (plan .arrival) ≤ length t₀
+  pub inside : j + c ≤ suc (plan .arrival)
+  pub fits : 3 * plan .count * c ≤ length t₀
 
-module _ {plan : Plan} {t₀ : List ℤ} (f : Front plan t₀) where
+module _ {plan : Plan} {j c : ℕ} {t₀ : List ℤ} (f : Front plan j c t₀) where
   pub long : length (plansOf plan) ≡ plan .count
   long = length-take-le (plan .count) (plan .axes) (omega (arith, f .can .few, f .six))
 
@@ -37,23 +38,23 @@ module _ {plan : Plan} {t₀ : List ℤ} (f : Front plan t₀) where
   pub of-each : (Q : AxisPlan → Type 0) (i : ℕ) → Each Q (plansOf plan) → i < plan .count → Q (getD (plan .axes) i unsetPlan)
   of-each Q i r h = each-of Q (plan .axes) (plan .count) i r (omega (arith, f .can .few, f .six)) h
 
-  -- the cells of the row at place k have their place in the table, and in them those of axis i
-  pub row-fits : (o : Order) (k : ℕ) → k ≤ plan .arrival
-      → length (rowsTo o (plansOf plan) (plan .arrival) k) + 3 * length (plansOf plan) ≤ length t₀
+  -- the cells of row k of them have their place in the table, and in them those of axis i
+  pub row-fits : (o : Order) (k : ℕ) → k < c
+      → length (rowsTo o (plansOf plan) (plan .arrival) j k) + 3 * length (plansOf plan) ≤ length t₀
   row-fits o k h =
-      omega (arith, rows-length o (plansOf plan) (plan .arrival) k, mul-suc row k, mul-le-mul-left row later, room)
+      omega (arith, rows-length o (plansOf plan) (plan .arrival) j k, mul-suc row k, mul-le-mul-left row later, room)
     where
       row : ℕ
       row = 3 * length (plansOf plan)
 
-      later : suc k ≤ suc (plan .arrival)
+      later : suc k ≤ c
       later = omega arith
 
-      room : row * suc (plan .arrival) ≤ length t₀
-      room = subst (λ (c : ℕ). 3 * c * suc (plan .arrival) ≤ length t₀) (sym long) (f .fits)
+      room : row * c ≤ length t₀
+      room = subst (λ (n : ℕ). 3 * n * c ≤ length t₀) (sym long) (f .fits)
 
-  pub axis-fits : (o : Order) (k i : ℕ) → k ≤ plan .arrival → i < plan .count
-      → length (rowsTo o (plansOf plan) (plan .arrival) k) + 3 * i + 3 ≤ length t₀
+  pub axis-fits : (o : Order) (k i : ℕ) → k < c → i < plan .count
+      → length (rowsTo o (plansOf plan) (plan .arrival) j k) + 3 * i + 3 ≤ length t₀
   axis-fits o k i h l = omega (arith, row-fits o k h, long)
 
 -- ---- in row k, from the place at₁ of the list t₁ on
@@ -75,45 +76,45 @@ module _ (ps : List AxisPlan) (k : ℕ) (t₁ : List ℤ) (at₁ : ℕ) where
       place : at₁ + 3 * i ≡ at₁ + length (rowTo ps k i)
       place = omega (arith, row-long ps k i (omega arith))
 
--- ---- the rows, from the front of the list t₀ on
-module _ (o : Order) (ps : List AxisPlan) (n : ℕ) (t₀ : List ℤ) where
-  pub rows-start : t₀ ≡ over t₀ 0 (rowsTo o ps n 0)
-  rows-start = sym (ap (over t₀ 0) (rows-none o ps n) ∙ over-nil t₀ 0 (omega arith))
+-- ---- the rows from place j on, from the front of the list t₀ on
+module _ (o : Order) (ps : List AxisPlan) (n j : ℕ) (t₀ : List ℤ) where
+  pub rows-start : t₀ ≡ over t₀ 0 (rowsTo o ps n j 0)
+  rows-start = sym (ap (over t₀ 0) (rows-none o ps n j) ∙ over-nil t₀ 0 (omega arith))
 
-  -- the row at place k, of tick l
-  module _ (k l i at₁ at : ℕ) (t₁ t : List ℤ) (tick : l ≡ rowAt o n k) (all : i ≡ length ps) (p₁ : at₁ ≡ length (rowsTo o ps n k)) where
-    more : rowsTo o ps n k ++ planRow ps l ≡ rowsTo o ps n (k + 1)
-    more = ap (λ (j : ℕ). rowsTo o ps n k ++ planRow ps j) tick ∙ rows-more o ps n k
+  -- row k of them, of tick l
+  module _ (k l i at₁ at : ℕ) (t₁ t : List ℤ) (tick : l ≡ rowAt o n (j + k)) (all : i ≡ length ps) (p₁ : at₁ ≡ length (rowsTo o ps n j k)) where
+    more : rowsTo o ps n j k ++ planRow ps l ≡ rowsTo o ps n j (k + 1)
+    more = ap (λ (m : ℕ). rowsTo o ps n j k ++ planRow ps m) tick ∙ rows-more o ps n j k
 
-    pub place-goes-on : at ≡ at₁ + 3 * i → at ≡ length (rowsTo o ps n (k + 1))
+    pub place-goes-on : at ≡ at₁ + 3 * i → at ≡ length (rowsTo o ps n j (k + 1))
     place-goes-on p =
         p
         ∙ ap₂ _+_ p₁ (sym (row-long ps l i (omega arith)) ∙ ap length (row-all ps l i all))
-        ∙ sym (length-append (rowsTo o ps n k) (planRow ps l))
+        ∙ sym (length-append (rowsTo o ps n j k) (planRow ps l))
         ∙ ap length more
 
-    pub rows-go-on : length (rowsTo o ps n k) + 3 * length ps ≤ length t₀
-        → t₁ ≡ over t₀ 0 (rowsTo o ps n k) → t ≡ over t₁ at₁ (rowTo ps l i) → t ≡ over t₀ 0 (rowsTo o ps n (k + 1))
+    pub rows-go-on : length (rowsTo o ps n j k) + 3 * length ps ≤ length t₀
+        → t₁ ≡ over t₀ 0 (rowsTo o ps n j k) → t ≡ over t₁ at₁ (rowTo ps l i) → t ≡ over t₀ 0 (rowsTo o ps n j (k + 1))
     rows-go-on h c w =
         w
-        ∙ (λ j. over (c j) ((p₁ ∙ sym (zero-add (length (rowsTo o ps n k)))) j) (row-all ps l i all j))
-        ∙ over-over t₀ 0 (rowsTo o ps n k) (planRow ps l)
-        (omega (arith, long, length-append (rowsTo o ps n k) (planRow ps l)))
+        ∙ (λ m. over (c m) ((p₁ ∙ sym (zero-add (length (rowsTo o ps n j k)))) m) (row-all ps l i all m))
+        ∙ over-over t₀ 0 (rowsTo o ps n j k) (planRow ps l)
+        (omega (arith, long, length-append (rowsTo o ps n j k) (planRow ps l)))
         ∙ ap (over t₀ 0) more
       where
         long : length (planRow ps l) ≡ 3 * i
         long = ap length (sym (row-all ps l i all)) ∙ row-long ps l i (omega arith)
 
--- all rows of a plan
-pub rows-end : (o : Order) (plan : Plan) (t₀ t : List ℤ) (k : ℕ) → k ≡ suc (plan .arrival)
-    → t ≡ over t₀ 0 (rowsTo o (plansOf plan) (plan .arrival) k) → t ≡ rowsOver o plan t₀
-rows-end o plan t₀ t k q c =
-    c
-    ∙ over-front t₀ (rowsTo o (plansOf plan) n k)
-    ∙ ap₂ (λ (l : List ℤ) (m : ℕ). l ++ drop m t₀) (rows-all o (plansOf plan) n k q) long
+-- all of them
+pub rows-end : (o : Order) (plan : Plan) (j c : ℕ) (t₀ t : List ℤ) (k : ℕ) → k ≡ c
+    → t ≡ over t₀ 0 (rowsTo o (plansOf plan) (plan .arrival) j k) → t ≡ rowsOver o plan j c t₀
+rows-end o plan j c t₀ t k q w =
+    w
+    ∙ over-front t₀ (rowsTo o (plansOf plan) n j k)
+    ∙ ap₂ (λ (l : List ℤ) (m : ℕ). l ++ drop m t₀) (rows-all o (plansOf plan) n j c k q) long
   where
     n : ℕ
     n = plan .arrival
 
-    long : length (rowsTo o (plansOf plan) n k) ≡ cellsNeeded (length (plansOf plan)) n
-    long = rows-length o (plansOf plan) n k ∙ ap (λ (j : ℕ). 3 * length (plansOf plan) * j) q
+    long : length (rowsTo o (plansOf plan) n j k) ≡ 3 * length (plansOf plan) * c
+    long = rows-length o (plansOf plan) n j k ∙ ap (λ (i : ℕ). 3 * length (plansOf plan) * i) q

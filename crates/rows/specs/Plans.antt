@@ -6,18 +6,15 @@ use lib.IntN.{pos}
 use lib.ListN.{length, getD, take}
 use Rattle.model.specs.declared.SecondSway.the-variants.{Absent}
 use Rattle.model.specs.Job.{JobAxis}
-use Rattle.motion.specs.Motions.{destination}
 use Rattle.tracks.specs.declared.AxisPlan.{AxisPlan}
 use Rattle.tracks.specs.Plans.{planOf, arrivalOf, PlanRanges}
 use Rattle.rows.specs.declared.Plan.{Plan}
-use Rattle.tracks.specs.Tracks.{Lands}
 
 -- what stands after the last axis
 abbrev pub unsetPlan : AxisPlan
 unsetPlan =
     record {
       origin = pos 0;
-      destination = pos 0;
       regions =
           record { start = pos 0; rise = 0; up = pos 0; cruise = pos 0; raised = 0; end = pos 0; fall = 0; down = pos 0; ticks = 0 };
       acceleration = pos 0;
@@ -49,9 +46,8 @@ abbrev pub Each : (AxisPlan → Type 0) → List AxisPlan → Type 0
 Each Q [] = Unit
 Each Q (p ∷ ps) = Q p × Each Q ps
 
--- a plan whose rows can be written: each of its axes is within the ranges, goes on up to the arrival and lands there
+-- a plan whose rows can be written: each of its axes is within the ranges and goes on up to the arrival
 pub record Fillable (plan : Plan) : Type 0 where
   pub few : plan .count ≤ 6
   pub ranged : Each PlanRanges (plansOf plan)
   pub arrive : Each (λ p. plan .arrival ≤ arrivalOf p) (plansOf plan)
-  pub land : Each (Lands (plan .arrival)) (plansOf plan)

@@ -3,6 +3,7 @@ pub mod Scale
 pub mod Velocities
 pub mod PlannedPaces
 pub mod Ranges
+pub mod Sums
 pub mod PlannedTicks
 pub mod BlendedTicks
 pub mod ReadyAxis

@@ -15,7 +15,7 @@ use Rattle.tracks.specs.declared.AxisPlan.{AxisPlan}
 use Rattle.tracks.specs.declared.Track.{Track}
 use Rattle.tracks.specs.Plans.{arrivalOf, PlanRanges}
 use Rattle.tracks.specs.Tracks.{mix, plannedAt, velocityBack, blendedBack, added, blendsBy, blendedVelocity}
-use Rattle.tracks.specs.Tracks.{weightOf, lagOf, blendedPosition, trackAt, halfUnit, Lands}
+use Rattle.tracks.specs.Tracks.{weightOf, lagOf, blendedPosition, trackAt}
 use Rattle.tracks.proofs.Velocities.{planned-start}
 
 -- the size of a number times a weight
@@ -41,7 +41,7 @@ module _ (p : AxisPlan) (s : PlanRanges p) where
   start-weighed =
       subst (λ (v : ℤ). weightOf p * natAbs v ≤ 2 ^ 45) (sym (planned-start p (s .some))) (planned-weighed 0 (omega arith))
 
-  back-weighed : (d k : ℕ) → k ≤ suc (arrivalOf p) → weightOf p * natAbs (velocityBack p d k) ≤ 2 ^ 45
+  pub back-weighed : (d k : ℕ) → k ≤ suc (arrivalOf p) → weightOf p * natAbs (velocityBack p d k) ≤ 2 ^ 45
   unfolding velocityBack
   back-weighed d k h =
       by-bool (λ (v : ℤ). weightOf p * natAbs v ≤ 2 ^ 45) (ltb k d) _ _
@@ -78,7 +78,7 @@ module _ (p : AxisPlan) (s : PlanRanges p) where
   some-blends = blends-some (p .«second_sway»)
 
   -- each of them
-  once-by : (d k : ℕ) → k ≤ suc (arrivalOf p) → count * natAbs (blendedBack p d k) ≤ 2 ^ 46
+  pub once-by : (d k : ℕ) → k ≤ suc (arrivalOf p) → count * natAbs (blendedBack p d k) ≤ 2 ^ 46
   unfolding blendedBack
   once-by d k h =
       let v = velocityBack p d k in
@@ -139,13 +139,6 @@ module _ (p : AxisPlan) (s : PlanRanges p) where
 
   pub position-within : (k : ℕ) → k ≤ suc (arrivalOf p) → Within (2 ^ 61) (blendedPosition p k)
   position-within k h = record { within = omega (arith, position-by k h, s .last) }
-
-  -- where the sums may be taken from the landing end, what they start from
-  pub landed-within : (n : ℕ) → n ≤ suc (arrivalOf p) → Lands n p → Within (2 ^ 37) (p .destination)
-  landed-within n h a =
-      record {
-        within = omega (arith, natAbs-* (pos halfUnit) (p .destination), ap natAbs (a .position), position-within n h .within);
-      }
 
   -- ---- of numbers that are known to be these
 

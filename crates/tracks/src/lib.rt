@@ -5,19 +5,18 @@ use model::SecondSway;
 use profile::Regions;
 ghost use Prim.Native.Nat.{suc, _+_, _^_, _<_, _≤_, max, min};
 ghost use mathlib.Core.Path.{_≡_};
+ghost use Rattle.whole.specs.Integers.{sumTo};
 ghost use Rattle.whole.specs.Ranges.{Within, Is};
 ghost use Rattle.model.specs.Refusals.{Ready};
 ghost use Rattle.profile.specs.Regions.{RegionsRanged};
 ghost use Rattle.tracks.specs.Plans.{scale, planOf, arrivalOf, PlanRanges};
-ghost use Rattle.tracks.specs.Tracks.{mix, blendsBy, plannedAt, velocityBack, blendedBack, blendedVelocity, weightOf, lagOf, trackAt, comesTo, Lands};
+ghost use Rattle.tracks.specs.Tracks.{mix, blendsBy, plannedAt, velocityBack, blendedBack, blendedVelocity, weightOf, lagOf, trackAt, comesTo};
 ghost use Rattle.tracks.specs.Paces.{PaceAt, fallBegins, raisedUntil, shared};
 
-// The plan of one axis, on its own grid: its planned position at tick 0, in half grid steps; twice its target's position at the arrival, in units;
-// its planned velocities up to the landing, in grid steps; its planned acceleration from the landing on; h; the weights of the blend, scaled so
+// The plan of one axis, on its own grid: its planned position at tick 0, in half grid steps; its planned velocities up to the landing, in grid steps; its planned acceleration from the landing on; h; the weights of the blend, scaled so
 // that the cells of every plan are rounded by the same divisors; and the second sway.
 pub struct AxisPlan {
     pub origin: i64,
-    pub destination: i64,
     pub regions: Regions,
     pub acceleration: i64,
     pub half_period: u32,
@@ -70,14 +69,12 @@ pub fn axis_plan(x: Axis, n: u32) -> AxisPlan
     let profile = motion::profile_of(x, n, landing);
     let regions = profile::chosen(profile, motion::displacement(x, landing));
     let origin = motion::start_position(x);
-    let destination = motion::destination(x, n);
     let acceleration = landing.acceleration;
     let sway = x.second_sway;
     let second_weight = motion::second_weight(x);
     let scale = weight_scale(x);
     AxisPlan {
         origin: origin,
-        destination: destination,
         regions: regions,
         acceleration: acceleration,
         half_period: x.half_period,
@@ -190,52 +187,98 @@ fn blended_velocity(p: AxisPlan, k: u32) -> i64
     }
 }
 
-// The track one tick on from tick k.
-fn step(p: AxisPlan, k: u32, t: Track) -> Track
+// ---- sums of the velocities of ticks 1 to k, with no tick visited
+
+// Of the planned velocities.
+fn planned_sum(p: AxisPlan, k: u32) -> i64
     requires { ⌜ PlanRanges p ⌝ }
-    requires { ⌜ k ≤ arrivalOf p ⌝ }
-    requires { ⌜ t ≡ trackAt p k ⌝ }
-    ensures { λ r. ⌜ r ≡ trackAt p (suc k) ⌝ }
+    requires { ⌜ k ≤ suc (arrivalOf p) ⌝ }
+    ensures { λ r. ⌜ Is (2 ^ 51) r (sumTo (plannedAt p) k) ⌝ }
 {
-    let next = blended_velocity(p, k + 1);
-    let velocity = t.velocity;
-    let position = t.position + velocity + next;
-    Track {
-        position: position,
-        velocity: next,
+    let regions = p.regions;
+    let tick = k as u64;
+    let ticks = regions.ticks;
+    if tick < ticks {
+        return profile::sum_to(regions, tick);
+    }
+    let before = profile::sum_to(regions, ticks - 1);
+    let after = profile::ramp_area(regions.end, p.acceleration, tick - ticks);
+    before + regions.end + after
+}
+
+// Of those d ticks before: up to tick 0 the planned motion is uniform.
+fn sum_back(p: AxisPlan, d: u32, k: u32) -> i64
+    requires { ⌜ PlanRanges p ⌝ }
+    requires { ⌜ d ≤ 512 ⌝ }
+    requires { ⌜ k ≤ suc (arrivalOf p) ⌝ }
+    ensures { λ r. ⌜ Is (2 ^ 51) r (sumTo (velocityBack p d) k) ⌝ }
+{
+    let regions = p.regions;
+    let start = regions.start;
+    if k < d {
+        return (k as i64) * start;
+    }
+    (d as i64) * start + planned_sum(p, k - d)
+}
+
+// Of one blend, d ticks before.
+fn blended_sum_back(p: AxisPlan, d: u32, k: u32) -> i64
+    requires { ⌜ PlanRanges p ⌝ }
+    requires { ⌜ d ≤ 256 ⌝ }
+    requires { ⌜ k ≤ suc (arrivalOf p) ⌝ }
+    ensures { λ r. ⌜ Is (2 ^ 59) r (sumTo (blendedBack p d) k) ⌝ }
+{
+    let ahead = sum_back(p, d, k);
+    let behind = sum_back(p, d + p.half_period, k);
+    (p.first_weight as i64) * ahead + (p.second_weight as i64) * behind
+}
+
+// Of the velocities after the blends.
+fn blended_sum(p: AxisPlan, k: u32) -> i64
+    requires { ⌜ PlanRanges p ⌝ }
+    requires { ⌜ k ≤ suc (arrivalOf p) ⌝ }
+    ensures { λ r. ⌜ Is (2 ^ 59) r (sumTo (blendedVelocity p) k) ⌝ }
+{
+    let sway = p.second_sway;
+    let once = blended_sum_back(p, 0, k);
+    match sway {
+        SecondSway::Absent => once,
+        SecondSway::HalfPeriod(d) => once + blended_sum_back(p, d, k),
     }
 }
 
-// The track at the arrival n: the landing is exact.
-fn arrived(p: AxisPlan, n: u32) -> Track
+// The track at tick k: from that at tick 0 on, each tick goes on by the velocities at its two ends.
+fn track_at(p: AxisPlan, k: u32) -> Track
     requires { ⌜ PlanRanges p ⌝ }
-    requires { ⌜ n ≤ arrivalOf p ⌝ }
-    requires { ⌜ Lands n p ⌝ }
-    ensures { λ r. ⌜ r ≡ trackAt p n ⌝ }
+    requires { ⌜ k ≤ suc (arrivalOf p) ⌝ }
+    ensures { λ r. ⌜ r ≡ trackAt p k ⌝ }
 {
-    let destination = p.destination;
-    let velocity = blended_velocity(p, n);
+    let first = started(p);
+    if k == 0 {
+        return first;
+    }
+    let position = first.position;
+    let start = first.velocity;
+    let sum = blended_sum(p, k);
+    let velocity = blended_velocity(p, k);
     Track {
-        position: 16777216 * destination,
+        position: position + start + 2 * sum - velocity,
         velocity: velocity,
     }
 }
 
-// ---- the track of the first row
+// ---- the track that comes to a row
 
-// The track that comes to the first row: forwards that at tick 0, backwards that one tick past the arrival n.
-pub fn first_track(p: AxisPlan, order: Order, n: u32) -> Track
+// The track that comes to the row at a place, of rows 0 to n: forwards that of the row's tick, backwards that one tick past it.
+pub fn first_track(p: AxisPlan, order: Order, n: u32, place: u32) -> Track
     requires { ⌜ PlanRanges p ⌝ }
     requires { ⌜ n ≤ arrivalOf p ⌝ }
-    requires { ⌜ Lands n p ⌝ }
-    ensures { λ r. ⌜ r ≡ trackAt p (comesTo order n 0) ⌝ }
+    requires { ⌜ place ≤ suc n ⌝ }
+    ensures { λ r. ⌜ r ≡ trackAt p (comesTo order n place) ⌝ }
 {
     match order {
-        Order::Forwards => started(p),
-        Order::Backwards => {
-            let landed = arrived(p, n);
-            step(p, n, landed)
-        }
+        Order::Forwards => track_at(p, place),
+        Order::Backwards => track_at(p, n + 1 - place),
     }
 }
 

@@ -1,37 +1,32 @@
-use mathlib.Core.Path.{_∙_}
+use Prim.Native.Nat.{ℕ, _*_, _≤_}
+use mathlib.Core.Path.{sym, ap, subst, _∙_}
+use native.Mathlib.Omega.{arith}
+use native.Mathlib.Numerals.{add-one}
+use lib.ListN.{length}
+use Rattle.model.specs.Job.{setAxes, axesOf, typedJob}
+use Rattle.model.specs.Outcome.{partOver}
 use borrow.Author.Needs.{needs}
-use Rattle.model.specs.Job.{setAxes}
-use Rattle.rows.proofs.ReadyAxes.{AllReady, all-ready}
-use Rattle.rows.proofs.JobTable.{fillable, plan-arrives, plan-fits, plan-rows}
 use Rattle.rows.proofs.fill_table.Statement.{statement}
 use Rattle.rows.proofs.fill_table.Tie as tie
 
--- each axis of the mask can be planned
-ready : (a : tie.Start) → AllReady (a .args .n) (setAxes 0 (a .args .mask) (a .args .axes))
-ready a = all-ready (a .args .n) (setAxes 0 (a .args .mask) (a .args .axes)) (a .pre .0) (a .pre .1 .0) (a .pre .1 .1 .0)
+add-fill-part : tie.Need-add-fill-part
+add-fill-part c = search needs
 
-plan-for-requires : tie.Need-plan-for-requires
-plan-for-requires c κs = search needs
-
-fill-requires : tie.Need-fill-requires
-fill-requires c κs =
-    let a = c .before .before in
-    let p = c .before .plan-for in (
-      fillable (a .args .mask) (a .args .n) (a .args .axes) (ready a) (p .result) (p .ensures),
-      (
-        plan-arrives (a .args .mask) (a .args .n) (a .args .axes) (ready a) (p .result) (p .ensures) (a .pre .1 .0),
-        plan-fits (a .args .mask) (a .args .n) (a .args .axes) (ready a) (p .result) (p .ensures) (a .args .table .now) (a .pre .1 .1 .1),
-      ),
-    )
+fill-part-requires : tie.Need-fill-part-requires
+fill-part-requires c κs =
+    let a = c .before in
+    let xs = setAxes 0 (a .args .mask) (a .args .axes) in
+    let fits = subst (λ (k : ℕ). 3 * length xs * k ≤ length (a .args .table .now)) (sym (add-one (a .args .n))) (a .pre .1 .1 .1) in
+    (a .pre .0, (a .pre .1 .0, (a .pre .1 .1 .0, (omega arith, fits))))
 
 same-length : tie.Need-same-length
 same-length c = search needs
 
 returns : tie.Need-returns
 returns c =
-    let a = c .before .before .before .before in
-    let p = c .before .before .before .plan-for in
-    c .before .fill .ensures ∙ plan-rows (a .args .mask) (a .args .n) (a .args .axes) (ready a) (p .result) (p .ensures) (a .args .order) (a .args .table .now)
+    let a = c .before .before .before .args in
+    c .before .fill-part .ensures
+    ∙ ap (λ (k : ℕ). partOver (a .order) (axesOf (typedJob (a .mask) (a .n) (a .axes))) (a .n) 0 k (a .table .now)) (add-one (a .n))
 
 pub fill-table-spec : {M : Type 1} → statement M
-fill-table-spec = tie.close (tie.spec plan-for-requires fill-requires same-length returns)
+fill-table-spec = tie.close (tie.spec add-fill-part fill-part-requires same-length returns)

@@ -1,0 +1,30 @@
+-- What the calls for a part of a table promise, `plan_job_part` and `plan_words_part`. Neither asks anything of its caller: any words, any job of typed
+-- values, any first row and any lent table will do.
+use Prim.Native.Nat.{ℕ, _≤_}
+use mathlib.Core.Path.{_≡_}
+use mathlib.Core.List.{List}
+use lib.IntN.{ℤ}
+use lib.ListN.{length}
+use Rattle.model.specs.declared.Axis.{Axis}
+use Rattle.model.specs.declared.PartAnswer.{PartAnswer}
+use Rattle.model.specs.declared.Order.the-variants.{Forwards}
+use Rattle.model.specs.Outcome.{Input, call, inputAxes, cellsNeeded, partOver}
+use Rattle.model.specs.Parts.{partRows, PartOutcome, partCall, PartOf}
+
+-- an answer with its number of rows, and the lent table as the call leaves it
+abbrev pub partOutcome : PartAnswer → List ℤ → PartOutcome
+partOutcome r cells = record { answer = r .answer; rows = r .rows; cells = cells }
+
+-- q is what the call was given and k the first row, entry and exit are the lent table before and after it, r is the answer
+pub record PartPromise (q : Input) (k : ℕ) (entry : List ℤ) (r : PartAnswer) (exit : List ℤ) : Type 0 where
+  -- the answer, which is that of planning before refusal 10, the number of rows and every cell of the lent table are those of the definitions
+  pub is : partOutcome r exit ≡ partCall q k entry
+  -- where the number is 0, the same job with any table that has room for all rows is accepted with this arrival and meets demand 3, and the rows written are
+  -- that table's rows from row k on
+  pub whole : r .answer .number ≡ 0 → (lent : List ℤ) → cellsNeeded (length (inputAxes q)) (r .answer .arrival) ≤ length lent
+      → PartOf q (r .answer .arrival) k (r .rows) exit (call q lent)
+
+-- what `write_part` promises for the axes xs, m of them, and arrival n: r rows from row k on are written
+pub record PartWritten (m : ℕ) (xs : List Axis) (n k : ℕ) (entry : List ℤ) (r : ℕ) (exit : List ℤ) : Type 0 where
+  pub rows : r ≡ partRows m n k (length entry)
+  pub cells : exit ≡ partOver Forwards xs n k r entry
