@@ -121,16 +121,20 @@ module _ (x : Axis) (n : ℕ) (r : Ready x n) where
       (reach-lands x n (R.reached x n r)) (reach-arrives x n (R.reached x n r))))
       h
 
-  now-acceleration : (k : ℕ) → k ≤ n → natAbs (tickAt (track n x) k .acceleration) ≤ accelerationSteps x
+  -- before the landing
+  pub planned-change : (k : ℕ) → k < landingTick x n
+      → tickAt (track n x) k .acceleration
+      ≡ getD (startVelocity x ∷ chosen (leg x n) (requiredSum x n)) (suc k) (pos 0) -ℤ getD (startVelocity x ∷ chosen (leg x n) (requiredSum x n)) k (pos 0)
+  planned-change k h =
+      run-change (startPosition x) (startVelocity x) (chosen (leg x n) (requiredSum x n)) (replicate (suc (delay x)) (landingAcceleration x n)) (earlier x 0)
+      k (omega (arith, long))
+
+  pub now-acceleration : (k : ℕ) → k ≤ n → natAbs (tickAt (track n x) k .acceleration) ≤ accelerationSteps x
   unfolding W
   now-acceleration k h =
       by-landing (λ k. k ≤ n → natAbs (tickAt (track n x) k .acceleration) ≤ accelerationSteps x) (landingTick x n) k
       (λ q l.
-      subst (λ (v : ℤ). natAbs v ≤ accelerationSteps x)
-      (sym
-      (run-change (startPosition x) (startVelocity x) (chosen (leg x n) (requiredSum x n))
-      (replicate (suc (delay x)) (landingAcceleration x n)) (earlier x 0) k (omega (arith, long))))
-      (meets .changes k q))
+      subst (λ (v : ℤ). natAbs v ≤ accelerationSteps x) (sym (planned-change k q)) (meets .changes k q))
       (λ j e l. subst (λ (t : Tick). natAbs (t .acceleration) ≤ accelerationSteps x) (sym (late j (omega arith))) landing-acceleration)
       h
 

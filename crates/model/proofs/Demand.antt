@@ -1,5 +1,5 @@
--- Demand 3, the limits on cells and the exact start hold of every accepted call, in either order of its rows: `demand3`, `cell-limits`,
--- `exact-start`. Each row of a backward call is the forward call's row for that tick: `same-rows`.
+-- Demand 3, the limits on cells, the exact start and what is left of a sway that fits only nearly hold of every accepted call, in either order of its
+-- rows: `demand3`, `cell-limits`, `exact-start`, `sway-left`. Each row of a backward call is the forward call's row for that tick: `same-rows`.
 use Prim.Native.Nat.{ℕ, zero, suc, _+_, _*_, _≤_, _<_}
 use mathlib.Core.Path.{_≡_, refl, sym, ap, ap₂, _∙_, subst}
 use mathlib.Core.List.{List, [], _∷_, _++_, map}
@@ -14,12 +14,13 @@ use Rattle.model.specs.declared.Answer.{Answer}
 use Rattle.model.specs.declared.Order.{Order}
 use Rattle.model.specs.declared.Order.the-variants.{Forwards, Backwards}
 use Rattle.whole.specs.Integers.{nearest}
-use Rattle.model.specs.Rows.{track, cells, rowAt, table}
+use Rattle.model.specs.Rows.{track, divisor, cells, rowAt, table}
 use Rattle.model.specs.Job.{Job, JobAxis, axesOf, jobOf}
 use Rattle.model.specs.Words.{Decoded}
 use Rattle.model.specs.Motion.{reachable}
 use Rattle.model.specs.Demand.{tableIn, cellAt, positionCell, velocityCell, accelerationCell, Lands, Carries, SwayCancelled}
 use Rattle.model.specs.Demand.{sway, Demand3, Demand3Holds, CellLimits, CellLimitsHold, ExactStart, ExactStartHolds, SameRows}
+use Rattle.model.specs.Misfit.{plannedVariation, SwayLeft, SwayLeftHolds}
 use Rattle.model.specs.Outcome.{Outcome, Input, call, callIn, jobRead, inputAxes, cellsNeeded}
 use Rattle.whole.proofs.Tests.{T-true}
 use Rattle.whole.proofs.Elements.{at-below, element}
@@ -38,7 +39,7 @@ use Rattle.model.proofs.Landing.{lands-position, lands-velocity, lands-
 use Rattle.model.proofs.Carry.{carries-position, carries-velocity}
 use Rattle.model.proofs.SwayExact.{sway-same}
 use Rattle.model.proofs.Ordered.{answer-stays, rows-turn}
-use Rattle.model.proofs.SwayCancelled.{cancelled-exact, cancelled-rounded}
+use Rattle.model.proofs.SwayCancelled.{left-exact, left-rounded, cancelled-exact, cancelled-rounded}
 
 module _ (o : Order) (xs : List Axis) (n : ℕ) (lent rest : List ℤ) (is : lent ≡ table o xs n ++ rest)
     (ready : (i : ℕ) (x : Axis) → getElem? xs i ≡ some x → Ready x n) where
@@ -137,6 +138,16 @@ module _ (o : Order) (xs : List Axis) (n : ℕ) (lent rest : List ℤ) (is : len
               (cancelled-rounded x n g m G w h s b);
         }
 
+    left : SwayLeft plannedVariation x i n (tableIn o xs n lent)
+    unfolding a
+    left =
+        record {
+          exact = λ m E w h f. left-exact x n g m E w h f;
+          rounded = λ m E G w h f b.
+              subst (λ (z : ℤ). divisor x * natAbs z ≤ plannedVariation x n * E + divisor x * (n * G))
+              (sway-same a (accelerationCell (tableIn o xs n lent) i) w m n a-is) (left-rounded x n g m E G w h f b);
+        }
+
   whole : cellsNeeded (length xs) n ≤ length lent
   whole = omega (arith, table-length o xs n, ap length is ∙ length-append (table o xs n) rest)
 
@@ -220,7 +231,7 @@ module _ (Claim : List Axis → ℕ → List ℤ → Type 0)
   of-forward-calls q lent z = by-call q lent (call q lent) (call-verdict q lent) z
 
 -- an accepted call's axes can all be planned
-abbrev Planned : List Axis → ℕ → Type 0
+abbrev pub Planned : List Axis → ℕ → Type 0
 Planned xs n = (i : ℕ) (x : Axis) → getElem? xs i ≡ some x → Ready x n
 
 planned-axes : (q : Input) (lent : List ℤ) → call q lent .number ≡ 0 → Planned (inputAxes q) (call q lent .arrival)
@@ -239,6 +250,9 @@ module _ (Claim : Order → List Axis → ℕ → List ℤ → Type 0)
       subst (λ (s : Outcome). Claim Backwards xs (s .arrival) (s .cells)) (rows-turn xs lent r zero)
       (holds Backwards xs (r .arrival) _ (drop (cellsNeeded (length xs) (r .arrival)) lent) refl (planned-axes q lent zero))
 
+pub ready-axes : (o : Order) (q : Input) (lent : List ℤ) → callIn o q lent .number ≡ 0 → Planned (inputAxes q) (callIn o q lent .arrival)
+ready-axes = of-calls (λ o xs n lent. Planned xs n) (λ o xs n lent rest is ready. ready)
+
 pub demand3 : Demand3Holds
 demand3 = of-calls Demand3 demanded
 
@@ -247,6 +261,9 @@ cell-limits = of-calls CellLimits limited
 
 pub exact-start : ExactStartHolds
 exact-start = of-calls ExactStart started
+
+pub sway-left : SwayLeftHolds plannedVariation
+sway-left = of-calls (λ o xs n lent. (i : ℕ) (x : Axis) → getElem? xs i ≡ some x → SwayLeft plannedVariation x i n (tableIn o xs n lent)) left
 
 -- ---- each row is that of its tick, in either order
 

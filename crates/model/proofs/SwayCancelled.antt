@@ -1,29 +1,34 @@
--- The sway left of an axis is 0 before rounding, and at most N × G as rounded.
+-- The sway left of an axis: in a list with no misfit above E at most variation × E before rounding, and as rounded N × G more. A swing list of either
+-- rate has no misfit, so that of its sway 0 is left before rounding, and at most N × G as rounded.
 use Prim.Native.Nat.{ℕ, zero, suc, _+_, _-_, _*_, _≤_, _<_}
 use mathlib.Core.Path.{_≡_, refl, sym, ap, ap₂, _∙_, subst}
 use mathlib.Core.Bool.{Bool, true, false}
 use mathlib.Core.List.{[], _∷_}
 use native.Mathlib.Omega.{arith}
-use native.Mathlib.Nat.{zero-add, add-comm, le-antisymm, le-of-mul-le-mul-left}
+use native.Mathlib.Nat.{zero-add, le-trans, le-antisymm, le-of-mul-le-mul-left}
 use lib.Dec.{ltb}
 use lib.IntN.{ℤ, pos, natAbs, _+ℤ_, _-ℤ_, _*ℤ_, +ℤ-invr}
 use Rattle.whole.specs.Integers.{nearest}
+use Rattle.whole.proofs.Bounds.{mul-holds}
 use Rattle.whole.proofs.Laws.{natAbs-*, natAbs-zero}
 use Rattle.whole.proofs.Ring.{pol, same}
 use Rattle.whole.proofs.Rounding.{nearest-half}
 use Rattle.model.specs.declared.Axis.{Axis}
+use Rattle.model.specs.declared.SecondSway.{SecondSway}
+use Rattle.model.specs.declared.SecondSway.the-variants.{Absent, HalfPeriod}
 use Rattle.model.specs.Quantities.{halfPeriod, secondWeight, swayDelay, secondHalfPeriod, asMoving, finer}
 use Rattle.model.specs.Motion.{Tick, earlier, landingTick, landingAcceleration}
-use Rattle.model.specs.Rows.{track, tickAt, tickBack, blend}
+use Rattle.model.specs.Rows.{track, tickAt, tickBack, blend, divisor}
 use Rattle.model.specs.Refusals.{Ready}
-use Rattle.model.proofs.TwoBlends.{both, bothDivisor, both-some, both-is, times, times-some}
-use Rattle.model.proofs.PassedAxis.{second-range}
+use Rattle.model.proofs.TwoBlends.{both, bothDivisor, both-some, both-is, timesBy, times, times-some, weights-times, divisor-some}
 use Rattle.model.proofs.ReadyAxis as R
-use Rattle.model.specs.Demand.{Swings, Swing, first, second, Bounded, sway}
+use Rattle.model.specs.Demand.{Swing, first, second, Bounded, sway}
+use Rattle.model.specs.Misfit.{misfitOnce, misfitBy, misfit, Misfits, plannedVariation}
 use Rattle.model.proofs.Landing.{exact-acceleration, lands-acceleration}
 use Rattle.model.proofs.PlannedTarget.{tick-landed}
-use Rattle.model.proofs.SwayExact.{sway-same, sway-times, back, back-none, filtered, filtered-twice, filtered-steady, sway-exact}
+use Rattle.model.proofs.SwayExact.{sway-same, sway-times, back, back-none, filtered, filtered-twice, filtered-steady, paired, smoothed, sway-exact, sway-small}
 use Rattle.model.proofs.SwayRounded.{sway-rounded}
+use Rattle.model.proofs.MeasuredMisfit.{second-misfit}
 
 module _ (x : Axis) (n : ℕ) (r : Ready x n) where
   abbrev h : ℕ
@@ -85,68 +90,133 @@ module _ (x : Axis) (n : ℕ) (r : Ready x n) where
       (ap₂ (λ (y z : ℤ). A *ℤ y +ℤ B *ℤ z) (back-acceleration s k) (back-acceleration (s + h) k))
 
   first-last : (k : ℕ) → exact k ≡ filtered A B (filtered (pos 1) (pos 1) α s) h k
-  first-last k = written k ∙ sorted A B (α k) (back α h k) (back α s k) (back α (s + h) k) ∙ sym (filtered-twice A B (pos 1) (pos 1) α s h k)
-    where
-      sorted : (A B w y z u : ℤ) → A *ℤ w +ℤ B *ℤ y +ℤ (A *ℤ z +ℤ B *ℤ u) ≡ A *ℤ (pos 1 *ℤ w +ℤ pos 1 *ℤ z) +ℤ B *ℤ (pos 1 *ℤ y +ℤ pos 1 *ℤ u)
-      sorted A B w y z u = same (A ∷ B ∷ w ∷ y ∷ z ∷ u ∷ []) (search pol depth 20 fits 9000) tt
+  first-last k = written k ∙ paired A B (α k) (back α h k) (back α s k) (back α (s + h) k) ∙ sym (filtered-twice A B (pos 1) (pos 1) α s h k)
 
-  second-last : (k : ℕ) → exact k ≡ filtered (pos 1) (pos 1) (filtered A B α h) s k
-  second-last k =
-      written k
-      ∙ ap (λ (d : ℕ). A *ℤ α k +ℤ B *ℤ back α h k +ℤ (A *ℤ back α s k +ℤ B *ℤ back α d k)) (add-comm s h)
-      ∙ sorted A B (α k) (back α h k) (back α s k) (back α (h + s) k)
-      ∙ sym (filtered-twice (pos 1) (pos 1) A B α h s k)
-    where
-      sorted : (A B w y z u : ℤ) → A *ℤ w +ℤ B *ℤ y +ℤ (A *ℤ z +ℤ B *ℤ u) ≡ pos 1 *ℤ (A *ℤ w +ℤ B *ℤ y) +ℤ pos 1 *ℤ (A *ℤ z +ℤ B *ℤ u)
-      sorted A B w y z u = same (A ∷ B ∷ w ∷ y ∷ z ∷ u ∷ []) (search pol depth 20 fits 9000) tt
+  -- ---- the sway of the rows is that of the planned accelerations in the list of the misfits
 
-  -- ---- either rate is cancelled
+  -- the list filtered as the rows are
+  misfits : (ℕ → ℤ) → ℕ → ℤ
+  misfits w = smoothed (pos 1) (pos 1) (smoothed A B w h) s
 
-  -- by the filter of delay g, whose input changes no more from tick T + e on
-  cancelled-by : (a b : ℤ) (f w : ℕ → ℤ) (e g m : ℕ) → e + g ≡ h + s → n ≤ m → 0 < g → Swings a b g m w
-      → ((k : ℕ) → T + e ≤ k → k < n → f (suc k) ≡ f k) → ((k : ℕ) → exact k ≡ filtered a b f g k) → sway exact w m n ≡ pos 0
-  cancelled-by a b f w e g m sum late some swings steady is =
-      sway-same exact (filtered a b f g) w m n (λ k l. is k)
-      ∙ ap (sway (filtered a b f g) w m) last
-      ∙ sway-exact a b f w g m some swings (T + e) (omega (arith, arrival)) (λ k p q. steady k p (omega (arith, arrival)))
+  planned-sway : (m : ℕ) (w : ℕ → ℤ) → sway exact w m n ≡ sway α (misfits w) m T
+  unfolding misfits
+  planned-sway m w =
+      sway-same exact (filtered A B once h) w m n (λ k l. first-last k)
+      ∙ ap (sway (filtered A B once h) w m) last
+      ∙ sway-exact A B once w h m (T + s)
+      (λ k p q. filtered-steady (pos 1) (pos 1) α s T n (λ k a b. α-steady k a (omega (arith, arrival))) k p (omega (arith, arrival)))
+      ∙ sway-exact (pos 1) (pos 1) α (smoothed A B w h) s m T (λ k p q. α-steady k p (omega arith))
     where
-      last : n ≡ T + e + g
+      once : ℕ → ℤ
+      once = filtered (pos 1) (pos 1) α s
+
+      last : n ≡ T + s + h
       last = omega (arith, arrival)
 
-  cancelled-both : (m : ℕ) (w : ℕ → ℤ) → n ≤ m → Swing x m w → sway exact w m n ≡ pos 0
-  cancelled-both m w q (first some swings) =
-      cancelled-by A B (filtered (pos 1) (pos 1) α s) w s h m (omega arith) q some swings
-      (filtered-steady (pos 1) (pos 1) α s T n (λ k a b. α-steady k a (omega (arith, arrival)))) first-last
-  cancelled-both m w q (second d e swings) =
-      let is : s ≡ d = ap swayDelay e in
-      cancelled-by (pos 1) (pos 1) (filtered A B α h) w h s m (omega arith) q (omega (arith, second-range x (r .passed) d e .0))
-      (subst (λ (g : ℕ). Swings (pos 1) (pos 1) g m w) (sym is) swings)
-      (filtered-steady A B α h T n (λ k a b. α-steady k a (omega (arith, arrival)))) second-last
+  misfits-are : (w : ℕ → ℤ) (i j : ℕ) → i ≡ j + (h + s) → misfits w i ≡ pos (times x) *ℤ misfit x w j
+  unfolding misfits
+  misfits-are w i j e = go (x .«second_sway») e
+    where
+      one : (k l : ℕ) → k ≡ l + h → smoothed A B w h k ≡ misfitOnce x w l
+      one k l e = let f : k - h ≡ l = omega arith in ap₂ (λ (i j : ℕ). A *ℤ w i +ℤ B *ℤ w j) e f
+
+      twice : (z : ℤ) → pos 1 *ℤ z +ℤ pos 1 *ℤ z ≡ pos 2 *ℤ z
+      twice z = same (z ∷ []) (search pol depth 20 fits 9000) tt
+
+      each : (y z : ℤ) → pos 1 *ℤ y +ℤ pos 1 *ℤ z ≡ pos 1 *ℤ (y +ℤ z)
+      each y z = same (y ∷ z ∷ []) (search pol depth 20 fits 9000) tt
+
+      go : (u : SecondSway) → i ≡ j + (h + swayDelay u)
+          → smoothed (pos 1) (pos 1) (smoothed A B w h) (swayDelay u) i ≡ pos (timesBy u) *ℤ misfitBy u x w j
+      go Absent e =
+          ap₂ (λ (y z : ℤ). pos 1 *ℤ y +ℤ pos 1 *ℤ z) (one i j (omega arith)) (one (i - 0) j (omega arith)) ∙ twice (misfitOnce x w j)
+      go (HalfPeriod d) e =
+          ap₂ (λ (y z : ℤ). pos 1 *ℤ y +ℤ pos 1 *ℤ z) (one i (j + d) (omega arith)) (one (i - d) j (omega arith))
+          ∙ each (misfitOnce x w (j + d)) (misfitOnce x w j)
+
+  -- ---- before rounding
+
+  both-left : (m E : ℕ) (w : ℕ → ℤ) → n ≤ m → Misfits x m E w → natAbs (sway exact w m n) ≤ times x * (plannedVariation x n * E)
+  unfolding α
+  both-left m E w q f =
+      subst (λ (z : ℤ). natAbs z ≤ times x * (plannedVariation x n * E)) (sym (planned-sway m w))
+      (le-trans (sway-small α (misfits w) m T (times x * E) small) (sorted (plannedVariation x n) (times x) E))
+    where
+      sorted : (a b c : ℕ) → a * (b * c) ≤ b * (a * c)
+      sorted a b c = omega arith
+
+      small : (i : ℕ) → m ≤ i + T → i ≤ m → natAbs (misfits w i) ≤ times x * E
+      small i a b =
+          subst (λ (z : ℤ). natAbs z ≤ times x * E) (sym (misfits-are w i (i - (h + s)) (omega (arith, arrival))))
+          (mul-holds (pos (times x)) (misfit x w (i - (h + s))) (times x) E (omega arith) (f (i - (h + s)) (omega (arith, arrival))))
 
   -- the blend is a part of the two
-  pub cancelled-exact : (m : ℕ) (w : ℕ → ℤ) → n ≤ m → Swing x m w → sway (λ k. blend (track n x) k (λ s. s .acceleration)) w m n ≡ pos 0
-  cancelled-exact m w q g =
-      none (sway (λ k. blend (track n x) k (λ s. s .acceleration)) w m n) (times x) (times-some x)
-      (sym (sway-times (pos (times x)) (λ k. blend (track n x) k (λ s. s .acceleration)) w m n)
-      ∙ sway-same (λ k. pos (times x) *ℤ blend (track n x) k (λ s. s .acceleration)) exact w m n
-      (λ k l. sym (both-is (track n x) k (λ s. s .acceleration)))
-      ∙ cancelled-both m w q g)
+  pub left-exact : (m E : ℕ) (w : ℕ → ℤ) → n ≤ m → Misfits x m E w
+      → natAbs (sway (λ k. blend (track n x) k (λ s. s .acceleration)) w m n) ≤ plannedVariation x n * E
+  left-exact m E w q f =
+      le-of-mul-le-mul-left {k = times x} (subst (λ (k : ℕ). k ≤ times x * (plannedVariation x n * E)) part (both-left m E w q f)) (times-some x)
     where
-      none : (z : ℤ) (c : ℕ) → 0 < c → pos c *ℤ z ≡ pos 0 → z ≡ pos 0
-      none z c some e = natAbs-zero z (le-antisymm (le-of-mul-le-mul-left {k = c} (omega (arith, sym (natAbs-* (pos c) z) ∙ ap natAbs e)) some) (omega arith))
+      part : natAbs (sway exact w m n) ≡ times x * natAbs (sway (λ k. blend (track n x) k (λ s. s .acceleration)) w m n)
+      part =
+          ap natAbs
+          (sway-same exact (λ k. pos (times x) *ℤ blend (track n x) k (λ s. s .acceleration)) w m n (λ k l. both-is (track n x) k (λ s. s .acceleration))
+          ∙ sway-times (pos (times x)) (λ k. blend (track n x) k (λ s. s .acceleration)) w m n)
+          ∙ natAbs-* (pos (times x)) (sway (λ k. blend (track n x) k (λ s. s .acceleration)) w m n)
 
   last-whole : pos (bothDivisor x) *ℤ nearest (exact n) (bothDivisor x) -ℤ exact n ≡ pos 0
   last-whole =
       ap₂ (λ (y z : ℤ). pos (bothDivisor x) *ℤ y -ℤ z) (lands-acceleration x n r) (exact-acceleration x n r)
       ∙ +ℤ-invr (pos (bothDivisor x) *ℤ (pos 256 *ℤ asMoving (x .target) n .acceleration))
 
-  pub cancelled-rounded : (m G : ℕ) (w : ℕ → ℤ) → n ≤ m → Swing x m w → Bounded m G w
-      → natAbs (sway (λ k. nearest (exact k) (bothDivisor x)) w m n) ≤ n * G
-  cancelled-rounded m G w q s b = go n (omega (arith, R.after x n r)) (cancelled-both m w q s) last-whole
+  -- ---- as rounded
+
+  pub left-rounded : (m E G : ℕ) (w : ℕ → ℤ) → n ≤ m → Misfits x m E w → Bounded m G w
+      → divisor x * natAbs (sway (λ k. nearest (exact k) (bothDivisor x)) w m n) ≤ plannedVariation x n * E + divisor x * (n * G)
+  left-rounded m E G w q f b =
+      le-of-mul-le-mul-left {k = times x}
+      (shared (times x) (divisor x) (bothDivisor x) (natAbs (sway cell w m n)) (plannedVariation x n * E) (n * G)
+      (weights-times (x .«second_sway») (finer x)) (go n (omega (arith, R.after x n r)) (both-left m E w q f) last-whole))
+      (times-some x)
     where
-      go : (i : ℕ) → 0 < i → sway exact w m i ≡ pos 0 → pos (bothDivisor x) *ℤ nearest (exact i) (bothDivisor x) -ℤ exact i ≡ pos 0
-          → natAbs (sway (λ k. nearest (exact k) (bothDivisor x)) w m i) ≤ i * G
+      cell : ℕ → ℤ
+      cell k = nearest (exact k) (bothDivisor x)
+
+      go : (i : ℕ) → 0 < i → natAbs (sway exact w m i) ≤ times x * (plannedVariation x n * E) → pos (bothDivisor x) *ℤ cell i -ℤ exact i ≡ pos 0
+          → bothDivisor x * natAbs (sway cell w m i) ≤ times x * (plannedVariation x n * E) + bothDivisor x * (i * G)
       go zero z e f = absurd (omega arith)
       go (suc i) z e f =
-          sway-rounded (bothDivisor x) (256 * finer x) (omega arith) (both-some x) exact (λ k. nearest (exact k) (bothDivisor x)) w m G
-          (λ k. nearest-half (exact k) (bothDivisor x) (both-some x)) b i e f
+          sway-rounded (bothDivisor x) (256 * finer x) (omega arith) exact cell w m G
+          (λ k. nearest-half (exact k) (bothDivisor x) (both-some x)) b i f (times x * (plannedVariation x n * E)) e
+
+      shared : (t d b c u v : ℕ) → t * d ≡ b → b * c ≤ t * u + b * v → t * (d * c) ≤ t * (u + d * v)
+      shared t d b c u v e q = let p : t * d * c ≤ t * u + t * d * v = subst (λ (k : ℕ). k * c ≤ t * u + k * v) (sym e) q in omega arith
+
+  -- ---- a swing list has no misfit
+
+  none-left : (m : ℕ) (w : ℕ → ℤ) → Swing x m w → Misfits x m 0 w
+  none-left m w g i q = let e : misfit x w i ≡ pos 0 = go g in omega (arith, ap natAbs e)
+    where
+      by-first : (u : SecondSway) → i + (h + swayDelay u) ≤ m → ((j : ℕ) → j + h ≤ m → misfitOnce x w j ≡ pos 0) → misfitBy u x w i ≡ pos 0
+      by-first Absent q fits = fits i (omega arith)
+      by-first (HalfPeriod d) q fits = ap₂ (λ (y z : ℤ). y +ℤ z) (fits (i + d) (omega arith)) (fits i (omega arith))
+
+      none : (A B : ℤ) → A *ℤ pos 0 +ℤ B *ℤ pos 0 ≡ pos 0
+      none A B = same (A ∷ B ∷ []) (search pol depth 20 fits 9000) tt
+
+      go : Swing x m w → misfit x w i ≡ pos 0
+      go (first some fits) = by-first (x .«second_sway») q fits
+      go (second d e fits) =
+          let is : s ≡ d = ap swayDelay e in
+          second-misfit x d w i e
+          ∙ ap₂ (λ (y z : ℤ). A *ℤ y +ℤ B *ℤ z) (fits (i + h) (omega arith)) (fits i (omega arith))
+          ∙ none A B
+
+  pub cancelled-exact : (m : ℕ) (w : ℕ → ℤ) → n ≤ m → Swing x m w → sway (λ k. blend (track n x) k (λ s. s .acceleration)) w m n ≡ pos 0
+  cancelled-exact m w q g =
+      natAbs-zero (sway (λ k. blend (track n x) k (λ s. s .acceleration)) w m n)
+      (le-antisymm (le-trans (left-exact m 0 w q (none-left m w g)) (omega arith)) (omega arith))
+
+  pub cancelled-rounded : (m G : ℕ) (w : ℕ → ℤ) → n ≤ m → Swing x m w → Bounded m G w
+      → natAbs (sway (λ k. nearest (exact k) (bothDivisor x)) w m n) ≤ n * G
+  cancelled-rounded m G w q g b =
+      le-of-mul-le-mul-left {k = divisor x} (le-trans (left-rounded m 0 G w q (none-left m w g) b) (omega arith)) (divisor-some x)

@@ -1,17 +1,20 @@
--- The sway left before rounding is 0: the accelerations α do not change from tick t on, and each row blends them with those h ticks
--- back. The changes now and the same changes h ticks later cancel in every swing list. Two blends may be applied in either order, so that
--- each is the last one for the swing lists of its own rate.
-use Prim.Native.Nat.{ℕ, zero, suc, _+_, _-_, _≤_, _<_}
+-- The sway of filtered accelerations in a list is that of the accelerations in the filtered list: each row blends the accelerations with those h ticks
+-- back, and from tick t on they do not change. So a sum over rows 0 to t + h becomes one over ticks 0 to t, which is at most what the accelerations
+-- change in all times the largest entry of the filtered list.
+use Prim.Native.Nat.{ℕ, zero, suc, _+_, _-_, _*_, _≤_, _<_}
 use mathlib.Core.Path.{_≡_, refl, sym, ap, ap₂, _∙_, subst}
 use mathlib.Core.Bool.{Bool, true, false}
 use mathlib.Core.Logic.{⊎-elim}
 use mathlib.Core.List.{[], _∷_}
 use native.Mathlib.Omega.{arith}
+use native.Mathlib.Nat.{add-mul}
 use lib.Dec.{ltb}
-use lib.IntN.{ℤ, pos, _+ℤ_, _-ℤ_, _*ℤ_, *ℤ-zero}
+use lib.IntN.{ℤ, pos, natAbs, _+ℤ_, _-ℤ_, _*ℤ_}
 use Rattle.whole.proofs.Tests.{lt-choice, le-choice, lt-or-le}
+use Rattle.whole.proofs.Bounds.{add-holds, mul-holds}
 use Rattle.whole.proofs.Ring.{pol, same}
 use Rattle.model.specs.Demand.{accelerationChange, sway}
+use Rattle.model.specs.Misfit.{variation}
 
 -- the sway looks at rows 0 to k alone
 pub sway-same : (c d w : ℕ → ℤ) (m k : ℕ) → ((q : ℕ) → q ≤ k → c q ≡ d q) → sway c w m k ≡ sway d w m k
@@ -41,8 +44,11 @@ back-after f h k j e = le-choice k h (pos 0) (f (k - h)) (omega arith) ∙ ap f 
 abbrev pub filtered : ℤ → ℤ → (ℕ → ℤ) → ℕ → ℕ → ℤ
 filtered a b f h k = a *ℤ f k +ℤ b *ℤ back f h k
 
-module _ (A B : ℤ) (α w : ℕ → ℤ) (h m : ℕ) (blended : 0 < h)
-    (swings : (i : ℕ) → i + h ≤ m → A *ℤ w (i + h) +ℤ B *ℤ w i ≡ pos 0) where
+-- a weighted sum of entry i of a list and the entry h before it
+abbrev pub smoothed : ℤ → ℤ → (ℕ → ℤ) → ℕ → ℕ → ℤ
+smoothed a b w h i = a *ℤ w i +ℤ b *ℤ w (i - h)
+
+module _ (A B : ℤ) (α w : ℕ → ℤ) (h m : ℕ) where
   abbrev exact : ℕ → ℤ
   exact k = filtered A B α h k
 
@@ -63,7 +69,8 @@ module _ (A B : ℤ) (α w : ℕ → ℤ) (h m : ℕ) (blended : 0 < h)
       ∙ same (A ∷ B ∷ α (suc k) ∷ α k ∷ []) (search pol depth 20 fits 9000) tt
 
   change-after : (k j : ℕ) → k ≡ h + j → accelerationChange exact k ≡ A *ℤ accelerationChange α k +ℤ B *ℤ accelerationChange α j
-  change-after zero j e = absurd (omega arith)
+  change-after zero zero e = ap (λ (z : ℤ). A *ℤ α 0 +ℤ B *ℤ z) (back-after α h 0 0 e)
+  change-after zero (suc j) e = absurd (omega arith)
   change-after (suc k) zero e =
       ap₂ (λ (y z : ℤ). A *ℤ α (suc k) +ℤ B *ℤ y -ℤ (A *ℤ α k +ℤ B *ℤ z)) (back-after α h (suc k) 0 e) (back-before α h k (omega arith))
       ∙ same (A ∷ B ∷ α (suc k) ∷ α k ∷ α 0 ∷ []) (search pol depth 20 fits 9000) tt
@@ -83,7 +90,14 @@ module _ (A B : ℤ) (α w : ℕ → ℤ) (h m : ℕ) (blended : 0 < h)
       factored s a x = same (A ∷ s ∷ a ∷ x ∷ []) (search pol depth 20 fits 9000) tt
 
   after : (n j : ℕ) → n ≡ h + j → sway exact w m n ≡ now n +ℤ late j
-  after zero j e = absurd (omega arith)
+  after zero zero e =
+      ap (λ (z : ℤ). z *ℤ w m) (change-after 0 0 e)
+      ∙ factored (α 0) (w m)
+      ∙ ap (λ (i : ℕ). now 0 +ℤ B *ℤ (α 0 *ℤ w i)) (omega arith)
+    where
+      factored : (a x : ℤ) → (A *ℤ a +ℤ B *ℤ a) *ℤ x ≡ A *ℤ (a *ℤ x) +ℤ B *ℤ (a *ℤ x)
+      factored a x = same (A ∷ B ∷ a ∷ x ∷ []) (search pol depth 20 fits 9000) tt
+  after zero (suc j) e = absurd (omega arith)
   after (suc n) zero e =
       ap₂ (λ (y z : ℤ). y +ℤ z *ℤ w (m - suc n)) (before n (omega arith)) (change-after (suc n) 0 e)
       ∙ factored (sway α w m n) (accelerationChange α (suc n)) (α 0) (w (m - suc n))
@@ -99,33 +113,20 @@ module _ (A B : ℤ) (α w : ℕ → ℤ) (h m : ℕ) (blended : 0 < h)
       factored : (s u a b x : ℤ) → A *ℤ s +ℤ B *ℤ u +ℤ (A *ℤ a +ℤ B *ℤ b) *ℤ x ≡ A *ℤ (s +ℤ a *ℤ x) +ℤ B *ℤ (u +ℤ b *ℤ x)
       factored s u a b x = same (A ∷ B ∷ s ∷ u ∷ a ∷ b ∷ x ∷ []) (search pol depth 20 fits 9000) tt
 
-  -- ---- the two halves cancel, row by row
+  -- ---- the two halves together, row by row
 
-  swing-at : (j : ℕ) → j + h ≤ m → A *ℤ w (m - j) +ℤ B *ℤ w (m - h - j) ≡ pos 0
-  swing-at j q = subst (λ (i : ℕ). A *ℤ w i +ℤ B *ℤ w (m - h - j) ≡ pos 0) (omega arith) (swings (m - h - j) (omega arith))
-
-  cancel : (j : ℕ) → j + h ≤ m → now j +ℤ late j ≡ pos 0
-  cancel zero q =
-      same (A ∷ B ∷ α 0 ∷ w m ∷ w (m - h) ∷ []) (search pol depth 20 fits 9000) tt
-      ∙ ap (λ (z : ℤ). α 0 *ℤ z) (first (swing-at 0 q))
-      ∙ *ℤ-zero (α 0)
-    where
-      first : A *ℤ w (m - 0) +ℤ B *ℤ w (m - h - 0) ≡ pos 0 → A *ℤ w m +ℤ B *ℤ w (m - h) ≡ pos 0
-      first e = ap₂ (λ (i k : ℕ). A *ℤ w i +ℤ B *ℤ w k) (omega arith) (omega arith) ∙ e
-  cancel (suc j) q =
+  together : (j : ℕ) → now j +ℤ late j ≡ sway α (smoothed A B w h) m j
+  together zero = same (A ∷ B ∷ α 0 ∷ w m ∷ w (m - h) ∷ []) (search pol depth 20 fits 9000) tt
+  together (suc j) =
       grouped (sway α w m j) (sway α w (m - h) j) (accelerationChange α (suc j)) (w (m - suc j)) (w (m - h - suc j))
-      ∙ ap₂ (λ (y z : ℤ). y +ℤ accelerationChange α (suc j) *ℤ z) (cancel j (omega arith)) (swing-at (suc j) q)
-      ∙ none (accelerationChange α (suc j))
+      ∙ ap₂ (λ (y : ℤ) (i : ℕ). y +ℤ accelerationChange α (suc j) *ℤ (A *ℤ w (m - suc j) +ℤ B *ℤ w i)) (together j) (omega arith)
     where
       grouped : (s u a x y : ℤ) → A *ℤ (s +ℤ a *ℤ x) +ℤ B *ℤ (u +ℤ a *ℤ y) ≡ A *ℤ s +ℤ B *ℤ u +ℤ a *ℤ (A *ℤ x +ℤ B *ℤ y)
       grouped s u a x y = same (A ∷ B ∷ s ∷ u ∷ a ∷ x ∷ y ∷ []) (search pol depth 20 fits 9000) tt
 
-      none : (a : ℤ) → pos 0 +ℤ a *ℤ pos 0 ≡ pos 0
-      none a = same (a ∷ []) (search pol depth 20 fits 9000) tt
-
   -- ---- from tick t on nothing changes
 
-  module _ (t : ℕ) (fits : t + h ≤ m) (steady : (k : ℕ) → t ≤ k → k < t + h → α (suc k) ≡ α k) where
+  module _ (t : ℕ) (steady : (k : ℕ) → t ≤ k → k < t + h → α (suc k) ≡ α k) where
     unchanged : (k : ℕ) → t ≤ k → k < t + h → now (suc k) ≡ now k
     unchanged k a b =
         ap (λ (z : ℤ). A *ℤ (sway α w m k +ℤ (z -ℤ α k) *ℤ w (m - suc k))) (steady k a b) ∙ none (sway α w m k) (α k) (w (m - suc k))
@@ -143,8 +144,18 @@ module _ (A B : ℤ) (α w : ℕ → ℤ) (h m : ℕ) (blended : 0 < h)
         next : t + suc i ≡ suc (t + i)
         next = omega arith
 
-    pub sway-exact : sway exact w m (t + h) ≡ pos 0
-    sway-exact = after (t + h) t (omega arith) ∙ ap (λ (z : ℤ). z +ℤ late t) (flat h (omega arith)) ∙ cancel t fits
+    pub sway-exact : sway exact w m (t + h) ≡ sway α (smoothed A B w h) m t
+    sway-exact = after (t + h) t (omega arith) ∙ ap (λ (z : ℤ). z +ℤ late t) (flat h (omega arith)) ∙ together t
+
+-- ---- how large a sway is: no entry m − n to m above E in size
+pub sway-small : (a w : ℕ → ℤ) (m n E : ℕ) → ((i : ℕ) → m ≤ i + n → i ≤ m → natAbs (w i) ≤ E) → natAbs (sway a w m n) ≤ variation a n * E
+sway-small a w m zero E small =
+    mul-holds (accelerationChange a 0) (w m) (variation a 0) E (omega arith) (small m (omega arith) (omega arith))
+sway-small a w m (suc n) E small =
+    subst (λ (b : ℕ). natAbs (sway a w m (suc n)) ≤ b) (sym (add-mul (variation a n) (natAbs (accelerationChange a (suc n))) E))
+    (add-holds (sway a w m n) (accelerationChange a (suc n) *ℤ w (m - suc n)) _ _ (sway-small a w m n E (λ i p q. small i (omega arith) q))
+    (mul-holds (accelerationChange a (suc n)) (w (m - suc n)) (natAbs (accelerationChange a (suc n))) E (omega arith)
+    (small (m - suc n) (omega arith) (omega arith))))
 
 -- ---- two delays, one after the other
 
@@ -182,6 +193,10 @@ pub filtered-twice : (a b c e : ℤ) (f : ℕ → ℤ) (g h k : ℕ)
     → filtered a b (filtered c e f g) h k ≡ a *ℤ (c *ℤ f k +ℤ e *ℤ back f g k) +ℤ b *ℤ (c *ℤ back f h k +ℤ e *ℤ back f (g + h) k)
 filtered-twice a b c e f g h k =
     ap (λ (z : ℤ). a *ℤ filtered c e f g k +ℤ b *ℤ z) (back-sum c e f (back f g) h k ∙ ap (λ (z : ℤ). c *ℤ back f h k +ℤ e *ℤ z) (back-back f g h k))
+
+-- two weighted sums with the same weights
+pub paired : (A B y z u v : ℤ) → A *ℤ y +ℤ B *ℤ z +ℤ (A *ℤ u +ℤ B *ℤ v) ≡ A *ℤ (pos 1 *ℤ y +ℤ pos 1 *ℤ u) +ℤ B *ℤ (pos 1 *ℤ z +ℤ pos 1 *ℤ v)
+paired A B y z u v = same (A ∷ B ∷ y ∷ z ∷ u ∷ v ∷ []) (search pol depth 20 fits 9000) tt
 
 -- where f does not change from tick t on, its filter does not change from tick t + h on
 pub filtered-steady : (a b : ℤ) (f : ℕ → ℤ) (h t l : ℕ) → ((k : ℕ) → t ≤ k → k < l → f (suc k) ≡ f k)

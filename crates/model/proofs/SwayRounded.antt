@@ -1,10 +1,10 @@
--- The sway left as rounded is at most N × G: a cell c is its exact value x / d within a half, whichever way halves go, so the sway
--- of the cells differs from the exact sway by at most a half a row at each change.
-use Prim.Native.Nat.{ℕ, zero, suc, _+_, _-_, _*_, _≤_, _<_}
+-- The sway left as rounded is at most N × G more than before rounding: a cell c is its exact value x / d within a half, whichever way halves go, so the
+-- sway of the cells differs from the exact sway by at most a half a row at each change.
+use Prim.Native.Nat.{ℕ, zero, suc, _+_, _-_, _*_, _≤_}
 use mathlib.Core.Path.{_≡_, sym, ap, _∙_, subst}
 use mathlib.Core.List.{[], _∷_}
 use native.Mathlib.Omega.{arith}
-use native.Mathlib.Nat.{le-trans, le-of-mul-le-mul-left, add-mul, mul-suc}
+use native.Mathlib.Nat.{le-trans, add-mul, mul-suc}
 use lib.IntN.{ℤ, pos, negℤ, natAbs, _+ℤ_, _-ℤ_, _*ℤ_, +ℤ-idl}
 use Rattle.whole.proofs.Differences.{whole, all₂}
 use Rattle.whole.proofs.Laws.{natAbs-*}
@@ -13,7 +13,7 @@ use Rattle.whole.proofs.Ring.{pol, same}
 use Rattle.whole.proofs.Rounding.{WithinHalf, half-iff}
 use Rattle.model.specs.Demand.{accelerationChange, sway}
 
-module _ (d e : ℕ) (even : d ≡ 2 * e) (some : 0 < d) (x c w : ℕ → ℤ) (m G : ℕ) (near : (k : ℕ) → WithinHalf (x k) d (c k))
+module _ (d e : ℕ) (even : d ≡ 2 * e) (x c w : ℕ → ℤ) (m G : ℕ) (near : (k : ℕ) → WithinHalf (x k) d (c k))
     (small : (i : ℕ) → i ≤ m → natAbs (w i) ≤ G) where
   -- d times the error of a cell
   abbrev error : ℕ → ℤ
@@ -51,8 +51,8 @@ module _ (d e : ℕ) (even : d ≡ 2 * e) (some : 0 < d) (x c w : ℕ → ℤ) (
       (mul-holds (accelerationChange error (suc n)) (w (m - suc n)) (e + e) G (change-small n) (small (m - suc n) (omega arith))))
       (omega (arith, mul-suc (2 * (e * G)) n, add-mul e e G))
 
-  -- nothing is left before rounding, and the last row is exact
-  module _ (n : ℕ) (none : sway x w m (suc n) ≡ pos 0) (whole-row : error (suc n) ≡ pos 0) where
+  -- the last row is exact
+  module _ (n : ℕ) (whole-row : error (suc n) ≡ pos 0) where
     last-small : natAbs (accelerationChange error (suc n)) ≤ e
     last-small =
         subst (λ (z : ℤ). natAbs (z -ℤ error n) ≤ e) (sym whole-row)
@@ -68,11 +68,7 @@ module _ (d e : ℕ) (even : d ≡ 2 * e) (some : 0 < d) (x c w : ℕ → ℤ) (
         same-size : (e G n : ℕ) → e * G + 2 * (e * G) * n + e * G ≤ 2 * e * (suc n * G)
         same-size e G n = omega arith
 
-    all-error : pos d *ℤ sway c w m (suc n) ≡ sway error w m (suc n)
-    all-error = apart (suc n) ∙ ap (λ (z : ℤ). z +ℤ sway error w m (suc n)) none ∙ +ℤ-idl (sway error w m (suc n))
-
-    pub sway-rounded : natAbs (sway c w m (suc n)) ≤ suc n * G
-    sway-rounded =
-        le-of-mul-le-mul-left
-        (subst (λ (k : ℕ). k ≤ d * (suc n * G)) (ap natAbs (sym all-error) ∙ natAbs-* (pos d) (sway c w m (suc n))) total)
-        some
+    pub sway-rounded : (X : ℕ) → natAbs (sway x w m (suc n)) ≤ X → d * natAbs (sway c w m (suc n)) ≤ X + d * (suc n * G)
+    sway-rounded X left =
+        subst (λ (k : ℕ). k ≤ X + d * (suc n * G)) (ap natAbs (sym (apart (suc n))) ∙ natAbs-* (pos d) (sway c w m (suc n)))
+        (add-holds (sway x w m (suc n)) (sway error w m (suc n)) X (d * (suc n * G)) left total)

@@ -24,7 +24,7 @@ abbrev pub bothDivisor : Axis → ℕ
 bothDivisor x = 512 * finer x
 
 -- how often the blend is in the two
-abbrev timesBy : SecondSway → ℕ
+abbrev pub timesBy : SecondSway → ℕ
 timesBy Absent = 2
 timesBy (HalfPeriod d) = 1
 
@@ -51,7 +51,7 @@ both-is t k f = go (t .axis .«second_sway»)
     go Absent = twice (blendOnce t k 0 f)
     go (HalfPeriod d) = once (blendOnce t k 0 f +ℤ blendOnce t k d f)
 
-weights-times : (s : SecondSway) (f : ℕ) → timesBy s * (weightsBy s * f) ≡ 512 * f
+pub weights-times : (s : SecondSway) (f : ℕ) → timesBy s * (weightsBy s * f) ≡ 512 * f
 weights-times Absent f = omega arith
 weights-times (HalfPeriod d) f = omega arith
 

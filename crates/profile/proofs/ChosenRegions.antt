@@ -195,12 +195,13 @@ module _ (g : Leg) (δ : ℤ) (some : 0 < g .ticks) (acceleration : 0 < g .accel
           let zero-left : remainder g s ≡ 0 = ap (λ (z : ℤ). natAbs (s -ℤ z)) all ∙ ap natAbs (less-itself s) in
           omega arith
 
+  pub cruise-within : Within (g .speedLimit) (cruise g s)
+  cruise-within = let C = feasible-cruise g δ t range in record { within = natAbs-iff (g .speedLimit) (cruise g s) .1 (C .above, C .below) }
+
   pub chosen-in-regions : chosen g s ≡ tabulate (velocityIn (chosenRegions g s)) 1 (g .ticks - 1) ++ (g .end ∷ [])
   chosen-in-regions =
-      let C = feasible-cruise g δ t range in
       ap (λ (ws : List ℤ). ws ++ (g .end ∷ []))
-      (raised-in-regions g joined acceleration (cruise g s) (record { within = natAbs-iff (g .speedLimit) (cruise g s) .1 (C .above, C .below) })
-      (remainder g s) below-limit (g .ticks - 1) 0 (remainder g s) (omega arith) (λ u. omega arith))
+      (raised-in-regions g joined acceleration (cruise g s) cruise-within (remainder g s) below-limit (g .ticks - 1) 0 (remainder g s) (omega arith) (λ u. omega arith))
 
   -- ---- its ranges
 
@@ -212,7 +213,7 @@ module _ (g : Leg) (δ : ℤ) (some : 0 < g .ticks) (acceleration : 0 < g .accel
   entry f ws (suc n) k zero h = ap f {x = k} {y = k + zero} (omega arith)
   entry f ws (suc n) k (suc j) h = entry f ws n (suc k) j (omega arith) ∙ ap f {x = suc k + j} {y = k + suc j} (omega arith)
 
-  chosen-entry : (k : ℕ) → k < g .ticks → getD (g .start ∷ chosen g s) k (pos 0) ≡ velocity k
+  pub chosen-entry : (k : ℕ) → k < g .ticks → getD (g .start ∷ chosen g s) k (pos 0) ≡ velocity k
   chosen-entry zero h = sym (in-first (chosenRegions g s))
   chosen-entry (suc k) h =
       ap (λ (ws : List ℤ). getD ws k (pos 0)) chosen-in-regions ∙ entry velocity (g .end ∷ []) (g .ticks - 1) 1 k (omega arith)

@@ -167,20 +167,40 @@ alone a b s e c (inl u) p = inl (record { short = u; nearer = across _ c _ (u .u
 alone a b s e c (inr u) p = inr (record { short = u; nearer = across _ (turned c) _ (u .under) (p .below) })
 
 -- the velocity of tick k on it, the change being n a tick
-ramp-value : (l a b : ℕ) (s e c d : ℤ) (n k : ℕ) → a ≡ n * k → Within l s → Within l c → Within (a + b) (e -ℤ s) → c ≤ℤ d → d ≤ℤ (c +ℤ pos 1)
-    → OnRamp a b s e c → clamp (lowest l a b s e) (highest l a b s e) d ≡ s +ℤ pos k *ℤ rampChange n s c
-ramp-value l a b s e c d n k w hs hc near h q (inl r) =
-    rising l a b s e c d hs hc near (r .short .under) (r .nearer) h
-    ∙ ap (λ (m : ℕ). s +ℤ pos m) (w ∙ mul-comm n k)
-    ∙ ap (λ (z : ℤ). s +ℤ pos k *ℤ z) (change-up n s c (r .short .towards))
-ramp-value l a b s e c d n k w hs hc near h q (inr r) =
-    falling l a b s e c d hc (r .short .under) (r .nearer) q
-    ∙ ap (λ (m : ℕ). s -ℤ pos m) (w ∙ mul-comm n k)
+up-value : (a n k : ℕ) (s c : ℤ) → a ≡ n * k → s ≤ℤ c → s +ℤ pos a ≡ s +ℤ pos k *ℤ rampChange n s c
+up-value a n k s c w t = ap (λ (m : ℕ). s +ℤ pos m) (w ∙ mul-comm n k) ∙ ap (λ (z : ℤ). s +ℤ pos k *ℤ z) (change-up n s c t)
+
+down-value : (a n k : ℕ) (s c : ℤ) → a ≡ n * k → negℤ s ≤ℤ turned c → s -ℤ pos a ≡ s +ℤ pos k *ℤ rampChange n s c
+down-value a n k s c w t =
+    ap (λ (m : ℕ). s -ℤ pos m) (w ∙ mul-comm n k)
     ∙ ap (λ (z : ℤ). s +ℤ z) (minus (pos k) (pos n))
-    ∙ ap (λ (z : ℤ). s +ℤ pos k *ℤ z) (change-down n s c (turn-back c s (r .short .towards)))
+    ∙ ap (λ (z : ℤ). s +ℤ pos k *ℤ z) (change-down n s c (turn-back c s t))
   where
     minus : (x y : ℤ) → negℤ (x *ℤ y) ≡ x *ℤ negℤ y
     minus x y = same (x ∷ y ∷ []) (search pol depth 20 fits 9000) tt
+
+ramp-value : (l a b : ℕ) (s e c d : ℤ) (n k : ℕ) → a ≡ n * k → Within l s → Within l c → Within (a + b) (e -ℤ s) → c ≤ℤ d → d ≤ℤ (c +ℤ pos 1)
+    → OnRamp a b s e c → clamp (lowest l a b s e) (highest l a b s e) d ≡ s +ℤ pos k *ℤ rampChange n s c
+ramp-value l a b s e c d n k w hs hc near h q (inl r) =
+    rising l a b s e c d hs hc near (r .short .under) (r .nearer) h ∙ up-value a n k s c w (r .short .towards)
+ramp-value l a b s e c d n k w hs hc near h q (inr r) =
+    falling l a b s e c d hc (r .short .under) (r .nearer) q ∙ down-value a n k s c w (r .short .towards)
+
+-- a velocity v on a ramp of change u, which is n or −n, is short of c: not above it where the ramp rises, and above it where it falls
+abbrev pub Towards : ℕ → ℤ → ℤ → ℤ → Type 0
+Towards n u v c = ((u ≡ pos n) × (v ≤ℤ c)) ⊎ ((u ≡ negℤ (pos n)) × (c <ℤ v))
+
+ramp-towards : (a b : ℕ) (s e c : ℤ) (n k : ℕ) → a ≡ n * k → OnRamp a b s e c → Towards n (rampChange n s c) (s +ℤ pos k *ℤ rampChange n s c) c
+ramp-towards a b s e c n k w (inl r) =
+    inl (sym (change-up n s c (r .short .towards)), subst (λ (z : ℤ). z ≤ℤ c) (up-value a n k s c w (r .short .towards)) (r .short .under))
+ramp-towards a b s e c n k w (inr r) =
+    inr (
+      sym (change-down n s c (turn-back c s (r .short .towards))),
+      subst (λ (z : ℤ). c <ℤ z) (down-value a n k s c w (r .short .towards)) (above a s c (r .short .under)),
+    )
+  where
+    above : (a : ℕ) (s c : ℤ) → (negℤ s +ℤ pos a) ≤ℤ turned c → c <ℤ (s -ℤ pos a)
+    above a = all₂ _ (λ b c d e. simp whole (omega arith))
 
 -- ---- two ramps with no tick between them: they begin on one side of c
 
@@ -408,6 +428,13 @@ module _ (g : Leg) (joined : Joined g) (some : 0 < g .accelerationLimit) (c : �
           let f = fall-alone p in
           (past a some k s c (omega arith), past a some (g .ticks - k) e c (omega arith))
       go (inr p) = let r = rise-meets p in let f = fall-meets p in absurd (omega arith)
+
+  pub start-towards : (k : ℕ) → k ≤ g .ticks → k ≤ rise g c → Towards a (rampChange a s c) (s +ℤ pos k *ℤ rampChange a s c) c
+  start-towards k h l = ramp-towards (since g k) (until g k) s e c a k refl (start-region k h l)
+
+  pub end-towards : (k : ℕ) → k ≤ g .ticks → rise g c < k → g .ticks ≤ k + fall g c
+      → Towards a (rampChange a e c) (e +ℤ pos (g .ticks - k) *ℤ rampChange a e c) c
+  end-towards k h l q = ramp-towards (until g k) (since g k) e s c a (g .ticks - k) refl (end-region k h l q)
 
   -- ---- its velocity at cruise c and at c + 1
   module _ (inside : Within (g .speedLimit) c) (k : ℕ) (h : k ≤ g .ticks) where
