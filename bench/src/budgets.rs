@@ -2,26 +2,11 @@
 
 use std::hint::black_box;
 
-use outside::library::CJob;
+use outside::library::laid_out;
 use outside::reference::{Axis, Damping, Job, Single, Target, Windows};
+use polgamir_sys::polgamir_search_job;
 
 use crate::{batch, searches};
-
-/// `polgamir_search_answer`.
-#[repr(C)]
-struct SearchAnswer {
-    number: u32,
-    mask: u32,
-    place: u64,
-    arrival: u32,
-    report: u32,
-    next: u32,
-    tried: u32,
-}
-
-extern "C" {
-    fn polgamir_search_job(job: CJob, first: u32, budget: u32) -> SearchAnswer;
-}
 
 /// The budgets of a row; the last two tell what a candidate adds.
 const BUDGETS: [u32; 5] = [0, 1, 10, 100, 1_000];
@@ -59,7 +44,7 @@ fn alone(job: Job) -> Job {
 
 /// Prints the row of a job that reaches nothing, so that each budget is spent to its last candidate.
 fn row(name: &str, job: &Job) {
-    let laid_out = CJob::of(job, 0);
+    let laid_out = laid_out(job, 0);
     let search = |budget| unsafe { polgamir_search_job(black_box(laid_out), black_box(FIRST), black_box(budget)) };
     for budget in BUDGETS {
         let answer = search(budget);

@@ -1,8 +1,8 @@
 //! The library's call in plain Rust: a job comes by value in the header's layout, as a program in C hands it over, is turned
 //! into typed values and planned.
 
-use outside::library::{CAxis, CJob, CWindow};
 use outside::reference::{Answer, Axis, Damping, Job, Single, Target, Window, Windows};
+use polgamir_sys::{polgamir_axis, polgamir_job, polgamir_window};
 
 use crate::plain::{self, Engine};
 
@@ -10,11 +10,11 @@ fn single(x: f32) -> Single {
     Single(x.to_bits())
 }
 
-fn axis(c: &CAxis) -> Axis {
-    let damping = match c.damping.damping_kind {
-        0 => Damping::Weight(c.damping.second_weight),
-        1 => Damping::Ratio(single(c.damping.swing_ratio)),
-        _ => Damping::Peaks(single(c.damping.first_peak), single(c.damping.second_peak)),
+fn axis(c: &polgamir_axis) -> Axis {
+    let damping = match c.damping_kind {
+        0 => Damping::Weight(c.second_weight),
+        1 => Damping::Ratio(single(c.swing_ratio)),
+        _ => Damping::Peaks(single(c.first_peak), single(c.second_peak)),
     };
     let target = match c.target_kind {
         0 => Target::Fixed { position: c.target_position, velocity: c.target_velocity },
@@ -32,13 +32,13 @@ fn axis(c: &CAxis) -> Axis {
         acceleration_limit: c.acceleration_limit,
         half_period: c.half_period,
         damping,
-        second: (c.second.second_sway_given != 0).then_some(c.second.second_half_period),
+        second: (c.second_sway_given != 0).then_some(c.second_half_period),
         target,
     }
 }
 
-fn typed(c: &CJob) -> Job {
-    let window = |w: CWindow| Window { opening: w.opening, closing: w.closing };
+fn typed(c: &polgamir_job) -> Job {
+    let window = |w: polgamir_window| Window { opening: w.opening, closing: w.closing };
     let windows = (c.windows.given != 0).then(|| Windows {
         dwell: c.windows.dwell,
         count: c.windows.count as u32,
@@ -49,6 +49,6 @@ fn typed(c: &CJob) -> Job {
 
 /// Plans a job that no refusal before 8 comes to.
 #[inline(never)]
-pub fn plan(job: CJob, table: &mut [i64]) -> Answer {
+pub fn plan(job: polgamir_job, table: &mut [i64]) -> Answer {
     plain::plan(&typed(&job), Engine::Areas, table)
 }

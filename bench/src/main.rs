@@ -17,7 +17,7 @@ mod searches;
 
 use std::hint::black_box;
 
-use outside::library::{self, CJob};
+use outside::library::{self, laid_out};
 use outside::reference::{Answer, Axis, Damping, Job, Order, Stop, Target, Tour, UNSET};
 use plain::Engine;
 
@@ -85,7 +85,7 @@ fn rounds<const N: usize>(calls: [(&Job, usize); N]) -> Vec<Round<N>> {
         std::array::from_fn(|i| {
             let (job, cells) = calls[i];
             let lent = &mut table[..cells];
-            let laid_out = CJob::of(job, 0);
+            let laid_out = laid_out(job, 0);
             let proved = batch(counts[i], || library::plan_c_job(laid_out, black_box(&mut *lent)).arrival);
             let plain = batch(counts[i], || call::plan(laid_out, black_box(&mut *lent)).arrival);
             let lending = batch(counts[i], || plain::plan(job, Engine::Areas, black_box(&mut *lent)).arrival);
@@ -115,7 +115,7 @@ fn once(job: &Job, lent: &mut [i64]) -> f64 {
     let took = now() - start;
     let written = lent.to_vec();
     lent.fill(0);
-    let plain = call::plan(CJob::of(job, 0), lent);
+    let plain = call::plan(laid_out(job, 0), lent);
     assert_eq!(plain, answer);
     let cells = if answer.number == 0 { cells_of(job, answer.arrival) } else { 0 };
     assert!(lent[..cells] == written[..cells], "the two sides write different cells");
@@ -244,7 +244,7 @@ fn tour(name: &str) {
 
 /// Prints the line of the raises for an asked arrival. Both sides must give the same.
 fn raise(name: &str, job: &Job) {
-    let laid_out = CJob::of(job, 0);
+    let laid_out = laid_out(job, 0);
     assert_eq!(raises::returned(library::raises_c_job(laid_out)), raises::plain(job));
     let rounds: Vec<(f64, f64)> = (0..41)
         .map(|_| {

@@ -1,7 +1,7 @@
 //! The least raises of the limits that an asked arrival takes, of the library and of plain Rust.
 
-use outside::library::{CRaise, CRaises};
 use outside::reference::{Axis, Job};
+use polgamir_sys::{polgamir_raise, polgamir_raises};
 
 use crate::plain::{delay_of, ends, reaches, Ends, Engine, Leg};
 
@@ -9,8 +9,8 @@ use crate::plain::{delay_of, ends, reaches, Ends, Engine, Leg};
 type Raise = (u32, u32);
 
 /// The raises that the library returned, as the plain side writes them.
-pub fn returned(raises: CRaises) -> [[Raise; 2]; 6] {
-    let pair = |raise: CRaise| (raise.limit, raise.by);
+pub fn returned(raises: polgamir_raises) -> [[Raise; 2]; 6] {
+    let pair = |raise: polgamir_raise| (raise.limit, raise.by);
     raises.axes.map(|axis| [pair(axis.first), pair(axis.second)])
 }
 

@@ -4,11 +4,13 @@ import doctest
 import inspect
 import math
 import re
+import shutil
 import subprocess
 import sys
 import tempfile
 import threading
 import unittest
+import zipfile
 from pathlib import Path
 
 HERE = Path(__file__).resolve().parent
@@ -16,6 +18,7 @@ sys.path.insert(0, str(HERE.parent))
 REPOSITORY = HERE.parents[2]
 
 import polgamir
+from polgamir import _loader, _structs, refusals
 from polgamir import (Axis, Fixed, Job, Limit, Motion, Moving, Number, Peaks, Ratio, Refusal, RestPoint, Schedule, Searched, Stop, Tour, TourAxis,
                       Weight, Window, Windows)
 
@@ -309,6 +312,45 @@ class Inputs(unittest.TestCase):
         for wrong in (to(1.5), to(1, speed_limit="10"), to(1, damping=128), Job({0: field_axis(target=1)})):
             self.assertRaises(TypeError, wrong.plan)
 
+    def test_errors_name_the_field(self):
+        """Each wrong value, and what the error says before its colon."""
+        axis, tour_axis = field_axis(Fixed(1)), TourAxis(0, 10, 1, 0, Weight(128))
+        wrong = {
+            "axes[0].start.position": to(1, start=RestPoint("0")),
+            "axes[0].start": to(1, start=0),
+            "axes[0].speed_limit": to(1, speed_limit=2.5),
+            "axes[0].half_period": to(1, half_period=None),
+            "axes[0].damping": to(1, damping=0.5),
+            "axes[0].damping.swing_ratio": to(1, damping=Ratio("0.5")),
+            "axes[0].damping.second_peak": to(1, damping=Peaks(1.0, None)),
+            "axes[0].second_half_period": to(1, second_half_period="4"),
+            "axes[0].target.position": to(1.5),
+            "axes[0].target": Job({0: field_axis(target=1)}),
+            "axes[3]": Job({3: (0, 1)}),
+            "axes": Job([axis]),
+            "arrival": to(1, "4"),
+            "windows": Job({0: axis}, windows=[Window(0, 4)]),
+            "windows.dwell": Job({0: axis}, windows=Windows("2", [Window(0, 4)])),
+            "windows.windows[1]": Job({0: axis}, windows=Windows(0, [Window(0, 4), (5, 6)])),
+            "windows.windows[0].closing": Job({0: axis}, windows=Windows(0, [Window(0, 4.0)])),
+        }
+        calls = {name: job.plan for name, job in wrong.items()}
+        calls["words[1]"] = lambda: polgamir.plan_words([0x10000001, "2"])
+        calls["first"] = lambda: to(1).search("1", 9)
+        calls["axes[0].start.velocity"] = to(1, start=RestPoint(0, 0.5)).raises
+        calls["axes[2]"] = Tour({2: axis}, []).schedule
+        calls["axes[1].start"] = Tour({1: TourAxis(0.5, 10, 1, 0, Weight(128))}, []).schedule
+        calls["stops[1]"] = Tour({0: tour_axis}, [Stop({0: 1}), {0: 1}]).schedule
+        calls["stops[0].positions[0]"] = Tour({0: tour_axis}, [Stop({0: "1"})]).schedule
+        for name, call in calls.items():
+            with self.subTest(name), self.assertRaises(TypeError) as caught:
+                call()
+            self.assertEqual(str(caught.exception).partition(": expected ")[0], name)
+        with self.assertRaises(ValueError) as caught:
+            to(1, half_period=2**32).plan()
+        self.assertEqual(str(caught.exception),
+                         "axes[0].half_period: expected a whole number from 0 to 4294967295, found 4294967296")
+
     def test_refusals_as_text(self):
         with self.assertRaises(Refusal) as caught:
             to(4, 3).plan()
@@ -334,15 +376,15 @@ class Header(unittest.TestCase):
 
     def test_calls(self):
         declared = set(re.findall(r"^\w+ (polgamir_\w+)\(", self.header, flags=re.MULTILINE))
-        self.assertEqual(declared, set(polgamir._CALLS))
+        self.assertEqual(declared, set(_structs.CALLS))
 
     def test_structs(self):
         structs = dict(re.findall(r"typedef struct (\w+) \{(.*?)\}", self.header, flags=re.DOTALL))
-        self.assertEqual(set(structs), set(polgamir._STRUCTS))
+        self.assertEqual(set(structs), set(_structs.STRUCTS))
         for name, body in structs.items():
             fields = re.findall(r"(\w+) (\w+)(?:\[(\w+)\])?;", body)
             expected = [(field, self.type_name(kind, count)) for kind, field, count in fields]
-            found = [(field, self.name_of(kind)) for field, kind in polgamir._STRUCTS[name]._fields_]
+            found = [(field, self.name_of(kind)) for field, kind in _structs.STRUCTS[name]._fields_]
             self.assertEqual(found, expected, name)
 
     def type_name(self, kind, count):
@@ -350,7 +392,7 @@ class Header(unittest.TestCase):
         return f"{name}[{self.macro(count[len('POLGAMIR_'):])}]" if count else name
 
     def name_of(self, kind):
-        names = {struct: name for name, struct in polgamir._STRUCTS.items()}
+        names = {struct: name for name, struct in _structs.STRUCTS.items()}
         if hasattr(kind, "_length_"):
             return f"{self.name_of(kind._type_)}[{kind._length_}]"
         return names.get(kind, kind.__name__)
@@ -362,7 +404,7 @@ class Header(unittest.TestCase):
         self.assertEqual([number.name for number in Number], list(numbers))
         cases = re.findall(r"case POLGAMIR_(\w+):\s*return ((?:\"[^\"]*\"\s*)+);", self.header)
         texts = {Number[name]: "".join(re.findall(r"\"([^\"]*)\"", text)) for name, text in cases}
-        self.assertEqual(polgamir._TEXTS, texts)
+        self.assertEqual(refusals.TEXTS, texts)
 
     def test_constants(self):
         constants = {"AXES": polgamir.AXES, "WINDOWS": polgamir.MOST_WINDOWS, "LATEST_ARRIVAL": polgamir.LATEST_ARRIVAL,
@@ -384,11 +426,64 @@ class Module(unittest.TestCase):
             if isinstance(value, type) or inspect.isfunction(value):
                 self.assertTrue(value.__doc__, name)
 
+    def said(self, **variables):
+        """What a program prints that asks for the library's version, with these variables."""
+        code = "import polgamir\ntry:\n    print(polgamir.version())\nexcept polgamir.LibraryError as error:\n    print(error)"
+        run = subprocess.run([sys.executable, "-c", code], cwd=HERE.parent, env=variables, capture_output=True, text=True, check=True)
+        return run.stdout
+
     def test_a_library_that_is_not_there(self):
-        code = "import polgamir\ntry:\n    polgamir.version()\nexcept polgamir.LibraryError as error:\n    print(error)"
-        run = subprocess.run([sys.executable, "-c", code], cwd=HERE.parent, env={"POLGAMIR_LIB_DIR": "/no/such/folder"},
-                             capture_output=True, text=True, check=True)
-        self.assertIn("run `tools/library`", run.stdout)
+        for variables in ({"POLGAMIR_LIB_DIR": "/no/such/folder"}, {"POLGAMIR_LIBRARY": "/no/such/file.so"}):
+            self.assertIn("run `tools/library`", self.said(**variables))
+            self.assertIn("/no/such/", self.said(**variables))
+
+    def test_the_named_library_is_taken(self):
+        """A library of another version, and one that does not say its version, are named with what is wrong."""
+        compiler = shutil.which("cc")
+        if not compiler:
+            self.skipTest("there is no C compiler")
+        with tempfile.TemporaryDirectory() as folder:
+            for source, wanted in (("unsigned polgamir_version(void) { return 3001004; }", "3.1.4"), ("int other;", "no polgamir library")):
+                file = Path(folder) / "libother.so"
+                subprocess.run([compiler, "-shared", "-fPIC", "-x", "c", "-o", str(file), "-"], input=source, text=True, check=True)
+                said = self.said(POLGAMIR_LIBRARY=str(file), POLGAMIR_LIB_DIR="/no/such/folder")
+                self.assertIn(str(file), said)
+                self.assertIn(wanted, said)
+                self.assertIn(polgamir.__version__, said)
+            file = Path(folder) / "renamed.so"
+            shutil.copy(_loader.library_file(), file)
+            self.assertEqual(self.said(POLGAMIR_LIBRARY=str(file)), f"{polgamir.version()}\n")
+
+    def test_the_repository_s_library_is_found(self):
+        built = REPOSITORY / "target" / "lib" / "libpolgamir.so"
+        if not built.is_file():
+            self.skipTest(f"{built} is not built")
+        self.assertEqual(self.said(), f"{polgamir.version()}\n")
+
+    def test_the_wheel(self):
+        """The wheel has the package and the library, is the same each time, and plans where it is unpacked."""
+        sys.path.insert(0, str(HERE.parent / "build_backend"))
+        import polgamir_wheel
+
+        code = ("import polgamir as p; a = p.Axis(p.RestPoint(0), 10, 1, 1, p.Weight(128), p.Fixed(1)); "
+                "print(p.__file__, p._loader.library_file(), p.Job({0: a}).plan().positions(0).tolist())")
+        with tempfile.TemporaryDirectory() as folder:
+            names = []
+            for part in ("one", "two"):
+                (Path(folder) / part).mkdir()
+                names.append(polgamir_wheel.build_wheel(str(Path(folder) / part)))
+            one, two = Path(folder) / "one" / names[0], Path(folder) / "two" / names[1]
+            self.assertEqual((names[0], one.read_bytes()), (names[1], two.read_bytes()))
+            site = Path(folder) / "site"
+            with zipfile.ZipFile(one) as archive:
+                archive.extractall(site)
+                listed = {line.split(",")[0] for line in archive.read(f"polgamir-{polgamir.__version__}.dist-info/RECORD").decode().split()}
+                self.assertEqual(listed, set(archive.namelist()))
+            sources = {f"polgamir/{file.name}" for file in (HERE.parent / "polgamir").glob("*.py")} | {"polgamir/py.typed"}
+            self.assertLessEqual(sources, listed)
+            run = subprocess.run([sys.executable, "-c", code], cwd=site, env={}, capture_output=True, text=True, check=True)
+            package = site.resolve() / "polgamir"
+            self.assertEqual(run.stdout, f"{package / '__init__.py'} {package / 'libpolgamir.so'} [0, 64, 192, 256]\n")
 
     def test_the_example_draws_or_prints(self):
         with tempfile.TemporaryDirectory() as folder:

@@ -19,9 +19,9 @@ ghost use Rattle.layout.specs.Jobs.{jobOf, answerOf};
 // The version of the library, 1,000,000 * major + 1,000 * minor + patch, as the header it belongs to says.
 #[no_mangle]
 pub extern "C" fn polgamir_version() -> u32
-    ensures { λ r. ⌜ r ≡ 1000 ⌝ }
+    ensures { λ r. ⌜ r ≡ 2000 ⌝ }
 {
-    1000
+    2000
 }
 
 // Plans the job that the words hold and writes its rows into the table.

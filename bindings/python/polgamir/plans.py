@@ -1,0 +1,116 @@
+"""Tables: the plan of an accepted job, its rows and motions."""
+
+from __future__ import annotations
+
+import array
+import operator
+from typing import Dict, Iterator, NamedTuple, Tuple
+
+from ._numbers import axes_of
+
+
+class Motion(NamedTuple):
+    """Position, velocity and acceleration of an axis at a tick, in fine steps: 1/256 unit, per tick, per tick squared."""
+
+    position: int
+    velocity: int
+    acceleration: int
+
+
+class Row(NamedTuple):
+    """The row of a tick."""
+
+    tick: int
+    motions: Dict[int, Motion]
+    """By the axis's number, lowest first."""
+
+
+class Plan:
+    """An accepted job: its arrival, and its table of rows 0 to arrival.
+
+    `for row in plan` walks the rows, `plan[tick]` is one, `len(plan)` their count. Where the plan is `backwards`, its cells begin with
+    the row of the arrival; what is asked by tick stays by tick.
+    """
+
+    __slots__ = ("_arrival", "_mask", "_cells", "_backwards")
+
+    def __init__(self, arrival: int, mask: int, cells: "array.array[int]", backwards: bool = False) -> None:
+        self._arrival = arrival
+        self._mask = mask
+        self._cells = cells
+        self._backwards = backwards
+
+    @property
+    def backwards(self) -> bool:
+        """Whether the row of the arrival stands first in `cells` and `table`, and row 0 last."""
+        return self._backwards
+
+    @property
+    def arrival(self) -> int:
+        """The tick at which every axis is on its target."""
+        return self._arrival
+
+    @property
+    def mask(self) -> int:
+        """Bit i is set where axis i takes part."""
+        return self._mask
+
+    @property
+    def axes(self) -> Tuple[int, ...]:
+        """The axes that take part, lowest first."""
+        return axes_of(self._mask)
+
+    @property
+    def cells(self) -> memoryview:
+        """The cells one after the other, row by row: a read-only buffer of 64-bit whole numbers, no copy."""
+        return memoryview(self._cells).toreadonly()
+
+    @property
+    def table(self) -> memoryview:
+        """The cells with the shape (arrival + 1, axes, 3): a read-only buffer, which `numpy.asarray` takes without a copy."""
+        return self.cells.cast("B").cast("q", shape=[self._arrival + 1, len(self.axes), 3])
+
+    def positions(self, axis: int) -> memoryview:
+        """The positions of an axis, by tick, in fine steps: a read-only buffer, no copy."""
+        return self._column(axis, 0)
+
+    def velocities(self, axis: int) -> memoryview:
+        """The velocities of an axis, by tick, in fine steps per tick: a read-only buffer, no copy."""
+        return self._column(axis, 1)
+
+    def accelerations(self, axis: int) -> memoryview:
+        """The accelerations of an axis, by tick, in fine steps per tick squared: a read-only buffer, no copy."""
+        return self._column(axis, 2)
+
+    def motion(self, axis: int, tick: int) -> Motion:
+        """The motion of an axis at a tick, 0 to arrival."""
+        return self[tick].motions[axis]
+
+    def _column(self, axis: int, quantity: int) -> memoryview:
+        if axis not in self.axes:
+            raise KeyError(axis)
+        column = self.cells[3 * self.axes.index(axis) + quantity :: 3 * len(self.axes)]
+        return column[::-1] if self._backwards else column
+
+    def __len__(self) -> int:
+        return self._arrival + 1
+
+    def __getitem__(self, tick: int) -> Row:
+        tick = range(len(self))[operator.index(tick)]
+        width = 3 * len(self.axes)
+        place = self._arrival - tick if self._backwards else tick
+        cells = self._cells[width * place : width * (place + 1)]
+        return Row(tick, {axis: Motion(*cells[3 * rank : 3 * rank + 3]) for rank, axis in enumerate(self.axes)})
+
+    def __iter__(self) -> Iterator[Row]:
+        return (self[tick] for tick in range(len(self)))
+
+    def __eq__(self, other: object) -> bool:
+        if not isinstance(other, Plan):
+            return NotImplemented
+        return (self._mask, self._cells, self._backwards) == (other._mask, other._cells, other._backwards)
+
+    __hash__ = None  # type: ignore[assignment]
+
+    def __repr__(self) -> str:
+        return f"<polgamir.Plan: axes {list(self.axes)}, arrival {self._arrival}>"

@@ -1,0 +1,51 @@
+"""Calls that take a job as 32-bit words."""
+
+from __future__ import annotations
+
+import ctypes
+from typing import Sequence, Tuple
+
+from ._answers import planned, raises_of, refusal_of, searched
+from ._fields import candidates, words_of
+from ._loader import library
+from .constants import AXES, MOST_CELLS
+from .plans import Plan
+from .raises import Raises
+from .refusals import Number
+from .searches import Searched
+
+
+def plan_words(words: Sequence[int]) -> Plan:
+    """Plans the job that 32-bit words hold, into a table of its own; raises a `Refusal`, never with 10."""
+    given = words_of(words)
+    return planned(MOST_CELLS, lambda table, cells: library().polgamir_plan_words(given, len(given), table, cells))
+
+
+def plan_words_backwards(words: Sequence[int]) -> Plan:
+    """Plans the job that words hold into a table whose rows stand from arrival backwards; raises a `Refusal`, never with 10."""
+    given = words_of(words)
+    call = library().polgamir_plan_words_backwards
+    return planned(MOST_CELLS, lambda table, cells: call(given, len(given), table, cells), backwards=True)
+
+
+def raises_words(words: Sequence[int]) -> Raises:
+    """What to raise where the arrival that 32-bit words ask for is turned down with 8."""
+    given = words_of(words)
+    return raises_of(library().polgamir_raises_words(given, len(given)))
+
+
+def convert_words(words: Sequence[int]) -> Tuple[int, ...]:
+    """The words of an old job with an asked arrival, whose fixed targets may fly, as words of a job in which they move;
+    raises a `Refusal`."""
+    given = words_of(words)
+    lent = (ctypes.c_uint32 * (len(given) + 2 * AXES))()
+    answer = library().polgamir_convert(given, len(given), lent, len(lent))
+    if answer.number != Number.ACCEPTED:
+        raise refusal_of(answer)
+    return tuple(lent[: answer.place])
+
+
+def search_words(words: Sequence[int], first: int, budget: int) -> Searched:
+    """A search as `Job.search`, for the job that 32-bit words hold."""
+    given = words_of(words)
+    return searched(library().polgamir_search_words(given, len(given), *candidates(first, budget)))
