@@ -41,10 +41,28 @@ extern "C" {
 #define POLGAMIR_VERSION (1000000 * POLGAMIR_VERSION_MAJOR + 1000 * POLGAMIR_VERSION_MINOR + POLGAMIR_VERSION_PATCH)
 
 /*
- * The version of the library, as POLGAMIR_VERSION counts it. A library of another version may lay out its structs otherwise: call
- * it only where this equals POLGAMIR_VERSION.
+ * What stays the same (the ABI), and how a program notices that something did not.
+ *
+ * Within a minor version, 0.2.0 to 0.2.x, nothing changes that a program can see: the layout of every struct, the calls and what they
+ * take, the numbers and their checking order, and the answer and the table of every job, cell for cell. A program that was built
+ * against one of them runs with each other; a patch mends what is around the calls, or their speed.
+ *
+ * While the major number is 0, another minor version may change each of these, and then says so in CHANGELOG.md. From 1.0 on the same
+ * holds for the major number: minor versions add calls and numbers, and leave those that were there as they are.
+ *
+ * The loader notices first: the shared library's name, libpolgamir.so.0.2, has major and minor number while the major is 0, and a
+ * program that was linked with it finds no other. A program that is linked statically has the library of its build. One that opens the
+ * library by itself asks polgamir_library_fits().
  */
+
+/* The version of the library, as POLGAMIR_VERSION counts it. */
 uint32_t polgamir_version(void);
+
+/* Whether the library may be called by a program that was built with this header: 1, or 0 where it may lay out its structs otherwise. */
+static inline int polgamir_library_fits(void)
+{
+    return polgamir_version() / 1000u == POLGAMIR_VERSION / 1000u;
+}
 
 /* A job has at most this many axes, numbered from 0. */
 #define POLGAMIR_AXES 6
@@ -178,6 +196,39 @@ typedef struct polgamir_answer {
  * table; 3 * axes * (N + 1) cells are then enough, and POLGAMIR_MOST_CELLS for every job.
  */
 
+/* The number of axes that a mask names; bits above 5 do not count. */
+static inline uint32_t polgamir_axis_count(uint32_t mask)
+{
+    uint32_t count = 0;
+    for (mask &= (1u << POLGAMIR_AXES) - 1u; mask != 0; mask &= mask - 1u) {
+        count++;
+    }
+    return count;
+}
+
+/* The cells of a table with a number of axes, at most 6, and an arrival, at most 4,096: 3 * axes * (arrival + 1). */
+static inline size_t polgamir_cells_needed(uint32_t axes, uint32_t arrival)
+{
+    size_t rows = arrival;
+    return 3u * axes * (rows + 1);
+}
+
+/*
+ * The three cells of an axis in a row: position, velocity and acceleration. `mask` is the answer's, and `place` counts the rows of the
+ * table from 0: for tick k it is k, in a table from arrival backwards N - k, and in a part k - first. Null where the mask does not name
+ * the axis. Whether the table has the row is not looked at.
+ */
+static inline const int64_t *polgamir_row(const int64_t *table, uint32_t mask, uint32_t place, uint32_t axis)
+{
+    size_t rows = place;
+    uint32_t lower;
+    if (axis >= POLGAMIR_AXES || (mask >> axis & 1u) == 0) {
+        return NULL;
+    }
+    lower = mask & ((1u << axis) - 1u);
+    return table + 3u * (polgamir_axis_count(mask) * rows + polgamir_axis_count(lower));
+}
+
 /*
  * Plans the job that `word_count` words hold, and writes its table to the `table_cells` cells at `table`.
  *
@@ -267,8 +318,9 @@ typedef struct polgamir_windows {
 } polgamir_windows;
 
 /*
- * A job. `polgamir_job job = {0};` is a job with no axis and the least arrival, to be filled in. What is left at 0 in an axis of the
- * mask is a start or a target of 0 at rest, a fixed target, no blend and no second sway; its limits and its damping have to be said.
+ * A job. `polgamir_job job = {0};`, in C++ `polgamir_job job{};`, is a job with no axis and the least arrival, to be filled in. What is
+ * left at 0 in an axis of the mask is a start or a target of 0 at rest, a fixed target, no blend and no second sway; its limits and its
+ * damping have to be said.
  */
 typedef struct polgamir_job {
     uint32_t mask;                     /* bit i is set where axis i takes part: 1 to 63 */

@@ -11,16 +11,6 @@
 
 #define CELLS 256
 
-/* The number of ones in the mask. */
-static unsigned axes_of(uint32_t mask)
-{
-    unsigned count = 0;
-    for (; mask != 0; mask >>= 1) {
-        count += mask & 1;
-    }
-    return count;
-}
-
 /* Prints the rows of an accepted job, in fine steps, or the refusal. */
 static void show(polgamir_answer answer, const int64_t *table)
 {
@@ -30,13 +20,13 @@ static void show(polgamir_answer answer, const int64_t *table)
         return;
     }
     printf("arrival %" PRIu32 "\n", answer.arrival);
-    const int64_t *cell = table;
-    unsigned axes = axes_of(answer.mask);
     for (uint32_t tick = 0; tick <= answer.arrival; tick++) {
         printf("tick %2" PRIu32, tick);
-        for (unsigned axis = 0; axis < axes; axis++) {
-            printf("  | %6" PRId64 " %5" PRId64 " %5" PRId64, cell[0], cell[1], cell[2]);
-            cell += 3;
+        for (uint32_t axis = 0; axis < POLGAMIR_AXES; axis++) {
+            const int64_t *cells = polgamir_row(table, answer.mask, tick, axis);
+            if (cells != NULL) {
+                printf("  | %6" PRId64 " %5" PRId64 " %5" PRId64, cells[0], cells[1], cells[2]);
+            }
         }
         printf("\n");
     }
@@ -44,9 +34,9 @@ static void show(polgamir_answer answer, const int64_t *table)
 
 int main(void)
 {
-    /* The library is the one that this header is of. */
-    if (polgamir_version() != POLGAMIR_VERSION) {
-        fprintf(stderr, "the library is of version %" PRIu32 ", not %d\n", polgamir_version(), POLGAMIR_VERSION);
+    /* The library lays out its structs as this header does. */
+    if (!polgamir_library_fits()) {
+        fprintf(stderr, "the library is of version %" PRIu32 ", and this program for %d\n", polgamir_version(), POLGAMIR_VERSION);
         return 1;
     }
 
@@ -74,7 +64,7 @@ int main(void)
 
     /* With no table the answer says the arrival, and so how many cells to lend: 3 for each axis and each of rows 0 to N. */
     polgamir_answer answer = polgamir_plan_job(job, NULL, 0);
-    printf("cells %" PRIu32 "\n", 3 * axes_of(job.mask) * (answer.arrival + 1));
+    printf("cells %zu\n", polgamir_cells_needed(polgamir_axis_count(job.mask), answer.arrival));
     show(polgamir_plan_job(job, table, CELLS), table);
 
     /* The same job asked to arrive at tick 4: the mask says that axis 0 cannot. */
@@ -114,7 +104,7 @@ int main(void)
     answer = polgamir_plan_words_backwards(words, word_count, table, CELLS);
     printf("backwards:");
     for (uint32_t place = 0; place <= answer.arrival; place++) {
-        printf(" %" PRId64, table[3 * place]);
+        printf(" %" PRId64, polgamir_row(table, answer.mask, place, 0)[0]);
     }
     printf("\n");
 

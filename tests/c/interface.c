@@ -567,8 +567,38 @@ static void searches(unsigned axis)
     expect(turned_down(polgamir_search_words(NULL, 0, 0, 9), 1, 0), "no words to search for", axis);
 }
 
+/* Cells, rows and axes as the header counts them: row k of the j-th set bit begins at cell 3 * (axes * k + j). */
+static void counts_cells(void)
+{
+    static const int64_t table[POLGAMIR_MOST_CELLS];
+    expect(polgamir_cells_needed(6, 4096) == POLGAMIR_MOST_CELLS, "the largest table", 0);
+    expect(polgamir_cells_needed(1, 0) == 3, "one row", 0);
+    expect(polgamir_cells_needed(0, 9) == 0, "no axis", 0);
+    expect(polgamir_axis_count(0xFFFFFFC0) == 0, "bits above 5", 0);
+    for (uint32_t mask = 0; mask < 64; mask++) {
+        uint32_t axes = 0;
+        for (uint32_t axis = 0; axis < 32; axis++) {
+            axes += axis < POLGAMIR_AXES && (mask >> axis & 1) == 1;
+        }
+        expect(polgamir_axis_count(mask) == axes, "the number of axes", mask);
+        for (uint32_t place = 0, j = 0; place < 3; place++, j = 0) {
+            for (uint32_t axis = 0; axis < 8; axis++) {
+                const int64_t *row = polgamir_row(table, mask, place, axis);
+                if (axis < POLGAMIR_AXES && (mask >> axis & 1) == 1) {
+                    expect(row == table + 3 * (axes * place + j++), "a row", mask);
+                } else {
+                    expect(row == NULL, "an axis that is not there", mask);
+                }
+            }
+        }
+    }
+    expect(polgamir_row(table, 63, 4096, 5) == table + POLGAMIR_MOST_CELLS - 3, "the last row", 63);
+}
+
 int main(void)
 {
+    counts_cells();
+    expect(polgamir_library_fits() == 1, "the library fits the header", 0);
     expect(polgamir_version() == POLGAMIR_VERSION, "the library's version is the header's", 0);
     for (unsigned axis = 0; axis < POLGAMIR_AXES; axis++) {
         reads_the_ends(axis);

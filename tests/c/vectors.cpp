@@ -23,12 +23,25 @@ int main()
     if (answer.number != POLGAMIR_REFUSED_TABLE_TOO_SHORT || answer.arrival != 4) {
         return 1;
     }
-    table.resize(3 * (answer.arrival + 1));
+    table.resize(polgamir_cells_needed(polgamir_axis_count(job.mask), answer.arrival));
     answer = polgamir_plan_job(job, table.data(), table.size());
     const std::vector<std::int64_t> rows{0, 0, 86, 43, 86, -1, 129, 85, 0, 214, 85, -85, 256, 0, 0};
     if (answer.number != POLGAMIR_ACCEPTED || table != rows) {
         return 1;
     }
+    if (polgamir_row(table.data(), answer.mask, 3, 0)[2] != -85 || polgamir_row(table.data(), answer.mask, 3, 1) != nullptr) {
+        return 1;
+    }
+
+    /* Every struct is empty as it is written here, without a warning about fields that are not said. */
+    const polgamir_stop stop{};
+    const polgamir_tour tour{};
+    std::vector<std::uint32_t> arrivals(1);
+    const polgamir_tour_answer toured = polgamir_plan_tour(tour, &stop, 1, arrivals.data(), arrivals.size());
+    if (toured.number != POLGAMIR_REFUSED_MASK || !polgamir_library_fits()) {
+        return 1;
+    }
+
     const std::vector<std::uint32_t> words;
     answer = polgamir_plan_words(words.data(), words.size(), table.data(), table.size());
     return answer.number == POLGAMIR_REFUSED_MASK && table == rows ? 0 : 1;

@@ -1,5 +1,5 @@
-"""Values of the API as structs of the header. A value of a wrong type, or one that its field cannot hold, is an error that names
-the field, as `axes[0].target.position`."""
+"""Values of the API as structs of the header. A value of a wrong type, or one that its field cannot hold, is
+an error that names the field, as `axes[0].target.position`."""
 
 from __future__ import annotations
 
@@ -66,7 +66,8 @@ def _set_windows(fields: _structs.Windows, windows: Windows) -> None:
     for index, (place, window) in enumerate(zip(fields.list, windows.windows)):
         name = f"windows.windows[{index}]"
         _expect(window, Window, "a Window", name)
-        place.opening, place.closing = unsigned(window.opening, f"{name}.opening"), unsigned(window.closing, f"{name}.closing")
+        place.opening = unsigned(window.opening, f"{name}.opening")
+        place.closing = unsigned(window.closing, f"{name}.closing")
 
 
 def job_of(job: Job) -> _structs.Job:

@@ -1,4 +1,5 @@
-"""Finds and loads the shared library, once, and looks whether it is of this package's version.
+"""Finds and loads the shared library, once, and looks whether it is of this package's version: patches of one
+minor version fit each other, as the header promises.
 
 The first of these that there is:
 
@@ -27,7 +28,8 @@ class LibraryError(OSError):
 
 
 def soname() -> str:
-    """The name under which the loader knows the library of this version: while the major number is 0, each minor number has its own."""
+    """The name under which the loader knows the library of this version: while the major number is 0, each
+    minor number has its own."""
     major, minor, _ = __version__.split(".")
     return f"libpolgamir.so.{major}.{minor}" if major == "0" else f"libpolgamir.so.{major}"
 
@@ -60,7 +62,8 @@ def library() -> ctypes.CDLL:
     """The shared library, of this package's version, with its calls."""
     file = library_file()
     advice = (
-        f"install polgamir {__version__}, name its file by {FILE_VARIABLE}, or run `tools/library` at the root of the repository"
+        f"install polgamir {__version__}, name its file by {FILE_VARIABLE}, "
+        "or run `tools/library` at the root of the repository"
     )
     try:
         loaded = ctypes.CDLL(file)
@@ -71,8 +74,9 @@ def library() -> ctypes.CDLL:
     except AttributeError:
         raise LibraryError(f"{file} is no polgamir library, for it does not say its version; {advice}") from None
     said.restype, said.argtypes = CALLS["polgamir_version"]
-    if said() != _number(__version__):
-        raise LibraryError(f"the library {file} has version {_text(said())}, and this package is for {__version__}; {advice}")
+    if said() // 1_000 != _number(__version__) // 1_000:
+        found = _text(said())
+        raise LibraryError(f"the library {file} has version {found}, and this package is for {__version__}; {advice}")
     for name, (result, arguments) in CALLS.items():
         try:
             call = getattr(loaded, name)

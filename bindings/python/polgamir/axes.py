@@ -24,7 +24,8 @@ class Fixed:
 
 @dataclass(frozen=True)
 class Moving:
-    """A target that moves by itself: its position and velocity at a tick, perhaps before the start, and its steady acceleration."""
+    """A target that moves by itself: its position and velocity at a tick, perhaps before the start, and its
+    steady acceleration."""
 
     position: int
     velocity: int
@@ -38,14 +39,16 @@ Target = Union[Fixed, Moving]
 
 @dataclass(frozen=True)
 class Weight:
-    """Damping as the second weight B, 1 to 128: each swing is B / (256 - B) of the one before. 128 is a swing that does not shrink."""
+    """Damping as the second weight B, 1 to 128: each swing is B / (256 - B) of the one before. 128 is a swing
+    that does not shrink."""
 
     second_weight: int
 
 
 @dataclass(frozen=True)
 class Ratio:
-    """Damping as measured: a swing by the one half a period before it, above 0 and at most 1, read in single precision."""
+    """Damping as measured: a swing by the one half a period before it, above 0 and at most 1, read in single
+    precision."""
 
     swing_ratio: float
 
@@ -64,7 +67,8 @@ Damping = Union[Weight, Ratio, Peaks]
 
 @dataclass(frozen=True)
 class Axis:
-    """One axis of a job. Nothing is filled in by itself but a start or target at rest: a limit that nobody entered would be a guess."""
+    """One axis of a job. Nothing is filled in by itself but a start or target at rest: a limit that nobody
+    entered would be a guess."""
 
     start: RestPoint
     speed_limit: int
@@ -76,7 +80,8 @@ class Axis:
     damping: Damping
     target: Target
     second_half_period: Optional[int] = None
-    """Half the period of a second sway, 1 to 256 ticks, taken as undamped; none where the pole swings at one rate, which 0 is not."""
+    """Half the period of a second sway, 1 to 256 ticks, taken as undamped; none where the pole swings at one
+    rate, which 0 is not."""
 
 
 @dataclass(frozen=True)
@@ -89,7 +94,8 @@ class Window:
 
 @dataclass(frozen=True)
 class Windows:
-    """The windows of a job, 1 to 32 in the order of their ticks, and how long the head stays in one from its arrival on."""
+    """The windows of a job, 1 to 32 in the order of their ticks, and how long the head stays in one from its
+    arrival on."""
 
     dwell: int
     windows: Sequence[Window]

@@ -25,7 +25,8 @@ def _room(given: _structs.Job) -> int:
 
 @dataclass(frozen=True)
 class Job:
-    """Up to six axes, by their numbers, that arrive together: at the least tick that suits all, or at the one asked for."""
+    """Up to six axes, by their numbers, that arrive together: at the least tick that suits all, or at the one
+    asked for."""
 
     axes: Mapping[int, Axis]
     arrival: Optional[int] = None
@@ -61,9 +62,11 @@ class Job:
         return raises_of(library().polgamir_raises_job(job_of(self)))
 
     def search(self, first: int, budget: int) -> Searched:
-        """Tries the ticks from a first candidate on, at most as many as the budget says; the job's arrival is not looked at.
+        """Tries the ticks from a first candidate on, at most as many as the budget says; the job's arrival is
+        not looked at.
 
-        Begin at 1 and, as long as there is a next candidate, go on with it: this ends in the tick, or in none, of one undivided search. A
-        job that asks for the tick found is accepted. Raises a `Refusal`, never with 3, 8, 9 or 10.
+        Begin at 1 and, as long as there is a next candidate, go on with it: this ends in the tick, or in none,
+        of one undivided search. A job that asks for the tick found is accepted. Raises a `Refusal`, never with
+        3, 8, 9 or 10.
         """
         return searched(library().polgamir_search_job(job_of(self), *candidates(first, budget)))

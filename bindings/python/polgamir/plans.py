@@ -10,7 +10,8 @@ from ._numbers import axes_of
 
 
 class Motion(NamedTuple):
-    """Position, velocity and acceleration of an axis at a tick, in fine steps: 1/256 unit, per tick, per tick squared."""
+    """Position, velocity and acceleration of an axis at a tick, in fine steps: 1/256 unit, per tick, per tick
+    squared."""
 
     position: int
     velocity: int
@@ -28,8 +29,8 @@ class Row(NamedTuple):
 class Plan:
     """An accepted job: its arrival, and its table of rows 0 to arrival.
 
-    `for row in plan` walks the rows, `plan[tick]` is one, `len(plan)` their count. Where the plan is `backwards`, its cells begin with
-    the row of the arrival; what is asked by tick stays by tick.
+    `for row in plan` walks the rows, `plan[tick]` is one, `len(plan)` their count. Where the plan is
+    `backwards`, its cells begin with the row of the arrival; what is asked by tick stays by tick.
     """
 
     __slots__ = ("_arrival", "_mask", "_cells", "_backwards")
@@ -67,7 +68,8 @@ class Plan:
 
     @property
     def table(self) -> memoryview:
-        """The cells with the shape (arrival + 1, axes, 3): a read-only buffer, which `numpy.asarray` takes without a copy."""
+        """The cells with the shape (arrival + 1, axes, 3): a read-only buffer, which `numpy.asarray` takes
+        without a copy."""
         return self.cells.cast("B").cast("q", shape=[self._arrival + 1, len(self.axes), 3])
 
     def positions(self, axis: int) -> memoryview:

@@ -33,8 +33,9 @@ class Raise(NamedTuple):
 class Raises(NamedTuple):
     """The answer to a job, never 10, and where it is refusal 8 the raises of each axis that it names.
 
-    A raise is the least of its limit alone, within the limit's range, for which the axis can arrive: it is enough, and one less is not. The
-    smaller stands first, that of the acceleration limit if both are equal; a limit of whose range no value is enough has none.
+    A raise is the least of its limit alone, within the limit's range, for which the axis can arrive: it is
+    enough, and one less is not. The smaller stands first, that of the acceleration limit if both are equal; a
+    limit of whose range no value is enough has none.
     """
 
     arrival: Optional[int]

@@ -9,7 +9,8 @@ from ._numbers import axes_of
 
 
 class Number(enum.IntEnum):
-    """The numbers that a call returns: 0, or that of a refusal. `include/polgamir.h` tells each case, in checking order; 7 is not used."""
+    """The numbers that a call returns: 0, or that of a refusal. `include/polgamir.h` tells each case, in
+    checking order; 7 is not used."""
 
     ACCEPTED = 0
     REFUSED_STOPS = 11
@@ -39,20 +40,27 @@ TEXTS: Dict[int, str] = {
     Number.REFUSED_LONG_POSITION: "a kind 14 payload is not -64 to 63, or its position fits a single word",
     Number.REFUSED_ASKED_ARRIVAL: "the asked arrival is above 4096",
     Number.REFUSED_LIMITS: "the speed limit is not 1 to 1048576, or the acceleration limit is not 1 to 65536",
-    Number.REFUSED_DAMPING: "the first peak is not above zero, or the swing ratio is not a number above 0 and at most 1",
+    Number.REFUSED_DAMPING: (
+        "the first peak is not above zero, or the swing ratio is not a number above 0 and at most 1"
+    ),
     Number.REFUSED_BLEND: "the half period is not 0 to 256, or the second weight is not 1 to 128",
     Number.REFUSED_SECOND_HALF_PERIOD: "the second half period is not 1 to 256",
     Number.REFUSED_START_OR_TARGET: (
-        "a velocity is above the speed limit, the target acceleration is above the acceleration limit, the target tick is "
-        "more than 4096 ticks from tick 0, or a position is not -17179869184 to 17179869183"
+        "a velocity is above the speed limit, the target acceleration is above the acceleration limit, "
+        "the target tick is more than 4096 ticks from tick 0, or a position is not -17179869184 to 17179869183"
     ),
     Number.REFUSED_ACCELERATION: "the target accelerates on an axis with a second half period",
     Number.REFUSED_FLYING_TARGET: "a fixed target has a velocity that is not 0",
-    Number.REFUSED_WINDOWS: "windows are lacking, more than 32, out of order or closed at once, or the dwell is above 4096",
+    Number.REFUSED_WINDOWS: (
+        "windows are lacking, more than 32, out of order or closed at once, or the dwell is above 4096"
+    ),
     Number.REFUSED_FIRST_CANDIDATE: "the first candidate of a search is 0 or above 4097",
     Number.REFUSED_NOT_REACHABLE: "not every axis can arrive at the asked tick, or it fits no window",
     Number.REFUSED_NO_COMMON_ARRIVAL: "no tick from 1 to 4096 suits every axis and fits a window where some are given",
-    Number.REFUSED_TABLE_TOO_SHORT: "the table is too short for rows 0 to the arrival, the list for a tour's stops, or the words for the converter",
+    Number.REFUSED_TABLE_TOO_SHORT: (
+        "the table is too short for rows 0 to the arrival, the list for a tour's stops, "
+        "or the words for the converter"
+    ),
 }
 """What a number says, as `polgamir_refusal_text` of the header."""
 
@@ -60,8 +68,9 @@ TEXTS: Dict[int, str] = {
 class Refusal(Exception):
     """Why a job or a tour has no plan. A refused call writes nothing.
 
-    `number` is the refusal's number, a `Number` where this module knows it; `place` a word's index, an axis, a window or a stop; `mask`
-    the axes named, bit i for axis i; `arrival` the arrival named. What a refusal does not name is 0.
+    `number` is the refusal's number, a `Number` where this module knows it; `place` a word's index, an axis, a
+    window or a stop; `mask` the axes named, bit i for axis i; `arrival` the arrival named. What a refusal does
+    not name is 0.
     """
 
     def __init__(self, number: int, place: int = 0, mask: int = 0, arrival: int = 0) -> None:

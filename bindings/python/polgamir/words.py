@@ -22,7 +22,8 @@ def plan_words(words: Sequence[int]) -> Plan:
 
 
 def plan_words_backwards(words: Sequence[int]) -> Plan:
-    """Plans the job that words hold into a table whose rows stand from arrival backwards; raises a `Refusal`, never with 10."""
+    """Plans the job that words hold into a table whose rows stand from arrival backwards; raises a `Refusal`,
+    never with 10."""
     given = words_of(words)
     call = library().polgamir_plan_words_backwards
     return planned(MOST_CELLS, lambda table, cells: call(given, len(given), table, cells), backwards=True)

@@ -450,6 +450,10 @@ class Module(unittest.TestCase):
                 self.assertIn(str(file), said)
                 self.assertIn(wanted, said)
                 self.assertIn(polgamir.__version__, said)
+            patched = (polgamir.version() // 1_000 * 1_000) + 999
+            subprocess.run([compiler, "-shared", "-fPIC", "-x", "c", "-o", str(file), "-"], check=True, text=True,
+                           input=f"unsigned polgamir_version(void) {{ return {patched}; }}")
+            self.assertIn("has no polgamir_plan_words", self.said(POLGAMIR_LIBRARY=str(file)))  # the version itself would do
             file = Path(folder) / "renamed.so"
             shutil.copy(_loader.library_file(), file)
             self.assertEqual(self.said(POLGAMIR_LIBRARY=str(file)), f"{polgamir.version()}\n")

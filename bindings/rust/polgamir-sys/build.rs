@@ -89,8 +89,9 @@ fn installed() -> Result<PathBuf, String> {
     if env::var_os("TARGET") != env::var_os("HOST") && env::var_os("PKG_CONFIG").is_none() {
         return Err("the pkg-config of another machine is named by no PKG_CONFIG".into());
     }
+    let own = env!("CARGO_PKG_VERSION").rsplit_once('.').map(|(minor, _)| minor);
     match ask("--modversion")? {
-        version if version == env!("CARGO_PKG_VERSION") => Ok(ask("--variable=libdir")?.into()),
+        version if version.rsplit_once('.').map(|(minor, _)| minor) == own => Ok(ask("--variable=libdir")?.into()),
         version => {
             Err(format!("pkg-config finds polgamir {version}, and this crate is for {}", env!("CARGO_PKG_VERSION")))
         }
@@ -123,10 +124,13 @@ fn look_at(library: &Path, sources: Option<&Path>) -> Result<(), String> {
     }
     let wanted = own_version();
     match version_in(library) {
-        Some(version) if version == wanted => Ok(()),
+        Some(version) if version / 1_000 == wanted / 1_000 => Ok(()), // patches fit each other, as the header promises
         Some(version) => Err(format!(
-            "the proved library {shown} has version {version}, and this crate is for {wanted} ({}): run `tools/library` in the \
-             repository of this crate, or install polgamir {0}",
+            "the proved library {shown} has version {}.{}.{}, and this crate is for {}: run `tools/library` in the repository \
+             of this crate, or install polgamir {3}",
+            version / 1_000_000,
+            version / 1_000 % 1_000,
+            version % 1_000,
             env!("CARGO_PKG_VERSION")
         )),
         None => Err(format!(

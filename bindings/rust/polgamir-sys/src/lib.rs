@@ -6,10 +6,10 @@
 //! The first of these that there is; the build says which it took.
 //!
 //! 1. `libpolgamir.a`, or else `libpolgamir.so`, in the folder that the variable `POLGAMIR_LIB_DIR` names.
-//! 2. What pkg-config finds as `polgamir` of this crate's version: an installed library.
+//! 2. What pkg-config finds as `polgamir` of this crate's major and minor version: an installed library.
 //! 3. `target/lib/libpolgamir.a` of the repository that this crate stands in, which `tools/library` proves and writes.
 //!
-//! A library of another version is an error of the build, as is one of the repository that is older than its sources.
+//! A library of another major or minor version is an error of the build, as is one of the repository that is older than its sources.
 
 #![no_std]
 #![allow(non_camel_case_types)]
