@@ -12,6 +12,7 @@ from typing import List, Optional
 
 import backwardcases
 import convertcases
+import partcases
 import raisecases
 import searchcases
 import swaycases
@@ -135,6 +136,18 @@ def search_line(case: searchcases.SearchCase) -> str:
                              report_text(searchcases.searched(case)))
 
 
+def part_line(case: partcases.PartCase) -> str:
+    """All cells that are written are listed where they are few, else the first and the last row."""
+    one = case.job
+    part = partcases.parted(case, [UNTOUCHED] * one.lent)
+    width = 3 * bin(part.answer.mask).count('1') if part.answer.number == 0 else 0
+    written = width * part.rows
+    listed = range(written) if written <= 36 else [*range(width), *range(written - width, written)]
+    return '%s | %s | %s' % (one.name, text('part', case.first, one.lent, job_text(one)), text(
+        answer_text(part.answer), 'rows', part.rows, 'table', written, sum_of(part.cells[:written]), len(listed),
+        *('%d %d' % (i, part.cells[i]) for i in listed)))
+
+
 # --- Files -----------------------------------------------------------------
 
 def sway_lines() -> List[str]:
@@ -159,12 +172,17 @@ def backward_lines() -> List[str]:
     return [plan_line(case, 'backwards', backwardcases.turned) for case in jobs]
 
 
+def part_lines() -> List[str]:
+    return [part_line(case) for case in partcases.part_cases() + partcases.drawn_parts()]
+
+
 FILES = {
     'sway.txt': ('Poles with a second sway (request 2.9).', sway_lines),
     'raises.txt': ('The smallest change that makes it (request 2.10).', raises_lines),
     'convert.txt': ('Flying fixed targets go (request 2.11).', convert_lines),
     'search.txt': ('Planning between servo turns (request 2.12).', search_lines),
     'backwards.txt': ('Rows from arrival backwards (request 2.13).', backward_lines),
+    'parts.txt': ('Rows in parts.', part_lines),
 }
 
 

@@ -16,6 +16,8 @@ import backwards
 import convertcases
 import damping
 import dampingcases
+import partcases
+import parts
 import railcases
 import raisecases
 import raises
@@ -845,6 +847,38 @@ def rows_are_turned(rng, count=60):
                 demand_3(rng, one, answer.arrival, rows[::-1])
 
 
+# --- Rows in parts ---------------------------------------------------------
+
+def part_readings():
+    def part(first, lent):
+        return parts.part_words(C_WORDS, first, [7] * lent)
+
+    rows = [[0, 0, 86], [43, 86, -1], [129, 85, 0], [214, 85, -85], [256, 0, 0]]
+    answer = Answer(0, mask=1, arrival=4)
+    for first in range(7):
+        for lent in range(20):
+            want = rows[first:first + lent // 3]
+            cells = sum(want, [])
+            same('a part of C', part(first, lent), (answer, len(want), cells + [7] * (lent - len(cells))))
+
+
+def parts_make_the_table(rng, count=60):
+    """However rows 0 to N are cut, the parts put together are the table."""
+    for case in backwardcases.drawn_backwards(rng.randrange(1000), count).cases:
+        lent = [7] * case.lent
+        answer, cells = outcome(case, lent)
+        if answer.number:
+            continue
+        width, first, joined = 3 * bin(answer.mask).count('1'), 0, []
+        while first <= answer.arrival:
+            room = rng.randint(width, 20 * width)
+            part = partcases.parted(partcases.PartCase(case, first), [7] * room)
+            same('the same answer', part.answer, answer)
+            joined += part.cells[:width * part.rows]
+            first += part.rows
+        same('put together', joined + lent[len(joined):], cells)
+
+
 def main():
     rng = random.Random(1)
     field_cases()
@@ -877,9 +911,11 @@ def main():
     searches_go_on(rng)
     backward_readings()
     rows_are_turned(rng)
+    part_readings()
+    parts_make_the_table(rng)
     print('reference: field cases, traps, settled readings, ranges, definitions, rounding, demand 3, tours, damping,',
           'windows, accelerating targets on damped poles, positions past 28 bits, a second sway, raises, the converter,',
-          'the search, rows backwards: ok')
+          'the search, rows backwards, rows in parts: ok')
     return 0
 
 
