@@ -115,6 +115,21 @@ pub fn plan_typed(job: &Job, table: &mut [i64]) -> Answer {
     plan_filled(job, 0, table)
 }
 
+fn parted(of: polgamir_part_answer) -> (Answer, u32) {
+    (Answer { number: of.number, place: of.place, mask: of.mask, arrival: of.arrival }, of.rows)
+}
+
+/// Rows from a first one on, from job words; also how many were written.
+pub fn part_of_words(words: &[u32], first: u32, table: &mut [i64]) -> (Answer, u32) {
+    let part = unsafe { polgamir_plan_words_part(words.as_ptr(), words.len(), first, table.as_mut_ptr(), table.len()) };
+    parted(part)
+}
+
+/// Rows from a first one on, from typed values, with `fill` where nothing is looked at.
+pub fn part(job: &Job, fill: u64, first: u32, table: &mut [i64]) -> (Answer, u32) {
+    parted(unsafe { polgamir_plan_job_part(laid_out(job, fill), first, table.as_mut_ptr(), table.len()) })
+}
+
 /// Plans a tour.
 pub fn plan_tour(tour: &Tour, stops: &[Stop], list: &mut [u32]) -> Toured {
     let settings = polgamir_tour {

@@ -4,6 +4,7 @@
 mod converter;
 mod damping;
 mod job;
+mod parts;
 mod planned;
 mod planning;
 mod program;
@@ -17,6 +18,7 @@ mod words;
 pub use converter::convert;
 pub use damping::Damping;
 pub use job::{Answer, Axis, Job, Order, Target, LATEST, RAIL, UNSET};
+pub use parts::part_of_words;
 pub use planned::{Exact, Planned};
 pub use program::{printed, words_of};
 pub use raises::{raises_of_words, Raise, Raised};

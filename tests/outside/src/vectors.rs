@@ -225,6 +225,16 @@ impl Given {
         }
     }
 
+    /// The call for rows from a first one on; also how many were written.
+    pub fn part(&self, side: Side, first: u32, table: &mut [i64]) -> (Answer, u32) {
+        match (self, side) {
+            (Given::Words(words), Side::Library) => library::part_of_words(words, first, table),
+            (Given::Words(words), Side::Reference) => reference::part_of_words(words, first, table),
+            (Given::Typed(job), Side::Library) => library::part(job, 0, first, table),
+            (Given::Typed(job), Side::Reference) => job.part(first, table),
+        }
+    }
+
     /// The call for raises.
     pub fn raises(&self, side: Side) -> Raised {
         match (self, side) {

@@ -133,3 +133,17 @@ fn backwards() {
         plan(side, Order::Backwards, call, expected);
     });
 }
+
+#[test]
+fn parts() {
+    every_case("parts.txt", |side, call, expected| {
+        call.is("part");
+        let first = call.number();
+        let mut cells = vec![CELL; call.number()];
+        let (answer, rows) = call.given().part(side, first, &mut cells);
+        expected.answer(answer);
+        expected.is("rows");
+        assert_eq!(rows, expected.number::<u32>());
+        table(expected, &cells);
+    });
+}

@@ -40,7 +40,8 @@
 //! A [`Tour`] takes the head over a row of [`Stop`]s, one after the other, resting at each: [`Tour::plan`] gives the arrivals, and
 //! [`Tour::leg`] the job whose plan is the table of a leg.
 //!
-//! A controller that has little time in each turn of its servo looks for the arrival in parts: [`Job::search`].
+//! A controller that has little time in each turn of its servo looks for the arrival in parts: [`Job::search`]. One that has little
+//! memory takes the rows in parts: [`Job::rows_in_parts`], [`plan_part`].
 //!
 //! Jobs can also be read from set-up sheets ([`sheet::Sheet`]), and written to and read from job words ([`Job::to_words`],
 //! [`Job::from_words`]). Words of old jobs whose fixed targets have a velocity go through [`convert()`].
@@ -53,6 +54,7 @@ mod damping;
 mod job;
 #[allow(unsafe_code)]
 mod library;
+mod part;
 mod plan;
 mod raises;
 mod range;
@@ -67,6 +69,7 @@ mod words;
 pub use converter::{convert, convert_into};
 pub use damping::Damping;
 pub use job::{Arrival, Axis, Job, RestPoint, State, Target};
+pub use part::{plan_part, plan_words_part, OwnedRow, Part, RowsInParts};
 pub use plan::{cells_needed, plan, plan_backwards, plan_words, plan_words_backwards, Accepted, Plan, MOST_CELLS};
 pub use raises::{raises, raises_words, AxisRaises, Limit, Raise, Raises};
 pub use range::OutOfRange;

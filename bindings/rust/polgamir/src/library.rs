@@ -179,6 +179,26 @@ pub(crate) fn plan_job(job: &Job, order: Order, table: &mut [i64]) -> Answer {
     answer.into()
 }
 
+/// Plans a job from its words, with its rows from a first one on; also how many rows were written.
+pub(crate) fn plan_words_part(words: &[u32], first: u32, table: &mut [i64]) -> (Answer, u32) {
+    // SAFETY: as in `plan_words`.
+    let part = unsafe { polgamir_plan_words_part(words.as_ptr(), words.len(), first, table.as_mut_ptr(), table.len()) };
+    parted(part)
+}
+
+/// Plans a job from typed values, with its rows from a first one on; also how many rows were written.
+pub(crate) fn plan_job_part(job: &Job, first: u32, table: &mut [i64]) -> (Answer, u32) {
+    // SAFETY: as in `plan_job`.
+    let part = unsafe { polgamir_plan_job_part(job.into(), first, table.as_mut_ptr(), table.len()) };
+    parted(part)
+}
+
+/// The answer, and the number of rows.
+fn parted(part: polgamir_part_answer) -> (Answer, u32) {
+    let polgamir_part_answer { number, mask, place, arrival, rows } = part;
+    (Answer { number, place, mask, arrival }, rows)
+}
+
 /// The raises for the job that words hold.
 pub(crate) fn raises_words(words: &[u32]) -> Raises {
     // SAFETY: the pointer and the length are those of one slice, aligned and valid to read for the whole call. The library does

@@ -94,7 +94,7 @@ impl Job {
     }
 
     /// The arrival, or the first of refusals 3, 4, 12, 5, 15, 6, 16, 17, 13, 8 and 9.
-    fn arrival(&self) -> Result<i64, Answer> {
+    pub(super) fn arrival(&self) -> Result<i64, Answer> {
         if let Some(refused) = self.refused() {
             return Err(refused);
         }
