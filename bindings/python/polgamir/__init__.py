@@ -30,17 +30,17 @@ from .axes import Axis, Damping, Fixed, Moving, Peaks, Ratio, RestPoint, Target,
 from .constants import (AXES, FINE_STEPS, LATEST_ARRIVAL, LONGEST_DWELL, MOST_CELLS, MOST_STOPS, MOST_WINDOWS,
                         in_units)
 from .jobs import Job
-from .plans import Motion, Plan, Row
+from .plans import Motion, Part, Plan, Row
 from .raises import Limit, Raise, Raises
 from .refusals import Number, Refusal
 from .searches import Searched
 from .tours import Schedule, Stop, Tour, TourAxis
-from .words import convert_words, plan_words, plan_words_backwards, raises_words, search_words
+from .words import convert_words, plan_words, plan_words_backwards, plan_words_part, raises_words, search_words
 
 __all__ = [
     "AXES", "FINE_STEPS", "LATEST_ARRIVAL", "LONGEST_DWELL", "MOST_CELLS", "MOST_STOPS", "MOST_WINDOWS",
-    "Axis", "Damping", "Fixed", "Job", "LibraryError", "Limit", "Motion", "Moving", "Number", "Peaks", "Plan",
+    "Axis", "Damping", "Fixed", "Job", "LibraryError", "Limit", "Motion", "Moving", "Number", "Part", "Peaks", "Plan",
     "Raise", "Raises", "Ratio", "Refusal", "RestPoint", "Row", "Schedule", "Searched", "Stop", "Target",
     "Tour", "TourAxis", "Weight", "Window", "Windows", "__version__", "convert_words", "in_units",
-    "plan_words", "plan_words_backwards", "raises_words", "search_words", "version",
+    "plan_words", "plan_words_backwards", "plan_words_part", "raises_words", "search_words", "version",
 ]

@@ -8,13 +8,13 @@ from typing import Callable, Union
 
 from . import _structs
 from ._numbers import axes_of, cells_needed
-from .plans import Plan
+from .plans import Part, Plan
 from .raises import Limit, Raise, Raises
 from .refusals import Number, Refusal
 from .searches import Searched
 
 
-def refusal_of(answer: Union[_structs.Answer, _structs.TourAnswer, _structs.SearchAnswer]) -> Refusal:
+def refusal_of(answer: Union[_structs.Answer, _structs.PartAnswer, _structs.TourAnswer, _structs.SearchAnswer]) -> Refusal:
     """The refusal that an answer is."""
     return Refusal(answer.number, answer.place, answer.mask, answer.arrival)
 
@@ -26,6 +26,16 @@ def planned(room: int, call: Callable[..., _structs.Answer], backwards: bool = F
     if answer.number != Number.ACCEPTED:
         raise refusal_of(answer)
     return Plan(answer.arrival, answer.mask, cells[: cells_needed(answer.mask, answer.arrival)], backwards)
+
+
+def parted(first: int, room: int, call: Callable[..., _structs.PartAnswer]) -> Part:
+    """The part of a call with lent cells, of which those that it wrote are kept."""
+    cells = array.array("q", bytes(8 * room))
+    answer = call((ctypes.c_int64 * room).from_buffer(cells), room)
+    if answer.number != Number.ACCEPTED:
+        raise refusal_of(answer)
+    written = 3 * len(axes_of(answer.mask)) * answer.rows
+    return Part(answer.arrival, answer.mask, first, answer.rows, cells[:written])
 
 
 def raises_of(raises: _structs.Raises) -> Raises:

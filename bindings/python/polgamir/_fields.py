@@ -118,3 +118,8 @@ def words_of(words: Sequence[int]) -> ctypes.Array[ctypes.c_uint32]:
 def candidates(first: int, budget: int) -> Tuple[int, int]:
     """The first candidate of a search, and its budget."""
     return whole(first, 0, 2**32 - 1, "first"), whole(budget, 0, 2**32 - 1, "budget")
+
+
+def part_of(first: int, rows: int) -> Tuple[int, int]:
+    """The first row of a part, and how many rows it may have."""
+    return whole(first, 0, 2**32 - 1, "first"), whole(rows, 0, 2**32 - 1, "rows")

@@ -2,17 +2,17 @@
 
 from __future__ import annotations
 
-from dataclasses import dataclass
-from typing import Mapping, Optional
+from dataclasses import dataclass, replace
+from typing import Iterator, Mapping, Optional
 
 from . import _structs
-from ._answers import planned, raises_of, refusal_of, searched
-from ._fields import candidates, job_of
+from ._answers import parted, planned, raises_of, refusal_of, searched
+from ._fields import candidates, job_of, part_of
 from ._loader import library
 from ._numbers import cells_needed, mask_of
 from .axes import Axis, Windows
 from .constants import LATEST_ARRIVAL
-from .plans import Plan
+from .plans import Part, Plan, Row
 from .raises import Raises
 from .refusals import Number
 from .searches import Searched
@@ -49,6 +49,29 @@ class Job:
         given = job_of(self)
         call = library().polgamir_plan_job_backwards
         return planned(_room(given), lambda table, cells: call(given, table, cells), backwards=True)
+
+    def part(self, first: int, rows: int) -> Part:
+        """Plans the rows from a first one on, at most so many, up to the arrival's; no row before the first one is worked out.
+
+        Past the arrival there is none. Raises a `Refusal`, never with 10.
+        """
+        first, rows = part_of(first, rows)
+        given = job_of(self)
+        room = 3 * len(self.axes) * min(rows, LATEST_ARRIVAL + 1)
+        return parted(first, room, lambda table, cells: library().polgamir_plan_job_part(given, first, table, cells))
+
+    def rows_in_parts(self, rows: int = 16) -> Iterator[Row]:
+        """The rows of ticks 0 to arrival, planned so many at a time; no whole table is held. Raises a `Refusal`, never with 10."""
+        if part_of(0, rows)[1] == 0:
+            raise ValueError("rows: a part of no rows does not go on")
+        job, first = self, 0
+        while True:
+            part = job.part(first, rows)
+            yield from part
+            first += len(part)
+            if first > part.arrival:
+                return
+            job = replace(job, arrival=part.arrival)  # so that no later part searches again
 
     def arrival_found(self) -> int:
         """The arrival of the job's table, which is not written; raises a `Refusal`, never with 10."""

@@ -26,6 +26,10 @@ class Row(NamedTuple):
     """By the axis's number, lowest first."""
 
 
+def _row(tick: int, axes: Tuple[int, ...], cells: "array.array[int]") -> Row:
+    return Row(tick, {axis: Motion(*cells[3 * rank : 3 * rank + 3]) for rank, axis in enumerate(axes)})
+
+
 class Plan:
     """An accepted job: its arrival, and its table of rows 0 to arrival.
 
@@ -102,7 +106,7 @@ class Plan:
         width = 3 * len(self.axes)
         place = self._arrival - tick if self._backwards else tick
         cells = self._cells[width * place : width * (place + 1)]
-        return Row(tick, {axis: Motion(*cells[3 * rank : 3 * rank + 3]) for rank, axis in enumerate(self.axes)})
+        return _row(tick, self.axes, cells)
 
     def __iter__(self) -> Iterator[Row]:
         return (self[tick] for tick in range(len(self)))
@@ -116,3 +120,55 @@ class Plan:
 
     def __repr__(self) -> str:
         return f"<polgamir.Plan: axes {list(self.axes)}, arrival {self._arrival}>"
+
+
+class Part:
+    """Some rows of an accepted job, from a first one on: those of its whole table.
+
+    `for row in part` walks them, `len(part)` is their count, which is 0 past the arrival.
+    """
+
+    __slots__ = ("_arrival", "_mask", "_first", "_rows", "_cells")
+
+    def __init__(self, arrival: int, mask: int, first: int, rows: int, cells: "array.array[int]") -> None:
+        self._arrival = arrival
+        self._mask = mask
+        self._first = first
+        self._rows = rows
+        self._cells = cells
+
+    @property
+    def arrival(self) -> int:
+        """The tick at which every axis is on its target: the last row of the whole table."""
+        return self._arrival
+
+    @property
+    def mask(self) -> int:
+        """Bit i is set where axis i takes part."""
+        return self._mask
+
+    @property
+    def axes(self) -> Tuple[int, ...]:
+        """The axes that take part, lowest first."""
+        return axes_of(self._mask)
+
+    @property
+    def first(self) -> int:
+        """The tick of the first row."""
+        return self._first
+
+    @property
+    def cells(self) -> memoryview:
+        """The cells one after the other, row by row: a read-only buffer of 64-bit whole numbers, no copy."""
+        return memoryview(self._cells).toreadonly()
+
+    def __len__(self) -> int:
+        return self._rows
+
+    def __iter__(self) -> Iterator[Row]:
+        width = 3 * len(self.axes)
+        for place in range(self._rows):
+            yield _row(self._first + place, self.axes, self._cells[width * place : width * (place + 1)])
+
+    def __repr__(self) -> str:
+        return f"<polgamir.Part: axes {list(self.axes)}, {self._rows} rows from {self._first} of arrival {self._arrival}>"

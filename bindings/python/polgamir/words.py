@@ -5,11 +5,12 @@ from __future__ import annotations
 import ctypes
 from typing import Sequence, Tuple
 
-from ._answers import planned, raises_of, refusal_of, searched
-from ._fields import candidates, words_of
+from ._answers import parted, planned, raises_of, refusal_of, searched
+from ._fields import candidates, part_of, words_of
 from ._loader import library
-from .constants import AXES, MOST_CELLS
-from .plans import Plan
+from ._numbers import axes_of
+from .constants import AXES, LATEST_ARRIVAL, MOST_CELLS
+from .plans import Part, Plan
 from .raises import Raises
 from .refusals import Number
 from .searches import Searched
@@ -27,6 +28,15 @@ def plan_words_backwards(words: Sequence[int]) -> Plan:
     given = words_of(words)
     call = library().polgamir_plan_words_backwards
     return planned(MOST_CELLS, lambda table, cells: call(given, len(given), table, cells), backwards=True)
+
+
+def plan_words_part(words: Sequence[int], first: int, rows: int) -> Part:
+    """Rows as `Job.part`, for the job that 32-bit words hold."""
+    first, rows = part_of(first, rows)
+    given = words_of(words)
+    axes = len(axes_of(given[0] & 0x3F)) if len(given) else 0  # as the mask word says, where it is one
+    room = 3 * axes * min(rows, LATEST_ARRIVAL + 1)
+    return parted(first, room, lambda table, cells: library().polgamir_plan_words_part(given, len(given), first, table, cells))
 
 
 def raises_words(words: Sequence[int]) -> Raises:

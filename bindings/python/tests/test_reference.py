@@ -13,6 +13,7 @@ import builders
 import cases
 import convertcases
 import damping
+import partcases
 import raisecases
 import reference
 import search
@@ -62,6 +63,21 @@ def found(case, backwards=False):
     except polgamir.Refusal as refusal:
         return fields(refusal), []
     return (0, 0, plan.mask, plan.arrival), plan.cells.tolist()
+
+
+def parted(case, rows):
+    """The answer, the number of rows and the cells of a part of so many rows at most."""
+    one = case.job
+    try:
+        if one.words is not None:
+            part = polgamir.plan_words_part(one.words, case.first, rows)
+        else:
+            part = job_of(one).part(case.first, rows)
+    except polgamir.Refusal as refusal:
+        return fields(refusal), 0, []
+    ticks = [row.tick for row in part]
+    assert ticks == list(range(case.first, case.first + len(part))), ticks
+    return (0, 0, part.mask, part.arrival), len(part), part.cells.tolist()
 
 
 def searched(case):
@@ -135,6 +151,37 @@ class AgainstTheReference(unittest.TestCase):
 
     def test_backwards(self):
         self.agree(backwardcases.drawn_backwards(seed=75, count=12), backwards=True)
+
+    def test_parts(self):
+        for case in partcases.part_cases() + partcases.drawn_parts(seed=77, count=30):
+            one = case.job
+            if one.words is None and not one.mask < 64:
+                continue  # a job has no such axis
+            mask = one.words[0] % 64 if one.words else one.mask
+            width = 3 * bin(mask).count("1")
+            rows = one.lent // width if width else 4
+            expected = partcases.parted(case, [0] * (width * rows))
+            answer, count, cells = parted(case, rows)
+            self.assertEqual((answer, count), (tuple(expected.answer), expected.rows), one.name)
+            self.assertEqual(cells, expected.cells[: len(cells)], one.name)
+            self.assertEqual(len(cells), width * count if answer[0] == 0 else 0, one.name)
+
+    def test_rows_in_parts(self):
+        for case in backwardcases.drawn_backwards(seed=78, count=30).cases:
+            if case.words is not None:
+                continue
+            job = job_of(case)
+            try:
+                plan = job.plan()
+            except polgamir.Refusal as refusal:
+                with self.assertRaises(polgamir.Refusal) as caught:
+                    next(job.rows_in_parts())
+                self.assertEqual(fields(caught.exception), fields(refusal))
+                continue
+            for rows in (1, 7, 16, 5000):
+                self.assertEqual(list(job.rows_in_parts(rows)), list(plan), case.name)
+        with self.assertRaisesRegex(ValueError, "rows"):
+            next(job.rows_in_parts(0))
 
     def test_searches(self):
         for case in searchcases.refused() + searchcases.drawn_searches(seed=76, count=16):
