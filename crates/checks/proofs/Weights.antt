@@ -1,48 +1,120 @@
 -- Axes of which no weight is to be worked out are the axes by hand, and the axes by hand pass and reach what the axes do.
-use Prim.Native.Nat.{ℕ, _+_, _<_, _≤_}
-use Rattle.whole.proofs.Counting.{next-one}
+use Prim.Native.Nat.{ℕ, zero, suc, _+_, _/_, _%_, _<_, _≤_}
+use native.Mathlib.Numerals.{add-one}
+use native.Mathlib.Omega.{arith}
 use mathlib.Core.Path.{_≡_, refl, sym, ap, ap₂, subst, _∙_}
 use mathlib.Core.Bool.{Bool, true, false, cond, false≢true}
-use mathlib.Core.List.{List, [], _∷_, map}
-use lib.ListN.{length, drop, drop-of-length-le}
-use lib.Seq.{drop-cons}
+use mathlib.Core.List.{List, [], _∷_, _++_, append-nil}
+use lib.Dec.{eqb}
+use lib.ListN.{length, getD, set, take, drop, drop-of-length-le}
+use lib.Seq.{take-length, drop-cons}
+use borrow.Author.Tests.{eq-eqb, ne-eqb}
 use Rattle.model.specs.declared.Axis.{Axis}
 use Rattle.model.specs.Job.{JobAxis, setAxes, byHand, axesByHand, unsetAxis}
 use Rattle.model.specs.Refusals.{AllPassed}
 use Rattle.model.specs.Outcome.{allReach}
-use Rattle.model.proofs.ByHand.{set-by-hand, passed-by-hand, reach-by-hand}
+use Rattle.model.proofs.ByHand.{passed-by-hand, reach-by-hand}
 use Rattle.motion.specs.Motions.{measured}
 use Rattle.motion.proofs.WeightGiven.{given-is}
-use Rattle.arrival.proofs.SetAxes.{axisAt}
-use Rattle.checks.specs.Checks.{anyMeasured}
+use Rattle.arrival.proofs.SetAxes.{pick, from, axisAt, from-more, from-none}
+use Rattle.checks.specs.Checks.{anyMeasured, namedByHand}
 
-pub given-are : (xs : List Axis) → anyMeasured xs ≡ false → xs ≡ map byHand xs
-given-are [] e = refl
-given-are (x ∷ xs) e = go (measured x) refl e (given-are xs)
+-- ---- none is measured
+
+pub given-are : (i m : ℕ) (xs : List Axis) → anyMeasured (setAxes i m xs) ≡ false → xs ≡ namedByHand m xs
+given-are i m [] e = refl
+given-are i m (x ∷ xs) e = go (eqb (m % 2) 1) e (given-are (suc i) (m / 2) xs)
   where
-    go : (b : Bool) → measured x ≡ b → cond b true (anyMeasured xs) ≡ false → (anyMeasured xs ≡ false → xs ≡ map byHand xs) → x ∷ xs ≡ map byHand (x ∷ xs)
-    go true m e h = absurd (false≢true (sym e))
-    go false m e h = ap₂ (λ (y : Axis) (ys : List Axis). y ∷ ys) (given-is x m) (h e)
+    named : (b : Bool) → measured x ≡ b → cond b true (anyMeasured (setAxes (suc i) (m / 2) xs)) ≡ false
+        → (anyMeasured (setAxes (suc i) (m / 2) xs) ≡ false → xs ≡ namedByHand (m / 2) xs) → x ∷ xs ≡ byHand x ∷ namedByHand (m / 2) xs
+    named true t e h = absurd (false≢true (sym e))
+    named false t e h = ap₂ (λ (y : Axis) (ys : List Axis). y ∷ ys) (given-is x t) (h e)
 
--- axis i and those after it
-module _ (i : ℕ) (six : List Axis) where
-  measured-more : i < length six → (b : Bool) → measured (axisAt six i) ≡ b → anyMeasured (drop i six) ≡ cond b true (anyMeasured (drop (i + 1) six))
-  measured-more h b e =
-      ap anyMeasured (drop-cons six i unsetAxis h)
-      ∙ ap₂ (λ (c : Bool) (k : ℕ). cond c true (anyMeasured (drop k six))) e (next-one i)
+    go : (b : Bool) → anyMeasured (pick b i x (setAxes (suc i) (m / 2) xs)) ≡ false
+        → (anyMeasured (setAxes (suc i) (m / 2) xs) ≡ false → xs ≡ namedByHand (m / 2) xs)
+        → x ∷ xs ≡ cond b (byHand x) x ∷ namedByHand (m / 2) xs
+    go true e h = named (measured x) refl e h
+    go false e h = ap (λ (ys : List Axis). x ∷ ys) (h e)
 
-  pub measured-here : i < length six → measured (axisAt six i) ≡ true → anyMeasured (drop i six) ≡ true
-  measured-here h e = measured-more h true e
+-- ---- one by one: whether one is measured
 
-  pub measured-later : i < length six → measured (axisAt six i) ≡ false → anyMeasured (drop i six) ≡ anyMeasured (drop (i + 1) six)
-  measured-later h e = measured-more h false e
+module _ (six : List Axis) where
+  -- the axes from number i on, m being the bits from there on
+  abbrev pub measuredOn : ℕ → ℕ → Bool
+  measuredOn i m = anyMeasured (from i m six)
 
-  pub measured-none : length six ≤ i → anyMeasured (drop i six) ≡ false
-  measured-none h = ap anyMeasured (drop-of-length-le six {i = i} h)
+  measured-more : (i m : ℕ) → i < length six → (b : Bool) → eqb (m % 2) 1 ≡ b
+      → measuredOn i m ≡ anyMeasured (pick b i (axisAt six i) (from (i + 1) (m / 2) six))
+  measured-more i m h b e =
+      ap anyMeasured (from-more i m six h ∙ ap (λ (q : Bool). pick q i (axisAt six i) (from (i + 1) (m / 2) six)) e)
+
+  measured-named : (i m : ℕ) → i < length six → m % 2 ≡ 1 → (b : Bool) → measured (axisAt six i) ≡ b
+      → measuredOn i m ≡ cond b true (measuredOn (i + 1) (m / 2))
+  measured-named i m h e b f =
+      measured-more i m h true (eq-eqb (m % 2) 1 e) ∙ ap (λ (q : Bool). cond q true (measuredOn (i + 1) (m / 2))) f
+
+  pub measured-here : (i m : ℕ) → i < length six → m % 2 ≡ 1 → measured (axisAt six i) ≡ true → measuredOn i m ≡ true
+  measured-here i m h e f = measured-named i m h e true f
+
+  pub measured-later : (i m : ℕ) → i < length six → m % 2 ≡ 1 → measured (axisAt six i) ≡ false → measuredOn i m ≡ measuredOn (i + 1) (m / 2)
+  measured-later i m h e f = measured-named i m h e false f
+
+  pub measured-unnamed : (i m : ℕ) → i < length six → (m % 2 ≡ 1 → ⊥) → measuredOn i m ≡ measuredOn (i + 1) (m / 2)
+  measured-unnamed i m h e = measured-more i m h false (ne-eqb (m % 2) 1 e)
+
+  pub measured-none : (i m : ℕ) → length six ≤ i → measuredOn i m ≡ false
+  measured-none i m h = ap anyMeasured (from-none i m six h)
+
+-- ---- one by one: the weights
+
+-- axis i of a list, m being the bits from there on
+abbrev pub handAt : List Axis → ℕ → ℕ → Axis
+handAt l i m = getD (namedByHand m (drop i l)) 0 unsetAxis
+
+hand-more : (l : List Axis) (i m : ℕ) → i < length l → (b : Bool) → eqb (m % 2) 1 ≡ b → cond b (byHand (axisAt l i)) (axisAt l i) ≡ handAt l i m
+hand-more l i m h b e =
+    sym (ap (λ (r : List Axis). getD (namedByHand m r) 0 unsetAxis) (drop-cons l i unsetAxis h)
+    ∙ ap (λ (t : Bool). cond t (byHand (axisAt l i)) (axisAt l i)) e)
+
+pub hand-named : (l : List Axis) (i m : ℕ) → i < length l → m % 2 ≡ 1 → byHand (axisAt l i) ≡ handAt l i m
+hand-named l i m h e = hand-more l i m h true (eq-eqb (m % 2) 1 e)
+
+pub hand-unnamed : (l : List Axis) (i m : ℕ) → i < length l → (m % 2 ≡ 1 → ⊥) → axisAt l i ≡ handAt l i m
+hand-unnamed l i m h e = hand-more l i m h false (ne-eqb (m % 2) 1 e)
+
+-- the first i axes, and after them the others with those by hand that m names
+abbrev pub handFrom : ℕ → ℕ → List Axis → List Axis
+handFrom i m l = take i l ++ namedByHand m (drop i l)
+
+-- axis i is stored, and its bit taken off
+pub hand-next : (i m : ℕ) (l : List Axis) → i < length l → handFrom (i + 1) (m / 2) (set l i (handAt l i m)) ≡ handFrom i m l
+hand-next i m l h = ap (λ (j : ℕ). handFrom j (m / 2) (set l i (handAt l i m))) (add-one i) ∙ go i l h
+  where
+    go : (i : ℕ) (l : List Axis) → i < length l → handFrom (suc i) (m / 2) (set l i (handAt l i m)) ≡ handFrom i m l
+    go i [] h = absurd (omega arith)
+    go zero (x ∷ xs) h = refl
+    go (suc i) (x ∷ xs) h = ap (λ (t : List Axis). x ∷ t) (go i xs (omega arith))
+
+-- all are stored
+pub hand-all : (i m : ℕ) (l : List Axis) → i ≡ length l → handFrom i m l ≡ l
+hand-all i m l e =
+    ap (λ (j : ℕ). handFrom j m l) e
+    ∙ ap (λ (r : List Axis). take (length l) l ++ namedByHand m r) (drop-of-length-le l {i = length l} (omega arith))
+    ∙ append-nil (take (length l) l)
+    ∙ take-length l
 
 -- ---- the axes of a mask
 
-module _ (m : ℕ) (axes given : List Axis) (is : given ≡ map byHand axes) where
+set-by-hand : (i m : ℕ) (xs : List Axis) → setAxes i m (namedByHand m xs) ≡ axesByHand (setAxes i m xs)
+set-by-hand i m [] = refl
+set-by-hand i m (x ∷ xs) = go (eqb (m % 2) 1) (set-by-hand (suc i) (m / 2) xs)
+  where
+    go : (b : Bool) → setAxes (suc i) (m / 2) (namedByHand (m / 2) xs) ≡ axesByHand (setAxes (suc i) (m / 2) xs)
+        → pick b i (cond b (byHand x) x) (setAxes (suc i) (m / 2) (namedByHand (m / 2) xs)) ≡ axesByHand (pick b i x (setAxes (suc i) (m / 2) xs))
+    go true h = ap (λ (l : List JobAxis). record { number = i; axis = byHand x } ∷ l) h
+    go false h = h
+
+module _ (m : ℕ) (axes given : List Axis) (is : given ≡ namedByHand m axes) where
   pub axes-given : setAxes 0 m given ≡ axesByHand (setAxes 0 m axes)
   axes-given = ap (setAxes 0 m) is ∙ set-by-hand 0 m axes
 

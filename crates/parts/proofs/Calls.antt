@@ -13,11 +13,12 @@ use Rattle.model.specs.declared.Axis.{Axis}
 use Rattle.model.specs.declared.Job as Typed
 use Rattle.model.specs.declared.Order.the-variants.{Forwards}
 use Rattle.model.specs.declared.PartAnswer.{PartAnswer}
-use Rattle.model.specs.Job.{Job, JobAxis, setBits, setAxes, jobOf, axesOf, typedJob, byHand}
+use Rattle.model.specs.Job.{Job, JobAxis, setBits, setAxes, jobOf, axesOf, typedJob}
 use Rattle.model.specs.Outcome.{Input, words, typed, call, inputAxes, cellsNeeded, partOver, answerOf}
 use Rattle.model.specs.Parts.{partRows, PartOutcome, partAccepted, partRefused, partWith, partCall, PartOf}
 use Rattle.model.proofs.ByHand.{part-by-hand}
 use Rattle.model.proofs.Parts.{part-accepted, parts-hold}
+use Rattle.checks.specs.Checks.{namedByHand}
 use Rattle.checks.proofs.Weights.{axes-given}
 use Rattle.words.specs.declared.DecodedJob.{DecodedJob}
 use Rattle.words.specs.Decoding.{Decodes}
@@ -73,7 +74,7 @@ module _ (q : Input) (k : ℕ) (entry : List ℤ) where
 
 -- ---- a job of typed values: its rows are those with the weights by hand
 
-module _ (t : Typed.Job) (six : length (t .axes) ≡ 6) (given : List Axis) (is : given ≡ map byHand (t .axes)) where
+module _ (t : Typed.Job) (six : length (t .axes) ≡ 6) (given : List Axis) (is : given ≡ namedByHand (t .mask) (t .axes)) where
   count-is : length (setBits (t .mask)) ≡ length (inputAxes (typed t))
   count-is = sym (length-map (setAxes 0 (t .mask) (t .axes)) _ ∙ set-count (t .mask) (t .axes) six)
 

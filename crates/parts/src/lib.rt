@@ -17,13 +17,13 @@ use model::PartAnswer;
 ghost use Prim.Native.Nat.{_≤_, _<_};
 ghost use mathlib.Core.Path.{_≡_};
 ghost use mathlib.Core.Bool.{true};
-ghost use mathlib.Core.List.{map};
 ghost use lib.ListN.{length};
-ghost use Rattle.model.specs.Job.{setBits, setAxes, axesOf, typedJob, byHand};
+ghost use Rattle.model.specs.Job.{setBits, setAxes, axesOf, typedJob};
 ghost use Rattle.model.specs.Refusals.{AllPassed, lastTick};
 ghost use Rattle.model.specs.Outcome.{allReach};
 ghost use Rattle.model.specs.Outcome as Input;
 ghost use Rattle.model.specs.Parts.{partRows};
+ghost use Rattle.checks.specs.Checks.{namedByHand};
 ghost use Rattle.parts.specs.Promise.{PartPromise, PartWritten};
 
 // ---- the calls
@@ -38,7 +38,7 @@ pub fn plan_job_part(job: Job, first: u32, table: &mut [i64]) -> PartAnswer
         return answered(planned, 0);
     }
     let axes = job.axes;
-    let given = by_hand(axes);
+    let given = by_hand(job.mask, axes);
     let written = write_part(job.mask, given, planned.arrival, first, table);
     answered(planned, written)
 }
@@ -71,12 +71,12 @@ fn answered(planned: Answer, written: u32) -> PartAnswer
     }
 }
 
-// The axes with the number B of each given.
-fn by_hand(axes: [Axis; 6]) -> [Axis; 6]
-    ensures { λ r. ⌜ r ≡ map byHand axes ⌝ }
+// The axes with the number B of each that the mask names given.
+fn by_hand(mask: u32, axes: [Axis; 6]) -> [Axis; 6]
+    ensures { λ r. ⌜ r ≡ namedByHand mask axes ⌝ }
 {
-    if checks::any_measured(axes) {
-        return checks::by_hand(axes);
+    if checks::any_measured(mask, axes) {
+        return checks::by_hand(mask, axes);
     }
     axes
 }

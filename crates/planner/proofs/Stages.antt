@@ -5,7 +5,7 @@ use native.Mathlib.Omega.{arith}
 use mathlib.Core.Path.{_≡_, refl, sym, ap, subst, _∙_}
 use mathlib.Core.Bool.{Bool, true, false, cond}
 use mathlib.Core.Option.{Option, none, some}
-use mathlib.Core.List.{List, map}
+use mathlib.Core.List.{List}
 use lib.IntN.{ℤ}
 use lib.ListN.{length}
 use lib.Dec.{eqb, lit<}
@@ -15,7 +15,7 @@ use Rattle.model.specs.declared.Answer.{Answer}
 use Rattle.model.specs.declared.Order.{Order}
 use Rattle.model.specs.declared.Order.the-variants.{Forwards, Backwards}
 use Rattle.model.specs.declared.Windows.{Windows}
-use Rattle.model.specs.Job.{Job, JobAxis, setBits, setAxes, axesOf, typedJob, jobWith, byHand, jobByHand}
+use Rattle.model.specs.Job.{Job, JobAxis, setBits, setAxes, axesOf, typedJob, jobWith, jobByHand}
 use Rattle.model.specs.Refusals.{lastTick}
 use Rattle.model.specs.Outcome.{accept, Outcome, outcomeOf, refuse, leastFrom, arrives, cellsNeeded, tableOver, filled, arrived, jobOutcome, ordered}
 use Rattle.arrival.specs.declared.Arrival.{Arrival}
@@ -25,7 +25,7 @@ use Rattle.model.proofs.Ordered.{refusal-stays}
 use Rattle.model.proofs.ByHand.{ordered-by-hand, arrived-by-hand}
 use Rattle.checks.specs.declared.Refusal.{Refusal}
 use Rattle.planner.specs.Promise.{Fitted}
-use Rattle.checks.specs.Checks.{checkedFor}
+use Rattle.checks.specs.Checks.{checkedFor, namedByHand}
 use Rattle.planner.specs.Stages.{arrivedIn, filledIn, Gives}
 use Rattle.checks.proofs.Checks.{afterChecks, checks-are}
 use Rattle.checks.proofs.Weights.{axes-given}
@@ -72,7 +72,7 @@ module _ (j : Job) (lent : List ℤ) (c : Refusal) (is : c ≡ checkedFor j) whe
 
 -- ---- with the weights by hand
 
-module _ (m asked : ℕ) (axes given : List Axis) (w : Windows) (is : given ≡ map byHand axes) where
+module _ (m asked : ℕ) (axes given : List Axis) (w : Windows) (is : given ≡ namedByHand m axes) where
   pub given-arrives : (o : Order) (lent : List ℤ) → arrivedIn o (jobWith m asked given w) lent ≡ arrivedIn o (jobWith m asked axes w) lent
   given-arrives o lent =
       let j = jobWith m asked axes w in

@@ -2,7 +2,7 @@
 use Prim.Native.Nat.{ℕ, _≤_}
 use mathlib.Core.Path.{_≡_, refl, sym, ap, subst, _∙_}
 use mathlib.Core.Bool.{Bool, true, false, cond, _&&_}
-use mathlib.Core.List.{List, map}
+use mathlib.Core.List.{List}
 use lib.Dec.{eqb, leb, ltb, leb→le, ltb→lt}
 use borrow.Author.Tests.{eq-eqb, ne-eqb}
 use Rattle.whole.proofs.Tests.{both, true-T, choice-yes, choice-no}
@@ -11,7 +11,7 @@ use Rattle.model.specs.declared.Windows.{Windows}
 use Rattle.model.specs.declared.Job as Typed
 use Rattle.model.specs.declared.SearchAnswer.{SearchAnswer}
 use Rattle.model.specs.Windows.{inWindows}
-use Rattle.model.specs.Job.{Job, jobOf, jobWith, setAxes, byHand}
+use Rattle.model.specs.Job.{Job, jobOf, jobWith, setAxes}
 use Rattle.model.specs.Words.{goodMask, Decoded, noMask, badWord, badLong, job, decode}
 use Rattle.model.specs.Outcome.{Input, words, typed, arrives}
 use Rattle.model.specs.Search.{searchFrom, refuseSearch, searchAnswer, firstAllowed, firstChecked, searchJob, searchCall}
@@ -20,7 +20,7 @@ use Rattle.arrival.specs.Arrivals.{arrivesIn}
 use Rattle.words.specs.declared.DecodedJob.{DecodedJob}
 use Rattle.words.specs.Decoding.{decodedJob, Decodes}
 use Rattle.checks.specs.declared.Refusal.{Refusal}
-use Rattle.checks.specs.Checks.{checkedFor}
+use Rattle.checks.specs.Checks.{checkedFor, namedByHand}
 use Rattle.checks.proofs.Checks.{after, after-tests}
 use Rattle.checks.proofs.Weights.{given-reaches}
 use Rattle.search.specs.Promise.{SearchPromise}
@@ -64,7 +64,7 @@ module _ (m : ℕ) (axes : List Axis) (w : Windows) (first budget : ℕ) where
     first-refused z e = choice-no (firstAllowed first) (searchAnswer m (searchFrom (arrives j) first budget)) (refuseSearch 18 0) e ∙ checks-pass z
 
     -- the search, of the axes with the number B of each given
-    pub searched : c .number ≡ 0 → firstAllowed first ≡ true → (given : List Axis) → given ≡ map byHand axes
+    pub searched : c .number ≡ 0 → firstAllowed first ≡ true → (given : List Axis) → given ≡ namedByHand m axes
         → searchAnswer m (searchFrom (arrivesIn w (setAxes 0 m given)) first budget) ≡ searchJob j first budget
     searched z e given is =
         ap (λ (test : ℕ → Bool). searchAnswer m (searchFrom test first budget))

@@ -72,8 +72,8 @@ fn search_allowed(
     if !first_allowed(first) {
         return refused(18, 0);
     }
-    if checks::any_measured(given) {
-        let weighed = checks::by_hand(given);
+    if checks::any_measured(mask, given) {
+        let weighed = checks::by_hand(mask, given);
         given = weighed;
     }
     let found = search_from(mask, given, windows, first, budget);

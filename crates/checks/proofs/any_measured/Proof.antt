@@ -1,24 +1,26 @@
 -- `any_measured`: one of the axes that are left is to be worked out where one of all is.
-use Prim.Native.Nat.{_-_, _≤_}
+use Prim.Native.Nat.{_-_, _<_, _≤_}
 use native.Mathlib.Omega.{arith}
 use mathlib.Core.Path.{_≡_, refl, sym, _∙_}
-use lib.ListN.{length, drop}
+use mathlib.Core.Logic.{⊎-elim}
+use lib.ListN.{length}
 use borrow.Author.Needs.{needs}
+use Rattle.model.specs.Job.{setAxes}
 use Rattle.checks.specs.Checks.{anyMeasured}
-use Rattle.checks.proofs.Weights.{measured-here, measured-later, measured-none}
+use Rattle.checks.proofs.Weights.{measuredOn, measured-here, measured-later, measured-unnamed, measured-none}
 use Rattle.checks.proofs.any_measured.Statement.{statement}
 use Rattle.checks.proofs.any_measured.Tie as tie
 
 abbrev Inv-loop : tie.InvT-loop
-Inv-loop axes i₀ i =
+Inv-loop mask axes bits₀ i₀ bits i =
     record {
       low : i ≤ 6;
       six : length axes ≡ 6;
-      is : anyMeasured (drop i axes) ≡ anyMeasured axes;
+      is : measuredOn axes i bits ≡ anyMeasured (setAxes 0 mask axes);
     }
 
 abbrev μ-loop : tie.MeasureT-loop
-μ-loop axes i₀ i = 6 - i
+μ-loop mask axes bits₀ i₀ bits i = 6 - i
 
 loop-holds : tie.Need-loop-holds Inv-loop μ-loop
 loop-holds c = record { low = omega arith; six = omega arith; is = refl }
@@ -34,9 +36,11 @@ measured-requires c κs = search needs
 
 returns : tie.Need-returns Inv-loop μ-loop
 returns c =
-    let l = c .before .before .before .before .loop in
-    let a = c .before .before .before .before .before .args in
-    sym (measured-here (l .i) (a .t1) (omega (arith, l .inv .six)) (sym (c .before .measured .ensures) ∙ c .if1 .taken)) ∙ l .inv .is
+    let l = c .before .before .before .before .before .loop in
+    let six = c .before .before .before .before .before .before .args .t2 in
+    let within : l .i < length six = omega (arith, l .inv .six) in
+    let has = sym (c .before .measured .ensures) ∙ c .if2 .taken in
+    sym (measured-here six (l .i) (l .bits) within (c .before .before .before .if1 .taken) has) ∙ l .inv .is
 
 add-i : tie.Need-add-i Inv-loop μ-loop
 add-i c = omega arith
@@ -46,19 +50,24 @@ loop-less c = omega arith
 
 loop-again : tie.Need-loop-again Inv-loop μ-loop
 loop-again c =
-    let l = c .before .before .before .before .loop in
-    let a = c .before .before .before .before .before .args in
-    let other = sym (c .before .measured .ensures) ∙ c .if1 .left in
+    let l = c .before .before .loop in
+    let six = c .before .before .before .args .t2 in
+    let within : l .i < length six = omega (arith, l .inv .six) in
     record {
       low = omega arith;
       six = l .inv .six;
-      is = sym (measured-later (l .i) (a .t1) (omega (arith, l .inv .six)) other) ∙ l .inv .is;
+      is =
+          ⊎-elim
+          (λ w. sym (measured-later six (l .i) (l .bits) within (w .0 .taken) (sym (w .2 .ensures) ∙ w .3 .left)))
+          (λ w. sym (measured-unnamed six (l .i) (l .bits) within (w .left)))
+          (c .if1 .came)
+          ∙ l .inv .is;
     }
 
 returns-2 : tie.Need-returns-2 Inv-loop μ-loop
 returns-2 c =
     let l = c .before .loop in
-    sym (measured-none (l .i) (c .before .before .args .t1) (omega (arith, l .inv .six))) ∙ l .inv .is
+    sym (measured-none (c .before .before .args .t2) (l .i) (l .bits) (omega (arith, l .inv .six))) ∙ l .inv .is
 
 pub any-measured-spec : {M : Type 1} → statement M
 any-measured-spec =

@@ -1,30 +1,32 @@
--- `by_hand`: the axes before axis i are by hand, the others as they were.
-use Prim.Native.Nat.{ℕ, _-_, _≤_}
+-- `by_hand`: the axes before axis i are done, and the bits that are left name those to come.
+use Prim.Native.Nat.{_+_, _-_, _≤_}
 use native.Mathlib.Omega.{arith}
-use mathlib.Core.Path.{_≡_, refl, ap, _∙_}
-use lib.ListN.{length, getD, length-set}
-use lib.Seq.{getD-set-other}
+use mathlib.Core.Path.{_≡_, refl, sym, ap, _∙_}
+use mathlib.Core.List.{List}
+use mathlib.Core.Logic.{⊎-elim}
+use lib.ListN.{length, set, length-set}
+use lib.Seq.{set-getD}
 use borrow.Author.Needs.{needs}
-use Rattle.whole.proofs.Mapped.{Stored, stored-next, stored-all}
-use Rattle.model.specs.Job.{byHand, unsetAxis}
+use Rattle.model.specs.declared.Axis.{Axis}
+use Rattle.model.specs.Job.{unsetAxis}
+use Rattle.checks.specs.Checks.{namedByHand}
+use Rattle.checks.proofs.Weights.{handAt, hand-named, hand-unnamed, handFrom, hand-next, hand-all}
 use Rattle.checks.proofs.by_hand.Statement.{statement}
 use Rattle.checks.proofs.by_hand.Tie as tie
 
 abbrev Inv-loop : tie.InvT-loop
-Inv-loop given₀ i₀ given i =
+Inv-loop mask given₀ bits₀ i₀ given bits i =
     record {
       low : i ≤ 6;
-      six : length given₀ ≡ 6;
       long : length given ≡ 6;
-      stored : Stored byHand given₀ given i;
-      kept : (j : ℕ) → i ≤ j → getD given j unsetAxis ≡ getD given₀ j unsetAxis;
+      stored : handFrom i bits given ≡ namedByHand mask given₀;
     }
 
 abbrev μ-loop : tie.MeasureT-loop
-μ-loop given₀ i₀ given i = 6 - i
+μ-loop mask given₀ bits₀ i₀ given bits i = 6 - i
 
 loop-holds : tie.Need-loop-holds Inv-loop μ-loop
-loop-holds c = record { low = omega arith; six = omega arith; long = omega arith; stored = refl; kept = λ j h. refl }
+loop-holds c = record { low = omega arith; long = omega arith; stored = refl }
 
 mul-x : tie.Need-mul-x Inv-loop μ-loop
 mul-x c = search needs
@@ -47,24 +49,32 @@ add-i c = omega arith
 loop-less : tie.Need-loop-less Inv-loop μ-loop
 loop-less c = omega arith
 
+-- after a turn axis i is by hand where its bit is set, and as it was where not
+turned : (c : tie.Joined1 Inv-loop μ-loop) → let l = c .before .before .loop in c .if1 .given ≡ set (l .given) (l .i) (handAt (l .given) (l .i) (l .bits))
+turned c =
+    let l = c .before .before .loop in
+    let put : Axis → List Axis = set (l .given) (l .i) in
+    ⊎-elim
+    (λ w. w .3 ∙ ap put (w .2 .ensures ∙ hand-named (l .given) (l .i) (l .bits) (omega (arith, l .inv .long)) (omega arith)))
+    (λ w. w .1
+    ∙ sym (set-getD (l .given) (l .i) unsetAxis)
+    ∙ ap put (hand-unnamed (l .given) (l .i) (l .bits) (omega (arith, l .inv .long)) (λ e. omega arith)))
+    (c .if1 .came)
+
 loop-again : tie.Need-loop-again Inv-loop μ-loop
 loop-again c =
-    let l = c .before .before .before .loop in
-    let axes = c .before .before .before .before .args .axes in
-    let r = c .by-hand in
-    let put = r .ensures ∙ ap byHand (l .inv .kept (l .i) (omega arith)) in
+    let l = c .before .before .loop in
+    let t = turned c in
     record {
       low = omega arith;
-      six = l .inv .six;
-      long = length-set (l .given) (l .i) _ ∙ l .inv .long;
-      stored = stored-next byHand axes unsetAxis (l .given) (l .i) _ (omega (arith, l .inv .six)) (omega (arith, l .inv .long)) put (l .inv .stored);
-      kept = λ j h. getD-set-other (l .given) (l .i) j _ unsetAxis (λ q. omega arith) ∙ l .inv .kept j (omega arith);
+      long = ap (λ (a : List Axis). length a) t ∙ length-set (l .given) (l .i) _ ∙ l .inv .long;
+      stored = ap (handFrom (l .i + 1) _) t ∙ hand-next (l .i) (l .bits) (l .given) (omega (arith, l .inv .long)) ∙ l .inv .stored;
     }
 
 returns : tie.Need-returns Inv-loop μ-loop
 returns c =
     let l = c .before .loop in
-    stored-all byHand (c .before .before .args .axes) (l .given) (l .i) (omega (arith, l .inv .six)) (omega (arith, l .inv .long)) (l .inv .stored)
+    sym (hand-all (l .i) (l .bits) (l .given) (omega (arith, l .inv .long))) ∙ l .inv .stored
 
 pub by-hand-spec : {M : Type 1} → statement M
 by-hand-spec =

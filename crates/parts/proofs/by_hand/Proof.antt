@@ -14,7 +14,7 @@ returns : tie.Need-returns
 returns c = search needs
 
 returns-2 : tie.Need-returns-2
-returns-2 c = given-are (c .before .before .args .axes) (sym (c .before .any-measured .ensures) ∙ c .if1 .left)
+returns-2 c = given-are 0 (c .before .before .args .mask) (c .before .before .args .axes) (sym (c .before .any-measured .ensures) ∙ c .if1 .left)
 
 pub by-hand-spec : {M : Type 1} → statement M
 by-hand-spec = tie.close (tie.spec any-measured-requires by-hand-requires returns returns-2)

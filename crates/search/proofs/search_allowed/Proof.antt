@@ -1,11 +1,11 @@
 use native.Mathlib.Omega.{arith}
 use mathlib.Core.Path.{_≡_, sym, ap, _∙_}
-use mathlib.Core.List.{map}
 use mathlib.Core.Logic.{⊎-elim}
 use borrow.Author.Needs.{needs}
 use borrow.Author.Tests.{not-true, not-false}
 use Rattle.model.specs.Search.{searchAnswer}
-use Rattle.model.specs.Job.{jobWith, byHand}
+use Rattle.model.specs.Job.{jobWith}
+use Rattle.checks.specs.Checks.{namedByHand}
 use Rattle.checks.proofs.Checks.{checked}
 use Rattle.checks.proofs.Weights.{given-are, given-passed}
 use Rattle.search.proofs.Ways.{checks-refuse, first-range, first-refused, searched}
@@ -47,11 +47,12 @@ by-hand-requires : tie.Need-by-hand-requires
 by-hand-requires c κs = search needs
 
 -- worked out, or given already
-by-hand : (c : tie.Joined3) → c .if3 .given ≡ map byHand (c .before .before .before .before .before .before .before .args .axes)
+by-hand : (c : tie.Joined3) → let a = c .before .before .before .before .before .before .before .args in c .if3 .given ≡ namedByHand (a .mask) (a .axes)
 by-hand c =
+    let a = c .before .before .before .before .before .before .before .args in
     ⊎-elim
     (λ w. w .2 ∙ w .1 .ensures)
-    (λ w. w .1 ∙ given-are (c .before .before .before .before .before .before .before .args .axes) (sym (c .before .any-measured .ensures) ∙ w .0 .left))
+    (λ w. w .1 ∙ given-are 0 (a .mask) (a .axes) (sym (c .before .any-measured .ensures) ∙ w .0 .left))
     (c .if3 .came)
 
 search-from-requires : tie.Need-search-from-requires
