@@ -57,6 +57,11 @@ def _set_axis(fields: _structs.Axis, axis: Axis, name: str) -> None:
     _set_limits(fields, axis, name)
 
 
+def checked_axis(axis: Axis) -> None:
+    """An axis on its own: an error names what is of a wrong type, or outside what its field can hold."""
+    _set_axis(_structs.Axis(), axis, "axis")
+
+
 def _set_windows(fields: _structs.Windows, windows: Windows) -> None:
     _expect(windows, Windows, "Windows or None", "windows")
     _expect(windows.windows, Sequence, "a sequence of windows", "windows.windows")

@@ -43,6 +43,8 @@
 //! A controller that has little time in each turn of its servo looks for the arrival in parts: [`Job::search`]. One that has little
 //! memory takes the rows in parts: [`Job::rows_in_parts`], [`plan_part`].
 //!
+//! [`Axis::sway_bound`] says how much sway a table can leave where the pole was measured with an error.
+//!
 //! Jobs can also be read from set-up sheets ([`sheet::Sheet`]), and written to and read from job words ([`Job::to_words`],
 //! [`Job::from_words`]). Words of old jobs whose fixed targets have a velocity go through [`convert()`].
 
@@ -62,6 +64,7 @@ mod refusal;
 mod rows;
 mod search;
 pub mod sheet;
+mod sway;
 mod tour;
 mod windows;
 mod words;
@@ -76,6 +79,7 @@ pub use range::OutOfRange;
 pub use refusal::{AxisMask, Refusal};
 pub use rows::{in_units, Motion, Order, Row, Rows};
 pub use search::{search_words, Report, Searched};
+pub use sway::{Fraction, NoBound, SwayLeft};
 pub use tour::{Schedule, Stop, Tour, TourAxis, TourRefusal, LONGEST_DWELL, MOST_STOPS};
 pub use windows::{Window, Windows, MOST_WINDOWS};
 pub use words::{NoWords, PayloadError, WordError, WordFault, WordKind};
