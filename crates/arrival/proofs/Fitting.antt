@@ -8,12 +8,8 @@ use mathlib.Core.Logic.{_⊎_, inl, inr}
 use mathlib.Core.Option.{none, some}
 use native.Mathlib.Omega.{arith}
 use Rattle.whole.proofs.Tests.{T-true, T-false, true-T, right, and-no, lt-or-le}
-use Rattle.model.specs.Motion.{reachable}
-use Rattle.model.specs.Job.{JobAxis}
-use Rattle.model.specs.Refusals.{AllPassed}
-use Rattle.model.specs.Outcome.{leastFrom, allReach}
+use Rattle.model.specs.Outcome.{leastFrom}
 use Rattle.model.proofs.LeastTick.{Least, Result, result, least-is, none-is}
-use Rattle.model.proofs.Threshold.{reached-slow, reached-later}
 use Rattle.running.specs.Running.{Next}
 use Rattle.arrival.specs.Arrivals.{orZero}
 use Rattle.arrival.proofs.Search.{is-some, is-none}
@@ -23,21 +19,6 @@ pub record LedTo (test : ℕ → Bool) (first last r : ℕ) : Type 0 where
   pub low : first ≤ r
   pub missed : (k : ℕ) → first ≤ k → k < r → test k ≡ false
   pub held : (k : ℕ) → r ≤ k → k ≤ last → test k ≡ true → test r ≡ true
-
--- ---- what all axes reach at two ticks they reach at every one between them
-
-split : (b c : Bool) → (elim b as (λ _. Bool) [ true ↦ c | false ↦ false ]) ≡ true → (b ≡ true) × (c ≡ true)
-split true c e = (refl, e)
-split false c e = absurd (false≢true e)
-
-pub all-between : (xs : List JobAxis) → AllPassed xs → (j n k : ℕ) → j ≤ n → n ≤ k → allReach xs j ≡ true → allReach xs k ≡ true → allReach xs n ≡ true
-all-between [] p j n k a b d e = refl
-all-between (x ∷ xs) p j n k a b d e =
-    let s = split (reachable (x .axis) j) (allReach xs j) d in
-    let t = split (reachable (x .axis) k) (allReach xs k) e in
-    let here = reached-later (x .axis) (p .0) j n k a b (reached-slow (x .axis) (p .0) k (t .0)) (s .0) in
-    let others = all-between xs (p .1) j n k a b (s .1) (t .1) in
-    λ i. elim (here i) as (λ _. Bool) [ true ↦ others i | false ↦ false ]
 
 -- ---- a tick that fits, or 0
 

@@ -25,6 +25,7 @@ use Rattle.model.specs.Leg.{Leg, Meets, Feasible, travelled}
 use Rattle.model.specs.Motion.{shift, startPosition, startVelocity, landingPosition, landingVelocity, landingAcceleration}
 use Rattle.model.specs.Motion.{arrivalVelocity, leg, displacement, Reachable, reachable}
 use Rattle.model.specs.Refusals.{flies, Passed}
+use Rattle.model.specs.Threshold.{Slow}
 use Rattle.model.proofs.PassedAxis.{some-acceleration, speed-limit, target-acceleration}
 use Rattle.model.proofs.Reaches.{reachable-is}
 
@@ -204,11 +205,6 @@ line-between l i k u (negsuc a) h p q = line-down l (suc a) i k u (mul-le-mul h 
 
 -- ---- an axis that passed: from an arrival after the delay to the next
 
--- rule 4's two conditions on the speed of the target
-pub record Slow (x : Axis) (n : ℕ) : Type 0 where
-  pub landed : natAbs (landingVelocity x n) ≤ speedSteps x
-  pub arrived : natAbs (arrivalVelocity x n) ≤ speedSteps x
-
 module _ (x : Axis) (passed : Passed x) where
   small : (n : ℕ) → natAbs (landingAcceleration x n) ≤ accelerationSteps x
   small n = go (finer x) (asMoving (x .target) n .acceleration) (accelerationLimit x) (target-acceleration x passed n)
@@ -333,7 +329,7 @@ module _ (x : Axis) (passed : Passed x) where
           subst (λ (z : ℤ). natAbs z ≤ speedSteps x)
           ((λ j. at-k j +ℤ pos (delay x) *ℤ acceleration-same k n j) ∙ more v (pos i) (pos (delay x)) α) b
 
-  slow-of : (n : ℕ) → Reachable x n → Slow x n
+  pub slow-of : (n : ℕ) → Reachable x n → Slow x n
   slow-of n r = record { landed = r .landed; arrived = r .arrived }
 
   -- within the run reach is a threshold

@@ -16,7 +16,8 @@ use Rattle.model.specs.declared.Axis.{Axis}
 use Rattle.model.specs.Quantities.{delay, speedSteps}
 use Rattle.model.specs.Motion.{landingAcceleration, arrivalVelocity, reachable}
 use Rattle.model.specs.Refusals.{Passed}
-use Rattle.model.proofs.Threshold.{Slow, arrival-later, slow-ahead, reached-slow, reached-later, missed-before}
+use Rattle.model.specs.Threshold.{Slow}
+use Rattle.model.proofs.Threshold.{arrival-later, slow-ahead, reached-slow, reached-later, missed-before}
 use Rattle.running.specs.Running.{Next}
 use Rattle.motion.specs.declared.Span.{Span}
 use Rattle.motion.specs.Halving.{roomToward, TicksWithin, LastPassing, Skips, Narrower}

@@ -10,7 +10,8 @@ use Rattle.model.proofs.WindowsInWords.{windows-right}
 use Rattle.running.specs.Running.{Next}
 use Rattle.arrival.specs.Arrivals.{arrivesIn, orZero}
 use Rattle.arrival.proofs.WindowSearch.{with-windows}
-use Rattle.arrival.proofs.Fitting.{LedTo, all-between, fit-some, fit-none, at-first, no-reach, nothing-fits, led-fitting, nowhere-else}
+use Rattle.model.proofs.ArrivalRuns.{all-between}
+use Rattle.arrival.proofs.Fitting.{LedTo, fit-some, fit-none, at-first, no-reach, nothing-fits, led-fitting, nowhere-else}
 use Rattle.arrival.proofs.Search.{none-passes, first-passes}
 use Rattle.arrival.proofs.least_fitting.Statement.{statement}
 use Rattle.arrival.proofs.least_fitting.Tie as tie
