@@ -17,8 +17,9 @@ use Rattle.rows.specs.Plans.{plansFor, plansOf, PlanIs, Each, Fillable}
 use Rattle.tracks.specs.Plans.{arrivalOf, PlanRanges}
 use Rattle.tracks.specs.declared.AxisPlan.{AxisPlan}
 use Rattle.rows.specs.declared.Plan.{Plan}
+use Rattle.tracks.specs.Tracks.{Lands}
 use Rattle.rows.specs.Table.{planRow, planPart, rowsOver}
-use Rattle.tracks.proofs.BlendedTicks.{cells-are}
+use Rattle.tracks.proofs.BlendedTicks.{cells-are, lands}
 use Rattle.rows.proofs.ReadyAxes.{AllReady, all-ranged, all-arrive}
 
 row-is : (n k : ℕ) (xs : List JobAxis) → AllReady n xs → k ≤ n → planRow (plansFor n xs) k ≡ row (map (track n) (map (λ (x : JobAxis). x .axis) xs)) k
@@ -26,6 +27,10 @@ unfolding flatten
 row-is n k [] r h = refl
 row-is n k (x ∷ xs) r h =
     ap₂ _++_ (cells-are (x .axis) n k (r .0) h) (row-is n k xs (r .1) h)
+
+all-land : (n : ℕ) (xs : List JobAxis) → AllReady n xs → Each (Lands n) (plansFor n xs)
+all-land n [] r = tt
+all-land n (x ∷ xs) r = (lands (x .axis) n (r .0), all-land n xs (r .1))
 
 -- ---- a plan that is the job's
 
@@ -36,6 +41,7 @@ module _ (m n : ℕ) (xs : List Axis) (ready : AllReady n (setAxes 0 m xs)) (pla
         few = is .few;
         ranged = subst (Each PlanRanges) (sym (is .plans)) (all-ranged n (setAxes 0 m xs) ready);
         arrive = of (λ k p. k ≤ arrivalOf p) (all-arrive n (setAxes 0 m xs) ready);
+        land = of Lands (all-land n (setAxes 0 m xs) ready);
       }
     where
       of : (Q : ℕ → AxisPlan → Type 0) → Each (Q n) (plansFor n (setAxes 0 m xs)) → Each (Q (plan .arrival)) (plansOf plan)

@@ -9,12 +9,14 @@ use Rattle.model.specs.Job.{JobAxis}
 use Rattle.tracks.specs.declared.AxisPlan.{AxisPlan}
 use Rattle.tracks.specs.Plans.{planOf, arrivalOf, PlanRanges}
 use Rattle.rows.specs.declared.Plan.{Plan}
+use Rattle.tracks.specs.Tracks.{Lands}
 
 -- what stands after the last axis
 abbrev pub unsetPlan : AxisPlan
 unsetPlan =
     record {
       origin = pos 0;
+      destination = pos 0;
       regions =
           record { start = pos 0; rise = 0; up = pos 0; cruise = pos 0; raised = 0; end = pos 0; fall = 0; down = pos 0; ticks = 0 };
       acceleration = pos 0;
@@ -46,8 +48,9 @@ abbrev pub Each : (AxisPlan → Type 0) → List AxisPlan → Type 0
 Each Q [] = Unit
 Each Q (p ∷ ps) = Q p × Each Q ps
 
--- a plan whose rows can be written: each of its axes is within the ranges and goes on up to the arrival
+-- a plan whose rows can be written: each of its axes is within the ranges, goes on up to the arrival and lands there
 pub record Fillable (plan : Plan) : Type 0 where
   pub few : plan .count ≤ 6
   pub ranged : Each PlanRanges (plansOf plan)
   pub arrive : Each (λ p. plan .arrival ≤ arrivalOf p) (plansOf plan)
+  pub land : Each (Lands (plan .arrival)) (plansOf plan)

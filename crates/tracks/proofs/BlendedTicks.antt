@@ -15,15 +15,16 @@ use Rattle.whole.proofs.Rounding.{nearest-times}
 use Rattle.model.specs.declared.Axis.{Axis}
 use Rattle.model.specs.declared.SecondSway.{SecondSway}
 use Rattle.model.specs.declared.SecondSway.the-variants.{Absent, HalfPeriod}
-use Rattle.model.specs.Quantities.{halfPeriod, secondWeight}
+use Rattle.model.specs.Quantities.{halfPeriod, secondWeight, asMoving, twicePositionAt}
 use Rattle.model.specs.Motion.{Tick, earlier}
 use Rattle.model.specs.Rows.{track, tickAt, tickBack, blendOnce, blendBy, blend, divisor, cells}
 use Rattle.model.specs.Refusals.{Ready}
+use Rattle.model.proofs.Landing.{exact-blend}
 use Rattle.model.proofs.TwoBlends.{divisor-some}
 use Rattle.motion.proofs.ReadyAxis.{ready-after}
 use Rattle.tracks.specs.declared.AxisPlan.{AxisPlan}
 use Rattle.tracks.specs.Plans.{scale, planOf}
-use Rattle.tracks.specs.Tracks.{plannedAt, velocityBack, mix, blendedBack, added, blendedVelocity, blendedPosition, axisCells}
+use Rattle.tracks.specs.Tracks.{plannedAt, velocityBack, mix, blendedBack, added, blendedVelocity, blendedPosition, axisCells, halfUnit, Lands}
 use Rattle.tracks.proofs.Scale.{scale-some, scale-divides}
 use Rattle.tracks.proofs.Blend.{mix-sum, mix-change, mix-start, mix-times, added-sum, added-change, added-times, added-start}
 use Rattle.tracks.proofs.Velocities.{back-early, back-late}
@@ -230,3 +231,24 @@ module _ (x : Axis) (n k : ℕ) (ready : Ready x n) (last : k ≤ n) where
           once d =
               let e = d + halfPeriod x in
               mix-change A B (velocityBack p d (suc k)) (velocityBack p d k) (velocityBack p e (suc k)) (velocityBack p e k)
+
+-- ---- at the arrival: the landing is exact
+
+pub lands : (x : Axis) (n : ℕ) → Ready x n → Lands n (planOf n x)
+unfolding backTick
+lands x n ready =
+    record {
+      position =
+          ring (pos (scale x)) (pos (divisor x)) (twicePositionAt (asMoving (x .target) n) (pos n)) (ap pos (scale-divides x))
+          ∙ sym (ap (λ (z : ℤ). pos (scale x) *ℤ z) (exact-blend x n ready))
+          ∙ sym (position-is (planOf n x) (some x n n ready last) n ∙ blend-is x n n ready last (λ s. s .position));
+    }
+  where
+    last : n ≤ n
+    last = omega arith
+
+    ring : (s d z : ℤ) → s *ℤ d ≡ pos 65536 → pos halfUnit *ℤ z ≡ s *ℤ (pos 2 *ℤ d *ℤ (pos 128 *ℤ z))
+    ring s d z e =
+        same (z ∷ []) (search pol depth 20 fits 9000) tt
+        ∙ ap (λ (w : ℤ). w *ℤ (pos 256 *ℤ z)) (sym e)
+        ∙ same (s ∷ d ∷ z ∷ []) (search pol depth 20 fits 9000) tt

@@ -15,7 +15,7 @@ use Rattle.tracks.specs.declared.AxisPlan.{AxisPlan}
 use Rattle.tracks.specs.declared.Track.{Track}
 use Rattle.tracks.specs.Plans.{arrivalOf, PlanRanges}
 use Rattle.tracks.specs.Tracks.{mix, plannedAt, velocityBack, blendedBack, added, blendsBy, blendedVelocity}
-use Rattle.tracks.specs.Tracks.{weightOf, lagOf, blendedPosition, trackAt}
+use Rattle.tracks.specs.Tracks.{weightOf, lagOf, blendedPosition, trackAt, halfUnit, Lands}
 use Rattle.tracks.proofs.Velocities.{planned-start}
 
 -- the size of a number times a weight
@@ -139,6 +139,13 @@ module _ (p : AxisPlan) (s : PlanRanges p) where
 
   pub position-within : (k : ℕ) → k ≤ suc (arrivalOf p) → Within (2 ^ 61) (blendedPosition p k)
   position-within k h = record { within = omega (arith, position-by k h, s .last) }
+
+  -- where the sums may be taken from the landing end, what they start from
+  pub landed-within : (n : ℕ) → n ≤ suc (arrivalOf p) → Lands n p → Within (2 ^ 37) (p .destination)
+  landed-within n h a =
+      record {
+        within = omega (arith, natAbs-* (pos halfUnit) (p .destination), ap natAbs (a .position), position-within n h .within);
+      }
 
   -- ---- of numbers that are known to be these
 

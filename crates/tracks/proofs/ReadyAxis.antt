@@ -20,7 +20,7 @@ use Rattle.profile.specs.declared.Regions.{Regions}
 use Rattle.profile.specs.Profiles.{legOf}
 use Rattle.profile.specs.Regions.{chosenRegions, velocityIn}
 use Rattle.profile.proofs.ChosenRegions.{chosen-within, chosen-ranged}
-use Rattle.motion.specs.Motions.{profileFor}
+use Rattle.motion.specs.Motions.{profileFor, destination}
 use Rattle.model.proofs.Grid.{finer-range}
 use Rattle.model.proofs.CellLimits.{between}
 use Rattle.model.proofs.ReadyAxis.{some-acceleration, speed-range, moves}
@@ -118,10 +118,11 @@ module _ (x : Axis) (n : ℕ) (f : Profile) (d : ℤ) (same : f ≡ profileFor x
   plan-feasible r = ap₂ (λ (g : Profile) (e : ℤ). feasible (legOf g) e) same way ∙ ready-feasible r
 
   -- a plan with the blend of the axis: its second weight b, and both weights scaled by k
-  abbrev planWith : ℤ → Regions → ℤ → ℕ → ℕ → AxisPlan
-  planWith o c a b k =
+  abbrev planWith : ℤ → ℤ → Regions → ℤ → ℕ → ℕ → AxisPlan
+  planWith o e c a b k =
       record {
         origin = o;
+        destination = e;
         regions = c;
         acceleration = a;
         «half_period» = halfPeriod x;
@@ -130,10 +131,10 @@ module _ (x : Axis) (n : ℕ) (f : Profile) (d : ℤ) (same : f ≡ profileFor x
         «second_sway» = x .«second_sway»;
       }
 
-  pub plan-is : (o : ℤ) (c : Regions) (a : ℤ) (b k : ℕ) → o ≡ startPosition x
+  pub plan-is : (o e : ℤ) (c : Regions) (a : ℤ) (b k : ℕ) → o ≡ startPosition x → e ≡ destination x n
       → c ≡ chosenRegions (legOf f) (required (legOf f) d) → a ≡ landingAcceleration x n → b ≡ secondWeight x → k ≡ scale x
-      → planWith o c a b k ≡ planOf n x
-  plan-is o c a b k p q s u t = λ i. planWith (p i) (velocities i) (s i) (u i) (t i)
+      → planWith o e c a b k ≡ planOf n x
+  plan-is o e c a b k p r q s u t = λ i. planWith (p i) (r i) (velocities i) (s i) (u i) (t i)
     where
       velocities : c ≡ chosenRegions (leg x n) (requiredSum x n)
       velocities = q ∙ ap₂ (λ (g : Profile) (e : ℤ). chosenRegions (legOf g) (required (legOf g) e)) same way

@@ -12,7 +12,7 @@ use Rattle.profile.proofs.ChosenRegions.{in-first}
 use Rattle.tracks.specs.declared.AxisPlan.{AxisPlan}
 use Rattle.tracks.specs.declared.Track.{Track}
 use Rattle.tracks.specs.Tracks.{plannedAt, velocityBack, mix, blendedBack, added, blendedVelocity, weightOf}
-use Rattle.tracks.specs.Tracks.{lagOf, blendedPosition, trackAt}
+use Rattle.tracks.specs.Tracks.{lagOf, blendedPosition, trackAt, halfUnit, Lands}
 use Rattle.tracks.proofs.Blend.{mix-same, added-same}
 
 module _ (p : AxisPlan) (k : ℕ) where
@@ -97,7 +97,7 @@ pub track-next : (p : AxisPlan) (k : ℕ) (q v : ℤ)
 unfolding blendedPosition
 track-next p k q v e f = λ i. record { position = e i; velocity = f i }
 
--- ---- one tick back
+-- ---- one tick back, and at the arrival
 
 pub track-before : (p : AxisPlan) (k : ℕ) (q v : ℤ)
     → q ≡ blendedPosition p (suc k) -ℤ blendedVelocity p (suc k) -ℤ blendedVelocity p k → v ≡ blendedVelocity p k
@@ -108,3 +108,7 @@ track-before p k q v e f =
   where
     undone : (q v w : ℤ) → q +ℤ v +ℤ w -ℤ w -ℤ v ≡ q
     undone q v w = same (q ∷ v ∷ w ∷ []) (search pol depth 20 fits 9000) tt
+
+pub track-landed : (p : AxisPlan) (n : ℕ) (q v : ℤ) → Lands n p → q ≡ pos halfUnit *ℤ p .destination → v ≡ blendedVelocity p n
+    → _≡_ {A = Track} (record { position = q; velocity = v }) (trackAt p n)
+track-landed p n q v a e f = λ i. record { position = (e ∙ a .position) i; velocity = f i }

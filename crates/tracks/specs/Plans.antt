@@ -6,6 +6,7 @@ use Rattle.model.specs.declared.Axis.{Axis}
 use Rattle.model.specs.Quantities.{halfPeriod, secondWeight, swayDelay, finer}
 use Rattle.model.specs.Motion.{leg, startPosition, landingAcceleration, requiredSum}
 use Rattle.model.specs.Refusals.{lastTick}
+use Rattle.motion.specs.Motions.{destination}
 use Rattle.profile.specs.Regions.{chosenRegions, RegionsRanged}
 use Rattle.tracks.specs.declared.AxisPlan.{AxisPlan}
 use Rattle.tracks.specs.Tracks.{plannedAt, blendsBy, weightOf}
@@ -19,6 +20,7 @@ abbrev pub planOf : ℕ → Axis → AxisPlan
 planOf n x =
     record {
       origin = startPosition x;
+      destination = destination x n;
       regions = chosenRegions (leg x n) (requiredSum x n);
       acceleration = landingAcceleration x n;
       «half_period» = halfPeriod x;

@@ -1,6 +1,7 @@
 -- One axis tick by tick, over its plan: the planned velocities, their blend, and the cells of a row (docs/METHOD.md, section 3, rules 1, 2, 3 and 5, and
 -- section 4).
 use Prim.Native.Nat.{ℕ, zero, suc, _+_, _-_, _*_}
+use mathlib.Core.Path.{_≡_}
 use mathlib.Core.Bool.{true, false}
 use mathlib.Core.List.{List, [], _∷_}
 use lib.Dec.{ltb}
@@ -75,9 +76,17 @@ cellsOf t u = nearest (t .position) 131072 ∷ nearest (t .velocity) 65536 ∷ n
 abbrev pub axisCells : ℕ → AxisPlan → List ℤ
 axisCells k p = cellsOf (trackAt p k) (trackAt p (suc k))
 
--- ---- the order of the rows
+-- ---- the first row and the last
 
 -- the tick of the track that comes to the row at place j, of rows 0 to n
 abbrev pub comesTo : Order → ℕ → ℕ → ℕ
 comesTo Forwards n j = j
 comesTo Backwards n j = suc n - j
+
+-- half a unit, in half 1/65,536 of a fine step
+abbrev pub halfUnit : ℕ
+halfUnit = 16777216
+
+-- the blended motion is on the destination at the arrival
+pub record Lands (n : ℕ) (p : AxisPlan) : Type 0 where
+  pub position : pos halfUnit *ℤ p .destination ≡ blendedPosition p n

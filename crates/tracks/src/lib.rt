@@ -10,13 +10,15 @@ ghost use Rattle.whole.specs.Ranges.{Within, Is};
 ghost use Rattle.model.specs.Refusals.{Ready};
 ghost use Rattle.profile.specs.Regions.{RegionsRanged};
 ghost use Rattle.tracks.specs.Plans.{scale, planOf, arrivalOf, PlanRanges};
-ghost use Rattle.tracks.specs.Tracks.{mix, blendsBy, plannedAt, velocityBack, blendedBack, blendedVelocity, weightOf, lagOf, trackAt, comesTo};
+ghost use Rattle.tracks.specs.Tracks.{mix, blendsBy, plannedAt, velocityBack, blendedBack, blendedVelocity, weightOf, lagOf, trackAt, comesTo, Lands};
 ghost use Rattle.tracks.specs.Paces.{PaceAt, fallBegins, raisedUntil, shared};
 
-// The plan of one axis, on its own grid: its planned position at tick 0, in half grid steps; its planned velocities up to the landing, in grid steps; its planned acceleration from the landing on; h; the weights of the blend, scaled so
+// The plan of one axis, on its own grid: its planned position at tick 0, in half grid steps; twice its target's position at the arrival, in units;
+// its planned velocities up to the landing, in grid steps; its planned acceleration from the landing on; h; the weights of the blend, scaled so
 // that the cells of every plan are rounded by the same divisors; and the second sway.
 pub struct AxisPlan {
     pub origin: i64,
+    pub destination: i64,
     pub regions: Regions,
     pub acceleration: i64,
     pub half_period: u32,
@@ -69,12 +71,14 @@ pub fn axis_plan(x: Axis, n: u32) -> AxisPlan
     let profile = motion::profile_of(x, n, landing);
     let regions = profile::chosen(profile, motion::displacement(x, landing));
     let origin = motion::start_position(x);
+    let destination = motion::destination(x, n);
     let acceleration = landing.acceleration;
     let sway = x.second_sway;
     let second_weight = motion::second_weight(x);
     let scale = weight_scale(x);
     AxisPlan {
         origin: origin,
+        destination: destination,
         regions: regions,
         acceleration: acceleration,
         half_period: x.half_period,
@@ -267,18 +271,59 @@ fn track_at(p: AxisPlan, k: u32) -> Track
     }
 }
 
+// ---- from the landing end
+
+// The track one tick on from tick k.
+fn step(p: AxisPlan, k: u32, t: Track) -> Track
+    requires { ⌜ PlanRanges p ⌝ }
+    requires { ⌜ k ≤ arrivalOf p ⌝ }
+    requires { ⌜ t ≡ trackAt p k ⌝ }
+    ensures { λ r. ⌜ r ≡ trackAt p (suc k) ⌝ }
+{
+    let next = blended_velocity(p, k + 1);
+    let velocity = t.velocity;
+    let position = t.position + velocity + next;
+    Track {
+        position: position,
+        velocity: next,
+    }
+}
+
+// The track at the arrival n: the landing is exact.
+fn arrived(p: AxisPlan, n: u32) -> Track
+    requires { ⌜ PlanRanges p ⌝ }
+    requires { ⌜ n ≤ arrivalOf p ⌝ }
+    requires { ⌜ Lands n p ⌝ }
+    ensures { λ r. ⌜ r ≡ trackAt p n ⌝ }
+{
+    let destination = p.destination;
+    let velocity = blended_velocity(p, n);
+    Track {
+        position: 16777216 * destination,
+        velocity: velocity,
+    }
+}
+
 // ---- the track that comes to a row
 
-// The track that comes to the row at a place, of rows 0 to n: forwards that of the row's tick, backwards that one tick past it.
+// The track that comes to the row at a place, of rows 0 to n: forwards that of the row's tick, backwards that one tick past it. At place 0 the
+// sums begin backwards at the landing and forwards at the start.
 pub fn first_track(p: AxisPlan, order: Order, n: u32, place: u32) -> Track
     requires { ⌜ PlanRanges p ⌝ }
     requires { ⌜ n ≤ arrivalOf p ⌝ }
+    requires { ⌜ Lands n p ⌝ }
     requires { ⌜ place ≤ suc n ⌝ }
     ensures { λ r. ⌜ r ≡ trackAt p (comesTo order n place) ⌝ }
 {
     match order {
         Order::Forwards => track_at(p, place),
-        Order::Backwards => track_at(p, n + 1 - place),
+        Order::Backwards => {
+            if place == 0 {
+                let landed = arrived(p, n);
+                return step(p, n, landed);
+            }
+            track_at(p, n + 1 - place)
+        }
     }
 }
 

@@ -55,6 +55,9 @@ chosen-requires c κs =
 start-position-requires : tie.Need-start-position-requires
 start-position-requires c κs = search needs
 
+destination-requires : tie.Need-destination-requires
+destination-requires c κs = search needs
+
 second-weight-requires : tie.Need-second-weight-requires
 second-weight-requires c κs = search needs
 
@@ -64,36 +67,36 @@ weight-scale-requires c κs = search needs
 -- the second weight, and the scale of both
 light : (c : tie.After-second-weight) → c .second-weight .result ≤ 128
 light c =
-    let ready = c .before .before .before .before .before .before .before .pre in
+    let ready = c .before .before .before .before .before .before .before .before .pre in
     subst (λ (b : ℕ). b ≤ 128) (sym (c .second-weight .ensures)) (ready-ranges ready .«second_weight»)
 
 small : (c : tie.After-weight-scale) → c .weight-scale .result ≤ 256
 small c =
-    let x = c .before .before .before .before .before .before .before .before .args .x in
+    let x = c .before .before .before .before .before .before .before .before .before .args .x in
     subst (λ (s : ℕ). s ≤ 256) (sym (c .weight-scale .ensures)) (scale-small x)
 
-sub-t12 : tie.Need-sub-t12
-sub-t12 c = omega (arith, light (c .before))
-
-mul-t13 : tie.Need-mul-t13
-mul-t13 c =
-    let l : 256 - c .before .second-weight .result ≤ 256 = omega arith in
-    omega (arith, mul-le-mul (small c) l)
+sub-t13 : tie.Need-sub-t13
+sub-t13 c = omega (arith, light (c .before))
 
 mul-t14 : tie.Need-mul-t14
 mul-t14 c =
+    let l : 256 - c .before .second-weight .result ≤ 256 = omega arith in
+    omega (arith, mul-le-mul (small c) l)
+
+mul-t15 : tie.Need-mul-t15
+mul-t15 c =
     let l = light (c .before) in
     omega (arith, l, mul-le-mul (small c) l)
 
 returns : tie.Need-returns
 returns c =
-    let d = c .before .before .before .before .before in
+    let d = c .before .before .before .before .before .before in
     let a = d .before .before .before in
     let l = d .before .before .landing-at .ensures in
     let f = d .before .profile-of in
-    plan-is (a .args .x) (a .args .n) (f .result) _ (f .ensures .is) (way d) _ _ _ _ _
-    (exactly (search exact depth 9) tt)
-    (c .before .before .before .before .chosen .ensures) (exactly (search exact depth 9) tt)
+    plan-is (a .args .x) (a .args .n) (f .result) _ (f .ensures .is) (way d) _ _ _ _ _ _
+    (exactly (search exact depth 9) tt) (exactly (search exact depth 9) tt)
+    (c .before .before .before .before .before .chosen .ensures) (exactly (search exact depth 9) tt)
     (c .before .second-weight .ensures) (c .weight-scale .ensures)
 
 pub axis-plan-spec : {M : Type 1} → statement M
@@ -105,9 +108,10 @@ axis-plan-spec =
     displacement-requires
     chosen-requires
     start-position-requires
+    destination-requires
     second-weight-requires
     weight-scale-requires
-    sub-t12
-    mul-t13
+    sub-t13
     mul-t14
+    mul-t15
     returns)
