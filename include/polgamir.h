@@ -427,7 +427,7 @@ typedef struct polgamir_limits {
 typedef struct polgamir_tour {
     uint32_t mask;                           /* bit i is set where axis i takes part: 1 to 63 */
     int64_t start[POLGAMIR_AXES];            /* where each axis starts, at rest */
-    polgamir_limits limits[POLGAMIR_AXES];   /* the same for all legs */
+    polgamir_limits limits[POLGAMIR_AXES];   /* the same for all legs; of an axis that is not in the mask nothing is looked at */
 } polgamir_tour;
 
 /*

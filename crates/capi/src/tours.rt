@@ -3,7 +3,10 @@ use layout::tours::PolgamirTour;
 use layout::tours::settings_of;
 use model::Stop;
 use model::TourAnswer;
+use stops::StopRow;
+use stops::stop_row;
 ghost use Rattle.stops.specs.Promise.{TourPromise};
+ghost use Rattle.stops.specs.Rows.{rowStops};
 ghost use Rattle.layout.specs.Tours.{settingsOf};
 
 // Plans the legs of a tour, from its start over each stop in order, and writes each stop's arrival, counted from the tour's start, into the lent list.
@@ -17,6 +20,23 @@ pub extern "C" fn polgamir_plan_tour(
 ) -> TourAnswer
     ensures { λ r. ⌜ TourPromise (settingsOf tour) (now (stops .entry)) (now (arrivals .entry)) r (now (arrivals .exit)) ⌝ }
 {
+    let row = stop_row(stops);
+    tour_by_value(tour, row, arrivals)
+}
+
+// The same for stops by value. The stops are looked at first: where there is none, no field of the tour is read.
+fn tour_by_value(tour: PolgamirTour, row: StopRow, arrivals: &mut [u32]) -> TourAnswer
+    ensures { λ r. ⌜ TourPromise (settingsOf tour) (rowStops row) (now (arrivals .entry)) r (now (arrivals .exit)) ⌝ }
+{
+    if row.lent == 0 {
+        return TourAnswer {
+            number: 0,
+            place: 0,
+            mask: 0,
+            arrival: 0,
+            total: 0,
+        };
+    }
     let settings = settings_of(tour);
-    tour::plan_tour(settings, stops, arrivals)
+    tour::tour_of_row(settings, row, arrivals)
 }

@@ -1,1 +1,1 @@
-pub mod NamedAxes
+pub mod Named

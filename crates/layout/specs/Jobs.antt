@@ -68,10 +68,13 @@ axisOf a =
 
 -- ---- a job
 
--- the axes that the mask names, its lowest bit standing for the first; the others are not looked at, and unset
-unfoldable pub axesOf : ℕ → List PolgamirAxis → List Axis
-axesOf m [] = []
-axesOf m (x ∷ xs) = cond (eqb (m % 2) 1) (axisOf x) unsetAxis ∷ axesOf (m / 2) xs
+-- what the entries that a mask names stand for, its lowest bit standing for the first; the others are not looked at, and unset
+unfoldable pub namedOf : {A B : Type 0} → (A → B) → B → ℕ → List A → List B
+namedOf f unset m [] = []
+namedOf f unset m (x ∷ xs) = cond (eqb (m % 2) 1) (f x) unset ∷ namedOf f unset (m / 2) xs
+
+abbrev pub axesOf : ℕ → List PolgamirAxis → List Axis
+axesOf m l = namedOf axisOf unsetAxis m l
 
 -- none where they are given by 0: what follows is then not looked at; by any other number as they stand
 unfoldable pub windowsOf : PolgamirWindows → Windows

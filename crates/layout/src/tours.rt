@@ -2,10 +2,11 @@
 use crate::sway_of;
 use crate::weight_of;
 use model::AxisLimits;
+use model::SecondSway;
 use model::TourSettings;
+use model::Weight;
 ghost use mathlib.Core.Path.{_≡_};
-ghost use mathlib.Core.List.{map};
-ghost use Rattle.layout.specs.Tours.{limitsOf, settingsOf};
+ghost use Rattle.layout.specs.Tours.{limitsOf, unsetLimits, allLimitsOf, settingsOf};
 
 // The limits and the blend of an axis, laid out as the header's `polgamir_limits`. The damping and the second sway are as in an axis.
 #[repr(C)]
@@ -50,17 +51,34 @@ fn limits_of(l: PolgamirLimits) -> AxisLimits
     }
 }
 
-fn all_limits(list: [PolgamirLimits; 6]) -> [AxisLimits; 6]
-    ensures { λ r. ⌜ r ≡ map limitsOf list ⌝ }
+// What stands where the mask names no axis.
+fn unset_limits() -> AxisLimits
+    ensures { λ r. ⌜ r ≡ unsetLimits ⌝ }
 {
-    let front = list[0];
-    let first = limits_of(front);
-    let mut limits = [first; 6];
+    AxisLimits {
+        speed_limit: 0,
+        acceleration_limit: 0,
+        half_period: 0,
+        second_weight: Weight::Given(0),
+        second_sway: SecondSway::Absent,
+    }
+}
+
+// The limits of the axes that the mask names. The others are not read, and unset.
+fn all_limits(mask: u32, list: [PolgamirLimits; 6]) -> [AxisLimits; 6]
+    ensures { λ r. ⌜ r ≡ allLimitsOf mask list ⌝ }
+{
+    let unset = unset_limits();
+    let mut limits = [unset; 6];
+    let mut bits = mask;
     let mut i: usize = 0;
     while i < 6 {
-        let entry = list[i];
-        let next = limits_of(entry);
-        limits[i] = next;
+        if bits % 2 == 1 {
+            let entry = list[i];
+            let named = limits_of(entry);
+            limits[i] = named;
+        }
+        bits = bits / 2;
         i += 1;
     }
     limits
@@ -71,7 +89,7 @@ pub fn settings_of(t: PolgamirTour) -> TourSettings
 {
     let start = t.start;
     let list = t.limits;
-    let limits = all_limits(list);
+    let limits = all_limits(t.mask, list);
     TourSettings {
         mask: t.mask,
         start: start,
