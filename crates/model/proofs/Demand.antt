@@ -20,7 +20,7 @@ use Rattle.model.specs.Words.{Decoded}
 use Rattle.model.specs.Motion.{reachable}
 use Rattle.model.specs.Demand.{tableIn, cellAt, positionCell, velocityCell, accelerationCell, Lands, Carries, SwayCancelled}
 use Rattle.model.specs.Demand.{sway, Demand3, Demand3Holds, CellLimits, CellLimitsHold, ExactStart, ExactStartHolds, SameRows}
-use Rattle.model.specs.Misfit.{plannedVariation, SwayLeft, SwayLeftHolds}
+use Rattle.model.specs.Misfit.{plannedVariation, roundingLeft, SwayLeft, SwayLeftHolds}
 use Rattle.model.specs.Outcome.{Outcome, Input, call, callIn, jobRead, inputAxes, cellsNeeded}
 use Rattle.whole.proofs.Tests.{T-true}
 use Rattle.whole.proofs.Elements.{at-below, element}
@@ -144,7 +144,7 @@ module _ (o : Order) (xs : List Axis) (n : ℕ) (lent rest : List ℤ) (is : len
         record {
           exact = λ m E w h f. left-exact x n g m E w h f;
           rounded = λ m E G w h f b.
-              subst (λ (z : ℤ). divisor x * natAbs z ≤ plannedVariation x n * E + divisor x * (n * G))
+              subst (λ (z : ℤ). divisor x * natAbs z ≤ plannedVariation x n * E + divisor x * roundingLeft n G)
               (sway-same a (accelerationCell (tableIn o xs n lent) i) w m n a-is) (left-rounded x n g m E G w h f b);
         }
 

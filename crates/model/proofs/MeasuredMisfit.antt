@@ -4,19 +4,22 @@ use mathlib.Core.Path.{_≡_, sym, ap, _∙_, subst}
 use mathlib.Core.List.{[], _∷_}
 use mathlib.Core.Logic.{⊎-elim}
 use native.Mathlib.Omega.{arith}
-use native.Mathlib.Nat.{le-trans, add-mul, mul-le-mul-right}
-use lib.IntN.{ℤ, pos, natAbs, _+ℤ_, _-ℤ_, _*ℤ_, +ℤ-idr, +ℤ-invr}
+use native.Mathlib.Nat.{le-trans, add-mul, mul-add, mul-le-mul-left, mul-le-mul-right}
+use lib.IntN.{ℤ, pos, negℤ, natAbs, _+ℤ_, _-ℤ_, _*ℤ_, +ℤ-invr}
 use Rattle.whole.proofs.Differences.{whole, all₂}
-use Rattle.whole.proofs.Bounds.{add-holds, mul-holds}
+use Rattle.whole.proofs.Bounds.{add-holds, mul-holds, neg-holds}
+use Rattle.whole.proofs.Laws.{natAbs-*}
 use Rattle.whole.proofs.Ring.{pol, same}
 use Rattle.whole.proofs.Tests.{lt-or-le}
 use Rattle.model.specs.declared.Axis.{Axis}
 use Rattle.model.specs.declared.SecondSway.{SecondSway}
 use Rattle.model.specs.declared.SecondSway.the-variants.{Absent, HalfPeriod}
-use Rattle.model.specs.Quantities.{halfPeriod, secondWeight, swayDelay, secondHalfPeriod}
-use Rattle.model.specs.Demand.{Swings, Bounded}
-use Rattle.model.proofs.SwayExact.{paired}
-use Rattle.model.specs.Misfit.{misfitOnce, misfitBy, misfit, Misfits, apart, Gentle, onceMisfit, firstMisfitBy, firstMisfit, secondMisfit, MeasuredMisfits}
+use Rattle.model.specs.Quantities.{halfPeriod, secondWeight, swayDelay, secondHalfPeriod, delay}
+use Rattle.model.specs.Rows.{track, blend, divisor}
+use Rattle.model.specs.Demand.{CellTable, accelerationCell, sway}
+use Rattle.model.proofs.SwayExact.{paired, sway-weighted}
+use Rattle.model.specs.Misfit.{misfitOnce, misfitBy, misfit, Misfits, Entries, apart, Gentle, TruePole, weights, SwayOf, weighted}
+use Rattle.model.specs.Misfit.{byTick, measuredMisfit, firstMisfitBy, firstMisfit, secondMisfit, MeasuredMisfits, roundingLeft, SwayLeft, PoleLeft, MeasuredLeft}
 
 -- ---- entries k apart
 
@@ -75,106 +78,145 @@ module _ (x : Axis) where
       ∙ ap (λ (k : ℕ). A *ℤ w k +ℤ B *ℤ w (i + d) +ℤ misfitOnce x w i) order
       ∙ paired A B (w (i + h + d)) (w (i + d)) (w (i + h)) (w i)
 
+-- ---- one blend of a sway of the pole t
+
+module _ (t : TruePole) (m G D : ℕ) (u : ℕ → ℤ) (is : SwayOf t m G D u) where
+  -- entries of tick i and of half a period later are looked at
+  inside : (i : ℕ) → i ≤ m → t .entries * i + t .turn ≤ t .entries * m + t .turn
+  inside i q = let l : t .entries * i ≤ t .entries * m = mul-le-mul-left (t .entries) q in omega arith
+
+  one-blend : (A B h j : ℕ) → j + h ≤ m → natAbs (pos A *ℤ weighted t u (j + h) +ℤ pos B *ℤ weighted t u j) ≤ measuredMisfit A B h t G D
+  one-blend A B h j q =
+      subst (λ (k : ℤ). natAbs k ≤ measuredMisfit A B h t G D) (sym split)
+      (le-trans
+      (add-holds (pos (c * A) *ℤ (y -ℤ z)) (off *ℤ (z -ℤ v)) (c * A * (apart (t .turn) (t .entries * h) * D)) (size-of-off * (G + G))
+      (mul-holds (pos (c * A)) (y -ℤ z) (c * A) (apart (t .turn) (t .entries * h) * D) (omega arith) near)
+      (mul-holds off (z -ℤ v) size-of-off (G + G) (size ((A + B) * t .after) (c * B))
+      (add-holds z (negℤ v) G G (is .small (at + t .turn) (inside j (omega arith))) (neg-holds v G (is .small at (omega (arith, inside j (omega arith))))))))
+      (omega (arith, sorted c A (apart (t .turn) (t .entries * h) * D) size-of-off G)))
+    where
+      c : ℕ
+      c = weights t
+
+      at : ℕ
+      at = t .entries * j
+
+      y : ℤ
+      y = u (t .entries * (j + h))
+
+      z : ℤ
+      z = u (at + t .turn)
+
+      v : ℤ
+      v = u at
+
+      off : ℤ
+      off = pos ((A + B) * t .after) -ℤ pos (c * B)
+
+      size-of-off : ℕ
+      size-of-off = apart ((A + B) * t .after) (c * B)
+
+      size : (a b : ℕ) → natAbs (pos a -ℤ pos b) ≤ apart a b
+      size a b = simp whole (omega arith)
+
+      sorted : (c A e o G : ℕ) → c * A * e + o * (G + G) ≤ 2 * (o * G) + c * (A * e)
+      sorted c A e o G = omega arith
+
+      near : natAbs (y -ℤ z) ≤ apart (t .turn) (t .entries * h) * D
+      near =
+          let later : at + t .entries * h ≡ t .entries * (j + h) = sym (mul-add (t .entries) j h) in
+          subst (λ (k : ℕ). natAbs (u k -ℤ z) ≤ apart (t .turn) (t .entries * h) * D) later
+          (between u (t .entries * m + t .turn) D (is .gentle) at (t .turn) (t .entries * h) (inside j (omega arith)) (omega (arith, later, inside (j + h) q)))
+
+      parts : (A B a b y z v : ℤ) → A *ℤ ((a +ℤ b) *ℤ y) +ℤ B *ℤ ((a +ℤ b) *ℤ v)
+          ≡ (a +ℤ b) *ℤ A *ℤ (y -ℤ z) +ℤ ((A +ℤ B) *ℤ b -ℤ (a +ℤ b) *ℤ B) *ℤ (z -ℤ v) +ℤ (A +ℤ B) *ℤ (a *ℤ z +ℤ b *ℤ v)
+      parts A B a b y z v = same (A ∷ B ∷ a ∷ b ∷ y ∷ z ∷ v ∷ []) (search pol depth 20 fits 9000) tt
+
+      none : (a k : ℤ) → a +ℤ k *ℤ pos 0 ≡ a
+      none a k = same (a ∷ k ∷ []) (search pol depth 20 fits 9000) tt
+
+      split : pos A *ℤ weighted t u (j + h) +ℤ pos B *ℤ weighted t u j ≡ pos (c * A) *ℤ (y -ℤ z) +ℤ off *ℤ (z -ℤ v)
+      split =
+          parts (pos A) (pos B) (pos (t .before)) (pos (t .after)) y z v
+          ∙ ap (λ (k : ℤ). pos (c * A) *ℤ (y -ℤ z) +ℤ off *ℤ (z -ℤ v) +ℤ pos (A + B) *ℤ k) (is .fits at (inside j (omega arith)))
+          ∙ none (pos (c * A) *ℤ (y -ℤ z) +ℤ off *ℤ (z -ℤ v)) (pos (A + B))
+
 module _ (x : Axis) (weight : secondWeight x ≤ 256) where
   -- ---- the first rate
 
-  size : (a b : ℕ) → natAbs (pos a -ℤ pos b) ≤ apart b a
-  size a b = simp whole (omega arith)
+  -- what one blend of a list is at most, and two
+  both-blends : (w : ℕ → ℤ) (i m E : ℕ) → ((j : ℕ) → i ≤ j → j + h x ≤ m → natAbs (misfitOnce x w j) ≤ E)
+      → i + delay x ≤ m → natAbs (misfit x w i) ≤ firstMisfitBy (x .«second_sway») E
+  both-blends w i m E once q = go (x .«second_sway») q
+    where
+      twice : (a : ℕ) → a + a ≤ 2 * a
+      twice a = omega arith
 
-  module _ (b p m G D : ℕ) (w : ℕ → ℤ) (range : b ≤ 256) (fits : Swings (pos (256 - b)) (pos b) p (m + p) w) (small : Bounded (m + p) G w)
-      (gentle : Gentle (m + p) D w) where
-    abbrev off : ℕ
-    off = apart b (secondWeight x)
+      go : (u : SecondSway) → i + (h x + swayDelay u) ≤ m → natAbs (misfitBy u x w i) ≤ firstMisfitBy u E
+      go Absent l = once i (omega arith) (omega arith)
+      go (HalfPeriod d) l =
+          le-trans
+          (add-holds (misfitOnce x w (i + d)) (misfitOnce x w i) E E (once (i + d) (omega arith) (omega arith)) (once i (omega arith) (omega arith)))
+          (twice E)
 
-    each : ℕ
-    each = onceMisfit x b p G D
-
-    once : (j : ℕ) → j + h x ≤ m → natAbs (misfitOnce x w j) ≤ each
-    unfolding each
-    once j q =
-        subst (λ (z : ℤ). natAbs z ≤ each) (sym split)
-        (le-trans
-        (add-holds (A x *ℤ (y -ℤ z)) ((A x -ℤ A′) *ℤ z +ℤ (B x -ℤ B′) *ℤ v) _ (off * G + off * G)
-        (mul-holds (A x) (y -ℤ z) (256 - secondWeight x) (apart p (h x) * D) (omega arith) (between w (m + p) D gentle j p (h x) (omega arith) (omega arith)))
-        (add-holds ((A x -ℤ A′) *ℤ z) ((B x -ℤ B′) *ℤ v) (off * G) (off * G)
-        (mul-holds (A x -ℤ A′) z off G first-weight (small (j + p) (omega arith))) (mul-holds (B x -ℤ B′) v off G (size (secondWeight x) b) (small j (omega arith)))))
-        (omega arith))
-      where
-        A′ : ℤ
-        A′ = pos (256 - b)
-
-        B′ : ℤ
-        B′ = pos b
-
-        y : ℤ
-        y = w (j + h x)
-
-        z : ℤ
-        z = w (j + p)
-
-        v : ℤ
-        v = w j
-
-        parts : (A B a b y z v : ℤ) → A *ℤ y +ℤ B *ℤ v ≡ A *ℤ (y -ℤ z) +ℤ ((A -ℤ a) *ℤ z +ℤ (B -ℤ b) *ℤ v) +ℤ (a *ℤ z +ℤ b *ℤ v)
-        parts A B a b y z v = same (A ∷ B ∷ a ∷ b ∷ y ∷ z ∷ v ∷ []) (search pol depth 20 fits 9000) tt
-
-        split : misfitOnce x w j ≡ A x *ℤ (y -ℤ z) +ℤ ((A x -ℤ A′) *ℤ z +ℤ (B x -ℤ B′) *ℤ v)
-        split =
-            parts (A x) (B x) A′ B′ y z v
-            ∙ ap (λ (u : ℤ). A x *ℤ (y -ℤ z) +ℤ ((A x -ℤ A′) *ℤ z +ℤ (B x -ℤ B′) *ℤ v) +ℤ u) (fits j (omega arith))
-            ∙ +ℤ-idr (A x *ℤ (y -ℤ z) +ℤ ((A x -ℤ A′) *ℤ z +ℤ (B x -ℤ B′) *ℤ v))
-
-        rest : (a b : ℕ) → a ≤ 256 → b ≤ 256 → apart (256 - b) (256 - a) ≤ apart b a
-        rest a b p q = omega arith
-
-        first-weight : natAbs (A x -ℤ A′) ≤ off
-        first-weight = le-trans (size (256 - secondWeight x) (256 - b)) (rest (secondWeight x) b weight range)
-
-    near-first : Misfits x m (firstMisfit x b p G D) w
-    unfolding each
-    near-first i q = go (x .«second_sway») q
-      where
-        twice : (a : ℕ) → a + a ≤ 2 * a
-        twice a = omega arith
-
-        go : (u : SecondSway) → i + (h x + swayDelay u) ≤ m → natAbs (misfitBy u x w i) ≤ firstMisfitBy u each
-        go Absent l = once i (omega arith)
-        go (HalfPeriod d) l =
-            le-trans (add-holds (misfitOnce x w (i + d)) (misfitOnce x w i) each each (once (i + d) (omega arith)) (once i (omega arith))) (twice each)
+  near-first : (t : TruePole) (n m G D : ℕ) (u : ℕ → ℤ) → SwayOf t m G D u → Misfits x n m (firstMisfit x t G D) (weighted t u)
+  near-first t n m G D u is i l q =
+      both-blends (weighted t u) i m _ (λ j a p. one-blend t m G D u is (256 - secondWeight x) (secondWeight x) (h x) j p) q
 
   -- ---- the second rate
 
-  near-second : (d p m D : ℕ) (w : ℕ → ℤ) → x .«second_sway» ≡ HalfPeriod d → Swings (pos 1) (pos 1) p (m + p) w → Gentle (m + p) D w
-      → Misfits x m (secondMisfit d p D) w
-  near-second d p m D w e fits gentle i q =
-      let is : secondHalfPeriod x ≡ d = ap swayDelay e in
-      subst (λ (z : ℤ). natAbs z ≤ 256 * each) (sym (second-misfit x d w i e))
-      (le-trans
-      (add-holds (A x *ℤ pair (i + h x)) (B x *ℤ pair i) ((256 - secondWeight x) * each) (secondWeight x * each)
-      (mul-holds (A x) (pair (i + h x)) (256 - secondWeight x) each (omega arith) (near (i + h x) (omega arith)))
-      (mul-holds (B x) (pair i) (secondWeight x) each (omega arith) (near i (omega arith))))
-      (weights (secondWeight x) each weight))
+  -- A of one number and B of another, both at most e
+  mixed : (y z : ℤ) (e : ℕ) → natAbs y ≤ e → natAbs z ≤ e → natAbs (A x *ℤ y +ℤ B x *ℤ z) ≤ 256 * e
+  mixed y z e p q =
+      le-trans
+      (add-holds (A x *ℤ y) (B x *ℤ z) ((256 - secondWeight x) * e) (secondWeight x * e) (mul-holds (A x) y (256 - secondWeight x) e (omega arith) p)
+      (mul-holds (B x) z (secondWeight x) e (omega arith) q))
+      (sum (secondWeight x) e weight)
     where
-      each : ℕ
-      each = apart p d * D
+      sum : (b c : ℕ) → b ≤ 256 → (256 - b) * c + b * c ≤ 256 * c
+      sum b c l = let u : 256 - b + b ≤ 256 = omega arith in le-trans (omega (arith, add-mul (256 - b) b c)) (mul-le-mul-right c u)
 
-      weights : (b c : ℕ) → b ≤ 256 → (256 - b) * c + b * c ≤ 256 * c
-      weights b c l = let u : 256 - b + b ≤ 256 = omega arith in le-trans (omega (arith, add-mul (256 - b) b c)) (mul-le-mul-right c u)
-
+  near-second : (d : ℕ) (t : TruePole) (n m G D : ℕ) (u : ℕ → ℤ) → x .«second_sway» ≡ HalfPeriod d → SwayOf t m G D u
+      → Misfits x n m (secondMisfit d t G D) (weighted t u)
+  near-second d t n m G D u e is i l q =
+      let last : secondHalfPeriod x ≡ d = ap swayDelay e in
+      subst (λ (z : ℤ). natAbs z ≤ secondMisfit d t G D) (sym (second-misfit x d (weighted t u) i e))
+      (mixed (pair (i + h x)) (pair i) (measuredMisfit 1 1 d t G D) (one-blend t m G D u is 1 1 d (i + h x) (omega arith))
+      (one-blend t m G D u is 1 1 d i (omega arith)))
+    where
       pair : ℕ → ℤ
-      pair j = pos 1 *ℤ w (j + d) +ℤ pos 1 *ℤ w j
+      pair j = pos 1 *ℤ weighted t u (j + d) +ℤ pos 1 *ℤ weighted t u j
 
-      parts : (y z v : ℤ) → pos 1 *ℤ y +ℤ pos 1 *ℤ v ≡ y -ℤ z +ℤ (pos 1 *ℤ z +ℤ pos 1 *ℤ v)
-      parts y z v = same (y ∷ z ∷ v ∷ []) (search pol depth 20 fits 9000) tt
+  -- ---- whatever it fits
 
-      near : (j : ℕ) → j + d ≤ m → natAbs (pair j) ≤ each
-      near j l =
-          subst (λ (z : ℤ). natAbs z ≤ each)
-          (sym
-          (parts (w (j + d)) (w (j + p)) (w j)
-          ∙ ap (λ (u : ℤ). w (j + d) -ℤ w (j + p) +ℤ u) (fits j (omega arith))
-          ∙ +ℤ-idr (w (j + d) -ℤ w (j + p))))
-          (between w (m + p) D gentle j p d (omega arith) (omega arith))
+  near-any : (n m G : ℕ) (w : ℕ → ℤ) → Entries n m G w → Misfits x n m (firstMisfitBy (x .«second_sway») (256 * G)) w
+  near-any n m G w small i l q =
+      both-blends w i m (256 * G) (λ j a p. mixed (w (j + h x)) (w j) G (small (j + h x) (omega arith) p) (small j (omega arith) (omega arith))) q
 
   pub measured-misfits : MeasuredMisfits x
-  measured-misfits = record { first = near-first; second = near-second }
+  measured-misfits = record { first = near-first; second = near-second; any = near-any }
+
+-- ---- what is left of such a sway
+
+module _ (most : Axis → ℕ → ℕ) (x : Axis) (weight : secondWeight x ≤ 256) (k n : ℕ) (g : CellTable) (left : SwayLeft most x k n g) where
+  by-misfits : (t : TruePole) (m G D E : ℕ) (u : ℕ → ℤ) → n ≤ m → SwayOf t m G D u → Misfits x n m E (weighted t u) → PoleLeft x k n g t m G (most x n * E) u
+  by-misfits t m G D E u q is f =
+      record {
+        exact = subst (λ (z : ℕ). z ≤ most x n * E) (times (λ k. blend (track n x) k (λ s. s .acceleration))) (left .exact m E (weighted t u) q f);
+        rounded = subst (λ (z : ℕ). divisor x * z ≤ most x n * E + divisor x * roundingLeft n (weights t * G)) (times (accelerationCell g k))
+            (left .rounded m E (weights t * G) (weighted t u) q f entries);
+      }
+    where
+      times : (a : ℕ → ℤ) → natAbs (sway a (weighted t u) m n) ≡ weights t * natAbs (sway a (byTick t u) m n)
+      times a = ap natAbs (sway-weighted (pos (weights t)) a (byTick t u) m n) ∙ natAbs-* (pos (weights t)) (sway a (byTick t u) m n)
+
+      entries : Entries n m (weights t * G) (weighted t u)
+      entries i l p =
+          mul-holds (pos (weights t)) (byTick t u i) (weights t) G (omega arith) (is .small (t .entries * i) (omega (arith, inside t m G D u is i p)))
+
+  pub measured-left : MeasuredLeft most x k n g
+  measured-left =
+      record {
+        first = λ t m G D u q is. by-misfits t m G D (firstMisfit x t G D) u q is (near-first x weight t n m G D u is);
+        second = λ d t m G D u q e is. by-misfits t m G D (secondMisfit d t G D) u q is (near-second x weight d t n m G D u e is);
+      }

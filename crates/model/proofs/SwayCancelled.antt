@@ -23,7 +23,7 @@ use Rattle.model.specs.Refusals.{Ready}
 use Rattle.model.proofs.TwoBlends.{both, bothDivisor, both-some, both-is, timesBy, times, times-some, weights-times, divisor-some}
 use Rattle.model.proofs.ReadyAxis as R
 use Rattle.model.specs.Demand.{Swing, first, second, Bounded, sway}
-use Rattle.model.specs.Misfit.{misfitOnce, misfitBy, misfit, Misfits, plannedVariation}
+use Rattle.model.specs.Misfit.{misfitOnce, misfitBy, misfit, Misfits, Entries, variation, plannedVariation, roundingLeft}
 use Rattle.model.proofs.Landing.{exact-acceleration, lands-acceleration}
 use Rattle.model.proofs.PlannedTarget.{tick-landed}
 use Rattle.model.proofs.SwayExact.{sway-same, sway-times, back, back-none, filtered, filtered-twice, filtered-steady, paired, smoothed, sway-exact, sway-small}
@@ -136,11 +136,11 @@ module _ (x : Axis) (n : ℕ) (r : Ready x n) where
 
   -- ---- before rounding
 
-  both-left : (m E : ℕ) (w : ℕ → ℤ) → n ≤ m → Misfits x m E w → natAbs (sway exact w m n) ≤ times x * (plannedVariation x n * E)
+  both-left : (m E : ℕ) (w : ℕ → ℤ) → n ≤ m → Misfits x n m E w → natAbs (sway exact w m n) ≤ times x * (plannedVariation x n * E)
   unfolding α
   both-left m E w q f =
       subst (λ (z : ℤ). natAbs z ≤ times x * (plannedVariation x n * E)) (sym (planned-sway m w))
-      (le-trans (sway-small α (misfits w) m T (times x * E) small) (sorted (plannedVariation x n) (times x) E))
+      (le-trans (sway-small α (misfits w) m T (times x * E) small) (omega (arith, sorted (variation α T) (times x) E)))
     where
       sorted : (a b c : ℕ) → a * (b * c) ≤ b * (a * c)
       sorted a b c = omega arith
@@ -148,10 +148,10 @@ module _ (x : Axis) (n : ℕ) (r : Ready x n) where
       small : (i : ℕ) → m ≤ i + T → i ≤ m → natAbs (misfits w i) ≤ times x * E
       small i a b =
           subst (λ (z : ℤ). natAbs z ≤ times x * E) (sym (misfits-are w i (i - (h + s)) (omega (arith, arrival))))
-          (mul-holds (pos (times x)) (misfit x w (i - (h + s))) (times x) E (omega arith) (f (i - (h + s)) (omega (arith, arrival))))
+          (mul-holds (pos (times x)) (misfit x w (i - (h + s))) (times x) E (omega arith) (f (i - (h + s)) (omega (arith, arrival)) (omega (arith, arrival))))
 
   -- the blend is a part of the two
-  pub left-exact : (m E : ℕ) (w : ℕ → ℤ) → n ≤ m → Misfits x m E w
+  pub left-exact : (m E : ℕ) (w : ℕ → ℤ) → n ≤ m → Misfits x n m E w
       → natAbs (sway (λ k. blend (track n x) k (λ s. s .acceleration)) w m n) ≤ plannedVariation x n * E
   left-exact m E w q f =
       le-of-mul-le-mul-left {k = times x} (subst (λ (k : ℕ). k ≤ times x * (plannedVariation x n * E)) part (both-left m E w q f)) (times-some x)
@@ -170,31 +170,34 @@ module _ (x : Axis) (n : ℕ) (r : Ready x n) where
 
   -- ---- as rounded
 
-  pub left-rounded : (m E G : ℕ) (w : ℕ → ℤ) → n ≤ m → Misfits x m E w → Bounded m G w
-      → divisor x * natAbs (sway (λ k. nearest (exact k) (bothDivisor x)) w m n) ≤ plannedVariation x n * E + divisor x * (n * G)
+  pub left-rounded : (m E G : ℕ) (w : ℕ → ℤ) → n ≤ m → Misfits x n m E w → Entries n m G w
+      → divisor x * natAbs (sway (λ k. nearest (exact k) (bothDivisor x)) w m n) ≤ plannedVariation x n * E + divisor x * roundingLeft n G
   left-rounded m E G w q f b =
-      le-of-mul-le-mul-left {k = times x}
-      (shared (times x) (divisor x) (bothDivisor x) (natAbs (sway cell w m n)) (plannedVariation x n * E) (n * G)
-      (weights-times (x .«second_sway») (finer x)) (go n (omega (arith, R.after x n r)) (both-left m E w q f) last-whole))
-      (times-some x)
+      omega (
+        arith,
+        le-of-mul-le-mul-left {k = times x}
+            (shared (times x) (divisor x) (bothDivisor x) (natAbs (sway cell w m n)) (plannedVariation x n * E) (n * G)
+            (weights-times (x .«second_sway») (finer x)) (go n (omega arith) (omega (arith, R.after x n r)) (both-left m E w q f) last-whole))
+            (times-some x),
+      )
     where
       cell : ℕ → ℤ
       cell k = nearest (exact k) (bothDivisor x)
 
-      go : (i : ℕ) → 0 < i → natAbs (sway exact w m i) ≤ times x * (plannedVariation x n * E) → pos (bothDivisor x) *ℤ cell i -ℤ exact i ≡ pos 0
+      go : (i : ℕ) → i ≤ n → 0 < i → natAbs (sway exact w m i) ≤ times x * (plannedVariation x n * E) → pos (bothDivisor x) *ℤ cell i -ℤ exact i ≡ pos 0
           → bothDivisor x * natAbs (sway cell w m i) ≤ times x * (plannedVariation x n * E) + bothDivisor x * (i * G)
-      go zero z e f = absurd (omega arith)
-      go (suc i) z e f =
-          sway-rounded (bothDivisor x) (256 * finer x) (omega arith) exact cell w m G
-          (λ k. nearest-half (exact k) (bothDivisor x) (both-some x)) b i f (times x * (plannedVariation x n * E)) e
+      go zero l z e f = absurd (omega arith)
+      go (suc i) l z e f =
+          sway-rounded (bothDivisor x) (256 * finer x) (omega arith) exact cell w n m G
+          (λ k. nearest-half (exact k) (bothDivisor x) (both-some x)) b i l f (times x * (plannedVariation x n * E)) e
 
       shared : (t d b c u v : ℕ) → t * d ≡ b → b * c ≤ t * u + b * v → t * (d * c) ≤ t * (u + d * v)
       shared t d b c u v e q = let p : t * d * c ≤ t * u + t * d * v = subst (λ (k : ℕ). k * c ≤ t * u + k * v) (sym e) q in omega arith
 
   -- ---- a swing list has no misfit
 
-  none-left : (m : ℕ) (w : ℕ → ℤ) → Swing x m w → Misfits x m 0 w
-  none-left m w g i q = let e : misfit x w i ≡ pos 0 = go g in omega (arith, ap natAbs e)
+  none-left : (m : ℕ) (w : ℕ → ℤ) → Swing x m w → Misfits x n m 0 w
+  none-left m w g i l q = let e : misfit x w i ≡ pos 0 = go g in omega (arith, ap natAbs e)
     where
       by-first : (u : SecondSway) → i + (h + swayDelay u) ≤ m → ((j : ℕ) → j + h ≤ m → misfitOnce x w j ≡ pos 0) → misfitBy u x w i ≡ pos 0
       by-first Absent q fits = fits i (omega arith)
@@ -219,4 +222,4 @@ module _ (x : Axis) (n : ℕ) (r : Ready x n) where
   pub cancelled-rounded : (m G : ℕ) (w : ℕ → ℤ) → n ≤ m → Swing x m w → Bounded m G w
       → natAbs (sway (λ k. nearest (exact k) (bothDivisor x)) w m n) ≤ n * G
   cancelled-rounded m G w q g b =
-      le-of-mul-le-mul-left {k = divisor x} (le-trans (left-rounded m 0 G w q (none-left m w g) b) (omega arith)) (divisor-some x)
+      le-of-mul-le-mul-left {k = divisor x} (le-trans (left-rounded m 0 G w q (none-left m w g) (λ i l p. b i p)) (omega arith)) (divisor-some x)

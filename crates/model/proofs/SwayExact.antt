@@ -30,6 +30,13 @@ sway-times a c w m (suc k) =
     ap (λ (z : ℤ). z +ℤ (a *ℤ c (suc k) -ℤ a *ℤ c k) *ℤ w (m - suc k)) (sway-times a c w m k)
     ∙ same (a ∷ sway c w m k ∷ c (suc k) ∷ c k ∷ w (m - suc k) ∷ []) (search pol depth 20 fits 9000) tt
 
+-- and in the list
+pub sway-weighted : (a : ℤ) (c w : ℕ → ℤ) (m k : ℕ) → sway c (λ i. a *ℤ w i) m k ≡ a *ℤ sway c w m k
+sway-weighted a c w m zero = same (a ∷ c 0 ∷ w m ∷ []) (search pol depth 20 fits 9000) tt
+sway-weighted a c w m (suc k) =
+    ap (λ (z : ℤ). z +ℤ (c (suc k) -ℤ c k) *ℤ (a *ℤ w (m - suc k))) (sway-weighted a c w m k)
+    ∙ same (a ∷ sway c w m k ∷ c (suc k) ∷ c k ∷ w (m - suc k) ∷ []) (search pol depth 20 fits 9000) tt
+
 -- f h ticks back, 0 before tick 0
 abbrev pub back : (ℕ → ℤ) → ℕ → ℕ → ℤ
 back f h k = elim (ltb k h) [ true ↦ pos 0 | false ↦ f (k - h) ]

@@ -12,9 +12,10 @@ use Rattle.whole.proofs.Bounds.{add-holds, mul-holds, neg-holds}
 use Rattle.whole.proofs.Ring.{pol, same}
 use Rattle.whole.proofs.Rounding.{WithinHalf, half-iff}
 use Rattle.model.specs.Demand.{accelerationChange, sway}
+use Rattle.model.specs.Misfit.{Entries}
 
-module _ (d e : ℕ) (even : d ≡ 2 * e) (x c w : ℕ → ℤ) (m G : ℕ) (near : (k : ℕ) → WithinHalf (x k) d (c k))
-    (small : (i : ℕ) → i ≤ m → natAbs (w i) ≤ G) where
+module _ (d e : ℕ) (even : d ≡ 2 * e) (x c w : ℕ → ℤ) (l m G : ℕ) (near : (k : ℕ) → WithinHalf (x k) d (c k))
+    (small : Entries l m G w) where
   -- d times the error of a cell
   abbrev error : ℕ → ℤ
   error k = pos d *ℤ c k -ℤ x k
@@ -43,16 +44,16 @@ module _ (d e : ℕ) (even : d ≡ 2 * e) (x c w : ℕ → ℤ) (m G : ℕ) (nea
           ≡ s +ℤ (y -ℤ z) *ℤ g +ℤ (u +ℤ (d *ℤ a -ℤ y -ℤ (d *ℤ b -ℤ z)) *ℤ g)
       gathered d s u a b y z g = same (d ∷ s ∷ u ∷ a ∷ b ∷ y ∷ z ∷ g ∷ []) (search pol depth 20 fits 9000) tt
 
-  grows : (n : ℕ) → natAbs (sway error w m n) ≤ e * G + 2 * (e * G) * n
-  grows zero = le-trans (mul-holds (error 0) (w m) e G (error-small 0) (small m (omega arith))) (omega arith)
-  grows (suc n) =
+  grows : (n : ℕ) → n ≤ l → natAbs (sway error w m n) ≤ e * G + 2 * (e * G) * n
+  grows zero h = le-trans (mul-holds (error 0) (w m) e G (error-small 0) (small m (omega arith) (omega arith))) (omega arith)
+  grows (suc n) h =
       le-trans
-      (add-holds (sway error w m n) (accelerationChange error (suc n) *ℤ w (m - suc n)) (e * G + 2 * (e * G) * n) ((e + e) * G) (grows n)
-      (mul-holds (accelerationChange error (suc n)) (w (m - suc n)) (e + e) G (change-small n) (small (m - suc n) (omega arith))))
+      (add-holds (sway error w m n) (accelerationChange error (suc n) *ℤ w (m - suc n)) (e * G + 2 * (e * G) * n) ((e + e) * G) (grows n (omega arith))
+      (mul-holds (accelerationChange error (suc n)) (w (m - suc n)) (e + e) G (change-small n) (small (m - suc n) (omega arith) (omega arith))))
       (omega (arith, mul-suc (2 * (e * G)) n, add-mul e e G))
 
   -- the last row is exact
-  module _ (n : ℕ) (whole-row : error (suc n) ≡ pos 0) where
+  module _ (n : ℕ) (some : suc n ≤ l) (whole-row : error (suc n) ≡ pos 0) where
     last-small : natAbs (accelerationChange error (suc n)) ≤ e
     last-small =
         subst (λ (z : ℤ). natAbs (z -ℤ error n) ≤ e) (sym whole-row)
@@ -61,8 +62,8 @@ module _ (d e : ℕ) (even : d ≡ 2 * e) (x c w : ℕ → ℤ) (m G : ℕ) (nea
     total : natAbs (sway error w m (suc n)) ≤ d * (suc n * G)
     total =
         le-trans
-        (add-holds (sway error w m n) (accelerationChange error (suc n) *ℤ w (m - suc n)) (e * G + 2 * (e * G) * n) (e * G) (grows n)
-        (mul-holds (accelerationChange error (suc n)) (w (m - suc n)) e G last-small (small (m - suc n) (omega arith))))
+        (add-holds (sway error w m n) (accelerationChange error (suc n) *ℤ w (m - suc n)) (e * G + 2 * (e * G) * n) (e * G) (grows n (omega arith))
+        (mul-holds (accelerationChange error (suc n)) (w (m - suc n)) e G last-small (small (m - suc n) (omega arith) (omega arith))))
         (subst (λ (k : ℕ). e * G + 2 * (e * G) * n + e * G ≤ k * (suc n * G)) (sym even) (same-size e G n))
       where
         same-size : (e G n : ℕ) → e * G + 2 * (e * G) * n + e * G ≤ 2 * e * (suc n * G)

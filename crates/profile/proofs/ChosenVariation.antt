@@ -1,5 +1,6 @@
 -- How much the planned accelerations of an axis change in all: at most 3μ + 2 before the landing, and 4μ + |α| + 2 with it, μ being the acceleration limit
--- and α the target's acceleration. So much is the most that a misfit of 1 leaves of a sway: `sway-most`.
+-- and α the target's acceleration. So much is the most that a misfit of 1 leaves of a sway: `sway-most`; and
+-- with the misfits of a pole that was measured with an error: `measured-most`.
 use Prim.Native.Nat.{ℕ, zero, suc, _+_, _-_, _*_, _^_, _≤_, _<_}
 use mathlib.Core.Path.{_≡_, refl, sym, ap, ap₂, subst, _∙_}
 use mathlib.Core.List.{[], _∷_}
@@ -28,11 +29,12 @@ use Rattle.model.proofs.Envelopes.{Joined, clamped-end}
 use Rattle.model.proofs.ChosenMeets.{chosen-meets}
 use Rattle.model.proofs.FeasibleTests.{feasible-joined}
 use Rattle.model.proofs.PlannedTarget.{tick-landed}
-use Rattle.model.proofs.ReadyAxis.{after, some-acceleration, speed-range, moves}
+use Rattle.model.proofs.MeasuredMisfit.{measured-left}
+use Rattle.model.proofs.ReadyAxis.{after, weight-range, some-acceleration, speed-range, moves}
 use Rattle.model.proofs.CellLimits.{planned-change, now-acceleration}
 use Rattle.model.proofs.Demand.{ready-axes, sway-left}
 use Rattle.profile.specs.declared.Regions.{Regions}
-use Rattle.profile.specs.Variation.{mostVariation, MostSwayHolds}
+use Rattle.profile.specs.Variation.{mostVariation, MostSwayHolds, MostMeasuredHolds}
 use Rattle.profile.specs.Regions.{rise, fall, chosenRegions, velocityIn}
 use Rattle.profile.proofs.ThreeRegions.{Towards, start-towards, end-towards, on-start, on-end}
 use Rattle.profile.proofs.ChosenRegions.{in-start, in-end, in-raised, in-level, cruise-within, chosen-entry}
@@ -266,3 +268,7 @@ wider p q x i n g h l =
 pub sway-most : MostSwayHolds
 sway-most o q lent z i x e =
     wider plannedVariation mostVariation x i _ _ (planned-variation x _ (ready-axes o q lent z i x e)) (sway-left o q lent z i x e)
+
+pub measured-most : MostMeasuredHolds
+measured-most o q lent z i x e =
+    measured-left mostVariation x (weight-range x _ (ready-axes o q lent z i x e)) i _ _ (sway-most o q lent z i x e)

@@ -5,7 +5,7 @@ use lib.IntN.{natAbs}
 use Rattle.model.specs.declared.Axis.{Axis}
 use Rattle.model.specs.Quantities.{accelerationSteps}
 use Rattle.model.specs.Motion.{landingAcceleration}
-use Rattle.model.specs.Misfit.{SwayLeftHolds}
+use Rattle.model.specs.Misfit.{SwayLeftHolds, MeasuredLeftHolds}
 
 abbrev pub mostVariation : Axis → ℕ → ℕ
 mostVariation x n = 4 * accelerationSteps x + natAbs (landingAcceleration x n) + 2
@@ -13,3 +13,7 @@ mostVariation x n = 4 * accelerationSteps x + natAbs (landingAcceleration x n) +
 -- so much is left of a sway
 abbrev pub MostSwayHolds : Type 0
 MostSwayHolds = SwayLeftHolds mostVariation
+
+-- and of a sway of a pole that was measured with an error
+abbrev pub MostMeasuredHolds : Type 0
+MostMeasuredHolds = MeasuredLeftHolds mostVariation
