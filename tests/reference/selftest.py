@@ -16,6 +16,7 @@ import backwards
 import convertcases
 import damping
 import dampingcases
+import misfit
 import partcases
 import parts
 import railcases
@@ -913,9 +914,10 @@ def main():
     rows_are_turned(rng)
     part_readings()
     parts_make_the_table(rng)
+    misfit.checks(rng)
     print('reference: field cases, traps, settled readings, ranges, definitions, rounding, demand 3, tours, damping,',
           'windows, accelerating targets on damped poles, positions past 28 bits, a second sway, raises, the converter,',
-          'the search, rows backwards, rows in parts: ok')
+          'the search, rows backwards, rows in parts, poles that fit only nearly: ok')
     return 0
 
 

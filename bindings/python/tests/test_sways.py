@@ -13,9 +13,10 @@ HERE = Path(__file__).resolve().parent
 sys.path[:0] = [str(HERE), str(HERE.parent), str(HERE.parents[2] / "tests" / "reference")]
 
 import cases
+import misfit
 from polgamir import (Axis, Fixed, Job, Moving, Refusal, RestPoint, SwayLeft, Weight, acceleration_changes, misfit_bound,
                       second_sway_bound, sway_bound, sway_left, sways)
-from test_reference import damping_of
+from test_reference import axis_of, damping_of
 
 
 def on_pole(half_period, weight, second=None, target=Fixed(4), acceleration_limit=1, speed_limit=10):
@@ -92,6 +93,30 @@ class Measured(unittest.TestCase):
                     sways._weight(damping_of(given))
             else:
                 self.assertEqual(sways._weight(damping_of(given)), weight)
+
+
+class AgainstTheReference(unittest.TestCase):
+    """The numbers are the reference's fractions, rounded upward."""
+
+    def test_drawn_axes(self):
+        drawn, tried = random.Random(25), 0
+        for rows in misfit.drawn_rows(drawn, 70):
+            axis, n = axis_of(rows.axis), rows.arrival
+            self.assertEqual(acceleration_changes(axis), misfit.most_changes(rows.axis))
+            e, g, d = drawn.randint(0, 10**9), drawn.randint(0, 10**6), drawn.randint(0, 10**6)
+            self.assertEqual(sway_left(axis, n, e, g), tuple(map(math.ceil, misfit.left(rows.axis, n, e, g))))
+            late, more = Fraction(drawn.randint(-99, 99), 30), Fraction(-drawn.randint(0, 99), 400)
+            ratio = Fraction(rows.axis.second_weight, 256 - rows.axis.second_weight)
+            pole = misfit.Pole(rows.axis.half_period + late, ratio + more)
+            if pole.half_period > 0 and pole.ratio > 0:
+                self.assertEqual(misfit_bound(axis, late, more, g, d), math.ceil(misfit.pole_misfit(rows.axis, pole, g, d)))
+                self.assertEqual(sway_bound(axis, n, late, more), misfit.pole_left(rows.axis, n, pole))
+                tried += 1
+            second = misfit.Pole((axis.second_half_period or 0) + late, 1 + more, second=True)
+            if axis.second_half_period and second.half_period > 0:
+                self.assertEqual(second_sway_bound(axis, n, late, more), misfit.pole_left(rows.axis, n, second))
+                tried += 1
+        self.assertGreater(tried, 50)
 
 
 class Poles(unittest.TestCase):
