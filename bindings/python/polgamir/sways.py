@@ -90,7 +90,7 @@ def _second_weight(axis: Axis) -> int:
 
 
 def _changes(axis: Axis) -> Tuple[int, int]:
-    """V of `acceleration_changes`, and what a blended acceleration is divided by to give fine steps."""
+    """W of `acceleration_changes`, and what a blended acceleration is divided by to give fine steps."""
     damped = _second_weight(axis) != 128 and axis.half_period > 0
     target = abs(axis.target.acceleration) if isinstance(axis.target, Moving) else 0
     finer, weights = 1, 256
@@ -154,7 +154,7 @@ def _pole_left(axis: Axis, rate: _Rate, arrival: int, pole: _Pole) -> SwayLeft:
 
 
 def acceleration_changes(axis: Axis) -> int:
-    """V, the most that the planned accelerations of an axis change in all, from tick 0 to the landing.
+    """W, the most that the planned accelerations of an axis change in all, from tick 0 to the landing.
 
     It is 4 m + |a| + 2 steps of the axis's grid, where m is the acceleration limit and a the target's acceleration
     in these steps. The grid is 1/256 unit; 1/512 with a second half period; 1/65,536 for an accelerating target on a

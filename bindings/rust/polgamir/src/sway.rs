@@ -67,7 +67,7 @@ struct Changes {
 }
 
 impl Axis {
-    /// V, the most that the planned accelerations of this axis change in all, from tick 0 to the landing: 4μ + |α| + 2 steps of the
+    /// W, the most that the planned accelerations of this axis change in all, from tick 0 to the landing: 4μ + |α| + 2 steps of the
     /// axis's grid, where μ is the acceleration limit and α the target's acceleration in these steps. The grid is 1/256 unit; 1/512 with
     /// a second half period; 1/65,536 for an accelerating target on a damped pole.
     ///
@@ -79,7 +79,7 @@ impl Axis {
     }
 
     /// What an accepted table of this axis leaves at most of a sway whose misfits are at most E and whose entries are at most G in size:
-    /// V × E by the divisor before rounding, and N × G more as rounded.
+    /// W × E by the divisor before rounding, and N × G more as rounded.
     ///
     /// A sway is any list of whole numbers w(0), w(1), ..: w(i) is how the pole stands i ticks after its top was pushed, in any unit.
     /// What is left at a tick m from the arrival on is the sum of each change of acceleration at a row k times w(m − k). The list's

@@ -181,6 +181,24 @@ fn a_leg_in_phase_nearly_meets_the_bound() {
     }
 }
 
+/// The two legs that docs/METHOD.md, section 25, tells in numbers: what is left before rounding and its bounds, in units.
+#[test]
+fn the_methods_legs_leave_what_it_says() {
+    let told = |axis: Axis, asked: u32, half_period: f64, late: Fraction| {
+        let rows = accelerations(&Job::arriving_at(asked).with_axis(0, axis)).expect("a plan");
+        let bound = axis.sway_bound(rows.len() as u32 - 1, late, ZERO).unwrap();
+        let units = [Pole::new(half_period, 1.0).left(&rows), bound.exact as f64, bound.rounded as f64];
+        (rows.len() - 1, units.map(|fine| fine / 256.0))
+    };
+    let in_phase = Axis { acceleration_limit: 100, speed_limit: 1000, ..on_pole(9, 128, None) };
+    let (arrival, [left, exact, _]) = told(Axis { target: Target::still(30_000), ..in_phase }, 0, 10.0, 1.into());
+    assert_eq!((arrival, format!("{left:.0}"), format!("{exact:.1}")), (49, "634".into(), "636.7".into()));
+    let other = Axis { target: Target::still(300), ..on_pole(10, 128, None) };
+    let (arrival, [left, exact, rounded]) = told(other, 60, 10.5, Fraction::new(1, 2));
+    assert_eq!(arrival, 60);
+    assert_eq!([left, exact, rounded].map(|units| format!("{units:.2}")), ["0.44", "3.35", "5.97"]);
+}
+
 /// No list of random entries exceeds the bound, whatever it fits.
 #[test]
 fn no_list_exceeds_the_bound() {
