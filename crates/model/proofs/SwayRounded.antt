@@ -30,11 +30,11 @@ module _ (d e : ℕ) (even : d ≡ 2 * e) (x c w : ℕ → ℤ) (l m G : ℕ) (n
   change-small k = add-holds (error (suc k)) (negℤ (error k)) e e (error-small (suc k)) (neg-holds (error k) e (error-small k))
 
   -- the sway is linear in the accelerations
-  apart : (n : ℕ) → pos d *ℤ sway c w m n ≡ sway x w m n +ℤ sway error w m n
-  apart zero = same (pos d ∷ c 0 ∷ x 0 ∷ w m ∷ []) (search pol depth 20 fits 9000) tt
-  apart (suc n) =
+  in-two : (n : ℕ) → pos d *ℤ sway c w m n ≡ sway x w m n +ℤ sway error w m n
+  in-two zero = same (pos d ∷ c 0 ∷ x 0 ∷ w m ∷ []) (search pol depth 20 fits 9000) tt
+  in-two (suc n) =
       spread (pos d) (sway c w m n) (c (suc n)) (c n) (w (m - suc n))
-      ∙ ap (λ (z : ℤ). z +ℤ pos d *ℤ ((c (suc n) -ℤ c n) *ℤ w (m - suc n))) (apart n)
+      ∙ ap (λ (z : ℤ). z +ℤ pos d *ℤ ((c (suc n) -ℤ c n) *ℤ w (m - suc n))) (in-two n)
       ∙ gathered (pos d) (sway x w m n) (sway error w m n) (c (suc n)) (c n) (x (suc n)) (x n) (w (m - suc n))
     where
       spread : (d s a b g : ℤ) → d *ℤ (s +ℤ (a -ℤ b) *ℤ g) ≡ d *ℤ s +ℤ d *ℤ ((a -ℤ b) *ℤ g)
@@ -71,5 +71,5 @@ module _ (d e : ℕ) (even : d ≡ 2 * e) (x c w : ℕ → ℤ) (l m G : ℕ) (n
 
     pub sway-rounded : (X : ℕ) → natAbs (sway x w m (suc n)) ≤ X → d * natAbs (sway c w m (suc n)) ≤ X + d * (suc n * G)
     sway-rounded X left =
-        subst (λ (k : ℕ). k ≤ X + d * (suc n * G)) (ap natAbs (sym (apart (suc n))) ∙ natAbs-* (pos d) (sway c w m (suc n)))
+        subst (λ (k : ℕ). k ≤ X + d * (suc n * G)) (ap natAbs (sym (in-two (suc n))) ∙ natAbs-* (pos d) (sway c w m (suc n)))
         (add-holds (sway x w m (suc n)) (sway error w m (suc n)) X (d * (suc n * G)) left total)

@@ -1,7 +1,7 @@
 //! What a table can leave of a sway on a pole that is not quite as entered: the proved bound, as a number.
 //!
-//! The theorem is `sway-most` (docs/METHOD.md, section 25). Everything here is worked out exactly in whole numbers, and a number that
-//! is handed out is rounded upward.
+//! The theorems are `sway-most` and `measured-most` (docs/METHOD.md, section 25). Everything here is worked out exactly in whole
+//! numbers, and a number that is handed out is rounded upward.
 
 mod fraction;
 mod rate;
