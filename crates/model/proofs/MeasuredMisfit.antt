@@ -17,7 +17,7 @@ use Rattle.model.specs.declared.SecondSway.the-variants.{Absent, HalfPer
 use Rattle.model.specs.Quantities.{halfPeriod, secondWeight, swayDelay, secondHalfPeriod, delay}
 use Rattle.model.specs.Rows.{track, blend, divisor}
 use Rattle.model.specs.Demand.{CellTable, accelerationCell, sway}
-use Rattle.model.proofs.SwayExact.{paired, sway-weighted}
+use Rattle.model.proofs.SwayExact.{sway-weighted}
 use Rattle.model.specs.Misfit.{misfitOnce, misfitBy, misfit, Misfits, Entries, apart, Gentle, TruePole, weights, SwayOf, weighted}
 use Rattle.model.specs.Misfit.{byTick, measuredMisfit, firstMisfitBy, firstMisfit, secondMisfit, MeasuredMisfits, roundingLeft, SwayLeft, PoleLeft, MeasuredLeft}
 
@@ -75,8 +75,8 @@ module _ (x : Axis) where
   second-misfit d w i e =
       let order : i + d + h ≡ i + h + d = omega arith in
       ap (λ (u : SecondSway). misfitBy u x w i) e
-      ∙ ap (λ (k : ℕ). A *ℤ w k +ℤ B *ℤ w (i + d) +ℤ misfitOnce x w i) order
-      ∙ paired A B (w (i + h + d)) (w (i + d)) (w (i + h)) (w i)
+      ∙ same (A ∷ B ∷ w (i + d + h) ∷ w (i + d) ∷ w (i + h) ∷ w i ∷ []) (search pol depth 20 fits 9000) tt
+      ∙ ap (λ (k : ℕ). A *ℤ (pos 1 *ℤ w k +ℤ pos 1 *ℤ w (i + h)) +ℤ B *ℤ (pos 1 *ℤ w (i + d) +ℤ pos 1 *ℤ w i)) order
 
 -- ---- one blend of a sway of the pole t
 
