@@ -11,7 +11,7 @@ mod words;
 use std::fmt;
 use std::path::Path;
 
-use polgamir::sheet::{Setup, Sheet};
+use polgamir::sheet::{Rounded, Setup, Sheet};
 use polgamir::{Job, NoWords};
 
 use crate::arguments::{PlanForm, Request, TableForm, Task, Usage, HELP};
@@ -37,6 +37,12 @@ impl Done {
     /// Refused by the planner.
     fn refused(output: impl Into<Vec<u8>>) -> Done {
         Done { output: output.into(), notes: Vec::new(), status: 1 }
+    }
+
+    /// With what is to be known of the entries that were rounded, before all else.
+    fn noting(self, rounded: &[Rounded]) -> Done {
+        let notes = rounded.iter().map(Rounded::to_string).chain(self.notes);
+        Done { notes: notes.collect(), ..self }
     }
 }
 
@@ -98,13 +104,16 @@ fn done(task: &Task) -> Result<Done, FileError> {
     match task {
         Task::Help => Ok(Done::well(HELP)),
         Task::Version => Ok(Done::well(concat!("polgamir ", env!("CARGO_PKG_VERSION"), "\n"))),
-        Task::Plan { job, form, cells } => Ok(plan(&title_of(job), &read_job(job)?, *form, *cells)),
+        Task::Plan { job, form, cells } => {
+            let sheet = read_job(job)?;
+            Ok(plan(&title_of(job), &sheet, *form, *cells).noting(sheet.rounded()))
+        }
         Task::Words { job, bytes } => words_of(job, *bytes),
         Task::Convert { job, bytes } => converted(job, *bytes),
         Task::Show { words, bytes } => show(words, *bytes),
         Task::Tour { sheet, form, tables } => {
             let sheet = content::tour_of(&files::read(sheet)?).map_err(|cause| about(sheet, cause))?;
-            Ok(tour::planned(&sheet, *form, *tables))
+            Ok(tour::planned(&sheet, *form, *tables).noting(sheet.rounded()))
         }
         Task::Plot { setup } => plot(setup),
         Task::Report { setup } => report(setup),
@@ -136,7 +145,7 @@ fn words_of(file: &Path, bytes: bool) -> Result<Done, FileError> {
         true => Done::well(words::bytes_of(&job_words)),
         false => Done::well(words::hexadecimal_of(&job_words)),
     };
-    Ok(Done { notes: weights_taken(&sheet), ..done })
+    Ok(Done { notes: weights_taken(&sheet), ..done }.noting(sheet.rounded()))
 }
 
 /// Writes the converted words of an old job.
@@ -149,7 +158,7 @@ fn converted(file: &Path, bytes: bool) -> Result<Done, FileError> {
         Err(refusal) => return Ok(Done::refused(refusal::explained(&sheet, &refusal))),
     };
     let notes = weights_taken(&sheet).into_iter().chain(targets_converted(&sheet));
-    Ok(Done { notes: notes.collect(), ..done })
+    Ok(Done { notes: notes.collect(), ..done }.noting(sheet.rounded()))
 }
 
 /// What is said of axes whose target was converted: what it is in the words.
@@ -214,7 +223,15 @@ fn report(file: &Path) -> Result<Done, FileError> {
             page.map_err(|refusal| refusal::explained_tour(sheet, &refusal))
         }
     };
-    Ok(page.map_or_else(Done::refused, Done::well))
+    Ok(page.map_or_else(Done::refused, Done::well).noting(rounded_of(&setup)))
+}
+
+/// The entries of a sheet that were rounded.
+fn rounded_of(setup: &Setup) -> &[Rounded] {
+    match setup {
+        Setup::Job(sheet) => sheet.rounded(),
+        Setup::Tour(sheet) => sheet.rounded(),
+    }
 }
 
 /// The title of what a file holds: its name without its ending.
@@ -235,5 +252,5 @@ fn plot(file: &Path) -> Result<Done, FileError> {
             picture::draw_tour(&title, sheet).map_err(|refusal| refusal::explained_tour(sheet, &refusal))
         }
     };
-    Ok(drawing.map_or_else(Done::refused, Done::well))
+    Ok(drawing.map_or_else(Done::refused, Done::well).noting(rounded_of(&setup)))
 }

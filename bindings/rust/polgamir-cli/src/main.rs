@@ -21,7 +21,9 @@ fn main() -> ExitCode {
     match done(&arguments) {
         Ok(status) => ExitCode::from(status),
         Err(failure) => {
-            eprintln!("polgamir: {failure}");
+            for line in failure.to_string().lines() {
+                eprintln!("polgamir: {line}");
+            }
             ExitCode::from(failure.status())
         }
     }

@@ -97,8 +97,10 @@ line 8: stop 1: dwell 4097
 
 #[test]
 fn wrong_tours_are_told_with_their_line() {
-    let expected = "a position for each axis, `dwell` and a whole number of ticks from 0 to 4096 after `stop`";
-    for wrong in ["stop 4", "stop 4 dwell", "stop x dwell 3", "stop 4 dwell -1", "stop 4 dwell 3 9"] {
+    let expected = "a position for each axis, `dwell` and a whole number of ticks from 0 to 4096, or seconds as in `1 s`, after `stop`";
+    let told = told_with("stop 4 dwell 3", "stop 4 dwell -1");
+    assert_eq!(told, format!("line 7: expected {expected}, found `-1`"));
+    for wrong in ["stop 4", "stop 4 dwell", "stop x dwell 3", "stop 4 dwell 3 9"] {
         let found = wrong.strip_prefix("stop ").expect("a stop");
         assert_eq!(told_with("stop 4 dwell 3", wrong), format!("line 7: expected {expected}, found `{found}`"));
     }
@@ -129,8 +131,8 @@ fn jobs_and_tours_are_told_apart() {
     assert!(told(&run(&["tour", &sheet("case-c")])).ends_with("found a job: `polgamir plan` plans it\n"));
     let job = fs::read_to_string(sheet("case-c")).expect("a sheet");
     assert!(matches!((TOUR.parse(), job.parse()), (Ok(Setup::Tour(_)), Ok(Setup::Job(_)))));
-    assert_eq!(TOUR.parse::<Sheet>().expect_err("a tour").line, 7);
-    assert_eq!(job.parse::<TourSheet>().expect_err("a job").line, 3);
+    assert_eq!(TOUR.parse::<Sheet>().expect_err("a tour").first().line, 7);
+    assert_eq!(job.parse::<TourSheet>().expect_err("a job").first().line, 3);
 }
 
 #[test]

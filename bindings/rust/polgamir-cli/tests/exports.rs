@@ -218,16 +218,18 @@ fn wrong_ticks_and_units_are_told_with_their_line() {
     let told_of = |lines: &str| {
         format!("{lines}\n{}", changed_case_c("#", "#")).parse::<Sheet>().expect_err("a wrong sheet").to_string()
     };
-    let tick = "a number of seconds above 0 after `tick`";
-    let unit = "a name after `unit`, with a number above 0 before it or without";
+    let tick = "a number of seconds above 0, as in `0.02` or `20 ms`, after `tick`";
+    let unit = "a number above 0, or none for 1, and then a name after `unit`";
     for (lines, expected, found) in [
         ("tick", tick, "the end of the line"),
         ("tick 0", tick, "`0`"),
-        ("tick 20 ms", tick, "`20 ms`"),
+        ("tick 20 degree", tick, "`20 degree`"),
+        ("tick 1/0", tick, "`1/0`"),
         ("tick inf", tick, "`inf`"),
         ("unit", unit, "the end of the line"),
         ("unit 0.01", unit, "`0.01`"),
         ("unit -1 mm", unit, "`-1 mm`"),
+        ("unit degree 0.01", unit, "`degree 0.01`: write `unit 0.01 degree`"),
     ] {
         assert_eq!(told_of(lines), format!("line 1: expected {expected}, found {found}"));
     }

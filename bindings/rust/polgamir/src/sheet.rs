@@ -17,16 +17,27 @@
 //!   target position     1
 //! ".parse()?;
 //! assert_eq!(sheet.axis_name(0), Some("pan"));
-//! # Ok::<(), polgamir::sheet::SheetError>(())
+//! # Ok::<(), polgamir::sheet::SheetErrors>(())
 //! ```
 
+mod amount;
 mod draft;
+mod entries;
+mod errors;
+mod fraction;
 mod line;
+mod lines;
+mod natural;
 mod notes;
+mod quantity;
 mod reading;
+mod rounded;
 mod scales;
+mod spelling;
+mod stops;
 mod text;
 mod tour;
+mod worked;
 
 use std::fmt;
 
@@ -35,8 +46,10 @@ use crate::job::{Arrival, Axis, Job, RestPoint, Target};
 use crate::windows::Window;
 use crate::words::WordKind;
 
+pub use errors::{SheetError, SheetErrors};
 pub use line::SheetLine;
 use notes::Notes;
+pub use rounded::Rounded;
 pub use scales::Unit;
 pub use tour::TourSheet;
 
@@ -85,6 +98,12 @@ impl Sheet {
         self.notes.axis_title(number)
     }
 
+    /// The entries that no whole number of ticks or units meets, in the order of their lines: what was entered, what is planned and by how much
+    /// it is off.
+    pub fn rounded(&self) -> &[Rounded] {
+        &self.notes.rounded
+    }
+
     /// The seconds of a tick, where the sheet says them: for what is shown, never for what is planned.
     pub fn tick_seconds(&self) -> Option<f64> {
         self.notes.scales.tick_seconds()
@@ -102,25 +121,6 @@ impl From<Job> for Sheet {
         Sheet { job, ..Sheet::default() }
     }
 }
-
-/// Why a text is no set-up sheet: the first line at fault, what was expected there and what was found.
-#[derive(Debug, Clone, PartialEq, Eq)]
-pub struct SheetError {
-    /// The line, from 1.
-    pub line: usize,
-    /// What was expected.
-    pub expected: String,
-    /// What was found instead.
-    pub found: String,
-}
-
-impl fmt::Display for SheetError {
-    fn fmt(&self, f: &mut fmt::Formatter<'_>) -> fmt::Result {
-        write!(f, "line {}: expected {}, found {}", self.line, self.expected, self.found)
-    }
-}
-
-impl std::error::Error for SheetError {}
 
 /// How a sheet says what a target is.
 #[derive(Debug, Clone, Copy, PartialEq, Eq)]

@@ -3,7 +3,7 @@
 mod common;
 
 use common::{case_c, field_axis, Random};
-use polgamir::sheet::{Sheet, SheetError};
+use polgamir::sheet::{Sheet, SheetErrors};
 use polgamir::{Arrival, Axis, Damping, Job, RestPoint, State, Target, WordKind};
 
 /// The sheet of case C, line by line.
@@ -21,12 +21,12 @@ const CASE_C: [&str; 10] = [
 ];
 
 /// Reads lines as a sheet.
-fn read(lines: &[&str]) -> Result<Sheet, SheetError> {
+fn read(lines: &[&str]) -> Result<Sheet, SheetErrors> {
     lines.join("\n").parse()
 }
 
 /// Reads case C with one line changed, from 1.
-fn read_with(line: usize, text: &str) -> Result<Sheet, SheetError> {
+fn read_with(line: usize, text: &str) -> Result<Sheet, SheetErrors> {
     let mut lines = CASE_C;
     lines[line - 1] = text;
     read(&lines)
@@ -135,9 +135,9 @@ fn a_second_half_period_may_stand_on_the_sheet() {
     for (wrong, told) in [
         (
             "second half period",
-            "a whole number of ticks from 1 to 256 after `second half period`, found the end of the line",
+            "a whole number of ticks from 1 to 256, or seconds as in `0.15 s`, after `second half period`, found the end of the line",
         ),
-        ("second half period none", "a whole number of ticks from 1 to 256 after `second half period`, found `none`"),
+        ("second half period none", "a whole number of ticks from 1 to 256, or seconds as in `0.15 s`, after `second half period`, found `none`"),
         (
             "second half period 9\nsecond half period 9",
             "one `second half period` for axis 0, found another beside that of line 5",
@@ -173,17 +173,17 @@ fn wrong_entries_are_told_with_their_line() {
         told_with(10, "target position 9223372036854775808"),
     ];
     let expected = [
-        "line 5: expected a whole number of units per tick from 1 to 1048576 after `speed limit`, found `fast`",
-        "line 5: expected a whole number of units per tick from 1 to 1048576 after `speed limit`, found `-1`",
-        "line 3: expected a whole number of ticks from 0 to 256 after `half period`, found the end of the line",
+        "line 5: expected a whole number of units per tick from 1 to 1048576, or one as in `60 degree/s`, after `speed limit`, found `fast`",
+        "line 5: expected a whole number of units per tick from 1 to 1048576, or one as in `60 degree/s`, after `speed limit`, found `-1`",
+        "line 3: expected a whole number of ticks from 0 to 256, or seconds as in `0.42 s`, after `half period`, found the end of the line",
         "line 4: expected a whole number from 1 to 128 after `weight`, found `1.5`",
-        "line 8: expected a whole number of units per tick after `start velocity`, found `0 0`",
+        "line 8: expected a whole number of units per tick, or one as in `2.5 degree/s`, after `start velocity`, found `0 0`",
         "line 9: expected `still` or `moving` after `target`, found `soon`",
-        "line 1: expected `earliest` or a tick from 1 to 4096 after `arrival`, found `0`",
-        "line 1: expected `earliest` or a tick from 1 to 4096 after `arrival`, found the end of the line",
+        "line 1: expected `earliest`, a tick from 1 to 4096, or seconds as in `2.2 s`, after `arrival`, found `0`",
+        "line 1: expected `earliest`, a tick from 1 to 4096, or seconds as in `2.2 s`, after `arrival`, found the end of the line",
         "line 2: expected an axis number from 0 to 5 after `axis`, found `6`",
         "line 2: expected an axis number from 0 to 5 after `axis`, found the end of the line",
-        "line 10: expected a whole number of units from -17179869184 to 17179869183 after `target position`, \
+        "line 10: expected a whole number of units from -17179869184 to 17179869183, or one as in `-3.5 degree`, after `target position`, \
          found `9223372036854775808`",
     ];
     assert_eq!(told, expected);
@@ -192,14 +192,15 @@ fn wrong_entries_are_told_with_their_line() {
 #[test]
 fn unknown_and_misplaced_entries_are_told_with_their_line() {
     assert_eq!(
-        told_with(3, "half perod 0"),
-        "line 3: expected `arrival`, `window`, `dwell`, `tick`, `unit`, `axis`, `stop`, `target` or one of: half period, `weight`, `shrinks` or `peaks`, \
+        told_with(3, "half time 0"),
+        "line 2: expected `half period` for axis 0, found none among its lines\n\
+         line 3: expected `arrival`, `window`, `dwell`, `tick`, `unit`, `axis`, `stop`, `target` or one of: half period, `weight`, `shrinks` or `peaks`, \
          second half period, speed limit, acceleration limit, start position, start velocity, target position, target velocity, target acceleration, target tick, \
-         found `half perod 0`"
+         found `half time 0`"
     );
     assert_eq!(
-        told_with(2, "weight 128"),
-        "line 2: expected `arrival`, `window`, `dwell`, `tick`, `unit`, `axis` or `stop`, found `weight 128`"
+        told_with(2, "weight 128").lines().next(),
+        Some("line 2: expected `arrival`, `window`, `dwell`, `tick`, `unit`, `axis` or `stop`, found `weight 128`")
     );
     assert_eq!(
         told_with(10, "target position 1\ntarget velocity 2"),
@@ -237,7 +238,7 @@ fn entries_that_stand_twice_or_not_at_all_are_told_with_their_line() {
     );
     let told = read(&["arrival 4"]).expect_err("no axis").to_string();
     assert_eq!(told, "line 1: expected at least one of `axis 0` to `axis 5`, found the end of the sheet");
-    assert_eq!("".parse::<Sheet>().expect_err("no sheet").line, 1);
+    assert_eq!("".parse::<Sheet>().expect_err("no sheet").first().line, 1);
 }
 
 /// A job written as a sheet is read back as the same job.

@@ -166,11 +166,12 @@ fn sheets_have_windows_and_a_dwell() {
     assert_eq!(told_of("window 3 9"), "line 4: expected `dwell` beside `window`, found none on the sheet");
     assert_eq!(
         told_of("dwell 1\nwindow 3"),
-        "line 5: expected an opening and a closing tick, from 0 to 4294967295, after `window`, found `3`"
+        "line 5: expected an opening and a closing, both ticks from 0 to 4294967295 or both seconds as in `0.4 s 1.2 s`, \
+         after `window`, found `3`"
     );
     assert_eq!(
         told_of("dwell"),
-        "line 4: expected a whole number of ticks from 0 to 4096 after `dwell`, found the end of the line"
+        "line 4: expected a whole number of ticks from 0 to 4096, or seconds as in `0.5 s`, after `dwell`, found the end of the line"
     );
     assert_eq!(told_of("dwell 1\ndwell 2"), "line 5: expected one `dwell`, found another beside that of line 4");
 }

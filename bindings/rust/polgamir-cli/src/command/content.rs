@@ -1,6 +1,6 @@
 //! What a file holds: a set-up sheet, or job words as bytes or as hexadecimal text.
 
-use polgamir::sheet::{Setup, Sheet, SheetError, TourSheet};
+use polgamir::sheet::{Setup, Sheet, SheetErrors, TourSheet};
 use polgamir::Job;
 
 use super::words;
@@ -58,7 +58,7 @@ fn text_of(content: &[u8]) -> Result<&str, String> {
 /// What a content asks for: a set-up sheet, of a job or of a tour, or job words.
 pub fn setup_of(content: &[u8]) -> Result<Setup, String> {
     let job_words = match Form::of(content) {
-        Form::Text => return text_of(content)?.parse().map_err(|error: SheetError| error.to_string()),
+        Form::Text => return text_of(content)?.parse().map_err(|error: SheetErrors| error.to_string()),
         Form::Bytes => words::from_bytes(content)?,
         Form::Hexadecimal => words::from_hexadecimal(text_of(content)?)?,
     };

@@ -9,13 +9,14 @@ use std::{fmt, fs, io};
 pub struct FileError {
     /// The file's name.
     pub file: String,
-    /// What went wrong.
+    /// What went wrong; of a sheet a line for each of its lines that is wrong.
     pub cause: String,
 }
 
+/// Each line of the cause after the file's name.
 impl fmt::Display for FileError {
     fn fmt(&self, f: &mut fmt::Formatter<'_>) -> fmt::Result {
-        write!(f, "{}: {}", self.file, self.cause)
+        write!(f, "{}: {}", self.file, self.cause.replace('\n', &format!("\n{}: ", self.file)))
     }
 }
 

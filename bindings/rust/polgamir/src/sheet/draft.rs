@@ -1,50 +1,15 @@
 //! An axis of a sheet, entry by entry.
 
+use super::entries::{NumberLine, DAMPING, DAMPINGS, NUMBERS};
 use super::notes::EntryLine;
-use super::text::{after, decimal, fault, quoted, whole_number};
+use super::quantity::{Place, Rule};
+use super::text::{after, fault, quoted};
+use super::worked::Worked;
 use super::{SheetError, TargetKind, ENTRIES};
 use crate::damping::Damping;
 use crate::job::{Axis, RestPoint, State, Target};
 use crate::tour::TourAxis;
 use crate::words::WordKind;
-
-/// What an entry is to be: its range, and its unit.
-fn expectation(entry: WordKind) -> &'static str {
-    match entry {
-        WordKind::HalfPeriod => "a whole number of ticks from 0 to 256",
-        WordKind::SecondHalfPeriod => "a whole number of ticks from 1 to 256",
-        WordKind::SpeedLimit => "a whole number of units per tick from 1 to 1048576",
-        WordKind::AccelerationLimit => "a whole number of units per tick² from 1 to 65536",
-        WordKind::StartPosition | WordKind::TargetPosition => {
-            "a whole number of units from -17179869184 to 17179869183"
-        }
-        WordKind::StartVelocity | WordKind::TargetVelocity => "a whole number of units per tick",
-        WordKind::TargetAcceleration => "a whole number of units per tick²",
-        _ => "a whole number of ticks from -4096 to 4096",
-    }
-}
-
-/// The lines that say the damping.
-const DAMPING: &str = "`weight`, `shrinks` or `peaks`";
-
-/// A line that says the damping: its name, what is expected after it, and the damping of a value.
-type DampingLine = (&'static str, &'static str, fn(&[&str]) -> Option<Damping>);
-
-/// Each line that says the damping.
-const DAMPINGS: [DampingLine; 3] = [
-    ("weight", "a whole number from 1 to 128", |value| match value {
-        [weight] => weight.parse().ok().map(Damping::Weight),
-        _ => None,
-    }),
-    ("shrinks", "a number above 0 and at most 1", |value| match value {
-        [ratio] => decimal(ratio).map(Damping::Ratio),
-        _ => None,
-    }),
-    ("peaks", "two numbers above 0, the second not above the first,", |value| match value {
-        [first, second] => Some(Damping::Peaks { first: decimal(first)?, second: decimal(second)? }),
-        _ => None,
-    }),
-];
 
 /// The entries of an axis of a tour that are numbers.
 const TOUR_ENTRIES: [WordKind; 5] = [
@@ -55,7 +20,7 @@ const TOUR_ENTRIES: [WordKind; 5] = [
     WordKind::StartPosition,
 ];
 
-/// An entry that is a number, with the line that it stands on.
+/// An entry that is a number, with the line that it stands on; 0 where it could not be read.
 struct Entry {
     kind: WordKind,
     line: usize,
@@ -64,33 +29,35 @@ struct Entry {
 
 /// An axis being read.
 pub struct Draft {
-    /// The number of the axis.
+    /// The number of the axis; [`AXES`](crate::AXES) for one whose line is wrong, which is read and then left.
     pub number: usize,
+    /// What to call the axis.
+    title: String,
     /// The line that the axis begins at.
     pub line: usize,
     entries: Vec<Entry>,
-    /// The damping, with its line.
+    /// The damping, with its line; any that could not be read.
     damping: Option<(Damping, usize)>,
-    /// What the target is, with the line that says so.
-    target: Option<(TargetKind, usize)>,
+    /// What the target is, where it could be read, with the line that says so.
+    target: Option<(Option<TargetKind>, usize)>,
 }
 
 impl Draft {
     /// An axis that begins at a line.
-    pub fn new(number: usize, line: usize) -> Draft {
-        Draft { number, line, entries: Vec::new(), damping: None, target: None }
+    pub fn new(number: usize, title: String, line: usize) -> Draft {
+        Draft { number, title, line, entries: Vec::new(), damping: None, target: None }
     }
 
     /// Takes an entry of the axis.
-    pub fn take(&mut self, line: usize, words: &[&str]) -> Result<(), SheetError> {
+    pub fn take(&mut self, line: usize, words: &[&str], worked: &mut Worked) -> Result<(), SheetError> {
         for (name, expected, read) in DAMPINGS {
             if let Some(value) = after(words, name) {
                 return self.take_damping(line, read(value), || format!("{expected} after `{name}`"), value);
             }
         }
-        for kind in ENTRIES.into_iter().filter(|&kind| kind != WordKind::SecondWeight) {
-            if let Some(value) = after(words, kind.name()) {
-                return self.take_number(line, kind, value);
+        for number in NUMBERS {
+            if let Some(value) = after(words, number.name) {
+                return self.take_number(line, number, value, worked);
             }
         }
         if let Some(value) = after(words, "target") {
@@ -109,20 +76,36 @@ impl Draft {
     }
 
     /// Takes an entry that is a number.
-    fn take_number(&mut self, line: usize, kind: WordKind, value: &[&str]) -> Result<(), SheetError> {
+    fn take_number(
+        &mut self,
+        line: usize,
+        number: NumberLine,
+        value: &[&str],
+        worked: &mut Worked,
+    ) -> Result<(), SheetError> {
+        let kind = number.entry;
         if let Some(first) = self.entry(kind) {
             let expected = format!("one `{}` for axis {}", kind.name(), self.number);
             return fault(line, expected, format!("another beside that of line {}", first.line));
         }
-        let number = match value {
-            [word] if kind.is_signed() => whole_number(word),
-            [word] => word.parse::<u32>().ok().map(i64::from),
-            _ => None,
+        self.entries.push(Entry { kind, line, number: 0 });
+        let unit = worked.scales.unit_of(self.number).map_or("degree", |unit| &unit.name);
+        let place = Place {
+            line,
+            axis: Some(self.number),
+            entry: Some(kind),
+            whose: self.title.clone(),
+            name: number.name,
+            entered: value.join(" "),
+            expected: number.expected(unit),
         };
-        let Some(number) = number else {
-            return fault(line, format!("{} after `{}`", expectation(kind), kind.name()), quoted(value));
+        let Some((amount, share)) = number.read(value) else {
+            return fault(line, place.expected, quoted(value));
         };
-        self.entries.push(Entry { kind, line, number });
+        let found = worked.whole(&place, &amount, &share, Rule::of(kind))?;
+        if let (Some(entry), Some(number)) = (self.entries.last_mut(), found) {
+            entry.number = number;
+        }
         Ok(())
     }
 
@@ -138,19 +121,16 @@ impl Draft {
             let expected = format!("one of {DAMPING} for axis {}", self.number);
             return fault(line, expected, format!("another beside that of line {first}"));
         }
-        self.damping = damping.map(|damping| (damping, line));
-        match self.damping {
+        self.damping = Some((damping.unwrap_or(Damping::NONE), line));
+        match damping {
             Some(_) => Ok(()),
             None => fault(line, expected(), quoted(value)),
         }
     }
 
     /// The damping.
-    fn damping(&self) -> Result<Damping, SheetError> {
-        match self.damping {
-            Some((damping, _)) => Ok(damping),
-            None => self.lacks(DAMPING),
-        }
+    fn damping(&self, errors: &mut Vec<SheetError>) -> Damping {
+        self.damping.map_or_else(|| self.lacks(DAMPING, Damping::NONE, errors), |(damping, _)| damping)
     }
 
     /// The second half period, of which an axis has a line only where its pole swings at two rates.
@@ -169,11 +149,11 @@ impl Draft {
             [word] => TargetKind::ALL.into_iter().find(|kind| word.eq_ignore_ascii_case(kind.name())),
             _ => None,
         };
-        let Some(kind) = kind else {
-            return fault(line, "`still` or `moving` after `target`", quoted(value));
-        };
         self.target = Some((kind, line));
-        Ok(())
+        match kind {
+            Some(_) => Ok(()),
+            None => fault(line, "`still` or `moving` after `target`", quoted(value)),
+        }
     }
 
     /// The lines of the entries.
@@ -183,60 +163,69 @@ impl Draft {
         lines.map(|(entry, line)| EntryLine { axis: Some(self.number), entry, line })
     }
 
-    /// The axis of a tour whose first stop stands on a line: legs start and end at rest, at the stops.
-    pub fn tour_axis(&self, first_stop: usize) -> Result<TourAxis, SheetError> {
-        let unwanted = self.entries.iter().find(|entry| !TOUR_ENTRIES.contains(&entry.kind));
+    /// The axis of a tour whose first stop stands on a line: legs start and end at rest, at the stops. What is wrong with it is added to the
+    /// errors; with an error there is no sheet, and the axis is any.
+    pub fn tour_axis(&self, first_stop: usize, errors: &mut Vec<SheetError>) -> TourAxis {
+        let unwanted = self.entries.iter().filter(|entry| !TOUR_ENTRIES.contains(&entry.kind));
         let unwanted = unwanted.map(|entry| (entry.kind.name(), entry.line));
-        if let Some((name, line)) = unwanted.or(self.target.map(|(_, line)| ("target", line))) {
-            return fault(line, format!("no `{name}`"), format!("`{name}` beside `stop` of line {first_stop}"));
+        for (name, line) in unwanted.chain(self.target.map(|(_, line)| ("target", line))) {
+            let found = format!("`{name}` beside `stop` of line {first_stop}");
+            errors.extend(fault::<()>(line, format!("no `{name}`"), found).err());
         }
-        Ok(TourAxis {
-            half_period: self.unsigned(WordKind::HalfPeriod)?,
-            damping: self.damping()?,
+        TourAxis {
+            half_period: self.unsigned(WordKind::HalfPeriod, errors),
+            damping: self.damping(errors),
             second_half_period: self.second_half_period(),
-            speed_limit: self.unsigned(WordKind::SpeedLimit)?,
-            acceleration_limit: self.unsigned(WordKind::AccelerationLimit)?,
-            start: self.number(WordKind::StartPosition)?,
-        })
+            speed_limit: self.unsigned(WordKind::SpeedLimit, errors),
+            acceleration_limit: self.unsigned(WordKind::AccelerationLimit, errors),
+            start: self.number(WordKind::StartPosition, errors),
+        }
     }
 
-    /// The axis with all its entries.
-    pub fn axis(&self) -> Result<Axis, SheetError> {
-        let Some((target, target_line)) = self.target else {
-            return self.lacks("`target still` or `target moving`");
-        };
-        if let Some(entry) = self.entries.iter().find(|entry| !target.has(entry.kind)) {
-            let name = entry.kind.name();
-            let found = format!("`{name}` beside `target {}` of line {target_line}", target.name());
-            return fault(entry.line, format!("no `{name}`"), found);
-        }
-        Ok(Axis {
-            half_period: self.unsigned(WordKind::HalfPeriod)?,
-            damping: self.damping()?,
+    /// The axis with all its entries. What is wrong with it is added to the errors; with an error there is no sheet, and the axis is any.
+    pub fn axis(&self, errors: &mut Vec<SheetError>) -> Axis {
+        Axis {
+            half_period: self.unsigned(WordKind::HalfPeriod, errors),
+            damping: self.damping(errors),
             second_half_period: self.second_half_period(),
-            speed_limit: self.unsigned(WordKind::SpeedLimit)?,
-            acceleration_limit: self.unsigned(WordKind::AccelerationLimit)?,
+            speed_limit: self.unsigned(WordKind::SpeedLimit, errors),
+            acceleration_limit: self.unsigned(WordKind::AccelerationLimit, errors),
             start: RestPoint {
-                position: self.number(WordKind::StartPosition)?,
-                velocity: self.number(WordKind::StartVelocity)?,
+                position: self.number(WordKind::StartPosition, errors),
+                velocity: self.number(WordKind::StartVelocity, errors),
             },
-            target: self.target_of(target)?,
-        })
+            target: self.target(errors),
+        }
+    }
+
+    /// The target.
+    fn target(&self, errors: &mut Vec<SheetError>) -> Target {
+        let (kind, line) = match self.target {
+            Some((Some(kind), line)) => (kind, line),
+            Some((None, _)) => return Target::still(0),
+            None => return self.lacks("`target still` or `target moving`", Target::still(0), errors),
+        };
+        for entry in self.entries.iter().filter(|entry| !kind.has(entry.kind)) {
+            let name = entry.kind.name();
+            let found = format!("`{name}` beside `target {}` of line {line}", kind.name());
+            errors.extend(fault::<()>(entry.line, format!("no `{name}`"), found).err());
+        }
+        self.target_of(kind, errors)
     }
 
     /// The target of a kind.
-    fn target_of(&self, kind: TargetKind) -> Result<Target, SheetError> {
-        let position = self.number(WordKind::TargetPosition)?;
+    fn target_of(&self, kind: TargetKind, errors: &mut Vec<SheetError>) -> Target {
+        let position = self.number(WordKind::TargetPosition, errors);
         if kind == TargetKind::Still {
-            return Ok(Target::still(position));
+            return Target::still(position);
         }
-        let velocity = self.number(WordKind::TargetVelocity)?;
+        let velocity = self.number(WordKind::TargetVelocity, errors);
         if kind == TargetKind::Flying {
-            return Ok(Target::Fixed(RestPoint { position, velocity }));
+            return Target::Fixed(RestPoint { position, velocity });
         }
-        let acceleration = self.number(WordKind::TargetAcceleration)?;
-        let tick = self.number(WordKind::TargetTick)?;
-        Ok(Target::Moving(State { position, velocity, acceleration, tick }))
+        let acceleration = self.number(WordKind::TargetAcceleration, errors);
+        let tick = self.number(WordKind::TargetTick, errors);
+        Target::Moving(State { position, velocity, acceleration, tick })
     }
 
     /// An entry, where it has been taken.
@@ -245,21 +234,23 @@ impl Draft {
     }
 
     /// The number of an entry.
-    fn number(&self, kind: WordKind) -> Result<i64, SheetError> {
+    fn number(&self, kind: WordKind, errors: &mut Vec<SheetError>) -> i64 {
         match self.entry(kind) {
-            Some(entry) => Ok(entry.number),
-            None => self.lacks(&format!("`{}`", kind.name())),
+            Some(entry) => entry.number,
+            None => self.lacks(&format!("`{}`", kind.name()), 0, errors),
         }
     }
 
     /// The number of an entry that is from 0 up.
-    fn unsigned(&self, kind: WordKind) -> Result<u32, SheetError> {
+    fn unsigned(&self, kind: WordKind, errors: &mut Vec<SheetError>) -> u32 {
         // It was read as a u32, so the cast keeps it.
-        self.number(kind).map(|number| number as u32)
+        self.number(kind, errors) as u32
     }
 
-    /// The error of an axis that lacks an entry, at the line where the axis begins.
-    fn lacks<T>(&self, entry: &str) -> Result<T, SheetError> {
-        fault(self.line, format!("{entry} for axis {}", self.number), "none among its lines")
+    /// Tells that the axis lacks an entry, at the line where the axis begins, and gives any value in its place.
+    fn lacks<T>(&self, entry: &str, any: T, errors: &mut Vec<SheetError>) -> T {
+        let expected = format!("{entry} for axis {}", self.number);
+        errors.extend(fault::<()>(self.line, expected, "none among its lines").err());
+        any
     }
 }

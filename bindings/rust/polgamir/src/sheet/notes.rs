@@ -1,5 +1,6 @@
 //! What a sheet says beside its numbers.
 
+use super::rounded::Rounded;
 use super::scales::Scales;
 use crate::words::WordKind;
 use crate::AXES;
@@ -11,6 +12,8 @@ pub struct Notes {
     pub names: [Option<String>; AXES],
     /// What a tick and a unit stand for.
     pub scales: Scales,
+    /// The entries that were rounded, in the order of their lines.
+    pub rounded: Vec<Rounded>,
     /// The lines of the entries.
     pub lines: Vec<EntryLine>,
     /// The lines of the windows.

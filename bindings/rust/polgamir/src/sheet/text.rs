@@ -3,7 +3,7 @@
 use super::SheetError;
 
 /// The signs that editors put in place of a hyphen: minus, en dash, hyphen, hyphen that does not break.
-const MINUS_SIGNS: [char; 4] = ['\u{2212}', '\u{2013}', '\u{2010}', '\u{2011}'];
+pub const MINUS_SIGNS: [char; 4] = ['\u{2212}', '\u{2013}', '\u{2010}', '\u{2011}'];
 
 /// A whole number, below zero with a hyphen or any other minus sign.
 pub fn whole_number(word: &str) -> Option<i64> {

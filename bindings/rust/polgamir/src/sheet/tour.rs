@@ -3,7 +3,7 @@
 use std::fmt;
 
 use super::notes::{EntryLine, Notes};
-use super::{write_damping, write_entry, Sheet, Unit};
+use super::{write_damping, write_entry, Rounded, Sheet, Unit};
 use crate::tour::{Stop, Tour};
 use crate::words::WordKind;
 
@@ -32,6 +32,12 @@ impl TourSheet {
     /// What to call an axis: `axis 0`, or `axis 0 pan` where the sheet names it.
     pub fn axis_title(&self, number: usize) -> String {
         self.notes.axis_title(number)
+    }
+
+    /// The entries that no whole number of ticks or units meets, in the order of their lines: what was entered, what is planned and by how much
+    /// it is off.
+    pub fn rounded(&self) -> &[Rounded] {
+        &self.notes.rounded
     }
 
     /// The seconds of a tick, where the sheet says them: for what is shown, never for what is planned.
