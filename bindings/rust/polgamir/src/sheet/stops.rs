@@ -62,16 +62,18 @@ impl Reading {
         };
         let mut end = |name: &str, amount: &Amount, rounding| {
             let place = Place::whole_sheet(line, name, &[amount.text.as_str()], WINDOW);
-            self.worked.whole(&place, amount, &Share::Whole, Rule::unsigned(Quantity::Time, rounding)).map(in_ticks)
+            self.worked.whole(&place, amount, &Share::Whole, Rule::unsigned(Quantity::Time, rounding))
         };
-        let window = Window {
-            opening: end("window opening", &opening, Rounding::Up)?,
-            closing: end("window closing", &closing, Rounding::Down)?,
+        let opens = end("window opening", &opening, Rounding::Up)?;
+        let closes = end("window closing", &closing, Rounding::Down)?;
+        let (Some(opens), Some(closes)) = (opens, closes) else {
+            return Ok(());
         };
         let is_open = |(opening, closing): (Fraction, Fraction)| opening.minus(&closing).is_negative();
-        if window.opening >= window.closing && opening.seconds().zip(closing.seconds()).is_some_and(is_open) {
+        if opens >= closes && opening.seconds().zip(closing.seconds()).is_some_and(is_open) {
             return fault(line, "a window that holds a whole tick after `window`", quoted(rest));
         }
+        let window = Window { opening: in_ticks(Some(opens)), closing: in_ticks(Some(closes)) };
         self.windows.push(window);
         Ok(())
     }

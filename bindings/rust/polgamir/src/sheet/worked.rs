@@ -97,6 +97,9 @@ impl Worked {
     /// A number that has a measure.
     fn measured(&mut self, place: &Place, amount: &Amount, quantity: Quantity) -> Result<Option<Measured>, SheetError> {
         let made = |value, step, name| Measured { value, step, name, quantity, is_scaled: true, is_worked_out: false };
+        if amount.number().is_none() {
+            return unexpected(place);
+        }
         if quantity == Quantity::Time {
             let Some(value) = amount.seconds() else {
                 return unexpected(place);
@@ -145,7 +148,7 @@ impl Worked {
             Scale::Lacking if std::mem::replace(&mut self.lacks_unit[axis], true) => Ok(None),
             Scale::Lacking => {
                 let found = format!("none for `{} {}`", place.name, place.entered);
-                fault(place.line, format!("`unit` for axis {axis}, or before the axes,"), found)
+                fault(place.line, format!("`unit` for axis {axis}, or before the axes"), found)
             }
         }
     }
