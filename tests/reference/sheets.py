@@ -2,16 +2,19 @@
 """What a good sheet in a crew's units comes to: the planned numbers, and a sentence for each entry that was rounded. Written from
 docs/SHEET.md, "Numbers with their unit", in exact fractions.
 
-    python3 tests/reference/sheets.py              # writes tests/sheets/good/*.txt and tests/sheets/drawn.txt
+    python3 tests/reference/sheets.py              # writes tests/sheets/drawn.txt and the texts of tests/sheets/good and examples
     python3 tests/reference/sheets.py --check      # whether they are what it would write
     python3 tests/reference/sheets.py SHEET..      # prints what sheets come to
 """
 
 import random
 import re
+import struct
 import sys
 from fractions import Fraction
 from pathlib import Path
+
+from damping import Peaks, Ratio, weight_of
 
 FOLDER = Path(__file__).resolve().parents[1] / 'sheets'
 MINUS = '\u2212\u2013\u2010\u2011'
@@ -51,8 +54,8 @@ def rounded(value, how):
     return {'down': value.__floor__, 'up': value.__ceil__, 'nearest': lambda: nearest(value)}[how]()
 
 
-def shown(value, digits):
-    """The nearest decimal number of so many significant digits, without noughts at its end."""
+def shown(value, digits, how='nearest'):
+    """The decimal number of so many significant digits that stands for a value, without noughts at its end."""
     if value == 0:
         return '0'
     power, scaled = 0, abs(value)
@@ -60,7 +63,7 @@ def shown(value, digits):
         power, scaled = power + 1, scaled / 10
     while scaled < 1:
         power, scaled = power - 1, scaled * 10
-    whole = nearest(abs(value) * Fraction(10) ** (digits - 1 - power))
+    whole = rounded(abs(value) * Fraction(10) ** (digits - 1 - power), how)
     return ('-' if value < 0 else '') + decimal(whole, digits - 1 - power)
 
 
@@ -121,7 +124,7 @@ class Scales:
         return number(digits), step, name + ending[0]
 
     def planned(self, line, whose, name, entered, amount, quantity, how, part=1, frequency=False):
-        """(the whole number, the sentence or None) of an entry."""
+        """(the whole number, the sentence or None, by how many steps it is off) of an entry."""
         if frequency:
             assert amount[1] == 'hz'
             value, step, measure = 1 / (2 * number(amount[0])), self.tick, 's'
@@ -131,14 +134,14 @@ class Scales:
         whole = rounded(value / step, how)
         off = whole * step - value
         if off == 0:
-            return whole, None
+            return whole, None, 0
         counted = '%d %s' % (whole, steps(whole, quantity))
         unit = measure or steps(2, quantity)
         done = '%s %s (%s)' % (shown(whole * step, 9), measure, counted) if measure else counted
         comes = ', a half period of %s %s,' % (shown(value, 9), unit) if part != 1 or frequency else ''
         return whole, 'line %d: %s%s %s%s is planned as %s, %s %s %s' % (
             line, whose + ': ' if whose else '', name, entered, comes, done, shown(abs(off), 3), unit,
-            'less' if off < 0 else 'more')
+            'less' if off < 0 else 'more'), off / step
 
 
 def half_period(scales, line, whose, name, value):
@@ -176,12 +179,45 @@ def tick_of(value):
     return size(begun.group()) / (1000 if value[begun.end():].strip().lower().startswith('m') else 1)
 
 
+def single(text):
+    """The bits of the single-precision float of a decimal."""
+    return struct.unpack('<I', struct.pack('<f', float(text)))[0]
+
+
+def weight(axis):
+    """The second weight of an axis."""
+    if 'shrinks' in axis:
+        return weight_of(Ratio(single(axis['shrinks'])))
+    if 'peaks' in axis:
+        return weight_of(Peaks(*map(single, axis['peaks'].split())))
+    return int(axis['weight'])
+
+
+def sway_left(axis, name, off):
+    """The most that a pole keeps of its sway where a half period is off by so many ticks, in units: V by E, as theorem `sway-most` has it,
+    for an oscillator of the true half period p, whose size is (p/pi)^2 and whose difference p/pi. The error counts in ten thousandths of a
+    tick, away from 0, and the sway in 1/256 unit, upward."""
+    error = Fraction(-(-abs(off) * 10000 // 1), 10000)
+    true = axis[name] + (error if off < 0 else -error)
+    by_pi = Fraction(106, 333)
+    second, acceleration, b = 'second half period' in axis, abs(axis.get('target acceleration', 0)), weight(axis)
+    finer = 2 if second else 256 if acceleration and b != 128 else 1
+    divisor = finer * (512 if second else 256)
+    changes = 256 * finer * (4 * axis['acceleration limit'] + acceleration) + 2
+    if name == 'half period':
+        misfit, most = (2 if second else 1) * (256 - b) * error, (2 if second else 1) * 256
+    else:
+        misfit, most = 256 * error, 512
+    greatest = min(misfit * true * by_pi, most * (true * by_pi) ** 2)
+    return Fraction(-(-changes * greatest // divisor), 256)
+
+
 class Sheet:
     """A good sheet: its numbers as they are planned, and the sentences."""
 
     def __init__(self, text):
         self.lines, self.notes, self.axes, self.titles = list(lines_of(text)), [], {}, {}
-        self.head, self.stops, self.tick, self.units = [], [], None, {}
+        self.head, self.stops, self.tick, self.units, self.offs = [], [], None, {}, []
         self.scan()
         axis = None
         for line, name, value in self.lines:
@@ -189,6 +225,7 @@ class Sheet:
                 axis = int(value.split()[0])
             else:
                 self.take(line, name, value, axis)
+        self.add_sways()
 
     def scan(self):
         axis = None
@@ -205,7 +242,7 @@ class Sheet:
         return Scales(self.tick, self.units.get(axis, self.units.get(None)))
 
     def whole(self, line, whose, name, amount, quantity, how, axis=None):
-        found, note = self.scales(axis).planned(line, whose, name, amount[2], amount, quantity, how)
+        found, note, _ = self.scales(axis).planned(line, whose, name, amount[2], amount, quantity, how)
         self.notes += [(line, note)] if note else []
         return found
 
@@ -242,9 +279,21 @@ class Sheet:
             quantity, how = AXIS[name]
             self.axes[axis][name] = self.whole(line, self.titles[axis], name, amounts(value)[0], quantity, how, axis)
         else:
-            found, note = half_period(self.scales(axis), line, self.titles[axis], name, value)
-            self.notes += [(line, note)] if note else []
-            self.axes[axis][('second ' if name.startswith('second') else '') + 'half period'] = found
+            found, note, off = half_period(self.scales(axis), line, self.titles[axis], name, value)
+            half = ('second ' if name.startswith('second') else '') + 'half period'
+            self.axes[axis][half] = found
+            if note:
+                self.notes.append((line, note))
+                self.offs.append((line, axis, half, off))
+
+    def add_sways(self):
+        """What each half period that is off leaves, said after what is said of it."""
+        for line, axis, half, off in self.offs:
+            size, name = self.scales(axis).unit or (Fraction(1), 'units')
+            left = sway_left(self.axes[axis], half, off) * size
+            sway = '%s %s' % (shown(left, 3, 'up'), name)
+            told = "; a pole that swings as entered keeps a sway of at most %s (a real pole's is in proportion to it)" % sway
+            self.notes = [(at, note + told if at == line else note) for at, note in self.notes]
 
     def text(self):
         """The numbers as they are planned, an entry to a line, then the sentences in the order of their lines."""
@@ -274,11 +323,11 @@ def drawn(seed, count):
             sign = '-' if 'limit' not in name and draw.random() < 0.5 else ''
             value = '%s%s %s%s' % (sign, digits, scales.unit[1], draw.choice(endings[quantity]))
         if name in AXIS and 'half' not in name:
-            found, note = scales.planned(1, '', name, value, amounts(value)[0], quantity, how)
+            found, note, _ = scales.planned(1, '', name, value, amounts(value)[0], quantity, how)
         elif 'frequency' in name and number(digits) == 0:
             continue
         else:
-            found, note = half_period(scales, 1, '', name, value)
+            found, note, _ = half_period(scales, 1, '', name, value)
         kept_from_zero = quantity == 'time' and name != 'target tick' or 'limit' in name
         if not (kept_from_zero and found == 0 and number(digits) != 0):
             made.append((tick, unit, name, value, str(found), note[len('line 1: '):] if note else '-'))
@@ -289,8 +338,10 @@ def files():
     """Each stored file with its text."""
     for sheet in sorted((FOLDER / 'good').glob('*.sheet')):
         yield sheet.with_suffix('.txt'), Sheet(sheet.read_text(encoding='utf-8')).text()
+    for sheet in sorted((FOLDER.parents[1] / 'sheets').glob('*.sheet')):
+        yield FOLDER / 'examples' / (sheet.stem + '.txt'), Sheet(sheet.read_text(encoding='utf-8')).text()
     head = '# tick | unit | entry | value | planned | what is said of it. Made by tests/reference/sheets.py.\n'
-    yield FOLDER / 'drawn.txt', head + ''.join(' | '.join(one) + '\n' for one in drawn(7, 1500))
+    yield FOLDER / 'drawn.txt', head + ''.join(' | '.join(one) + '\n' for one in drawn(7, 800))
 
 
 def is_stored():

@@ -9,12 +9,16 @@ sys.path.insert(0, str(REPOSITORY / "tests" / "reference"))
 
 import engines
 import make_vectors
+import sheets
 
 
 class Stored(unittest.TestCase):
     def test_vectors(self):
         for name in make_vectors.FILES:
             self.assertTrue(make_vectors.is_stored(name), name)
+
+    def test_sheets(self):
+        self.assertTrue(sheets.is_stored())
 
     def test_engines(self):
         self.assertEqual((REPOSITORY / "crates" / "engines" / "stdout").read_text(), engines.printed())

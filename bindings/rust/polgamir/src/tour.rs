@@ -43,7 +43,7 @@ pub struct TourAxis {
 
 impl TourAxis {
     /// This axis in a leg, at rest at both ends.
-    fn leg(&self, from: i64, to: i64) -> Axis {
+    pub(crate) fn leg(&self, from: i64, to: i64) -> Axis {
         Axis {
             start: RestPoint { position: from, velocity: 0 },
             speed_limit: self.speed_limit,

@@ -7,18 +7,21 @@ use std::path::{Path, PathBuf};
 use polgamir::sheet::{Rounded, Setup, Sheet, SheetErrors};
 use polgamir::{Arrival, Damping, Target, WordKind};
 
-/// A folder of `tests/sheets`.
+/// A folder of the repository.
 fn folder(name: &str) -> PathBuf {
-    Path::new(env!("CARGO_MANIFEST_DIR")).join("../../../tests/sheets").join(name)
+    Path::new(env!("CARGO_MANIFEST_DIR")).join("../../..").join(name)
 }
 
-/// Each sheet of a folder with its name and with what is expected of it.
-fn sheets(name: &str) -> Vec<(String, String, String)> {
-    let entries = fs::read_dir(folder(name)).expect("a folder of sheets");
-    let paths =
-        entries.map(|entry| entry.expect("an entry").path()).filter(|path| path.extension() == Some("sheet".as_ref()));
+/// Each sheet of a folder with its name, and with what is expected of it in a folder of texts.
+fn sheets(sheets: &str, texts: &str) -> Vec<(String, String, String)> {
     let read = |path: &Path| fs::read_to_string(path).unwrap_or_else(|error| panic!("{}: {error}", path.display()));
-    paths.map(|path| (path.display().to_string(), read(&path), read(&path.with_extension("txt")))).collect()
+    let entries = fs::read_dir(folder(sheets)).expect("a folder of sheets");
+    let paths = entries.map(|entry| entry.expect("an entry").path());
+    let read_both = |path: PathBuf| {
+        let text = folder(texts).join(path.file_name().expect("a name")).with_extension("txt");
+        (path.display().to_string(), read(&path), read(&text))
+    };
+    paths.filter(|path| path.extension() == Some("sheet".as_ref())).map(read_both).collect()
 }
 
 /// The entries of an axis, in the order of their names.
@@ -87,8 +90,9 @@ fn setup_text(setup: &Setup) -> String {
 
 #[test]
 fn good_sheets_come_to_what_the_reference_says() {
-    let all = sheets("good");
-    assert!(all.len() >= 8);
+    let mut all = sheets("tests/sheets/good", "tests/sheets/good");
+    all.extend(sheets("sheets", "tests/sheets/examples"));
+    assert!(all.len() >= 19);
     for (name, text, expected) in all {
         let setup: Setup = text.parse().unwrap_or_else(|errors: SheetErrors| panic!("{name}: {errors}"));
         assert_eq!(setup_text(&setup), expected, "{name}");
@@ -97,7 +101,7 @@ fn good_sheets_come_to_what_the_reference_says() {
 
 #[test]
 fn wrong_sheets_are_told_whole_and_in_the_order_of_their_lines() {
-    let all = sheets("bad");
+    let all = sheets("tests/sheets/bad", "tests/sheets/bad");
     assert!(all.len() >= 7);
     for (name, text, expected) in all {
         let errors = text.parse::<Setup>().expect_err(&name);
@@ -110,7 +114,7 @@ fn wrong_sheets_are_told_whole_and_in_the_order_of_their_lines() {
 /// Each entry by itself on a sheet that lacks the rest: what it is planned as, and what is said of it.
 #[test]
 fn every_rounding_is_that_of_the_reference() {
-    let drawn = fs::read_to_string(folder("drawn.txt")).expect("drawn entries");
+    let drawn = fs::read_to_string(folder("tests/sheets/drawn.txt")).expect("drawn entries");
     for line in drawn.lines().filter(|line| !line.starts_with('#')) {
         let parts: Vec<&str> = line.split(" | ").collect();
         let [tick, unit, name, value, planned, said] = parts[..] else { panic!("{line}") };
@@ -119,7 +123,8 @@ fn every_rounding_is_that_of_the_reference() {
         let axis = sheet.job.axes[0].expect("axis 0");
         let found = axis.entries().find(|&(entry, _)| entry == kind).map(|(_, value)| value.to_string());
         assert_eq!(found.as_deref(), Some(planned), "{line}");
-        let told: Vec<String> = sheet.rounded().iter().map(Rounded::to_string).collect();
+        let before_sway = |told: String| told.split("; ").next().map(String::from);
+        let told: Vec<String> = sheet.rounded().iter().filter_map(|rounded| before_sway(rounded.to_string())).collect();
         let expected = if said == "-" { Vec::new() } else { vec![format!("line 4: axis 0: {said}")] };
         assert_eq!(told, expected, "{line}");
     }

@@ -227,7 +227,9 @@ impl Reading {
     fn job(mut self) -> Result<Sheet, SheetErrors> {
         let mut job = Job::earliest();
         for draft in &self.drafts {
-            job.axes[draft.number] = Some(draft.axis(&mut self.errors));
+            let axis = draft.axis(&mut self.errors);
+            self.worked.weigh(draft.number, &axis);
+            job.axes[draft.number] = Some(axis);
         }
         match self.arrival {
             Some(arrival) => job.arrival = arrival,
@@ -252,7 +254,9 @@ impl Reading {
         }
         let mut tour = Tour::new();
         for draft in &self.drafts {
-            tour.axes[draft.number] = Some(draft.tour_axis(first_stop, &mut self.errors));
+            let axis = draft.tour_axis(first_stop, &mut self.errors);
+            self.worked.weigh(draft.number, &axis.leg(axis.start, axis.start));
+            tour.axes[draft.number] = Some(axis);
         }
         let (mut stops, stop_lines) = (Vec::new(), self.stops.iter().map(|stop| stop.line).collect());
         for (index, draft) in std::mem::take(&mut self.stops).into_iter().enumerate() {

@@ -5,10 +5,13 @@ use std::fmt;
 use super::fraction::{Fraction, Rounding};
 use super::quantity::Place;
 use super::worked::Measured;
+use crate::job::Axis;
 use crate::words::WordKind;
+use crate::FINE_STEPS;
 
 /// An entry that was rounded: what was entered, what is planned, and by how much that is off. Printed, it is a sentence for a crew:
-/// `line 6: axis 0 pan: half period 0.425 s is planned as 0.42 s (21 ticks), 0.005 s less`.
+/// `line 6: axis 0 pan: speed limit 60.3 degree/s is planned as 60 degree/s (120 units per tick), 0.3 degree/s less`. That of a half period ends
+/// with what a pole that swings as entered can keep of its sway.
 #[derive(Debug, Clone, PartialEq)]
 pub struct Rounded {
     /// The line, from 1.
@@ -23,8 +26,11 @@ pub struct Rounded {
     pub planned: String,
     /// By how much it is off: `0.005 s less`.
     pub off: String,
-    /// What is planned less what was entered, in ticks or units: for what is shown, never for what is planned.
-    pub steps_off: f64,
+    /// Of a half period, the most that is left of the sway of a pole that swings as entered: `0.31 degree`. It is the proved bound of
+    /// [`Axis::sway_bound`], before rounding, of every table of the axis.
+    pub sway: Option<String>,
+    /// What is planned less what was entered, in ticks or units.
+    steps_off: Fraction,
     whose: String,
     /// Where another measure was entered, what it comes to: `a half period of 0.425 s`.
     comes_to: Option<String>,
@@ -53,10 +59,36 @@ impl Rounded {
                 false => steps,
             },
             off: format!("{} {more}", named(short(&off.size(), 3))),
-            steps_off: off.over(&measured.step).to_f64(),
+            sway: None,
+            steps_off: off.over(&measured.step),
             whose: place.whose.clone(),
             comes_to: measured.is_worked_out.then(|| format!("a half period of {}", named(short(&measured.value, 9)))),
         })
+    }
+}
+
+impl Rounded {
+    /// Works out what a half period of an axis that is off leaves, in a unit's size and name. A number that the planner refuses leaves nothing to
+    /// be told.
+    pub fn weigh(&mut self, axis: &Axis, unit: (&Fraction, &str)) {
+        // The error in ten thousandths of a tick, away from 0: true less planned.
+        let size = self.steps_off.size().times(&Fraction::whole(10_000)).rounded(Rounding::Up);
+        let Some(size) = size.and_then(|size| i32::try_from(size).ok()) else {
+            return;
+        };
+        let error = crate::Fraction::new(if self.steps_off.is_negative() { size } else { -size }, 10_000);
+        let left = match self.entry {
+            Some(WordKind::HalfPeriod) => axis.sway_bound(1, error, crate::Fraction::ZERO),
+            Some(WordKind::SecondHalfPeriod) => axis.second_sway_bound(1, error, crate::Fraction::ZERO),
+            _ => return,
+        };
+        let fine_steps = left.ok().and_then(|left| i64::try_from(left.exact).ok());
+        let (size, name) = unit;
+        let told = |fine_steps| {
+            let sway = Fraction::whole(fine_steps).over(&Fraction::whole(FINE_STEPS)).times(size);
+            format!("{} {name}", sway.shown(3, Rounding::Up))
+        };
+        self.sway = fine_steps.map(told);
     }
 }
 
@@ -67,8 +99,15 @@ impl fmt::Display for Rounded {
             write!(f, "{}: ", self.whose)?;
         }
         match &self.comes_to {
-            Some(what) => write!(f, "{}, {what}, is planned as {}, {}", self.entered, self.planned, self.off),
-            None => write!(f, "{} is planned as {}, {}", self.entered, self.planned, self.off),
+            Some(what) => write!(f, "{}, {what}, is planned as {}, {}", self.entered, self.planned, self.off)?,
+            None => write!(f, "{} is planned as {}, {}", self.entered, self.planned, self.off)?,
+        }
+        match &self.sway {
+            Some(sway) => write!(
+                f,
+                "; a pole that swings as entered keeps a sway of at most {sway} (a real pole's is in proportion to it)"
+            ),
+            None => Ok(()),
         }
     }
 }

@@ -7,6 +7,7 @@ use super::rounded::Rounded;
 use super::scales::{Scale, Scales};
 use super::text::{fault, whole_number};
 use super::SheetError;
+use crate::job::Axis;
 use crate::AXES;
 
 /// A number in a crew's measure, or in ticks and units.
@@ -78,6 +79,18 @@ impl Worked {
         }
         self.rounded.extend(Rounded::new(place, &measured, number));
         Ok(Some(number))
+    }
+
+    /// Works out what the half periods of an axis that are off leave.
+    pub fn weigh(&mut self, number: usize, axis: &Axis) {
+        let one = Fraction::whole(1);
+        let unit = match self.scales.unit(number) {
+            Scale::Said(unit) => unit,
+            _ => (&one, "units"),
+        };
+        for rounded in self.rounded.iter_mut().filter(|rounded| rounded.axis == Some(number)) {
+            rounded.weigh(axis, unit);
+        }
     }
 
     /// The half period of a frequency.
