@@ -9,7 +9,7 @@ use Rattle.model.specs.declared.Order.{Order}
 use Rattle.model.specs.declared.PartAnswer.{PartAnswer}
 use Rattle.model.specs.declared.RaisesAnswer.{RaisesAnswer}
 use Rattle.model.specs.Outcome.{Input, typed, inputJob}
-use Rattle.model.specs.Raises.{RaisesHold}
+use Rattle.model.specs.Raises.{RaisesHold, RaisesCallVerdict}
 use Rattle.planner.specs.Promise.{Promise}
 use Rattle.parts.specs.Promise.{PartPromise}
 use Rattle.raises.specs.Promise.{RaisesPromise}
@@ -32,7 +32,12 @@ part-for-job {k} {entry} {exit} {r} same kept = subst (λ (t : Job). PartPromise
 
 -- the same of raises
 pub in-c : {q : Input} {r : RaisesAnswer} {c : PolgamirRaises} → c ≡ raisesInC r → RaisesPromise q r → RaisesReturned q c
-in-c {q} same kept = record { is = same ∙ ap raisesInC (kept .is); holds = subst (RaisesHold (inputJob q)) (kept .is) (kept .holds) }
+in-c {q} same kept =
+    record {
+      is = same ∙ ap raisesInC (kept .is);
+      verdict = subst (RaisesCallVerdict q) (kept .is) (kept .verdict);
+      holds = subst (RaisesHold (inputJob q)) (kept .is) (kept .holds);
+    }
 
 pub for-typed : {c : PolgamirRaises} {j k : Job} → j ≡ k → RaisesReturned (typed j) c → RaisesReturned (typed k) c
 for-typed {c} same kept = subst (λ (t : Job). RaisesReturned (typed t) c) same kept

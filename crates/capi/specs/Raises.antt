@@ -1,7 +1,7 @@
 -- What the calls for raises promise.
 use mathlib.Core.Path.{_≡_}
 use Rattle.model.specs.Outcome.{Input, inputJob}
-use Rattle.model.specs.Raises.{raisesCall, RaisesHold}
+use Rattle.model.specs.Raises.{raisesCall, RaisesHold, RaisesCallVerdict}
 use Rattle.layout.specs.declared.limit_raises.PolgamirRaises.{PolgamirRaises}
 use Rattle.layout.specs.Raises.{raisesInC}
 
@@ -9,5 +9,7 @@ use Rattle.layout.specs.Raises.{raisesInC}
 pub record RaisesReturned (q : Input) (c : PolgamirRaises) : Type 0 where
   -- the planning answer before 10 and every entry are those of the definitions
   pub is : c ≡ raisesInC (raisesCall q)
+  -- whose number comes only in its named case
+  pub verdict : RaisesCallVerdict q (raisesCall q)
   -- which say, by the existence of a list, what `RaisesPromise` (crate `raises`) says
   pub holds : RaisesHold (inputJob q) (raisesCall q)

@@ -1,7 +1,7 @@
 -- The stages of a conversion, in checking order.
 use Prim.Native.Nat.{ℕ, zero, suc, _≤_, _<_}
 use native.Mathlib.Omega.{arith}
-use mathlib.Core.Path.{_≡_, refl, sym, ap, _∙_}
+use mathlib.Core.Path.{_≡_, refl, sym, ap, subst, _∙_}
 use mathlib.Core.Bool.{Bool, true, false, cond}
 use mathlib.Core.Option.{Option, none, some}
 use mathlib.Core.List.{List, [], _∷_, _++_}
@@ -18,7 +18,8 @@ use Rattle.model.specs.Words.{Decoded, noMask, badWord, badLong, job, decode}
 use Rattle.model.specs.Refusals.{lastTick}
 use Rattle.model.specs.Outcome.{firstAxis, Tests, outcomeOfWords}
 use Rattle.model.specs.Converter.{oldOutcome, converted, Conversion, unconverted, written, conversionRefusals, unlessRefused, jobConversion, conversion}
-use Rattle.model.proofs.Conversion.{conversion-kept, conversion-plans}
+use Rattle.model.specs.Converter.{ConversionVerdict}
+use Rattle.model.proofs.Conversion.{conversion-kept, conversion-plans, conversion-verdict}
 use Rattle.words.specs.declared.DecodedJob.{DecodedJob}
 use Rattle.words.specs.Decoding.{decodedJob, Decodes}
 use Rattle.checks.specs.declared.Refusal.{Refusal}
@@ -203,6 +204,7 @@ pub promised : (ws lent : List ℕ) (r : Answer) (exit : List ℕ) → Gives (co
 promised ws lent r exit g =
     record {
       conversion = g .conversion;
+      verdict = subst (ConversionVerdict ws lent) (sym (g .conversion)) (conversion-verdict ws lent);
       mask = g .mask;
       arrival = g .arrival;
       kept = λ z cells.

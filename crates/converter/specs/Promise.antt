@@ -11,7 +11,7 @@ use Rattle.model.specs.declared.Job.{Job}
 use Rattle.model.specs.Job.{setAxes}
 use Rattle.model.specs.Refusals.{lastTick}
 use Rattle.model.specs.Outcome.{outcomeOfWords}
-use Rattle.model.specs.Converter.{oldOutcome, Conversion, conversion}
+use Rattle.model.specs.Converter.{oldOutcome, Conversion, conversion, ConversionVerdict}
 use Rattle.checks.specs.declared.Refusal.{Refusal}
 use Rattle.checks.specs.Checks.{testsFor, firstRefusal}
 
@@ -19,6 +19,8 @@ use Rattle.checks.specs.Checks.{testsFor, firstRefusal}
 pub record Converts (ws entry : List ℕ) (r : Answer) (exit : List ℕ) : Type 0 where
   -- number, place and every lent word are those of the definition, refused or not
   pub conversion : record { number = r .number; place = r .place; words = exit } ≡ conversion ws entry
+  -- 1, 2 and 14 come only in their named cases, and which job is converted is said of the words, without a reader of words
+  pub verdict : ConversionVerdict ws entry (record { number = r .number; place = r .place; words = exit })
   -- left free by the method
   pub mask : r .mask ≡ 0
   pub arrival : r .arrival ≡ 0

@@ -10,7 +10,7 @@ use mathlib.Core.List.{List, [], _∷_}
 use lib.IntN.{ℤ}
 use lib.Dec.{eqb, leb, ltb}
 use lib.ListN.{length, length-map}
-use borrow.Author.Tests.{eqb-true}
+use borrow.Author.Tests.{eqb-true, ne-eqb}
 use Rattle.model.specs.declared.Answer.{Answer}
 use Rattle.model.specs.declared.Order.the-variants.{Forwards}
 use Rattle.model.specs.Job.{Job, jobOf, maskWhere}
@@ -23,8 +23,9 @@ use Rattle.model.specs.Outcome.{refuse, accept, filled, arrived, Tests, 
 use Rattle.model.specs.Outcome.{cellsNeeded, leastFrom, arrives, firstAxis, reachesNone, beforeTen, answerOf}
 use Rattle.model.specs.Verdict.{Verdict, refused3, refused4, refused12, refused5, refused15, refused6}
 use Rattle.model.specs.Verdict.{refused16, refused17, refused13, refused8, refused9, refused10, accepted}
-use Rattle.model.specs.Verdict.{CallVerdict, words1, words2, words14, wordsJob, typed1, typedJobs}
+use Rattle.model.specs.Verdict.{Refuses, CallVerdict}
 use Rattle.model.specs.Demand.{Demand3}
+use Rattle.model.proofs.WordsAre.{either-said}
 use Rattle.model.proofs.CallVerdict.{call-verdict}
 use Rattle.model.proofs.Demand.{demand3}
 
@@ -145,6 +146,13 @@ module _ (m : ℕ) (o : Outcome) where
       go true e = absurd (not-zero (sym e))
       go false e = (e, refl)
 
+-- as an answer, with place, mask and arrival
+pub refused-answer : (m : ℕ) (o : Outcome) (n p k a : ℕ) (lent : List ℤ) → (n ≡ 10 → ⊥) → Refuses o n p k a lent
+    → beforeTen m o ≡ record { number = n; place = p; mask = k; arrival = a }
+refused-answer m o n p k a lent ten r =
+    ap (by-ten m o) (ne-eqb (o .number) 10 (λ e. ten (sym (r .number) ∙ e)))
+    ∙ (λ i. record { number = r .number i; place = r .place i; mask = r .mask i; arrival = r .arrival i })
+
 -- the table is too short for a job and an outcome's arrival
 abbrev Short : List ℤ → Outcome → Job → Type 0
 Short lent o j = length lent < cellsNeeded (length (j .axes)) (o .arrival)
@@ -167,12 +175,10 @@ module _ (lent : List ℤ) (o : Outcome) (e : o .number ≡ 10) where
   of-job j (accepted n a w b c r) = let z = r .number in absurd (omega arith)
 
   ten-short : (q : Input) → CallVerdict Forwards lent o q → Short lent o (inputJob q)
-  ten-short q (words1 ws a r) = let z = r .number in absurd (omega arith)
-  ten-short q (words2 ws p a r) = let z = r .number in absurd (omega arith)
-  ten-short q (words14 ws p a b r) = let z = r .number in absurd (omega arith)
-  ten-short q (wordsJob ws j f l d v) = subst (Short lent o) (sym (ap jobRead d)) (of-job j v)
-  ten-short q (typed1 t a r) = let z = r .number in absurd (omega arith)
-  ten-short q (typedJobs t a b v) = of-job (jobOf t) v
+  ten-short q =
+      either-said (λ n p. Refuses o n p 0 0 lent) (λ j. Verdict Forwards j lent o) (Short lent o (inputJob q)) q
+      (λ n p w r. absurd (w .not-10 (sym (r .number) ∙ e)))
+      (λ j s v. subst (Short lent o) (sym s) (of-job j v))
 
 module _ (q : Input) (lent : List ℤ) where
   abbrev o : Outcome

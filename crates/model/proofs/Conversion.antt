@@ -21,6 +21,9 @@ use Rattle.model.specs.Refusals.{lastTick, flies, flyingRefused}
 use Rattle.model.specs.Outcome.{Outcome, refuse, firstAxis, Tests, axisRefusals, admitted, tested, jobOutcomeBy, jobOutcome, outcomeOfWordsBy}
 use Rattle.model.specs.Converter.{oldRefusals, oldOutcome, converted, Conversion, unconverted, written, conversionRefusals, unlessRefused, jobConversion}
 use Rattle.model.specs.Converter.{convertedTarget, withTarget, convertedAxis, convertedAxes, convertedJob, ConversionKept, ConversionPlans}
+use Rattle.model.specs.Converter.{ConversionVerdict, conversion}
+use Rattle.model.specs.Outcome.{words}
+use Rattle.model.proofs.WordsAre.{Says, by-input}
 use Rattle.model.proofs.OutsideWindows.{Clear}
 use Rattle.model.proofs.ConvertedJob.{converted-outcome}
 use Rattle.model.proofs.ConvertedWords.{converted-words}
@@ -198,3 +201,22 @@ conversion-kept ws lent z cells = by-decoded oldRefusals ws lent cells (λ j e. 
 
 pub conversion-plans : ConversionPlans
 conversion-plans ws lent z cells = by-decoded axisRefusals ws lent cells (λ j e. outcome-same j cells e) (decode ws) refl z
+
+-- ---- what each number says of the words
+
+pub conversion-verdict : (ws lent : List ℕ) → ConversionVerdict ws lent (conversion ws lent)
+conversion-verdict ws lent = by-input (λ n p. by (decode ws) ≡ unconverted n p lent) (λ j. by (decode ws) ≡ jobConversion j ws lent) (words ws) (go (decode ws))
+  where
+    by : Decoded → Conversion
+    by d = elim d [
+      | noMask ↦ unconverted 1 0 lent
+      | badWord p ↦ unconverted 2 p lent
+      | badLong p ↦ unconverted 14 p lent
+      | job j ↦ jobConversion j ws lent
+    ]
+
+    go : (d : Decoded) → Says (λ n p. by d ≡ unconverted n p lent) (λ j. by d ≡ jobConversion j ws lent) d
+    go noMask = refl
+    go (badWord p) = refl
+    go (badLong p) = refl
+    go (job j) = refl

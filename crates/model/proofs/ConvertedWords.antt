@@ -21,7 +21,7 @@ use Rattle.model.specs.Words.{Reading, got, wrong, Reader, _>>=_, give, 
 use Rattle.model.specs.Words.{ending, readJob, afterMask, goodMask, Decoded, noMask, job, spelled, decided, decode}
 use Rattle.model.specs.Spelling.{word}
 use Rattle.model.specs.Converter.{begins, flyingWord, converted, convertedTarget, convertedAxis, convertedAxes, convertedJob}
-use Rattle.model.proofs.CallVerdict.{before}
+use Rattle.model.proofs.Readers.{before}
 use Rattle.model.proofs.LongWrong.{bad}
 use Rattle.model.proofs.PositionSpelling.{value-of, rest-of, unread, Clean, clean, clean-tail}
 

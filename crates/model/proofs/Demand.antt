@@ -15,24 +15,24 @@ use Rattle.model.specs.declared.Order.{Order}
 use Rattle.model.specs.declared.Order.the-variants.{Forwards, Backwards}
 use Rattle.whole.specs.Integers.{nearest}
 use Rattle.model.specs.Rows.{track, divisor, cells, rowAt, table}
-use Rattle.model.specs.Job.{Job, JobAxis, axesOf, jobOf}
-use Rattle.model.specs.Words.{Decoded}
+use Rattle.model.specs.Job.{Job, JobAxis, axesOf}
 use Rattle.model.specs.Motion.{reachable}
 use Rattle.model.specs.Demand.{tableIn, cellAt, positionCell, velocityCell, accelerationCell, Lands, Carries, SwayCancelled}
 use Rattle.model.specs.Demand.{sway, Demand3, Demand3Holds, CellLimits, CellLimitsHold, ExactStart, ExactStartHolds, SameRows}
 use Rattle.model.specs.Misfit.{plannedVariation, roundingLeft, SwayLeft, SwayLeftHolds}
-use Rattle.model.specs.Outcome.{Outcome, Input, call, callIn, jobRead, inputAxes, cellsNeeded}
+use Rattle.model.specs.Outcome.{Outcome, Input, call, callIn, inputAxes, cellsNeeded}
 use Rattle.whole.proofs.Tests.{T-true}
 use Rattle.whole.proofs.Elements.{at-below, element}
 use Rattle.model.proofs.CellPlaces.{row-place, table-length, table-at}
 use Rattle.model.specs.Refusals.{Ready, AllPassed}
-use Rattle.model.specs.Verdict.{Among, IsArrival, Verdict, CallVerdict, words1, words2, words14, wordsJob, typed1, typedJobs}
+use Rattle.model.specs.Verdict.{Among, IsArrival, Refuses, Verdict, CallVerdict}
 use Rattle.model.specs.Verdict.{accepted, refused3, refused4, refused12, refused5, refused15, refused6, refused16, refused17}
 use Rattle.model.specs.Verdict.{refused13, refused8, refused9, refused10}
 use Rattle.model.specs.Quantities.{speedLimit, accelerationLimit}
 use Rattle.model.proofs.CellLimits as L
 use Rattle.model.proofs.ExactStart as S
 use Rattle.model.proofs.Verdict.{passed-among, reach-is}
+use Rattle.model.proofs.WordsAre.{either-said}
 use Rattle.model.proofs.CallVerdict.{call-verdict}
 use Rattle.model.proofs.TwoBlends.{both, bothDivisor, cell-both, position-both}
 use Rattle.model.proofs.Landing.{lands-position, lands-velocity, lands-acceleration}
@@ -219,13 +219,10 @@ module _ (Claim : List Axis → ℕ → List ℤ → Type 0)
   by-verdict j lent o (refused10 n a w b c e) z = absurd (let n = e .number in omega arith)
 
   by-call : (q : Input) (lent : List ℤ) (o : Outcome) → CallVerdict Forwards lent o q → o .number ≡ 0 → Claim (inputAxes q) (o .arrival) (o .cells)
-  by-call q lent o (words1 ws a e) z = absurd (let n = e .number in omega arith)
-  by-call q lent o (words2 ws p a e) z = absurd (let n = e .number in omega arith)
-  by-call q lent o (words14 ws p a b e) z = absurd (let n = e .number in omega arith)
-  by-call q lent o (wordsJob ws j f l d v) z =
-      subst (λ (xs : List Axis). Claim xs (o .arrival) (o .cells)) (sym (ap (λ (r : Decoded). axesOf (jobRead r)) d)) (by-verdict j lent o v z)
-  by-call q lent o (typed1 t a e) z = absurd (let n = e .number in omega arith)
-  by-call q lent o (typedJobs t a b v) z = by-verdict (jobOf t) lent o v z
+  by-call q lent o v z =
+      either-said (λ n p. Refuses o n p 0 0 lent) (λ j. Verdict Forwards j lent o) (Claim (inputAxes q) (o .arrival) (o .cells)) q
+      (λ n p w r. absurd (w .not-0 (sym (r .number) ∙ z)))
+      (λ j e w. subst (λ (i : Job). Claim (axesOf i) (o .arrival) (o .cells)) (sym e) (by-verdict j lent o w z)) v
 
   of-forward-calls : (q : Input) (lent : List ℤ) → call q lent .number ≡ 0 → Claim (inputAxes q) (call q lent .arrival) (call q lent .cells)
   of-forward-calls q lent z = by-call q lent (call q lent) (call-verdict q lent) z

@@ -1,5 +1,5 @@
 -- Refusal 2 names the first word that is not of a kind allowed next, in the method's words: `first-wrong-word`.
-use Prim.Native.Nat.{ℕ, zero, suc, _+_, _*_, _^_, _≤_, _<_}
+use Prim.Native.Nat.{ℕ, zero, suc, _+_, _≤_, _<_}
 use native.Mathlib.Omega.{arith}
 use mathlib.Core.Path.{_≡_, refl, sym, ap, subst, _∙_}
 use mathlib.Core.Bool.{Bool, true, false, _&&_, true≢false}
@@ -10,11 +10,8 @@ use lib.Dec.{eqb}
 use lib.IntN.{ℤ}
 use lib.ListN.{length, take, drop, take-append-drop}
 use borrow.Author.Tests.{eq-eqb, eqb-true}
-use Rattle.model.specs.declared.Axis.{Axis}
-use Rattle.model.specs.declared.SecondSway.{SecondSway}
-use Rattle.model.specs.declared.Target.{Target}
-use Rattle.model.specs.Job.{Job, JobAxis, setBits}
-use Rattle.model.specs.Words.{kind, payload, Reading, got, wrong, Reader, _>>=_, give, field, signed, next, positionBy, position}
+use Rattle.model.specs.Job.{Job, setBits}
+use Rattle.model.specs.Words.{kind, payload, Reading, got, wrong, Reader, _>>=_, field, signed, next, positionBy, position}
 use Rattle.model.specs.Words.{target, swayBy, secondSway, axis, axes, ending, readJob, afterMask}
 use Rattle.model.specs.Spelling.{word}
 use Rattle.model.specs.Grammar.{Form, OfKind, Either, PositionForm, SwayForm, MovingForm, AxisForm, AxesForm, EndForm, AfterMask, WellFormed, Begins, FirstWrong}

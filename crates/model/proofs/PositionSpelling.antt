@@ -17,7 +17,7 @@ use Rattle.model.specs.Words.{spelled}
 use Rattle.model.specs.Refusals.{positionAllowed}
 use Rattle.model.specs.Spelling.{word, bits, high, low, positionWords, SpellsPosition, PositionSpelling}
 use Rattle.model.proofs.LongWrong.{bad}
-use Rattle.model.proofs.CallVerdict.{before}
+use Rattle.model.proofs.Readers.{before}
 
 -- ---- numbers
 
@@ -84,6 +84,18 @@ clean i (w ∷ u ∷ ws) e = go (bad w u) refl e (clean (suc i) (u ∷ ws))
         → (firstBadLong (suc i) (u ∷ ws) ≡ none → Clean (u ∷ ws)) → Clean (w ∷ u ∷ ws)
     go true t e h = absurd (let z : _≡_ {A = ℕ} 0 1 = cc in omega arith)
     go false t e h = (t, h e)
+
+-- and no other words do
+pub clean-none : (i : ℕ) (ws : List ℕ) → Clean ws → firstBadLong i ws ≡ none
+clean-none i [] c = refl
+clean-none i (w ∷ []) c = refl
+clean-none i (w ∷ u ∷ ws) c =
+    ap (λ (b : Bool). elim b as (λ _. Option ℕ) [ true ↦ some i | false ↦ firstBadLong (suc i) (u ∷ ws) ]) (c .0) ∙ clean-none (suc i) (u ∷ ws) (c .1)
+
+-- a word of another kind than 14 in front
+pub clean-cons : (w : ℕ) (ws : List ℕ) → (kind w ≡ 14 → ⊥) → Clean ws → Clean (w ∷ ws)
+clean-cons w [] n c = tt
+clean-cons w (u ∷ ws) n c = (ap (λ (b : Bool). b && not (longAllowed (payload w) (payload u))) (ne-eqb (kind w) 14 n), c)
 
 pub clean-tail : (w : ℕ) (ws : List ℕ) → Clean (w ∷ ws) → Clean ws
 clean-tail w [] c = tt
@@ -192,14 +204,14 @@ position-is k i (w ∷ ws) p j vs c e = go (eqb (kind w) 14) refl e
 
 -- ---- the words of a position are read as it
 
-kind-of : (k n : ℕ) → n < 2 ^ 28 → kind (word k n) ≡ k
+pub kind-of : (k n : ℕ) → n < 2 ^ 28 → kind (word k n) ≡ k
 kind-of k n h = omega arith
 
-payload-of : (k n : ℕ) → n < 2 ^ 28 → payload (word k n) ≡ n
+pub payload-of : (k n : ℕ) → n < 2 ^ 28 → payload (word k n) ≡ n
 payload-of k n h = omega arith
 
 -- a number that fits a single word, from its bits
-bits-twos : (z : ℤ) → fitsWord z ≡ true → (twos (bits z) ≡ z) × (bits z < 2 ^ 28)
+pub bits-twos : (z : ℤ) → fitsWord z ≡ true → (twos (bits z) ≡ z) × (bits z < 2 ^ 28)
 bits-twos (pos n) e =
     let h = leb-true n 134217727 e in
     (ap (λ (b : Bool). elim b as (λ _. ℤ) [ true ↦ pos n | false ↦ negℤ (pos (2 ^ 28 - n)) ]) (lt-ltb n (2 ^ 27) (omega arith)), omega arith)
@@ -233,7 +245,7 @@ high-small (negsuc n) e =
       ap (λ (b : Bool). b && true) (le-leb (n / 2 ^ 28) 134217727 (omega arith)),
     )
 
-field-yes : (k i n : ℕ) (vs : List ℕ) → n < 2 ^ 28 → field k i (word k n ∷ vs) ≡ got n (suc i) vs
+pub field-yes : (k i n : ℕ) (vs : List ℕ) → n < 2 ^ 28 → field k i (word k n ∷ vs) ≡ got n (suc i) vs
 field-yes k i n vs h =
     (λ q. elim (eq-eqb (kind (word k n)) k (kind-of k n h) q) as (λ _. Reading ℕ) [
       | true ↦ got (payload-of k n h q) (suc i) vs
@@ -249,22 +261,32 @@ on-long a r = elim r [ got b j vs ↦ got (longPosition a b) j vs | wrong p ↦ 
 on-high : ℕ → Reading ℕ → Reading ℤ
 on-high k r = elim r [ got a j vs ↦ _>>=_ (field k) (λ b. give (longPosition a b)) j vs | wrong p ↦ wrong p ]
 
+-- words of a position, wherever they stand: they are read as it, refusal 14 lets them pass, and their first word is of kind k or 14
+pub record Stands (k : ℕ) (p : ℤ) (us : List ℕ) : Type 0 where
+  pub read : (i : ℕ) (vs : List ℕ) → position k i (us ++ vs) ≡ got p (i + length us) vs
+  pub pass : (vs : List ℕ) → Clean vs → Clean (us ++ vs)
+  pub first : (vs : List ℕ) → (w : ℕ) × ((ws : List ℕ) × ((us ++ vs ≡ w ∷ ws) × ((kind w ≡ 14) ⊎ (kind w ≡ k))))
+
 module _ (k : ℕ) (apart : k ≡ 14 → ⊥) (p : ℤ) (inside : positionAllowed p ≡ true) where
-  one-word : fitsWord p ≡ true → SpellsPosition k p (word k (bits p) ∷ [])
+  one-word : fitsWord p ≡ true → Stands k p (word k (bits p) ∷ [])
   unfolding on-signed
   one-word e =
       let b = bits-twos p e in
       let n : ℕ = bits p in
-      let short : eqb (kind (word k n)) 14 ≡ false = ne-eqb (kind (word k n)) 14 (λ z. apart (sym (kind-of k n (b .1)) ∙ z)) in
+      let is : kind (word k n) ≡ k = kind-of k n (b .1) in
+      let short : kind (word k n) ≡ 14 → ⊥ = λ z. apart (sym is ∙ z) in
       record {
         read =
-            ap (λ (t : Bool). positionBy t k 0 (word k n ∷ [])) short
-            ∙ ap on-signed (field-yes k 0 n [] (b .1))
-            ∙ ap (λ (z : ℤ). got z 1 []) (b .0);
-        allowed = refl;
+            λ i vs.
+            let next : suc i ≡ i + 1 = omega arith in
+            ap (λ (t : Bool). positionBy t k i (word k n ∷ vs)) (ne-eqb (kind (word k n)) 14 short)
+            ∙ ap on-signed (field-yes k i n vs (b .1))
+            ∙ (λ q. got (b .0 q) (next q) vs);
+        pass = λ vs c. clean-cons (word k n) vs short c;
+        first = λ vs. (word k n, (vs, (refl, inr is)));
       }
 
-  two-words : fitsWord p ≡ false → SpellsPosition k p (word 14 (bits (high p)) ∷ word k (low p) ∷ [])
+  two-words : fitsWord p ≡ false → Stands k p (word 14 (bits (high p)) ∷ word k (low p) ∷ [])
   unfolding on-long on-high
   two-words e =
       let s = high-small p inside in
@@ -274,25 +296,37 @@ module _ (k : ℕ) (apart : k ≡ 14 → ⊥) (p : ℤ) (inside : positionAllowe
       let is : longPosition n m ≡ p = ap (λ (z : ℤ). pos (2 ^ 28) *ℤ z +ℤ pos m) (b .0) ∙ joined p in
       let fits : between (negsuc 63) (pos 63) (twos n) ≡ true = ap (between (negsuc 63) (pos 63)) (b .0) ∙ s .0 in
       let passes : longAllowed n m ≡ true = (λ q. fits q && not ((ap fitsWord is ∙ e) q)) in
+      let good : bad (word 14 n) (word k m) ≡ false =
+      (λ q. eqb (kind (word 14 n)) 14 && not (longAllowed (payload-of 14 n (b .1) q) (payload-of k m (low-small p) q)))
+      ∙ (λ q. eq-eqb (kind (word 14 n)) 14 (kind-of 14 n (b .1)) q && not (passes q)) in
       record {
         read =
-            ap (λ (t : Bool). positionBy t k 0 (word 14 n ∷ word k m ∷ [])) (eq-eqb (kind (word 14 n)) 14 (kind-of 14 n (b .1)))
-            ∙ ap (on-high k) (field-yes 14 0 n (word k m ∷ []) (b .1))
-            ∙ ap (on-long n) (field-yes k 1 m [] (low-small p))
-            ∙ ap (λ (z : ℤ). got z 2 []) is;
-        allowed =
-            (λ q. elim (eq-eqb (kind (word 14 n)) 14 (kind-of 14 n (b .1)) q
-            && not (longAllowed (payload-of 14 n (b .1) q) (payload-of k m (low-small p) q))) as (λ _. Option ℕ) [ true ↦ some 0 | false ↦ none ])
-            ∙ ap (λ (t : Bool). elim (not t) as (λ _. Option ℕ) [ true ↦ some 0 | false ↦ none ]) passes;
+            λ i vs.
+            let next : suc (suc i) ≡ i + 2 = omega arith in
+            ap (λ (t : Bool). positionBy t k i (word 14 n ∷ word k m ∷ vs)) (eq-eqb (kind (word 14 n)) 14 (kind-of 14 n (b .1)))
+            ∙ ap (on-high k) (field-yes 14 i n (word k m ∷ vs) (b .1))
+            ∙ ap (on-long n) (field-yes k (suc i) m vs (low-small p))
+            ∙ (λ q. got (is q) (next q) vs);
+        pass = λ vs c. (good, clean-cons (word k m) vs (λ z. apart (sym (kind-of k m (low-small p)) ∙ z)) c);
+        first = λ vs. (word 14 n, (word k m ∷ vs, (refl, inl (kind-of 14 n (b .1)))));
       }
 
-  spelled-so : SpellsPosition k p (positionWords k p)
+  pub stands : Stands k p (positionWords k p)
   unfolding by-fit
-  spelled-so = go (fitsWord p) refl
+  stands = go (fitsWord p) refl
     where
-      go : (b : Bool) → fitsWord p ≡ b → SpellsPosition k p (by-fit k p b)
+      go : (b : Bool) → fitsWord p ≡ b → Stands k p (by-fit k p b)
       go true e = one-word e
       go false e = two-words e
+
+  spelled-so : SpellsPosition k p (positionWords k p)
+  spelled-so =
+      let us : List ℕ = positionWords k p in
+      let nil = append-nil us in
+      record {
+        read = ap (position k 0) (sym nil) ∙ stands .read 0 [] ∙ ap (λ (n : ℕ). got p n []) (let z : 0 + length us ≡ length us = omega arith in z);
+        allowed = clean-none 0 us (subst Clean nil (stands .pass [] tt));
+      }
 
 pub position-spelling : PositionSpelling
 position-spelling k either p =

@@ -10,7 +10,7 @@ use native.Mathlib.Nat.{pow-suc}
 use lib.Dec.{T, eqb, eqb→eq, leb, leb→le, nleb→lt}
 use lib.ListN.{length, length-set, getD, set, replicate}
 use lib.Seq.{getD-set-same, getD-set-other}
-use borrow.Author.Tests.{eq-eqb}
+use borrow.Author.Tests.{eq-eqb, ne-eqb}
 use Rattle.whole.proofs.Tests.{T-true, T-false, by-bool}
 use Rattle.whole.proofs.Elements.{none-some}
 use Rattle.model.specs.declared.Answer.{Answer}
@@ -25,17 +25,18 @@ use Rattle.model.specs.declared.Raise.the-variants.{AccelerationBy, Spee
 use Rattle.model.specs.Motion.{Reachable, reachable}
 use Rattle.model.specs.Job.{Job, JobAxis, setAxes, jobOf, bit}
 use Rattle.model.specs.Refusals.{AllPassed, Passed}
-use Rattle.model.specs.Outcome.{Outcome, typed, call, answerOf}
-use Rattle.model.specs.Verdict.{Among, Names, Verdict, CallVerdict, typed1, typedJobs}
+use Rattle.model.specs.Outcome.{Outcome, Input, typed, inputJob, call, beforeTen, answerOf}
+use Rattle.model.specs.Verdict.{Among, Names, Refuses, Verdict, CallVerdict, typed1, typedJobs}
 use Rattle.model.specs.Verdict.{refused3, refused4, refused12, refused5, refused15, refused6, refused16, refused17}
 use Rattle.model.specs.Verdict.{refused13, refused8, refused9, refused10, accepted}
-use Rattle.model.specs.Raises.{limitOf, highest, withLimit, raiseOf, noRaises, inOrder, raisesOf, raisesFrom, noneRaised, raisesCall}
+use Rattle.model.specs.Raises.{limitOf, highest, withLimit, raiseOf, noRaises, inOrder, raisesOf, raisesFrom, noneRaised, raisesWith, raisesCall}
 use Rattle.model.specs.Raises.{RaiseIs, reported, Ordered, neither, acceleration, speed, acceleration-first, speed-first}
-use Rattle.model.specs.Raises.{RaisesSay, Named, RaisesHold}
+use Rattle.model.specs.Raises.{RaisesSay, Named, RaisesHold, RaisesVerdict, refuseRaises, RaisesCallVerdict}
 use Rattle.model.proofs.Masks.{Ascends}
 use Rattle.model.proofs.Verdict.{first-among, later-among, passed-among, reach-is}
 use Rattle.model.proofs.CallVerdict.{set-ascends, call-verdict}
-use Rattle.model.proofs.BeforeTen.{same-refusal}
+use Rattle.model.proofs.BeforeTen.{same-refusal, refused-answer}
+use Rattle.model.proofs.WordsAre.{OfWords, said-too}
 use Rattle.model.proofs.LeastRaise.{raise-is}
 
 -- ---- the raises of one axis
@@ -259,3 +260,30 @@ module _ (t : Typed.Job) where
   raises-hold =
       by-bool (λ (l : List AxisRaises). RaisesHold (jobOf t) (with-list l)) (eqb (a .number) 8) _ _ (λ y. each-named (eqb→eq (a .number) 8 y))
       (λ n. no-other (λ z. subst (λ (b : Bool). T (not b)) (eq-eqb (a .number) 8 z) n))
+
+-- ---- what each number says
+
+module _ (q : Input) (r : RaisesAnswer) (is : r ≡ raisesCall q) where
+  -- a refusal of the words or of the mask is the call's own, and brings no raises
+  refused : (n p : ℕ) → OfWords n → Refuses (call q []) n p 0 0 [] → r ≡ refuseRaises n p
+  unfolding raisesCall answerOf
+  refused n p w e =
+      is
+      ∙ ap (λ (a : Answer). raisesWith a (inputJob q)) (refused-answer (inputJob q .mask) (call q []) n p 0 0 [] (w .not-10) e)
+      ∙ ap (λ (b : Bool). record {
+        answer = refuseRaises n p .answer;
+        axes = elim b as (λ _. List AxisRaises) [ true ↦ raisesFrom (inputJob q .asked) (inputJob q .axes) noneRaised | false ↦ noneRaised ];
+      }) (ne-eqb n 8 (w .not-8))
+
+  judged : RaisesHold (inputJob q) r → (j : Job) → inputJob q ≡ j → Verdict Forwards j [] (call q []) → RaisesVerdict j r
+  unfolding raisesCall answerOf
+  judged h j e v =
+      record {
+        outcome = call q [];
+        planned = v;
+        answer = ap (λ (a : RaisesAnswer). a .answer) is ∙ ap (λ (i : Job). beforeTen (i .mask) (call q [])) e;
+        holds = subst (λ (i : Job). RaisesHold i r) e h;
+      }
+
+  pub raises-verdict : RaisesHold (inputJob q) r → RaisesCallVerdict q r
+  raises-verdict h = said-too _ _ _ _ q refused (judged h) (call-verdict q [])

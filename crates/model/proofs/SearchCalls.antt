@@ -18,13 +18,14 @@ use Rattle.model.specs.Windows.{refused13}
 use Rattle.model.specs.Job.{Job, jobOf}
 use Rattle.model.specs.Words.{Decoded, noMask, badWord, badLong, job, decode, goodMask}
 use Rattle.model.specs.Outcome.{Outcome, Input, words, typed, jobRead, inputJob, refuse}
-use Rattle.model.specs.Outcome.{arrives, arrived, leastFrom, firstAxis, Tests, axisRefusals, tested, jobOutcome}
+use Rattle.model.specs.Outcome.{arrives, arrived, leastFrom, firstAxis, Tests, axisRefusals, tested}
 use Rattle.model.specs.Verdict.{Arrives, Passing}
 use Rattle.model.specs.Search.{candidates, searchFrom, refuseSearch, searchAnswer, firstAllowed, firstChecked, searchTested, asking}
 use Rattle.model.specs.Search.{searchJob, searchCall, undivided, after, continued}
 use Rattle.model.specs.Search.{Continues, ended, goesOn, ContinuingIsUndivided, AtLeast1, EndsWithin4096}
 use Rattle.model.specs.Search.{SearchSays, found, spent, nothing, Planned, numbersOf, OneOf, SearchVerdict}
-use Rattle.model.specs.Search.{refusedAs, refused18, reports, SearchCallVerdict, refusedCall, ofJob}
+use Rattle.model.specs.Search.{refusedAs, refused18, reports, SearchCallVerdict}
+use Rattle.model.proofs.WordsAre.{Says, SaysTyped, by-input, either-said}
 use Rattle.model.proofs.WindowsInWords.{windows-right}
 use Rattle.model.proofs.OutsideWindows.{Clear}
 use Rattle.model.proofs.CheckingOrder.{Lacks, lacks, clear-passed}
@@ -278,18 +279,16 @@ within-4096 q first bs z l c =
     let s = searches q first 4096 z in
     finishes q (s .is) bs first (s .allowed) l (omega (arith, s .allowed .0))
 
+abbrev Refused : SearchAnswer → ℕ → ℕ → Type 0
+Refused a n p = a ≡ refuseSearch n p
+
+abbrev Judged : ℕ → ℕ → SearchAnswer → Job → Type 0
+Judged first budget a j = SearchVerdict j first budget a
+
 pub search-verdict : (q : Input) (first budget : ℕ) → SearchCallVerdict q first budget (searchCall q first budget)
 unfolding searchCall
-search-verdict (words ws) first budget = go (decode ws) refl
+search-verdict (words ws) first budget = by-input (Refused (search (decode ws))) (Judged first budget (search (decode ws))) (words ws) (go (decode ws))
   where
-    table : List ℤ → Decoded → Outcome
-    table lent d = elim d [
-      | noMask ↦ refuse 1 0 0 0 lent
-      | badWord p ↦ refuse 2 p 0 0 lent
-      | badLong p ↦ refuse 14 p 0 0 lent
-      | job j ↦ jobOutcome j lent
-    ]
-
     search : Decoded → SearchAnswer
     search d = elim d [
       | noMask ↦ refuseSearch 1 0
@@ -298,34 +297,37 @@ search-verdict (words ws) first budget = go (decode ws) refl
       | job j ↦ searchJob j first budget
     ]
 
-    go : (d : Decoded) → decode ws ≡ d → SearchCallVerdict (words ws) first budget (search (decode ws))
-    go noMask e = refusedCall 1 0 (inl refl) (λ lent. ap (table lent) e) (ap search e)
-    go (badWord p) e = refusedCall 2 p (inr (inl refl)) (λ lent. ap (table lent) e) (ap search e)
-    go (badLong p) e = refusedCall 14 p (inr (inr (inl refl))) (λ lent. ap (table lent) e) (ap search e)
-    go (job j) e = ofJob (subst (λ (d : Decoded). SearchVerdict (jobRead d) first budget (search d)) (sym e) (job-verdict j first budget))
-search-verdict (typed t) first budget = go (goodMask (t .mask)) refl
+    go : (d : Decoded) → Says (Refused (search d)) (Judged first budget (search d)) d
+    go noMask = refl
+    go (badWord p) = refl
+    go (badLong p) = refl
+    go (job j) = job-verdict j first budget
+search-verdict (typed t) first budget =
+    by-input (Refused (search (goodMask (t .mask)))) (Judged first budget (search (goodMask (t .mask)))) (typed t) (go (goodMask (t .mask)))
   where
-    table : List ℤ → Bool → Outcome
-    table lent g = elim g [ true ↦ jobOutcome (jobOf t) lent | false ↦ refuse 1 0 0 0 lent ]
-
     search : Bool → SearchAnswer
     search g = elim g [ true ↦ searchJob (jobOf t) first budget | false ↦ refuseSearch 1 0 ]
 
-    go : (g : Bool) → goodMask (t .mask) ≡ g → SearchCallVerdict (typed t) first budget (search (goodMask (t .mask)))
-    go false e = refusedCall 1 0 (inl refl) (λ lent. ap (table lent) e) (ap search e)
-    go true e = ofJob (subst (SearchVerdict (jobOf t) first budget) (sym (ap search e)) (job-verdict (jobOf t) first budget))
+    go : (g : Bool) → SaysTyped (Refused (search g)) (Judged first budget (search g)) (jobOf t) g
+    go true = job-verdict (jobOf t) first budget
+    go false = refl
 
 -- a call with number 0: what its report says, and that a tick that it found can be asked for
-pub call-says : (q : Input) (first budget : ℕ) (a : SearchAnswer) → a .number ≡ 0 → SearchCallVerdict q first budget a
-    → SearchSays (inputJob q) first budget (a .report) (a .tried) × ((n : ℕ) → a .report ≡ Found n → Planned (inputJob q) n)
-call-says q first budget a z (refusedCall n p (inl k) f e) = absurd (let m = ap (λ (r : SearchAnswer). r .number) e in omega arith)
-call-says q first budget a z (refusedCall n p (inr (inl k)) f e) = absurd (let m = ap (λ (r : SearchAnswer). r .number) e in omega arith)
-call-says q first budget a z (refusedCall n p (inr (inr (inl k))) f e) = absurd (let m = ap (λ (r : SearchAnswer). r .number) e in omega arith)
-call-says q first budget a z (refusedCall n p (inr (inr (inr k))) f e) = absurd k
-call-says q first budget a z (ofJob (refusedAs n p k f e)) =
+pub record CallSays (j : Job) (first budget : ℕ) (a : SearchAnswer) : Type 0 where
+  pub says : SearchSays j first budget (a .report) (a .tried)
+  pub asked : (n : ℕ) → a .report ≡ Found n → Planned j n
+
+job-says : (j : Job) (first budget : ℕ) (a : SearchAnswer) → a .number ≡ 0 → SearchVerdict j first budget a → CallSays j first budget a
+job-says j first budget a z (refusedAs n p k f e) =
     absurd (numbered axisRefusals n (lacks 0 axisRefusals refl) k (sym (ap (λ (r : SearchAnswer). r .number) e) ∙ z))
-call-says q first budget a z (ofJob (refused18 p h e)) = absurd (let m = ap (λ (r : SearchAnswer). r .number) e in omega arith)
-call-says q first budget a z (ofJob (reports p l h k s asked)) = (s, asked)
+job-says j first budget a z (refused18 p h e) = absurd (let m = ap (λ (r : SearchAnswer). r .number) e in omega arith)
+job-says j first budget a z (reports p l h k s asked) = record { says = s; asked = asked }
+
+pub call-says : (q : Input) (first budget : ℕ) (a : SearchAnswer) → a .number ≡ 0 → SearchCallVerdict q first budget a → CallSays (inputJob q) first budget a
+call-says q first budget a z =
+    either-said (λ n p. a ≡ refuseSearch n p) (λ j. SearchVerdict j first budget a) (CallSays (inputJob q) first budget a) q
+    (λ n p w e. absurd (w .not-0 (sym (ap (λ (r : SearchAnswer). r .number) e) ∙ z)))
+    (λ j s v. subst (λ (i : Job). CallSays i first budget a) (sym s) (job-says j first budget a z v))
 
 -- a tick that arrives within the budget is reported, or an earlier one
 pub found-if-any : (j : Job) (first budget tried n : ℕ) (r : Report) → SearchSays j first budget r tried → first ≤ n → n ≤ 4096 → n < first + budget

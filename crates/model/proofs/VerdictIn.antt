@@ -1,19 +1,19 @@
 -- Every call with its rows in either order ends in a verdict: `verdict-in`.
 use Prim.Native.Nat.{ℕ}
 use native.Mathlib.Omega.{arith}
-use mathlib.Core.Path.{_≡_, refl, sym, ap, subst}
+use mathlib.Core.Path.{_≡_, sym, ap, subst}
 use mathlib.Core.List.{List}
 use lib.IntN.{ℤ}
 use Rattle.model.specs.declared.Axis.{Axis}
 use Rattle.model.specs.declared.Order.{Order}
 use Rattle.model.specs.declared.Order.the-variants.{Forwards, Backwards}
-use Rattle.model.specs.Job.{Job, axesOf, jobOf}
-use Rattle.model.specs.Words.{Decoded}
-use Rattle.model.specs.Outcome.{Outcome, Input, tableOver, call, callIn, ordered, inputAxes, jobRead}
-use Rattle.model.specs.Verdict.{Refuses, Accepts, Verdict, CallVerdict, words1, words2, words14, wordsJob, typed1, typedJobs}
+use Rattle.model.specs.Job.{Job, axesOf}
+use Rattle.model.specs.Outcome.{Outcome, Input, tableOver, call, callIn, ordered, inputAxes}
+use Rattle.model.specs.Verdict.{Refuses, Accepts, Verdict, CallVerdict}
 use Rattle.model.specs.Verdict.{refused3, refused4, refused12, refused5, refused15, refused6, refused16, refused17, refused13, refused8}
 use Rattle.model.specs.Verdict.{refused9, refused10, accepted}
-use Rattle.model.proofs.Ordered.{turned, refusal-stays, rows-turn}
+use Rattle.model.proofs.Ordered.{refusal-stays, rows-turn}
+use Rattle.model.proofs.WordsAre.{said-too}
 use Rattle.model.proofs.CallVerdict.{call-verdict}
 
 -- a refusal is the same
@@ -50,15 +50,9 @@ job-turned j lent o (refused10 n a w b c e) = refused10 n a w b c (still (axesOf
 job-turned j lent o (accepted n a w b c e) = accepted n a w b c (rows-in j n lent o e)
 
 call-turned : (q : Input) (lent : List ℤ) (o : Outcome) → CallVerdict Forwards lent o q → CallVerdict Backwards lent (ordered Backwards (inputAxes q) lent o) q
-call-turned q lent o (words1 ws a e) = words1 ws a (still (inputAxes q) lent o _ _ _ _ (λ z. omega (arith, z)) e)
-call-turned q lent o (words2 ws p a e) = words2 ws p a (still (inputAxes q) lent o _ _ _ _ (λ z. omega (arith, z)) e)
-call-turned q lent o (words14 ws p a b e) = words14 ws p a b (still (inputAxes q) lent o _ _ _ _ (λ z. omega (arith, z)) e)
-call-turned q lent o (wordsJob ws j f l d v) =
-    wordsJob ws j f l d
-    (subst (λ (xs : List Axis). Verdict Backwards j lent (ordered Backwards xs lent o)) (sym (ap (λ (r : Decoded). axesOf (jobRead r)) d))
-    (job-turned j lent o v))
-call-turned q lent o (typed1 t a e) = typed1 t a (still (inputAxes q) lent o _ _ _ _ (λ z. omega (arith, z)) e)
-call-turned q lent o (typedJobs t a b v) = typedJobs t a b (job-turned (jobOf t) lent o v)
+call-turned q lent o =
+    said-too _ _ _ _ q (λ n p w r. still (inputAxes q) lent o n p 0 0 (w .not-0) r)
+    (λ j e v. subst (λ (i : Job). Verdict Backwards j lent (ordered Backwards (axesOf i) lent o)) (sym e) (job-turned j lent o v))
 
 pub verdict-in : (w : Order) (q : Input) (lent : List ℤ) → CallVerdict w lent (callIn w q lent) q
 verdict-in Forwards q lent = call-verdict q lent

@@ -15,7 +15,8 @@ use Rattle.model.specs.Job.{Job, JobAxis}
 use Rattle.model.specs.Words.{kind, payload, noMask, badWord, badLong, job, decode}
 use Rattle.model.specs.Spelling.{word}
 use Rattle.model.specs.Refusals.{lastTick, limitsRefused, dampingRefused, blendRefused, swayRefused, valuesRefused, accelerationRefused, flies}
-use Rattle.model.specs.Outcome.{Outcome, Tests, firstAxis, axisRefusals, outcomeOfWordsBy, outcomeOfWords}
+use Rattle.model.specs.Outcome.{Outcome, Tests, firstAxis, axisRefusals, outcomeOfWordsBy, outcomeOfWords, words}
+use Rattle.model.specs.Verdict.{ByInput}
 
 -- ---- the old rules: the tests of `axisRefusals` without 17
 
@@ -90,6 +91,10 @@ conversion ws lent =
       | badLong p ↦ unconverted 14 p lent
       | job j ↦ jobConversion j ws lent
     ]
+
+-- which words it refuses, and which job it converts, said of the words
+abbrev pub ConversionVerdict : List ℕ → List ℕ → Conversion → Type 0
+ConversionVerdict ws lent c = ByInput (λ n p. c ≡ unconverted n p lent) (λ j. c ≡ jobConversion j ws lent) (words ws)
 
 -- ---- the job that the converted words are: a fixed target that flies is what it is read as for arrival n, a moving one of acceleration 0 at tick n
 

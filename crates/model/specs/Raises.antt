@@ -2,7 +2,7 @@
 -- arrival; both raises of an axis in order; and the call. The theorem `raises-hold` says what an answer claims, by the existence of a list.
 use Prim.Native.Nat.{ℕ, _+_, _-_, _≤_, _<_}
 use mathlib.Core.Path.{_≡_}
-use mathlib.Core.Bool.{Bool, true, false}
+use mathlib.Core.Bool.{true, false}
 use mathlib.Core.Option.{Option, none, some}
 use mathlib.Core.List.{List, [], _∷_}
 use lib.Dec.{eqb, leb}
@@ -18,8 +18,9 @@ use Rattle.model.specs.declared.RaisesAnswer.{RaisesAnswer}
 use Rattle.model.specs.Quantities.{speedLimit, accelerationLimit}
 use Rattle.model.specs.Motion.{Reachable, reachable}
 use Rattle.model.specs.Job.{Job, JobAxis, bit}
-use Rattle.model.specs.Outcome.{leastFrom, Input, inputJob, answerOf}
-use Rattle.model.specs.Verdict.{Among}
+use Rattle.model.specs.declared.Order.the-variants.{Forwards}
+use Rattle.model.specs.Outcome.{Outcome, leastFrom, Input, inputJob, beforeTen, answerOf}
+use Rattle.model.specs.Verdict.{Among, Verdict, ByInput}
 
 -- ---- an axis with other limits
 
@@ -148,3 +149,19 @@ Named a i = (a .number ≡ 8) × (bit (a .mask) i ≡ true)
 pub record RaisesHold (j : Job) (r : RaisesAnswer) : Type 0 where
   pub named : (x : JobAxis) → Among (j .axes) x → Named (r .answer) (x .number) → RaisesSay (x .axis) (j .asked) (raisesAt r (x .number))
   pub others : (i : ℕ) → (Named (r .answer) i → ⊥) → raisesAt r i ≡ noRaises
+
+-- ---- what each number says
+
+-- The number of a job is that of a call for its table, in its named case and by the existence of a list: a call with no cell lent, 10 being read as number 0.
+pub record RaisesVerdict (j : Job) (r : RaisesAnswer) : Type 0 where
+  pub outcome : Outcome
+  pub planned : Verdict Forwards j [] outcome
+  pub answer : r .answer ≡ beforeTen (j .mask) outcome
+  pub holds : RaisesHold j r
+
+-- a refusal of the words or of the mask, without raises
+abbrev pub refuseRaises : ℕ → ℕ → RaisesAnswer
+refuseRaises n p = record { answer = record { number = n; place = p; mask = 0; arrival = 0 }; axes = noneRaised }
+
+abbrev pub RaisesCallVerdict : Input → RaisesAnswer → Type 0
+RaisesCallVerdict q r = ByInput (λ n p. r ≡ refuseRaises n p) (λ j. RaisesVerdict j r) q

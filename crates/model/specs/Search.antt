@@ -18,9 +18,9 @@ use Rattle.model.specs.Job.{Job, axesOf, jobOf}
 use Rattle.model.specs.Windows.{refused13}
 use Rattle.model.specs.Words.{noMask, badWord, badLong, job, decode, goodMask}
 use Rattle.model.specs.Refusals.{lastTick}
-use Rattle.model.specs.Outcome.{Input, words, typed, call, inputJob, leastFrom, arrives, firstAxis, Tests, axisRefusals}
+use Rattle.model.specs.Outcome.{Input, words, typed, leastFrom, arrives, firstAxis, Tests, axisRefusals}
 use Rattle.model.specs.Outcome.{refuse, accept, cellsNeeded, jobOutcome}
-use Rattle.model.specs.Verdict.{Arrives, Passing}
+use Rattle.model.specs.Verdict.{Arrives, Passing, ByInput}
 use Rattle.model.specs.Demand.{Demand3}
 
 -- ---- the search for the least tick that passes a test
@@ -175,8 +175,6 @@ pub data SearchVerdict (j : Job) (first budget : ℕ) (a : SearchAnswer) : Type 
 
 -- ---- the calls
 
-pub data SearchCallVerdict (q : Input) (first budget : ℕ) (a : SearchAnswer) : Type 0 where
-  -- 1, 2 and 14, as the call for a table is refused, whatever is lent
-  refusedCall : (n p : ℕ) → OneOf (1 ∷ 2 ∷ 14 ∷ []) n → ((lent : List ℤ) → call q lent ≡ refuse n p 0 0 lent) → a ≡ refuseSearch n p
-      → SearchCallVerdict q first budget a
-  ofJob : SearchVerdict (inputJob q) first budget a → SearchCallVerdict q first budget a
+-- 1, 2 and 14 come where a call for a table is refused by them, said of the words and the mask
+abbrev pub SearchCallVerdict : Input → ℕ → ℕ → SearchAnswer → Type 0
+SearchCallVerdict q first budget a = ByInput (λ n p. a ≡ refuseSearch n p) (λ j. SearchVerdict j first budget a) q

@@ -1,8 +1,8 @@
--- The words of a job, for "a position has one spelling only" and "old jobs keep their meaning" (docs/METHOD.md, section 17).
-use Prim.Native.Nat.{ℕ, suc, _-_, _+_, _*_, _/_, _%_, _^_}
+-- The words of a job, and which job words spell, for "a position has one spelling only" and "old jobs keep their meaning" (docs/METHOD.md, section 17).
+use Prim.Native.Nat.{ℕ, suc, _-_, _+_, _*_, _/_, _%_, _^_, _≤_, _<_}
 use mathlib.Core.Path.{_≡_}
 use mathlib.Core.Bool.{true, false, _&&_}
-use mathlib.Core.Logic.{_⊎_}
+use mathlib.Core.Logic.{_⊎_, _↔_}
 use mathlib.Core.Option.{none}
 use mathlib.Core.List.{List, [], _∷_, _++_}
 use lib.Dec.{eqb}
@@ -13,8 +13,10 @@ use Rattle.model.specs.declared.SecondSway.{SecondSway}
 use Rattle.model.specs.declared.SecondSway.the-variants.{Absent, HalfPeriod}
 use Rattle.model.specs.declared.Target.{Target}
 use Rattle.model.specs.declared.Target.the-variants.{Fixed, Moving}
+use Rattle.model.specs.declared.Weight.the-variants.{Given}
 use Rattle.model.specs.Quantities.{speedLimit, accelerationLimit, halfPeriod, secondWeight}
-use Rattle.model.specs.Job.{Job, JobAxis}
+use Rattle.model.specs.Windows.{noWindows}
+use Rattle.model.specs.Job.{Job, JobAxis, setBits}
 use Rattle.model.specs.Words.{kind, payload, fitsWord, firstBadLong, got, wrong, give, signed, position}
 use Rattle.model.specs.Words.{afterMaskBy, goodMask, Decoded, noMask, badWord, job, decode}
 use Rattle.model.specs.Refusals.{positionAllowed}
@@ -57,7 +59,7 @@ pub record OnePositionSpelling (k : ℕ) (p : ℤ) : Type 0 where
 abbrev pub PositionSpelling : Type 0
 PositionSpelling = (k : ℕ) → (k ≡ 3) ⊎ (k ≡ 9) → (p : ℤ) → OnePositionSpelling k p
 
--- ---- so has a job: words that can be read are the words of what they are read as
+-- ---- the words of a job
 
 abbrev pub targetWords : Target → List ℕ
 targetWords (Fixed r) = positionWords 9 (r .position) ++ (word 10 (bits (r .velocity)) ∷ [])
@@ -86,8 +88,57 @@ axesWords (x ∷ xs) = axisWords (x .axis) ++ axesWords xs
 abbrev pub jobWords : Job → List ℕ
 jobWords j = word 1 (j .mask) ∷ word 2 (j .asked) ∷ (axesWords (j .axes) ++ (word 15 0 ∷ []))
 
+-- ---- which job words spell, said without a reader of words
+
+-- each number of a job has room in its payload: 28 bits unsigned, 28 bits of two's complement, and a position in two words
+abbrev pub SwayInWords : SecondSway → Type 0
+SwayInWords Absent = Unit
+SwayInWords (HalfPeriod d) = d < 2 ^ 28
+
+pub record StateInWords (p v a t : ℤ) : Type 0 where
+  pub position : positionAllowed p ≡ true
+  pub velocity : fitsWord v ≡ true
+  pub acceleration : fitsWord a ≡ true
+  pub tick : fitsWord t ≡ true
+
+-- a fixed target has no words for acceleration and tick
+abbrev pub TargetInWords : Target → Type 0
+TargetInWords (Fixed r) = StateInWords (r .position) (r .velocity) (pos 0) (pos 0)
+TargetInWords (Moving m) = StateInWords (m .position) (m .velocity) (m .acceleration) (m .tick)
+
+pub record AxisInWords (x : Axis) : Type 0 where
+  pub position : positionAllowed (x .start .position) ≡ true
+  pub velocity : fitsWord (x .start .velocity) ≡ true
+  pub speed : speedLimit x < 2 ^ 28
+  pub acceleration : accelerationLimit x < 2 ^ 28
+  pub period : halfPeriod x < 2 ^ 28
+  -- words bring the number B, not damping as measured
+  pub given : x .«second_weight» ≡ Given (secondWeight x)
+  pub weight : secondWeight x < 2 ^ 28
+  pub sway : SwayInWords (x .«second_sway»)
+  pub target : TargetInWords (x .target)
+
+-- an axis for each number, in their order, and no other
+abbrev pub AxesInWords : List ℕ → List JobAxis → Type 0
+AxesInWords [] [] = Unit
+AxesInWords [] (x ∷ xs) = ⊥
+AxesInWords (n ∷ ns) [] = ⊥
+AxesInWords (n ∷ ns) (x ∷ xs) = (x .number ≡ n) × (AxisInWords (x .axis) × AxesInWords ns xs)
+
+-- the axes are those of the mask's bits, lowest first; words bring no windows
+pub record JobInWords (j : Job) : Type 0 where
+  pub mask : (1 ≤ j .mask) × (j .mask ≤ 63)
+  pub asked : j .asked < 2 ^ 28
+  pub axes : AxesInWords (setBits (j .mask)) (j .axes)
+  pub windows : j .windows ≡ noWindows
+
+pub record SpellsJob (ws : List ℕ) (j : Job) : Type 0 where
+  pub inside : JobInWords j
+  pub words : ws ≡ jobWords j
+
+-- words are read as a job exactly where they spell it: the words of every job are read as that job, and no others are, so that no job has two spellings
 abbrev pub OneSpelling : Type 0
-OneSpelling = (ws : List ℕ) (j : Job) → decode ws ≡ job j → ws ≡ jobWords j
+OneSpelling = (ws : List ℕ) (j : Job) → (decode ws ≡ job j) ↔ SpellsJob ws j
 
 -- ---- old jobs keep their meaning
 

@@ -15,8 +15,9 @@ use Rattle.model.specs.Motion.{Reachable}
 use Rattle.model.specs.Windows.{brought, FitsOne, WindowsWrong, WindowsRight}
 use Rattle.model.specs.Rows.{table}
 use Rattle.model.specs.Job.{Job, JobAxis, axesOf, jobOf, bit}
-use Rattle.model.specs.Words.{kind, payload, twos, longPosition, between, fitsWord, decode, badWord, job}
+use Rattle.model.specs.Words.{kind, payload, twos, longPosition, between, fitsWord, Decoded, noMask, badWord, badLong, job, decode}
 use Rattle.model.specs.Grammar.{WellFormed, FirstWrong}
+use Rattle.model.specs.Spelling.{SpellsJob}
 use Rattle.model.specs.Refusals.{limitsRefused, dampingRefused, blendRefused, swayRefused, valuesRefused, accelerationRefused, flyingRefused, AllPassed}
 use Rattle.model.specs.Outcome.{Outcome, Input, words, typed, cellsNeeded, jobOutcome}
 
@@ -181,16 +182,29 @@ pub record FirstLongWrong (ws : List ℕ) (p : ℕ) : Type 0 where
 abbrev pub NoneLongWrong : List ℕ → Type 0
 NoneLongWrong ws = (k w u : ℕ) → getElem? ws k ≡ some w → getElem? ws (suc k) ≡ some u → LongWrong w u → ⊥
 
--- Words fall into four cases that exclude one another: the mask word is wrong; another word is; all are allowed but one of kind 14 is wrong; or none is, and
--- they are the words of a job.
-pub data CallVerdict (w : Order) (lent : List ℤ) (o : Outcome) : Input → Type 0 where
-  words1 : (ws : List ℕ) → MaskWordWrong ws → Refuses o 1 0 0 0 lent → CallVerdict w lent o (words ws)
-  words2 : (ws : List ℕ) (p : ℕ) → WordWrong ws p → Refuses o 2 p 0 0 lent → CallVerdict w lent o (words ws)
-  words14 : (ws : List ℕ) (p : ℕ) → WellFormed ws → FirstLongWrong ws p → Refuses o 14 p 0 0 lent → CallVerdict w lent o (words ws)
-  wordsJob : (ws : List ℕ) (j : Job) → WellFormed ws → NoneLongWrong ws → decode ws ≡ job j → Verdict w j lent o → CallVerdict w lent o (words ws)
-  typed1 : (t : Typed.Job) → MaskOutside (t .mask) → Refuses o 1 0 0 0 lent → CallVerdict w lent o (typed t)
-  typedJobs : (t : Typed.Job) → 1 ≤ t .mask → t .mask ≤ 63 → Verdict w (jobOf t) lent o → CallVerdict w lent o (typed t)
+-- ---- what words are, said without a reader of words: four cases that exclude one another
 
--- the decoder's word of refusal 2 is exactly that one
-abbrev pub WordWrongIs : Type 0
-WordWrongIs = (ws : List ℕ) (p : ℕ) → (decode ws ≡ badWord p) ↔ WordWrong ws p
+-- the mask word is wrong; another word is; all are allowed but one of kind 14 is wrong; or none is, and they spell a job
+abbrev pub WordsAre : List ℕ → Decoded → Type 0
+WordsAre ws noMask = MaskWordWrong ws
+WordsAre ws (badWord p) = WordWrong ws p
+WordsAre ws (badLong p) = WellFormed ws × FirstLongWrong ws p
+WordsAre ws (job j) = WellFormed ws × (NoneLongWrong ws × SpellsJob ws j)
+
+-- the decoder gives exactly the case that they are
+abbrev pub DecodesAre : Type 0
+DecodesAre = (ws : List ℕ) (d : Decoded) → (decode ws ≡ d) ↔ WordsAre ws d
+
+-- ---- what a call says of what it was given, whatever it is for: R n p is that it refuses with number n and place p, P j what it says of the job j
+
+pub data ByInput (R : ℕ → ℕ → Type 0) (P : Job → Type 0) : Input → Type 0 where
+  words1 : (ws : List ℕ) → WordsAre ws noMask → R 1 0 → ByInput R P (words ws)
+  words2 : (ws : List ℕ) (p : ℕ) → WordsAre ws (badWord p) → R 2 p → ByInput R P (words ws)
+  words14 : (ws : List ℕ) (p : ℕ) → WordsAre ws (badLong p) → R 14 p → ByInput R P (words ws)
+  wordsJob : (ws : List ℕ) (j : Job) → WordsAre ws (job j) → P j → ByInput R P (words ws)
+  typed1 : (t : Typed.Job) → MaskOutside (t .mask) → R 1 0 → ByInput R P (typed t)
+  typedJobs : (t : Typed.Job) → 1 ≤ t .mask → t .mask ≤ 63 → P (jobOf t) → ByInput R P (typed t)
+
+-- a call for a table
+abbrev pub CallVerdict : Order → List ℤ → Outcome → Input → Type 0
+CallVerdict w lent o = ByInput (λ n p. Refuses o n p 0 0 lent) (λ j. Verdict w j lent o)

@@ -45,8 +45,8 @@ of-verdict j lent o (accepted n a w b c r) = omega (arith, r .arrival, b .last)
 of-call : (lent : List ℤ) (o : Outcome) (q : Input) → CallVerdict Forwards lent o q → o .arrival ≤ lastTick
 of-call lent o q (words1 ws a r) = omega (arith, r .arrival)
 of-call lent o q (words2 ws p a r) = omega (arith, r .arrival)
-of-call lent o q (words14 ws p a b r) = omega (arith, r .arrival)
-of-call lent o q (wordsJob ws j f l d v) = of-verdict j lent o v
+of-call lent o q (words14 ws p a r) = omega (arith, r .arrival)
+of-call lent o q (wordsJob ws j a v) = of-verdict j lent o v
 of-call lent o q (typed1 t a r) = omega (arith, r .arrival)
 of-call lent o q (typedJobs t a b v) = of-verdict (jobOf t) lent o v
 

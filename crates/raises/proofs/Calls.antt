@@ -14,7 +14,7 @@ use Rattle.model.specs.Job.{Job, jobOf}
 use Rattle.model.specs.Words.{Decoded, noMask, badWord, badLong, job, decode}
 use Rattle.model.specs.Outcome.{Input, words, typed, inputJob, answerOf}
 use Rattle.model.specs.Raises.{noRaises, raisesFrom, noneRaised, raisesWith, raisesCall, Named, RaisesHold}
-use Rattle.model.proofs.RaisesHold.{raises-hold, none-raised}
+use Rattle.model.proofs.RaisesHold.{raises-hold, none-raised, raises-verdict}
 use Rattle.words.specs.declared.DecodedJob.{DecodedJob}
 use Rattle.words.specs.Decoding.{decodedJob, Decodes}
 use Rattle.planner.proofs.Answers.{job-of-words, answer-of-words, refusal-of-words}
@@ -40,8 +40,11 @@ module _ (q : Input) (a : Answer) (e : a ≡ answerOf q) where
   unfolding raisesCall
   without-raises z = sym (ap list (ne-eqb (a .number) 8 z)) ∙ ap (λ (b : Answer). raisesWith b j) e
 
+promised : (q : Input) (r : RaisesAnswer) → r ≡ raisesCall q → RaisesHold (inputJob q) r → RaisesPromise q r
+promised q r e h = record { is = e; verdict = raises-verdict q r e h; holds = h }
+
 pub promise : (t : Typed.Job) (r : RaisesAnswer) → r ≡ raisesCall (typed t) → RaisesPromise (typed t) r
-promise t r e = record { is = e; holds = subst (RaisesHold (jobOf t)) (sym e) (raises-hold t) }
+promise t r e = promised (typed t) r e (subst (RaisesHold (jobOf t)) (sym e) (raises-hold t))
 
 -- ---- words
 
@@ -50,23 +53,18 @@ module _ (ws : List ℕ) (d : DecodedJob) (is : Decodes ws d) where
   pub words-promise : (r : RaisesAnswer) → d .number ≡ 0 → RaisesPromise (typed (d .job)) r → RaisesPromise (words ws) r
   unfolding raisesCall
   words-promise r z p =
-      record {
-        is = p .is ∙ ap₂ raisesWith (answer-of-words ws d is z) (job-of-words ws d is z);
-        holds = subst (λ (j : Job). RaisesHold j r) (job-of-words ws d is z) (p .holds);
-      }
+      promised (words ws) r (p .is ∙ ap₂ raisesWith (answer-of-words ws d is z) (job-of-words ws d is z))
+      (subst (λ (j : Job). RaisesHold j r) (job-of-words ws d is z) (p .holds))
 
   -- refusals 1, 2 and 14
   pub refusal-promise : (r : RaisesAnswer) → (d .number ≡ 0 → ⊥)
       → r ≡ record { answer = record { number = d .number; place = d .place; mask = 0; arrival = 0 }; axes = noneRaised } → RaisesPromise (words ws) r
   refusal-promise r h e =
-      record {
-        is = e ∙ without-raises (words ws) _ (refusal-of-words ws d is h) no-eight;
-        holds =
-            record {
-              named = λ x m n. absurd (eight (x .number) n);
-              others = λ i n. ap (λ (a : RaisesAnswer). getD (a .axes) i noRaises) e ∙ none-raised i;
-            };
-      }
+      promised (words ws) r (e ∙ without-raises (words ws) _ (refusal-of-words ws d is h) no-eight)
+      (record {
+        named = λ x m n. absurd (eight (x .number) n);
+        others = λ i n. ap (λ (a : RaisesAnswer). getD (a .axes) i noRaises) e ∙ none-raised i;
+      })
     where
       no-eight : d .number ≡ 8 → ⊥
       no-eight z = go (decode ws) (sym (ap (λ (e : DecodedJob). e .number) (is .decoded)) ∙ z)

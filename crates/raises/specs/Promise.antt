@@ -7,7 +7,7 @@ use lib.Dec.{eqb}
 use Rattle.model.specs.declared.Limit.{Limit}
 use Rattle.model.specs.declared.RaisesAnswer.{RaisesAnswer}
 use Rattle.model.specs.Outcome.{Input, inputJob, leastFrom}
-use Rattle.model.specs.Raises.{highest, raisesCall, RaisesHold}
+use Rattle.model.specs.Raises.{highest, raisesCall, RaisesHold, RaisesCallVerdict}
 use Rattle.limits.specs.declared.Task.{Task}
 use Rattle.limits.specs.Limits.{limitIn, enoughWith}
 
@@ -15,6 +15,8 @@ use Rattle.limits.specs.Limits.{limitIn, enoughWith}
 pub record RaisesPromise (q : Input) (r : RaisesAnswer) : Type 0 where
   -- the planning answer before 10 and every entry are those of the definitions
   pub is : r ≡ raisesCall q
+  -- the number comes only in its named case, said of the words or of the mask, and of the job that they bring
+  pub verdict : RaisesCallVerdict q r
   -- By the existence of a list: where the number is 8, a raise that is reported of an axis that the mask names is enough and one less is not, and
   -- where none is reported no limit of the range is. No other entry, and with any other number no entry, has a raise.
   pub holds : RaisesHold (inputJob q) r

@@ -30,8 +30,9 @@ promise q first budget r e =
     subst (SearchPromise q first budget) (sym e)
     (record {
       is = refl;
-      says = λ z. call-says q first budget (searchCall q first budget) z (search-verdict q first budget) .0;
-      planned = λ z. call-says q first budget (searchCall q first budget) z (search-verdict q first budget) .1;
+      verdict = search-verdict q first budget;
+      says = λ z. call-says q first budget (searchCall q first budget) z (search-verdict q first budget) .says;
+      planned = λ z. call-says q first budget (searchCall q first budget) z (search-verdict q first budget) .asked;
     })
 
 pub first-range : (first : ℕ) → firstAllowed first ≡ true → (1 ≤ first) × (first ≤ 4097)
