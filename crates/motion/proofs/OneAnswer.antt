@@ -1,27 +1,25 @@
--- The engine by ticks and the engine by areas give one answer for every axis that passed the refusals of one axis and every arrival, on the axis's own grid.
-use Prim.Native.Nat.{ℕ}
+-- The engine by ticks and the engine by areas give one answer for every axis with an acceleration limit of at least 1 and every arrival, on the axis's own grid.
+use Prim.Native.Nat.{ℕ, _<_}
 use mathlib.Core.Path.{_≡_, ap, sym, _∙_}
 use mathlib.Core.Bool.{Bool, true, _&&_}
 use lib.Dec.{leb, ltb}
 use lib.IntN.{natAbs}
 use Rattle.whole.proofs.Tests.{left, T-true, true-T}
 use Rattle.model.specs.declared.Axis.{Axis}
-use Rattle.model.specs.Quantities.{delay, speedSteps}
+use Rattle.model.specs.Quantities.{accelerationLimit, delay, speedSteps}
 use Rattle.model.specs.Leg.{required, sumIsWhole}
 use Rattle.model.specs.Motion.{leg, displacement, landingVelocity, arrivalVelocity, reachable, requiredSum}
-use Rattle.model.specs.Refusals.{Passed}
 use Rattle.model.proofs.Grid.{acceleration-some}
-use Rattle.model.proofs.PassedAxis.{some-acceleration}
 use Rattle.model.proofs.Reaches.{reach-feasible}
 use Rattle.profile.specs.Profiles.{endsAllowed, sumBetween}
 use Rattle.profile.specs.Areas.{EnginesAgree}
 use Rattle.profile.proofs.FeasibleParts.{feasible-parts}
 use Rattle.profile.proofs.Engines.{engines-agree}
-use Rattle.motion.specs.Engines.{OneAnswer}
+use Rattle.motion.specs.Engines.{OneAnswer, OneAnswers}
 
-module _ (x : Axis) (p : Passed x) (n : ℕ) where
+module _ (x : Axis) (some : 0 < accelerationLimit x) (n : ℕ) where
   agree : EnginesAgree (leg x n)
-  agree = engines-agree (leg x n) (acceleration-some x (some-acceleration x p))
+  agree = engines-agree (leg x n) (acceleration-some x some)
 
   -- an arrival that is reached has ends that can be joined
   ends : reachable x n ≡ true → endsAllowed (leg x n) ≡ true
@@ -31,8 +29,8 @@ module _ (x : Axis) (p : Passed x) (n : ℕ) where
       let f = true-T (sym (feasible-parts g d) ∙ T-true _ (reach-feasible x n (true-T e))) in
       T-true (endsAllowed g) (left (endsAllowed g) (sumIsWhole g d && sumBetween g (required g d)) f)
 
-  pub one-answer : OneAnswer x n
-  one-answer =
+  gives-one : OneAnswer x n
+  gives-one =
       record {
         reach =
             ap
@@ -42,3 +40,6 @@ module _ (x : Axis) (p : Passed x) (n : ℕ) where
         cruises = λ e. agree .cruises (ends e) (requiredSum x n);
         remainders = λ e. agree .remainders (ends e) (requiredSum x n);
       }
+
+pub one-answer : OneAnswers
+one-answer x some n = gives-one x some n
