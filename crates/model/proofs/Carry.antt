@@ -148,7 +148,7 @@ module _ (x : Axis) (n : ℕ) (r : Ready x n) where
   abbrev once : (Tick → ℤ) → ℕ → ℕ → ℤ
   once f d k = blendOnce (track n x) k d f
 
-  once-position : (d k : ℕ) → k < n
+  pub once-position : (d k : ℕ) → k < n
       → once (λ s. s .position) d (suc k) ≡ once (λ s. s .position) d k +ℤ pos 2 *ℤ once (λ s. s .velocity) d k +ℤ once (λ s. s .acceleration) d k
   once-position d k q =
       ap₂ (λ (y z : ℤ). A *ℤ y +ℤ B *ℤ z) (back-follows d k q .position) (back-follows (d + halfPeriod x) k q .position)
@@ -164,7 +164,7 @@ module _ (x : Axis) (n : ℕ) (r : Ready x n) where
           ≡ A *ℤ q +ℤ B *ℤ r +ℤ pos 2 *ℤ (A *ℤ v +ℤ B *ℤ w) +ℤ (A *ℤ a +ℤ B *ℤ b)
       mixed A B q v a r w b = same (A ∷ B ∷ q ∷ v ∷ a ∷ r ∷ w ∷ b ∷ []) (search pol depth 30 fits 9000) tt
 
-  once-velocity : (d k : ℕ) → k < n → once (λ s. s .velocity) d (suc k) ≡ once (λ s. s .velocity) d k +ℤ once (λ s. s .acceleration) d k
+  pub once-velocity : (d k : ℕ) → k < n → once (λ s. s .velocity) d (suc k) ≡ once (λ s. s .velocity) d k +ℤ once (λ s. s .acceleration) d k
   once-velocity d k q =
       ap₂ (λ (y z : ℤ). A *ℤ y +ℤ B *ℤ z) (back-follows d k q .velocity) (back-follows (d + halfPeriod x) k q .velocity)
       ∙ mixed A B (s .velocity) (s .acceleration) (u .velocity) (u .acceleration)

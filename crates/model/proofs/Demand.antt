@@ -1,6 +1,7 @@
 -- Demand 3, the limits on cells, the exact start and what is left of a sway that fits only nearly hold of every accepted call, in either order of its
 -- rows: `demand3`, `cell-limits`, `exact-start`, `sway-left`. Each row of a backward call is the forward call's row for that tick: `same-rows`.
-use Prim.Native.Nat.{ℕ, zero, suc, _+_, _*_, _≤_, _<_}
+-- Each position cell is the sum taken from the landing end, rounded once: `cells-from-landing`.
+use Prim.Native.Nat.{ℕ, zero, suc, _+_, _-_, _*_, _≤_, _<_}
 use mathlib.Core.Path.{_≡_, refl, sym, ap, ap₂, _∙_, subst}
 use mathlib.Core.List.{List, [], _∷_, _++_, map}
 use mathlib.Core.Option.{some}
@@ -14,11 +15,11 @@ use Rattle.model.specs.declared.Answer.{Answer}
 use Rattle.model.specs.declared.Order.{Order}
 use Rattle.model.specs.declared.Order.the-variants.{Forwards, Backwards}
 use Rattle.whole.specs.Integers.{nearest}
-use Rattle.model.specs.Rows.{track, divisor, cells, rowAt, table}
+use Rattle.model.specs.Rows.{track, blend, divisor, cells, rowAt, table, fromLanding}
 use Rattle.model.specs.Job.{Job, JobAxis, axesOf}
 use Rattle.model.specs.Motion.{reachable}
 use Rattle.model.specs.Demand.{tableIn, cellAt, positionCell, velocityCell, accelerationCell, Lands, Carries, SwayCancelled}
-use Rattle.model.specs.Demand.{sway, Demand3, Demand3Holds, CellLimits, CellLimitsHold, ExactStart, ExactStartHolds, SameRows}
+use Rattle.model.specs.Demand.{sway, Demand3, Demand3Holds, CellLimits, CellLimitsHold, ExactStart, ExactStartHolds, SameRows, CellsFromLanding}
 use Rattle.model.specs.Misfit.{plannedVariation, roundingLeft, SwayLeft, SwayLeftHolds}
 use Rattle.model.specs.Outcome.{Outcome, Input, call, callIn, inputAxes, cellsNeeded}
 use Rattle.whole.proofs.Tests.{T-true}
@@ -36,6 +37,7 @@ use Rattle.model.proofs.WordsAre.{either-said}
 use Rattle.model.proofs.CallVerdict.{call-verdict}
 use Rattle.model.proofs.TwoBlends.{both, bothDivisor, cell-both, position-both}
 use Rattle.model.proofs.Landing.{lands-position, lands-velocity, lands-acceleration}
+use Rattle.model.proofs.FromLanding.{sums-from-landing}
 use Rattle.model.proofs.Carry.{carries-position, carries-velocity}
 use Rattle.model.proofs.SwayExact.{sway-same}
 use Rattle.model.proofs.Ordered.{answer-stays, rows-turn}
@@ -281,3 +283,19 @@ same-rows q lent z i j k h hj hk =
     let back = subst (λ (n : ℕ). CellsByTick Backwards xs n (callIn Backwards q lent .cells)) (ap (λ (a : Answer). a .arrival) answer)
     (cells-by-tick Backwards q lent (ap (λ (a : Answer). a .number) answer ∙ z)) in
     back i j k (y .0) (y .1) hj hk ∙ sym (cells-by-tick Forwards q lent z i j k (y .0) (y .1) hj hk)
+
+-- ---- the position cells, by the sums taken from the landing end
+
+abbrev FromLanding : Order → List Axis → ℕ → List ℤ → Type 0
+FromLanding o xs n lent =
+    (i k : ℕ) (x : Axis) → getElem? xs i ≡ some x → k ≤ n → positionCell (tableIn o xs n lent) i k ≡ nearest (fromLanding x n (n - k)) (2 * divisor x)
+
+from-landing : (o : Order) (xs : List Axis) (n : ℕ) (lent rest : List ℤ) → lent ≡ table o xs n ++ rest → Planned xs n → FromLanding o xs n lent
+from-landing o xs n lent rest is ready i k x e h =
+    let back : n - (n - k) ≡ k = omega (arith, h) in
+    cell-is o xs n lent rest is ready i 0 k x e (omega arith) h
+    ∙ ap (λ (z : ℤ). nearest z (2 * divisor x))
+    (sym (sums-from-landing x n (ready i x e) (n - k) (omega arith) ∙ ap (λ (j : ℕ). blend (track n x) j (λ s. s .position)) back))
+
+pub cells-from-landing : CellsFromLanding
+cells-from-landing = of-calls FromLanding from-landing
