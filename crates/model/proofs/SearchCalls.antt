@@ -1,6 +1,6 @@
 -- The call of a search with a budget: what each number says of it (`search-verdict`, `call-says`), and that calls which go on from spent give what one
 -- undivided call gives (`continuing`, `within-4096`).
-use Prim.Native.Nat.{ℕ, _+_, _≤_, _<_}
+use Prim.Native.Nat.{ℕ, suc, _+_, _-_, _≤_, _<_}
 use native.Mathlib.Omega.{arith}
 use mathlib.Core.Path.{_≡_, refl, sym, ap, subst, _∙_}
 use mathlib.Core.Bool.{Bool, true, false, not, _&&_}
@@ -21,7 +21,7 @@ use Rattle.model.specs.Outcome.{Outcome, Input, words, typed, jobRead, i
 use Rattle.model.specs.Outcome.{arrives, arrived, leastFrom, firstAxis, Tests, axisRefusals, tested}
 use Rattle.model.specs.Verdict.{Arrives, Passing}
 use Rattle.model.specs.Search.{candidates, searchFrom, refuseSearch, searchAnswer, firstAllowed, firstChecked, searchTested, asking}
-use Rattle.model.specs.Search.{searchJob, searchCall, undivided, after, continued}
+use Rattle.model.specs.Search.{searchJob, searchCall, undivided, after, continued, callsMade}
 use Rattle.model.specs.Search.{Continues, ended, goesOn, ContinuingIsUndivided, AtLeast1, EndsWithin4096}
 use Rattle.model.specs.Search.{SearchSays, found, spent, nothing, Planned, numbersOf, OneOf, SearchVerdict}
 use Rattle.model.specs.Search.{refusedAs, refused18, reports, SearchCallVerdict}
@@ -269,6 +269,29 @@ module _ (q : Input) (is : (f b : ℕ) → Allowed f → searchCall q f b ≡ an
       go (inl e) ih = ap (turn bs) e ∙ ends bs first ∙ sym (undivided-is first h)
       go (inr g) ih = one-more first b h g bs ∙ ap (after b) (ih g) ∙ sym (rest-is first b h g)
 
+  -- each call but the last tries one candidate or more
+  count : List ℕ → Report → ℕ
+  count bs r = elim r as (λ _. ℕ) [ Found n ↦ 1 | Spent next ↦ suc (callsMade q bs next) | Nothing ↦ 1 ]
+
+  made : (bs : List ℕ) (first : ℕ) → Allowed first → AtLeast1 bs → callsMade q bs first ≤ suc (candidates first - 1)
+  unfolding callsMade count
+  made [] first h l = omega arith
+  made (b ∷ bs) first h (l, ls) = go (call-goes first b h) (λ g. made bs (first + b) (next-allowed first b h g) ls)
+    where
+      one : (o : Option ℕ) → count bs (wholly first o .report) ≡ 1
+      one (some n) = refl
+      one none = refl
+
+      go : (searchCall q first b ≡ all first) ⊎ GoesOn test first b
+          → (GoesOn test first b → callsMade q bs (first + b) ≤ suc (candidates (first + b) - 1))
+          → count bs (searchCall q first b .report) ≤ suc (candidates first - 1)
+      go (inl e) ih =
+          let z = ap (λ (a : SearchAnswer). count bs (a .report)) e ∙ one (leastFrom test first (candidates first)) in
+          omega (arith, z)
+      go (inr g) ih =
+          let z = ap (λ (a : SearchAnswer). count bs (a .report)) (spends first b h g) in
+          omega (arith, z, ih g, g .left, l)
+
 -- ---- the theorems
 
 pub continuing : ContinuingIsUndivided
@@ -277,7 +300,10 @@ continuing q first bs z = let s = searches q first 4096 z in continues q (s .is)
 pub within-4096 : EndsWithin4096
 within-4096 q first bs z l c =
     let s = searches q first 4096 z in
-    finishes q (s .is) bs first (s .allowed) l (omega (arith, s .allowed .0))
+    record {
+      ends = finishes q (s .is) bs first (s .allowed) l (omega (arith, s .allowed .0));
+      calls = omega (arith, s .allowed .0, made q (s .is) bs first (s .allowed) l);
+    }
 
 abbrev Refused : SearchAnswer → ℕ → ℕ → Type 0
 Refused a n p = a ≡ refuseSearch n p

@@ -132,10 +132,20 @@ abbrev pub AtLeast1 : List ℕ → Type 0
 AtLeast1 [] = Unit
 AtLeast1 (b ∷ bs) = (1 ≤ b) × AtLeast1 bs
 
--- with budgets of at least 1 it ends within 4,096 calls
+-- how many calls that are, the one with budget 0 past the last budget among them
+unfoldable pub callsMade : Input → List ℕ → ℕ → ℕ
+callsMade q [] first = 1
+callsMade q (b ∷ bs) first = elim (searchCall q first b .report) [ Found n ↦ 1 | Spent next ↦ suc (callsMade q bs next) | Nothing ↦ 1 ]
+
+-- they end as one undivided search does, and are at most 4,096
+pub record Within4096 (q : Input) (budgets : List ℕ) (first : ℕ) : Type 0 where
+  pub ends : continued q budgets first ≡ undivided q first
+  pub calls : callsMade q budgets first ≤ 4096
+
+-- with budgets of at least 1, where there are 4,096 of them or more
 abbrev pub EndsWithin4096 : Type 0
 EndsWithin4096 = (q : Input) (first : ℕ) (budgets : List ℕ) → undivided q first .number ≡ 0 → AtLeast1 budgets → 4096 ≤ length budgets
-    → continued q budgets first ≡ undivided q first
+    → Within4096 q budgets first
 
 -- ---- what a report says of a job, a first candidate and a budget, by the existence of a list
 
