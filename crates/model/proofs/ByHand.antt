@@ -1,5 +1,5 @@
--- A job with damping as measured has the outcome of the same job with each B entered by hand: `measured-is-by-hand`. Of one axis every
--- definition but refusal 12 reads the weight as a number only, so that both sides compute to the same.
+-- A job with damping as measured, and the same job with each B entered by hand: of one axis every definition but refusal 12 reads the weight as a number only,
+-- so that both sides compute to the same; so do arrivals, tables and the tests of the axes.
 use Prim.Native.Nat.{ℕ, zero, suc, _/_, _%_}
 use native.Mathlib.Omega.{arith}
 use mathlib.Core.Path.{_≡_, refl, ap, _∙_}
@@ -7,7 +7,7 @@ use mathlib.Core.Bool.{Bool, true, false, not, _&&_}
 use mathlib.Core.Option.{Option, none, some}
 use mathlib.Core.List.{List, [], _∷_, map}
 use lib.IntN.{ℤ}
-use lib.Dec.{eqb, leb}
+use lib.Dec.{eqb}
 use Rattle.model.specs.declared.Axis.{Axis}
 use Rattle.model.specs.declared.Target.{Target}
 use Rattle.model.specs.declared.Target.the-variants.{Fixed, Moving}
@@ -15,19 +15,17 @@ use Rattle.model.specs.declared.SecondSway.{SecondSway}
 use Rattle.model.specs.declared.SecondSway.the-variants.{Absent, HalfPeriod}
 use Rattle.model.specs.declared.Order.{Order}
 use Rattle.model.specs.declared.Order.the-variants.{Forwards, Backwards}
-use Rattle.model.specs.declared.Job as Typed
-use Rattle.model.specs.Windows.{noWindows}
+use Rattle.model.specs.Windows.{noWindows, refused13}
 use Rattle.model.specs.Motion.{Tick}
 use Rattle.model.specs.Rows.{track, blend, blendBy, cells}
-use Rattle.model.specs.Job.{Job, JobAxis, jobOf, setAxes, axesOf, byHand, axesByHand, jobByHand}
-use Rattle.model.specs.Words.{goodMask}
+use Rattle.model.specs.Job.{Job, JobAxis, setAxes, axesOf, byHand, axesByHand, jobByHand}
 use Rattle.model.specs.Quantities.{finer}
 use Rattle.model.specs.Refusals.{lastTick, limitsRefused, dampingRefused, blendRefused, swayRefused, valuesRefused, accelerationRefused, flyingRefused}
 use Rattle.model.specs.Refusals.{restAllowed, targetAllowed, AllPassed}
-use Rattle.model.specs.Outcome.{Outcome, outcomeOf, answerIn, typed, call, refuse, partOver, ordered, allReach, leastFrom, arrives, reachesNone}
-use Rattle.model.specs.Outcome.{filled, arrived, firstAxis, Tests, axisRefusals, tested, jobOutcome}
+use Rattle.model.specs.Outcome.{Outcome, outcomeOf, answerIn, refuse, partOver, ordered, allReach, leastFrom, arrives, reachesNone}
+use Rattle.model.specs.Outcome.{filled, arrived, admitted, firstAxis, Tests, axisRefusals}
 use Rattle.model.proofs.MappedAxes.{cells-alike, Blind, AllBlind, first-mapped}
-use Rattle.model.proofs.MappedAxes.{mask-mapped, reach-mapped, arrives-mapped, over-mapped, filled-mapped, asked-mapped, tested-mapped}
+use Rattle.model.proofs.MappedAxes.{mask-mapped, reach-mapped, arrives-mapped, over-mapped, filled-mapped, asked-mapped}
 
 -- ---- the axes
 
@@ -74,7 +72,7 @@ pub reach-by-hand : (l : List JobAxis) (n : ℕ) → allReach (axesByHand l) n �
 unfolding finer
 reach-by-hand l n = reach-mapped byHand n (λ x. refl) l
 
-arrives-by-hand : (j : Job) (n : ℕ) → arrives (jobByHand j) n ≡ arrives j n
+pub arrives-by-hand : (j : Job) (n : ℕ) → arrives (jobByHand j) n ≡ arrives j n
 unfolding finer
 arrives-by-hand j n = arrives-mapped byHand n (λ x. refl) j
 
@@ -141,52 +139,51 @@ arrived-by-hand j zero lent =
     ]
 arrived-by-hand j (suc n) lent = asked-mapped byHand (suc n) (omega arith) (λ x. refl) (cells-by-hand (suc n)) j lent
 
--- after refusal 12
-rest-by-hand : (j : Job) (lent : List ℤ) → tested afterDamping (jobByHand j) lent ≡ tested afterDamping j lent
-rest-by-hand j lent = tested-mapped byHand afterDamping afterDamping-blind j lent (arrived-by-hand j (j .asked) lent)
+-- 13, and then the arrival
+pub admitted-by-hand : (j : Job) (lent : List ℤ) → admitted (jobByHand j) lent ≡ admitted j lent
+admitted-by-hand j lent = λ i. elim (refused13 (j .windows)) as (λ _. Outcome) [ some p ↦ refuse 13 p 0 0 lent | none ↦ arrived-by-hand j (j .asked) lent i ]
+
+-- ---- the tests of the axes, of any call: r n p is a refusal and `end` what comes after the tests
 
 none-refused : (l : List JobAxis) → firstAxis dampingRefused (axesByHand l) ≡ none
 none-refused [] = refl
 none-refused (x ∷ l) = none-refused l
 
--- what a test leaves of the outcome: of the damping, the limits, the asked arrival and the mask
-abbrev byDamping : Job → List ℤ → Option ℕ → Outcome
-byDamping j lent o = elim o [ some k ↦ refuse 12 k 0 0 lent | none ↦ tested afterDamping j lent ]
+module _ {R : Type 0} (r : ℕ → ℕ → R) (number : R → ℕ) (numbered : (n p : ℕ) → number (r n p) ≡ n) where
+  abbrev pub by-tests : Tests → List JobAxis → R → R
+  by-tests [] xs end = end
+  by-tests (t ∷ ts) xs end = elim (firstAxis (t .1) xs) [ some i ↦ r (t .0) i | none ↦ by-tests ts xs end ]
 
-abbrev byLimits : Job → List ℤ → Option ℕ → Outcome
-byLimits j lent o = elim o [ some k ↦ refuse 4 k 0 0 lent | none ↦ tested fromDamping j lent ]
+  -- tests that do not tell the two apart
+  blind-tests : (ts : Tests) → AllBlind byHand ts → (xs : List JobAxis) (end : R) → by-tests ts (axesByHand xs) end ≡ by-tests ts xs end
+  blind-tests [] b xs end = refl
+  blind-tests (t ∷ ts) (b, bs) xs end =
+      λ i. elim (first-mapped byHand (t .1) b xs i) as (λ _. R) [ some k ↦ r (t .0) k | none ↦ blind-tests ts bs xs end i ]
 
-abbrev byAsked : Job → List ℤ → Bool → Outcome
-byAsked j lent b = elim b [ true ↦ tested axisRefusals j lent | false ↦ refuse 3 1 0 0 lent ]
+  module _ (xs : List JobAxis) (end end' : R) (same : end' ≡ end) where
+    rest : by-tests afterDamping (axesByHand xs) end' ≡ by-tests afterDamping xs end
+    rest = blind-tests afterDamping afterDamping-blind xs end' ∙ ap (by-tests afterDamping xs) same
 
-abbrev byMask : Job → List ℤ → Bool → Outcome
-byMask j lent b = elim b [ true ↦ jobOutcome j lent | false ↦ refuse 1 0 0 0 lent ]
+    by-damping : R → Option ℕ → R
+    by-damping rest o = elim o [ some k ↦ r 12 k | none ↦ rest ]
 
-module _ (j : Job) (lent : List ℤ) where
-  damping : (o : Option ℕ) → (byDamping j lent o .number ≡ 12 → ⊥) → tested fromDamping (jobByHand j) lent ≡ byDamping j lent o
-  damping (some k) h = absurd (h refl)
-  damping none h = ap (byDamping (jobByHand j) lent) (none-refused (j .axes)) ∙ rest-by-hand j lent
+    damping : (o : Option ℕ) → (number (by-damping (by-tests afterDamping xs end) o) ≡ 12 → ⊥)
+        → by-tests fromDamping (axesByHand xs) end' ≡ by-damping (by-tests afterDamping xs end) o
+    unfolding by-damping
+    damping (some k) h = absurd (h (numbered 12 k))
+    damping none h = ap (by-damping (by-tests afterDamping (axesByHand xs) end')) (none-refused xs) ∙ rest
 
-  limits : (o : Option ℕ) → (byLimits j lent o .number ≡ 12 → ⊥) → byLimits (jobByHand j) lent o ≡ byLimits j lent o
-  limits (some k) h = refl
-  limits none h = damping (firstAxis dampingRefused (j .axes)) h
+    by-limits : R → Option ℕ → R
+    by-limits rest o = elim o [ some k ↦ r 4 k | none ↦ rest ]
 
-  asked : (b : Bool) → (byAsked j lent b .number ≡ 12 → ⊥) → byAsked (jobByHand j) lent b ≡ byAsked j lent b
-  asked true h =
-      ap (byLimits (jobByHand j) lent) (first-mapped byHand limitsRefused (λ x. refl) (j .axes)) ∙ limits (firstAxis limitsRefused (j .axes)) h
-  asked false h = refl
+    limits : (o : Option ℕ) → (number (by-limits (by-tests fromDamping xs end) o) ≡ 12 → ⊥)
+        → by-limits (by-tests fromDamping (axesByHand xs) end') o ≡ by-limits (by-tests fromDamping xs end) o
+    unfolding by-damping by-limits
+    limits (some k) h = refl
+    limits none h = damping (firstAxis dampingRefused xs) h
 
-  masked : (b : Bool) → (byMask j lent b .number ≡ 12 → ⊥) → byMask (jobByHand j) lent b ≡ byMask j lent b
-  masked true h = asked (leb (j .asked) lastTick) h
-  masked false h = refl
-
--- the same job of typed values with the number B of each axis given
-abbrev pub typedByHand : Typed.Job → Typed.Job
-typedByHand t = record { mask = t .mask; asked = t .asked; axes = map byHand (t .axes); windows = t .windows }
-
--- unless 12 refuses it
-pub measured-is-by-hand : (t : Typed.Job) (lent : List ℤ) → (call (typed t) lent .number ≡ 12 → ⊥) → call (typed (typedByHand t)) lent ≡ call (typed t) lent
-measured-is-by-hand t lent h =
-    ap (λ (l : List JobAxis). byMask (record { mask = t .mask; asked = t .asked; axes = l; windows = t .windows }) lent (goodMask (t .mask)))
-    (set-by-hand 0 (t .mask) (t .axes))
-    ∙ masked (jobOf t) lent (goodMask (t .mask)) h
+    pub tests-by-hand : (number (by-tests axisRefusals xs end) ≡ 12 → ⊥) → by-tests axisRefusals (axesByHand xs) end' ≡ by-tests axisRefusals xs end
+    unfolding by-limits
+    tests-by-hand h =
+        ap (by-limits (by-tests fromDamping (axesByHand xs) end')) (first-mapped byHand limitsRefused (λ x. refl) xs)
+        ∙ limits (firstAxis limitsRefused xs) h
