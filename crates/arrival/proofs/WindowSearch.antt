@@ -12,7 +12,7 @@ use lib.ListN.{length, getD, take, drop}
 use Rattle.whole.proofs.Elements.{none-some}
 use Rattle.model.specs.declared.Window.{Window}
 use Rattle.model.specs.declared.Windows.{Windows}
-use Rattle.model.specs.Windows.{brought, fits, fitsOne, inOrderAfter, firstWrong, windowsRefused, refused13, inWindows}
+use Rattle.model.specs.Windows.{brought, fitsWindow, fitsOne, inOrderAfter, firstWrong, windowsRefused, refused13, inWindows}
 use Rattle.model.specs.Outcome.{leastFrom}
 use Rattle.model.proofs.WindowsInWords.{none-wrong}
 use Rattle.windows.specs.Ticks.{firstTick, afterLast}
@@ -45,7 +45,7 @@ module _ (test : ℕ → Bool) (first end dwell : ℕ) where
   after i c [] e n f = absurd (false≢true f)
   after i c (w ∷ l) e n f =
       let o = ordered i c w l e in
-      go (fits n dwell w) (fit-is n dwell w) o f (after (suc i) (w .closing) l (o .later) n)
+      go (fitsWindow n dwell w) (fit-is n dwell w) o f (after (suc i) (w .closing) l (o .later) n)
     where
       go : (b : Bool) → (b ≡ true → Fit n dwell w) → Ordered i c w l → (elim b as (λ _. Bool) [ true ↦ true | false ↦ fitsOne n dwell l ]) ≡ true
           → (fitsOne n dwell l ≡ true → w .closing ≤ n) → c ≤ n
@@ -59,18 +59,18 @@ module _ (test : ℕ → Bool) (first end dwell : ℕ) where
 
   module _ (w : Window) (l : List Window) where
     -- a tick that fits one of them and passes: in the first window, or in one of the later ones
-    of-first : (Q : Type 0) (n : ℕ) → both (w ∷ l) n ≡ true → (fits n dwell w ≡ true → test n ≡ true → Q) → (fits n dwell w ≡ false → both l n ≡ true → Q) → Q
-    of-first Q n e f g = go (fits n dwell w) refl e
+    of-first : (Q : Type 0) (n : ℕ) → both (w ∷ l) n ≡ true → (fitsWindow n dwell w ≡ true → test n ≡ true → Q) → (fitsWindow n dwell w ≡ false → both l n ≡ true → Q) → Q
+    of-first Q n e f g = go (fitsWindow n dwell w) refl e
       where
-        go : (b : Bool) → fits n dwell w ≡ b → (elim b as (λ _. Bool) [ true ↦ true | false ↦ fitsOne n dwell l ]) && test n ≡ true → Q
+        go : (b : Bool) → fitsWindow n dwell w ≡ b → (elim b as (λ _. Bool) [ true ↦ true | false ↦ fitsOne n dwell l ]) && test n ≡ true → Q
         go true p e = f p e
         go false p e = g p e
 
-    in-first : (n : ℕ) → fits n dwell w ≡ true → test n ≡ true → both (w ∷ l) n ≡ true
+    in-first : (n : ℕ) → fitsWindow n dwell w ≡ true → test n ≡ true → both (w ∷ l) n ≡ true
     in-first n e t = λ i. (elim (e i) as (λ _. Bool) [ true ↦ true | false ↦ fitsOne n dwell l ]) && t i
 
     in-later : (n : ℕ) → both l n ≡ true → both (w ∷ l) n ≡ true
-    in-later n e = go (fits n dwell w) (fitsOne n dwell l) (test n) e
+    in-later n e = go (fitsWindow n dwell w) (fitsOne n dwell l) (test n) e
       where
         go : (b c t : Bool) → c && t ≡ true → (elim b as (λ _. Bool) [ true ↦ true | false ↦ c ]) && t ≡ true
         go true true t e = e
@@ -102,7 +102,7 @@ module _ (test : ℕ → Bool) (first end dwell : ℕ) where
               (λ p q. let s = far k q in omega (arith, f .within));
         }
 
-    missed : Result test (firstTick first w) count none → (k : ℕ) → first ≤ k → k < end → fits k dwell w ≡ true → test k ≡ true → ⊥
+    missed : Result test (firstTick first w) count none → (k : ℕ) → first ≤ k → k < end → fitsWindow k dwell w ≡ true → test k ≡ true → ⊥
     missed r k a b p q = let s = fit-ticks first end k dwell w a b p in r k (s .0) (omega (arith, s .1, s .0)) q
 
     -- not found there

@@ -8,7 +8,7 @@ use native.Mathlib.Omega.{arith}
 use native.Mathlib.Nat.{le-of-mul-le-mul-left}
 use lib.ListN.{length, replicate, length-append, length-replicate}
 use lib.IntN.{ℤ, pos, natAbs, _+ℤ_, _-ℤ_, _*ℤ_, +ℤ-idr}
-use Rattle.whole.specs.Integers.{nearest}
+use Rattle.whole.specs.Integers.{nearestQuotient}
 use Rattle.whole.proofs.Tests.{lt-or-le}
 use Rattle.whole.proofs.Differences.{whole, all₅, all₇}
 use Rattle.whole.proofs.Laws.{natAbs-*}
@@ -44,10 +44,10 @@ half-miss : (d : ℕ) (q v a p w b r : ℤ) → WithinHalf q (2 * d) p → Withi
 half-miss d = all₇ _ (λ a b c e f g h i j k l m n o. simp (whole, half-iff) (omega arith))
 
 pub miss : (d : ℕ) → 0 < d → (q v a : ℤ)
-    → natAbs (pos 2 *ℤ nearest q (2 * d) +ℤ pos 2 *ℤ nearest v d +ℤ nearest a d -ℤ pos 2 *ℤ nearest (q +ℤ pos 2 *ℤ v +ℤ a) (2 * d)) ≤ 3
+    → natAbs (pos 2 *ℤ nearestQuotient q (2 * d) +ℤ pos 2 *ℤ nearestQuotient v d +ℤ nearestQuotient a d -ℤ pos 2 *ℤ nearestQuotient (q +ℤ pos 2 *ℤ v +ℤ a) (2 * d)) ≤ 3
 miss d h q v a =
-    small d 3 (pos 2 *ℤ nearest q (2 * d) +ℤ pos 2 *ℤ nearest v d +ℤ nearest a d -ℤ pos 2 *ℤ nearest (q +ℤ pos 2 *ℤ v +ℤ a) (2 * d)) h
-    (half-miss d q v a (nearest q (2 * d)) (nearest v d) (nearest a d) (nearest (q +ℤ pos 2 *ℤ v +ℤ a) (2 * d))
+    small d 3 (pos 2 *ℤ nearestQuotient q (2 * d) +ℤ pos 2 *ℤ nearestQuotient v d +ℤ nearestQuotient a d -ℤ pos 2 *ℤ nearestQuotient (q +ℤ pos 2 *ℤ v +ℤ a) (2 * d)) h
+    (half-miss d q v a (nearestQuotient q (2 * d)) (nearestQuotient v d) (nearestQuotient a d) (nearestQuotient (q +ℤ pos 2 *ℤ v +ℤ a) (2 * d))
     (nearest-half q (2 * d) (omega arith)) (nearest-half v d h) (nearest-half a d h)
     (nearest-half (q +ℤ pos 2 *ℤ v +ℤ a) (2 * d) (omega arith)))
 
@@ -56,11 +56,11 @@ half-miss-velocity : (d : ℕ) (v a w b r : ℤ) → WithinHalf v d w → Within
     → natAbs (pos (2 * d) *ℤ (w +ℤ b -ℤ r)) ≤ d * 3
 half-miss-velocity d = all₅ _ (λ a b c e f g h i j k. simp (whole, half-iff) (omega arith))
 
-pub miss-velocity : (d : ℕ) → 0 < d → (v a : ℤ) → natAbs (pos 2 *ℤ (nearest v d +ℤ nearest a d -ℤ nearest (v +ℤ a) d)) ≤ 3
+pub miss-velocity : (d : ℕ) → 0 < d → (v a : ℤ) → natAbs (pos 2 *ℤ (nearestQuotient v d +ℤ nearestQuotient a d -ℤ nearestQuotient (v +ℤ a) d)) ≤ 3
 miss-velocity d h v a =
-    twice (nearest v d +ℤ nearest a d -ℤ nearest (v +ℤ a) d)
-    (small d 1 (nearest v d +ℤ nearest a d -ℤ nearest (v +ℤ a) d) h
-    (half-miss-velocity d v a (nearest v d) (nearest a d) (nearest (v +ℤ a) d) (nearest-half v d h) (nearest-half a d h) (nearest-half (v +ℤ a) d h)))
+    twice (nearestQuotient v d +ℤ nearestQuotient a d -ℤ nearestQuotient (v +ℤ a) d)
+    (small d 1 (nearestQuotient v d +ℤ nearestQuotient a d -ℤ nearestQuotient (v +ℤ a) d) h
+    (half-miss-velocity d v a (nearestQuotient v d) (nearestQuotient a d) (nearestQuotient (v +ℤ a) d) (nearest-half v d h) (nearest-half a d h) (nearest-half (v +ℤ a) d h)))
   where
     twice : (z : ℤ) → natAbs z ≤ 1 → natAbs (pos 2 *ℤ z) ≤ 3
     twice z q = omega (arith, natAbs-* (pos 2) z)
@@ -221,15 +221,15 @@ module _ (x : Axis) (n : ℕ) (r : Ready x n) where
 
   -- twice the position to which row k is carried on
   abbrev carried : ℕ → ℤ
-  carried k = pos 2 *ℤ nearest (position k) (2 * bothDivisor x) +ℤ pos 2 *ℤ nearest (velocity k) (bothDivisor x) +ℤ nearest (acceleration k) (bothDivisor x)
+  carried k = pos 2 *ℤ nearestQuotient (position k) (2 * bothDivisor x) +ℤ pos 2 *ℤ nearestQuotient (velocity k) (bothDivisor x) +ℤ nearestQuotient (acceleration k) (bothDivisor x)
 
-  pub carries-position : (k : ℕ) → k < n → natAbs (carried k -ℤ pos 2 *ℤ nearest (position (suc k)) (2 * bothDivisor x)) ≤ 3
+  pub carries-position : (k : ℕ) → k < n → natAbs (carried k -ℤ pos 2 *ℤ nearestQuotient (position (suc k)) (2 * bothDivisor x)) ≤ 3
   carries-position k q =
-      subst (λ (z : ℤ). natAbs (carried k -ℤ pos 2 *ℤ nearest z (2 * bothDivisor x)) ≤ 3)
+      subst (λ (z : ℤ). natAbs (carried k -ℤ pos 2 *ℤ nearestQuotient z (2 * bothDivisor x)) ≤ 3)
       (sym (position-follows k q)) (miss (bothDivisor x) (both-some x) (position k) (velocity k) (acceleration k))
 
   pub carries-velocity : (k : ℕ) → k < n
-      → natAbs (pos 2 *ℤ (nearest (velocity k) (bothDivisor x) +ℤ nearest (acceleration k) (bothDivisor x) -ℤ nearest (velocity (suc k)) (bothDivisor x))) ≤ 3
+      → natAbs (pos 2 *ℤ (nearestQuotient (velocity k) (bothDivisor x) +ℤ nearestQuotient (acceleration k) (bothDivisor x) -ℤ nearestQuotient (velocity (suc k)) (bothDivisor x))) ≤ 3
   carries-velocity k q =
-      subst (λ (z : ℤ). natAbs (pos 2 *ℤ (nearest (velocity k) (bothDivisor x) +ℤ nearest (acceleration k) (bothDivisor x) -ℤ nearest z (bothDivisor x))) ≤ 3)
+      subst (λ (z : ℤ). natAbs (pos 2 *ℤ (nearestQuotient (velocity k) (bothDivisor x) +ℤ nearestQuotient (acceleration k) (bothDivisor x) -ℤ nearestQuotient z (bothDivisor x))) ≤ 3)
       (sym (velocity-follows k q)) (miss-velocity (bothDivisor x) (both-some x) (velocity k) (acceleration k))

@@ -8,7 +8,7 @@ use native.Mathlib.Nat as N
 use lib.Dec.{T, ltb, ltb→lt, nltb→le}
 use lib.ListN.{getD, length, replicate}
 use lib.IntN.{ℤ, pos, negsuc, negℤ, natAbs, _+ℤ_, _-ℤ_, _*ℤ_}
-use Rattle.whole.specs.Integers.{nearest}
+use Rattle.whole.specs.Integers.{nearestQuotient}
 use Rattle.whole.proofs.Differences.{whole, all₁}
 use Rattle.whole.proofs.Laws.{add-sub}
 use Rattle.whole.proofs.Bounds.{add-holds, mul-holds}
@@ -140,7 +140,7 @@ module _ (x : Axis) (n : ℕ) (r : Ready x n) where
 
   -- a cell of what is at most c fine steps in size before tick 0 and at every tick
   cell : (f : Tick → ℤ) (c : ℕ) → ((j : ℕ) → natAbs (f (earlier x j)) ≤ finer x * c) → ((k : ℕ) → k ≤ n → natAbs (f (tickAt (track n x) k)) ≤ finer x * c)
-      → (k : ℕ) → k ≤ n → natAbs (nearest (both (track n x) k f) (bothDivisor x)) ≤ c
+      → (k : ℕ) → k ≤ n → natAbs (nearestQuotient (both (track n x) k f) (bothDivisor x)) ≤ c
   cell f c a b k h = half-size c (both-some x) total (nearest-half (both (track n x) k f) (bothDivisor x) (both-some x))
     where
       back : (d : ℕ) → natAbs (f (tickBack (track n x) k d)) ≤ finer x * c
@@ -168,8 +168,8 @@ module _ (x : Axis) (n : ℕ) (r : Ready x n) where
   unfolding W
   start-speed = meets .speeds 0 (omega arith)
 
-  pub velocity-cell : (k : ℕ) → k ≤ n → natAbs (nearest (both (track n x) k (λ s. s .velocity)) (bothDivisor x)) ≤ 256 * speedLimit x
+  pub velocity-cell : (k : ℕ) → k ≤ n → natAbs (nearestQuotient (both (track n x) k (λ s. s .velocity)) (bothDivisor x)) ≤ 256 * speedLimit x
   velocity-cell = cell (λ s. s .velocity) (256 * speedLimit x) (λ j. start-speed) now-velocity
 
-  pub acceleration-cell : (k : ℕ) → k ≤ n → natAbs (nearest (both (track n x) k (λ s. s .acceleration)) (bothDivisor x)) ≤ 256 * accelerationLimit x
+  pub acceleration-cell : (k : ℕ) → k ≤ n → natAbs (nearestQuotient (both (track n x) k (λ s. s .acceleration)) (bothDivisor x)) ≤ 256 * accelerationLimit x
   acceleration-cell = cell (λ s. s .acceleration) (256 * accelerationLimit x) (λ j. omega arith) now-acceleration

@@ -12,7 +12,7 @@ use Rattle.whole.proofs.Differences.{whole, all₁, all₂, all₃, le-fails}
 use Rattle.whole.proofs.Laws.{≤ℤ-trans, ≤ℤ-total, <ℤ-next}
 use Rattle.whole.proofs.Order.{clamp-mono}
 use Rattle.whole.proofs.Sums.{sum-mono}
-use Rattle.model.specs.Leg.{Leg, upper, lower, clamped, sumAt, fitsAt, climb, climbSteps, cruise, IsCruise}
+use Rattle.model.specs.Leg.{Leg, upper, lower, clamped, sumAt, fitsAt, climbByBits, climbSteps, cruise, IsCruise}
 use Rattle.model.proofs.Envelopes.{lowest-sum}
 
 pub sumAt-mono : (g : Leg) (c d : ℤ) → c ≤ℤ d → sumAt g c ≤ℤ sumAt g d
@@ -29,7 +29,7 @@ module _ (g : Leg) (s : ℤ) where
     fits : sumAt g c ≤ℤ s
     next : (d : ℤ) → d ≤ℤ L → sumAt g d ≤ℤ s → d <ℤ (c +ℤ pos (2 ^ n))
 
-  climb-is : (n : ℕ) (c : ℤ) → Climbed n c → IsCruise g s (climb g s n c)
+  climb-is : (n : ℕ) (c : ℤ) → Climbed n c → IsCruise g s (climbByBits g s n c)
   climb-is zero c h = record { above = h .above; below = h .below; fits = h .fits; largest = λ d p q. <ℤ-next d c (h .next d p q) }
   climb-is (suc n) c h =
       by-bool (IsCruise g s) (leZ d L) _ _

@@ -14,7 +14,7 @@ use Rattle.model.specs.declared.Axis.{Axis}
 use Rattle.model.specs.declared.Answer.{Answer}
 use Rattle.model.specs.declared.Order.{Order}
 use Rattle.model.specs.declared.Order.the-variants.{Forwards, Backwards}
-use Rattle.whole.specs.Integers.{nearest}
+use Rattle.whole.specs.Integers.{nearestQuotient}
 use Rattle.model.specs.Rows.{track, blend, divisor, cells, rowAt, table, fromLanding}
 use Rattle.model.specs.Job.{Job, JobAxis, axesOf}
 use Rattle.model.specs.Motion.{reachable}
@@ -69,13 +69,13 @@ module _ (o : Order) (xs : List Axis) (n : ℕ) (lent rest : List ℤ) (is : len
 
     -- the cells of row k, from the two blends
     p : ℕ → ℤ
-    p k = nearest (both (track n x) k (λ s. s .position)) (2 * bothDivisor x)
+    p k = nearestQuotient (both (track n x) k (λ s. s .position)) (2 * bothDivisor x)
 
     v : ℕ → ℤ
-    v k = nearest (both (track n x) k (λ s. s .velocity)) (bothDivisor x)
+    v k = nearestQuotient (both (track n x) k (λ s. s .velocity)) (bothDivisor x)
 
     a : ℕ → ℤ
-    a k = nearest (both (track n x) k (λ s. s .acceleration)) (bothDivisor x)
+    a k = nearestQuotient (both (track n x) k (λ s. s .acceleration)) (bothDivisor x)
 
     position-is : (k : ℕ) → k ≤ n → positionCell (tableIn o xs n lent) i k ≡ p k
     unfolding p
@@ -288,13 +288,13 @@ same-rows q lent z i j k h hj hk =
 
 abbrev FromLanding : Order → List Axis → ℕ → List ℤ → Type 0
 FromLanding o xs n lent =
-    (i k : ℕ) (x : Axis) → getElem? xs i ≡ some x → k ≤ n → positionCell (tableIn o xs n lent) i k ≡ nearest (fromLanding x n (n - k)) (2 * divisor x)
+    (i k : ℕ) (x : Axis) → getElem? xs i ≡ some x → k ≤ n → positionCell (tableIn o xs n lent) i k ≡ nearestQuotient (fromLanding x n (n - k)) (2 * divisor x)
 
 from-landing : (o : Order) (xs : List Axis) (n : ℕ) (lent rest : List ℤ) → lent ≡ table o xs n ++ rest → Planned xs n → FromLanding o xs n lent
 from-landing o xs n lent rest is ready i k x e h =
     let back : n - (n - k) ≡ k = omega (arith, h) in
     cell-is o xs n lent rest is ready i 0 k x e (omega arith) h
-    ∙ ap (λ (z : ℤ). nearest z (2 * divisor x))
+    ∙ ap (λ (z : ℤ). nearestQuotient z (2 * divisor x))
     (sym (sums-from-landing x n (ready i x e) (n - k) (omega arith) ∙ ap (λ (j : ℕ). blend (track n x) j (λ s. s .position)) back))
 
 pub cells-from-landing : CellsFromLanding

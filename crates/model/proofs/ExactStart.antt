@@ -6,7 +6,7 @@ use mathlib.Core.List.{[], _∷_}
 use native.Mathlib.Omega.{arith}
 use lib.Dec.{T, ltb, nltb→le}
 use lib.IntN.{ℤ, pos, _+ℤ_, _-ℤ_, _*ℤ_}
-use Rattle.whole.specs.Integers.{nearest}
+use Rattle.whole.specs.Integers.{nearestQuotient}
 use Rattle.whole.proofs.Ring.{pol, same}
 use Rattle.whole.proofs.Rounding.{nearest-whole}
 use Rattle.model.specs.declared.Axis.{Axis}
@@ -63,9 +63,9 @@ module _ (x : Axis) (n : ℕ) (r : Ready x n) where
       (ap₂ (λ (y z : ℤ). pos (256 - b) *ℤ y +ℤ pos b *ℤ z) (p s) (p (s + h)))
       ∙ ap (λ (a : ℤ). a *ℤ u 0 +ℤ pos b *ℤ u (0 + h) +ℤ (a *ℤ u s +ℤ pos b *ℤ u (s + h))) (weights b (R.weight-range x n r))
 
-  pub start-position : nearest (both (track n x) 0 (λ s. s .position)) (2 * bothDivisor x) ≡ pos 256 *ℤ x .start .position
+  pub start-position : nearestQuotient (both (track n x) 0 (λ s. s .position)) (2 * bothDivisor x) ≡ pos 256 *ℤ x .start .position
   start-position =
-      ap (λ (z : ℤ). nearest z (2 * bothDivisor x))
+      ap (λ (z : ℤ). nearestQuotient z (2 * bothDivisor x))
       (blended (λ s. s .position) earlierPosition (λ d. before-start d .0)
       ∙ taken-back (pos (finer x)) (pos b) (pos h) (pos s) (x .start .position) (x .start .velocity))
       ∙ nearest-whole (2 * bothDivisor x) (pos 256 *ℤ x .start .position) (omega (arith, both-some x))
@@ -78,9 +78,9 @@ module _ (x : Axis) (n : ℕ) (r : Ready x n) where
           ≡ pos 2 *ℤ (pos 512 *ℤ f) *ℤ (pos 256 *ℤ p)
       taken-back f b h s p v = same (f ∷ b ∷ h ∷ s ∷ p ∷ v ∷ []) (search pol depth 30 fits 9000) tt
 
-  pub start-velocity : nearest (both (track n x) 0 (λ s. s .velocity)) (bothDivisor x) ≡ pos 256 *ℤ x .start .velocity
+  pub start-velocity : nearestQuotient (both (track n x) 0 (λ s. s .velocity)) (bothDivisor x) ≡ pos 256 *ℤ x .start .velocity
   start-velocity =
-      ap (λ (z : ℤ). nearest z (bothDivisor x))
+      ap (λ (z : ℤ). nearestQuotient z (bothDivisor x))
       (blended (λ s. s .velocity) (λ d. startVelocity x) (λ d. before-start d .1) ∙ as-one (pos (finer x)) (pos b) (x .start .velocity))
       ∙ nearest-whole (bothDivisor x) (pos 256 *ℤ x .start .velocity) (both-some x)
     where

@@ -4,7 +4,7 @@ use mathlib.Core.Path.{_≡_, ap, ap₂, _∙_}
 use mathlib.Core.List.{[], _∷_}
 use native.Mathlib.Omega.{arith}
 use lib.IntN.{ℤ, pos, _+ℤ_, _-ℤ_, _*ℤ_, +ℤ-idr}
-use Rattle.whole.specs.Integers.{nearest}
+use Rattle.whole.specs.Integers.{nearestQuotient}
 use Rattle.whole.proofs.Differences.{whole}
 use Rattle.whole.proofs.Ring.{pol, same}
 use Rattle.whole.proofs.Rounding.{nearest-whole}
@@ -152,15 +152,15 @@ module _ (x : Axis) (n : ℕ) (r : Ready x n) where
   pub exact-acceleration : both (track n x) n (λ s. s .acceleration) ≡ pos (bothDivisor x) *ℤ (pos 256 *ℤ m .acceleration)
   exact-acceleration = row-N (λ s. s .acceleration) ∙ blended-acceleration F B (m .acceleration)
 
-  pub lands-acceleration : nearest (both (track n x) n (λ s. s .acceleration)) (bothDivisor x) ≡ pos 256 *ℤ m .acceleration
+  pub lands-acceleration : nearestQuotient (both (track n x) n (λ s. s .acceleration)) (bothDivisor x) ≡ pos 256 *ℤ m .acceleration
   lands-acceleration =
-      ap (λ (z : ℤ). nearest z (bothDivisor x)) exact-acceleration ∙ nearest-whole (bothDivisor x) (pos 256 *ℤ m .acceleration) (both-some x)
+      ap (λ (z : ℤ). nearestQuotient z (bothDivisor x)) exact-acceleration ∙ nearest-whole (bothDivisor x) (pos 256 *ℤ m .acceleration) (both-some x)
 
   pos-N : pos (landingTick x n) +ℤ (pos h +ℤ pos s) ≡ pos n
   pos-N = ap pos arrival
 
-  pub lands-velocity : nearest (both (track n x) n (λ s. s .velocity)) (bothDivisor x) ≡ pos 256 *ℤ velocityAt m (pos n)
-  lands-velocity = ap (λ (z : ℤ). nearest z (bothDivisor x)) exact ∙ nearest-whole (bothDivisor x) (pos 256 *ℤ velocityAt m (pos n)) (both-some x)
+  pub lands-velocity : nearestQuotient (both (track n x) n (λ s. s .velocity)) (bothDivisor x) ≡ pos 256 *ℤ velocityAt m (pos n)
+  lands-velocity = ap (λ (z : ℤ). nearestQuotient z (bothDivisor x)) exact ∙ nearest-whole (bothDivisor x) (pos 256 *ℤ velocityAt m (pos n)) (both-some x)
     where
       exact : both (track n x) n (λ s. s .velocity) ≡ pos (bothDivisor x) *ℤ (pos 256 *ℤ velocityAt m (pos n))
       exact =
@@ -178,7 +178,7 @@ module _ (x : Axis) (n : ℕ) (r : Ready x n) where
   pub exact-blend : blend (track n x) n (λ s. s .position) ≡ pos (2 * divisor x) *ℤ (pos 128 *ℤ twicePositionAt m (pos n))
   exact-blend = blend-of-both (track n x) n (λ s. s .position) (pos 128 *ℤ twicePositionAt m (pos n)) exact-position
 
-  pub lands-position : nearest (both (track n x) n (λ s. s .position)) (2 * bothDivisor x) ≡ pos 128 *ℤ twicePositionAt m (pos n)
+  pub lands-position : nearestQuotient (both (track n x) n (λ s. s .position)) (2 * bothDivisor x) ≡ pos 128 *ℤ twicePositionAt m (pos n)
   lands-position =
-      ap (λ (z : ℤ). nearest z (2 * bothDivisor x)) exact-position
+      ap (λ (z : ℤ). nearestQuotient z (2 * bothDivisor x)) exact-position
       ∙ nearest-whole (2 * bothDivisor x) (pos 128 *ℤ twicePositionAt m (pos n)) (omega (arith, both-some x))

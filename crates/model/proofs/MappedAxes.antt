@@ -9,7 +9,7 @@ use mathlib.Core.List.{List, [], _∷_, _++_, map, flatten}
 use lib.IntN.{ℤ}
 use lib.Dec.{ltb}
 use lib.ListN.{length, drop}
-use Rattle.whole.specs.Integers.{nearest}
+use Rattle.whole.specs.Integers.{nearestQuotient}
 use Rattle.model.specs.declared.Axis.{Axis}
 use Rattle.model.specs.declared.Order.{Order}
 use Rattle.model.specs.declared.Order.the-variants.{Forwards}
@@ -24,7 +24,7 @@ pub cells-alike : (n k : ℕ) (x y : Axis) → ((f : Tick → ℤ) → blend (tr
     → cells k (track n x) ≡ cells k (track n y)
 cells-alike n k x y b d =
     λ i.
-    nearest (b (λ s. s .position) i) (2 * d i) ∷ nearest (b (λ s. s .velocity) i) (d i) ∷ nearest (b (λ s. s .acceleration) i) (d i) ∷ []
+    nearestQuotient (b (λ s. s .position) i) (2 * d i) ∷ nearestQuotient (b (λ s. s .velocity) i) (d i) ∷ nearestQuotient (b (λ s. s .acceleration) i) (d i) ∷ []
 
 module _ (F : Axis → Axis) where
   abbrev pub mapped : List JobAxis → List JobAxis

@@ -7,7 +7,7 @@ use native.Mathlib.Omega.{arith}
 use lib.Dec.{ltb, eqb}
 use lib.ListN.{getD}
 use lib.IntN.{ℤ, pos, negℤ, _+ℤ_, _-ℤ_, _*ℤ_, negℤ-+ℤ}
-use Rattle.whole.specs.Integers.{nearest}
+use Rattle.whole.specs.Integers.{nearestQuotient}
 use Rattle.whole.proofs.Laws.{natAbs-neg}
 use Rattle.whole.proofs.Ring.{pol, same}
 use Rattle.whole.proofs.Rounding.{nearest-neg}
@@ -90,8 +90,8 @@ module _ (t : Track) where
         go Absent = once-negated 0
         go (HalfPeriod d) = ap₂ (λ (y z : ℤ). y +ℤ z) (once-negated 0) (once-negated d) ∙ sym (negℤ-+ℤ (blendOnce t k 0 f) (blendOnce t k d f))
 
-    cell-negated : (d : ℕ) → 0 < d → nearest (blend (negatedTrack t) k f) d ≡ negℤ (nearest (blend t k f) d)
-    cell-negated d h = ap (λ (z : ℤ). nearest z d) blend-negated ∙ nearest-neg (blend t k f) d h
+    cell-negated : (d : ℕ) → 0 < d → nearestQuotient (blend (negatedTrack t) k f) d ≡ negℤ (nearestQuotient (blend t k f) d)
+    cell-negated d h = ap (λ (z : ℤ). nearestQuotient z d) blend-negated ∙ nearest-neg (blend t k f) d h
 
 pub mirrored : Mirrored
 mirrored t k =
@@ -102,6 +102,6 @@ mirrored t k =
   where
     -- the divisor is one of the grid
     cell : (t : Track) (f : Tick → ℤ) → ((s : Tick) → f (negatedTick s) ≡ negℤ (f s)) → (d : ℕ → ℕ) → 0 < d (finer (t .axis))
-        → nearest (blend (negatedTrack t) k f) (d (finer (negatedAxis (t .axis)))) ≡ negℤ (nearest (blend t k f) (d (finer (t .axis))))
+        → nearestQuotient (blend (negatedTrack t) k f) (d (finer (negatedAxis (t .axis)))) ≡ negℤ (nearestQuotient (blend t k f) (d (finer (t .axis))))
     cell t f odd d h =
-        ap (λ (g : ℕ). nearest (blend (negatedTrack t) k f) (d g)) (finer-negated (t .axis)) ∙ cell-negated t k f odd (d (finer (t .axis))) h
+        ap (λ (g : ℕ). nearestQuotient (blend (negatedTrack t) k f) (d g)) (finer-negated (t .axis)) ∙ cell-negated t k f odd (d (finer (t .axis))) h

@@ -15,7 +15,7 @@ use Rattle.model.specs.Words.{kind, payload, twos, longPosition, between
 use Rattle.model.specs.Words.{Reading, got, wrong, _>>=_, give, field, signed, positionBy, position}
 use Rattle.model.specs.Words.{spelled}
 use Rattle.model.specs.Refusals.{positionAllowed}
-use Rattle.model.specs.Spelling.{word, bits, high, low, positionWords, SpellsPosition, PositionSpelling}
+use Rattle.model.specs.Spelling.{word, bits, highPart, lowPart, positionWords, SpellsPosition, PositionSpelling}
 use Rattle.model.proofs.LongWrong.{bad}
 use Rattle.model.proofs.Readers.{before}
 
@@ -46,13 +46,13 @@ and-true true = refl
 and-true false = refl
 
 -- a long position is taken apart again
-parts : (z : ℤ) (l : ℕ) → l < 2 ^ 28 → (high (pos (2 ^ 28) *ℤ z +ℤ pos l) ≡ z) × (low (pos (2 ^ 28) *ℤ z +ℤ pos l) ≡ l)
+parts : (z : ℤ) (l : ℕ) → l < 2 ^ 28 → (highPart (pos (2 ^ 28) *ℤ z +ℤ pos l) ≡ z) × (lowPart (pos (2 ^ 28) *ℤ z +ℤ pos l) ≡ l)
 parts (pos a) l h = let q : (2 ^ 28 * a + l) / 2 ^ 28 ≡ a = omega arith in (ap pos q, omega arith)
 parts (negsuc a) l h =
     let n : ℕ = 2 ^ 28 * a + (2 ^ 28 - suc l) in
     let q : n / 2 ^ 28 ≡ a = omega arith in
     let r : 2 ^ 28 - suc (n % 2 ^ 28) ≡ l = omega arith in
-    subst (λ (p : ℤ). (high p ≡ negsuc a) × (low p ≡ l)) (sym (below a l h)) (ap negsuc q, r)
+    subst (λ (p : ℤ). (highPart p ≡ negsuc a) × (lowPart p ≡ l)) (sym (below a l h)) (ap negsuc q, r)
 
 -- a position that fits a single word is one of the range
 fits-inside : (p : ℤ) → fitsWord p ≡ true → positionAllowed p ≡ true
@@ -155,7 +155,7 @@ long-kept true w u e t = go (between (negsuc 63) (pos 63) (twos (payload w))) (f
 long-kept false w u e t = absurd (true≢false (sym t))
 
 by-fit : ℕ → ℤ → Bool → List ℕ
-by-fit k p b = elim b [ true ↦ word k (bits p) ∷ [] | false ↦ word 14 (bits (high p)) ∷ word k (low p) ∷ [] ]
+by-fit k p b = elim b [ true ↦ word k (bits p) ∷ [] | false ↦ word 14 (bits (highPart p)) ∷ word k (lowPart p) ∷ [] ]
 
 words-by : (k : ℕ) (p : ℤ) (b : Bool) → fitsWord p ≡ b → by-fit k p b ≡ positionWords k p
 unfolding by-fit
@@ -177,8 +177,8 @@ position-is k i (w ∷ ws) p j vs c e = go (eqb (kind w) 14) refl e
         let f = field-is k (suc i) (u ∷ us) (b .value) (b .index) (b .rest) (b .first) in
         let v : longPosition (payload w) (b .value) ≡ p = value-of (b .then) in
         let d = parts (twos (payload w)) (b .value) (f .1) in
-        let h : payload w ≡ bits (high p) = sym (twos-bits (payload w) (omega arith) .0) ∙ ap bits (sym (d .0) ∙ ap high v) in
-        let l : b .value ≡ low p = sym (d .1) ∙ ap low v in
+        let h : payload w ≡ bits (highPart p) = sym (twos-bits (payload w) (omega arith) .0) ∙ ap bits (sym (d .0) ∙ ap highPart v) in
+        let l : b .value ≡ lowPart p = sym (d .1) ∙ ap lowPart v in
         let first : u ≡ word k (b .value) = head-of (f .0) in
         let same : payload u ≡ b .value = omega (arith, first, f .1) in
         let kept = long-kept (eqb (kind w) 14) w u (c .0) t in
@@ -224,19 +224,19 @@ bits-twos (negsuc n) e =
       omega arith,
     )
 
-low-small : (p : ℤ) → low p < 2 ^ 28
+low-small : (p : ℤ) → lowPart p < 2 ^ 28
 low-small (pos n) = omega arith
 low-small (negsuc n) = omega arith
 
 -- a number put together from its parts
-joined : (p : ℤ) → pos (2 ^ 28) *ℤ high p +ℤ pos (low p) ≡ p
+joined : (p : ℤ) → pos (2 ^ 28) *ℤ highPart p +ℤ pos (lowPart p) ≡ p
 joined (pos n) = let q : 2 ^ 28 * (n / 2 ^ 28) + n % 2 ^ 28 ≡ n = omega arith in ap pos q
 joined (negsuc n) =
     let q : 2 ^ 28 * (n / 2 ^ 28) + (2 ^ 28 - suc (2 ^ 28 - suc (n % 2 ^ 28))) ≡ n = omega arith in
     below (n / 2 ^ 28) (2 ^ 28 - suc (n % 2 ^ 28)) (omega arith) ∙ ap negsuc q
 
 -- the high part of a position of the range
-high-small : (p : ℤ) → positionAllowed p ≡ true → (between (negsuc 63) (pos 63) (high p) ≡ true) × (fitsWord (high p) ≡ true)
+high-small : (p : ℤ) → positionAllowed p ≡ true → (between (negsuc 63) (pos 63) (highPart p) ≡ true) × (fitsWord (highPart p) ≡ true)
 high-small (pos n) e =
     let h = leb-true n 17179869183 e in (le-leb (n / 2 ^ 28) 63 (omega arith), le-leb (n / 2 ^ 28) 134217727 (omega arith))
 high-small (negsuc n) e =
@@ -286,13 +286,13 @@ module _ (k : ℕ) (apart : k ≡ 14 → ⊥) (p : ℤ) (inside : positionAllowe
         first = λ vs. (word k n, (vs, (refl, inr is)));
       }
 
-  two-words : fitsWord p ≡ false → Stands k p (word 14 (bits (high p)) ∷ word k (low p) ∷ [])
+  two-words : fitsWord p ≡ false → Stands k p (word 14 (bits (highPart p)) ∷ word k (lowPart p) ∷ [])
   unfolding on-long on-high
   two-words e =
       let s = high-small p inside in
-      let b = bits-twos (high p) (s .1) in
-      let n : ℕ = bits (high p) in
-      let m : ℕ = low p in
+      let b = bits-twos (highPart p) (s .1) in
+      let n : ℕ = bits (highPart p) in
+      let m : ℕ = lowPart p in
       let is : longPosition n m ≡ p = ap (λ (z : ℤ). pos (2 ^ 28) *ℤ z +ℤ pos m) (b .0) ∙ joined p in
       let fits : between (negsuc 63) (pos 63) (twos n) ≡ true = ap (between (negsuc 63) (pos 63)) (b .0) ∙ s .0 in
       let passes : longAllowed n m ≡ true = (λ q. fits q && not ((ap fitsWord is ∙ e) q)) in

@@ -8,7 +8,7 @@ use native.Mathlib.Omega.{arith}
 use native.Mathlib.Nat.{zero-add, le-trans, le-antisymm, le-of-mul-le-mul-left}
 use lib.Dec.{ltb}
 use lib.IntN.{ℤ, pos, natAbs, _+ℤ_, _-ℤ_, _*ℤ_, +ℤ-invr}
-use Rattle.whole.specs.Integers.{nearest}
+use Rattle.whole.specs.Integers.{nearestQuotient}
 use Rattle.whole.proofs.Bounds.{mul-holds}
 use Rattle.whole.proofs.Laws.{natAbs-*, natAbs-zero}
 use Rattle.whole.proofs.Ring.{pol, same}
@@ -163,7 +163,7 @@ module _ (x : Axis) (n : ℕ) (r : Ready x n) where
           ∙ sway-times (pos (times x)) (λ k. blend (track n x) k (λ s. s .acceleration)) w m n)
           ∙ natAbs-* (pos (times x)) (sway (λ k. blend (track n x) k (λ s. s .acceleration)) w m n)
 
-  last-whole : pos (bothDivisor x) *ℤ nearest (exact n) (bothDivisor x) -ℤ exact n ≡ pos 0
+  last-whole : pos (bothDivisor x) *ℤ nearestQuotient (exact n) (bothDivisor x) -ℤ exact n ≡ pos 0
   last-whole =
       ap₂ (λ (y z : ℤ). pos (bothDivisor x) *ℤ y -ℤ z) (lands-acceleration x n r) (exact-acceleration x n r)
       ∙ +ℤ-invr (pos (bothDivisor x) *ℤ (pos 256 *ℤ asMoving (x .target) n .acceleration))
@@ -171,7 +171,7 @@ module _ (x : Axis) (n : ℕ) (r : Ready x n) where
   -- ---- as rounded
 
   pub left-rounded : (m E G : ℕ) (w : ℕ → ℤ) → n ≤ m → Misfits x n m E w → Entries n m G w
-      → divisor x * natAbs (sway (λ k. nearest (exact k) (bothDivisor x)) w m n) ≤ plannedVariation x n * E + divisor x * roundingLeft n G
+      → divisor x * natAbs (sway (λ k. nearestQuotient (exact k) (bothDivisor x)) w m n) ≤ plannedVariation x n * E + divisor x * roundingLeft n G
   left-rounded m E G w q f b =
       omega (
         arith,
@@ -182,7 +182,7 @@ module _ (x : Axis) (n : ℕ) (r : Ready x n) where
       )
     where
       cell : ℕ → ℤ
-      cell k = nearest (exact k) (bothDivisor x)
+      cell k = nearestQuotient (exact k) (bothDivisor x)
 
       go : (i : ℕ) → i ≤ n → 0 < i → natAbs (sway exact w m i) ≤ times x * (plannedVariation x n * E) → pos (bothDivisor x) *ℤ cell i -ℤ exact i ≡ pos 0
           → bothDivisor x * natAbs (sway cell w m i) ≤ times x * (plannedVariation x n * E) + bothDivisor x * (i * G)
@@ -220,6 +220,6 @@ module _ (x : Axis) (n : ℕ) (r : Ready x n) where
       (le-antisymm (le-trans (left-exact m 0 w q (none-left m w g)) (omega arith)) (omega arith))
 
   pub cancelled-rounded : (m G : ℕ) (w : ℕ → ℤ) → n ≤ m → Swing x m w → Bounded m G w
-      → natAbs (sway (λ k. nearest (exact k) (bothDivisor x)) w m n) ≤ n * G
+      → natAbs (sway (λ k. nearestQuotient (exact k) (bothDivisor x)) w m n) ≤ n * G
   cancelled-rounded m G w q g b =
       le-of-mul-le-mul-left {k = divisor x} (le-trans (left-rounded m 0 G w q (none-left m w g) (λ i l p. b i p)) (omega arith)) (divisor-some x)

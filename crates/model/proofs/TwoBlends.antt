@@ -5,7 +5,7 @@ use mathlib.Core.Path.{_≡_, sym, ap, ap₂, _∙_}
 use mathlib.Core.List.{[], _∷_}
 use native.Mathlib.Omega.{arith}
 use lib.IntN.{ℤ, pos, _+ℤ_, _*ℤ_}
-use Rattle.whole.specs.Integers.{nearest}
+use Rattle.whole.specs.Integers.{nearestQuotient}
 use Rattle.whole.proofs.Differences.{whole, all₂}
 use Rattle.whole.proofs.Ring.{pol, same}
 use Rattle.whole.proofs.Rounding.{nearest-times}
@@ -67,15 +67,15 @@ divisor-some x = go (x .«second_sway»)
 
 -- a cell in the one form
 module _ (t : Track) (k : ℕ) (f : Tick → ℤ) where
-  pub cell-both : nearest (blend t k f) (divisor (t .axis)) ≡ nearest (both t k f) (bothDivisor (t .axis))
+  pub cell-both : nearestQuotient (blend t k f) (divisor (t .axis)) ≡ nearestQuotient (both t k f) (bothDivisor (t .axis))
   cell-both =
       sym (nearest-times (times (t .axis)) (blend t k f) (divisor (t .axis)) (times-some (t .axis)) (divisor-some (t .axis)))
-      ∙ ap₂ nearest (sym (both-is t k f)) (weights-times (t .axis .«second_sway») (finer (t .axis)))
+      ∙ ap₂ nearestQuotient (sym (both-is t k f)) (weights-times (t .axis .«second_sway») (finer (t .axis)))
 
-  pub position-both : nearest (blend t k f) (2 * divisor (t .axis)) ≡ nearest (both t k f) (2 * bothDivisor (t .axis))
+  pub position-both : nearestQuotient (blend t k f) (2 * divisor (t .axis)) ≡ nearestQuotient (both t k f) (2 * bothDivisor (t .axis))
   position-both =
       sym (nearest-times (times (t .axis)) (blend t k f) (2 * divisor (t .axis)) (times-some (t .axis)) (omega (arith, divisor-some (t .axis))))
-      ∙ ap₂ nearest (sym (both-is t k f))
+      ∙ ap₂ nearestQuotient (sym (both-is t k f))
       (doubled (times (t .axis)) (divisor (t .axis)) ∙ ap (λ (d : ℕ). 2 * d) (weights-times (t .axis .«second_sway») (finer (t .axis))))
     where
       doubled : (c d : ℕ) → c * (2 * d) ≡ 2 * (c * d)

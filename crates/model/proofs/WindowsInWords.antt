@@ -13,7 +13,7 @@ use Rattle.whole.proofs.Tests.{both, and, true-T}
 use Rattle.whole.proofs.Elements.{none-some}
 use Rattle.model.specs.declared.Window.{Window}
 use Rattle.model.specs.declared.Windows.{Windows}
-use Rattle.model.specs.Windows.{fits, fitsOne, inWindows, FitsOne, inOrderAfter, firstWrong, windowsRefused, refused13}
+use Rattle.model.specs.Windows.{fitsWindow, fitsOne, inWindows, FitsOne, inOrderAfter, firstWrong, windowsRefused, refused13}
 use Rattle.model.specs.Windows.{brought, InOrder, FirstWrong, WindowsWrong, WindowsRight}
 use Rattle.model.specs.Windows.{empty, tooMany, longDwell, wrongWindow}
 
@@ -42,20 +42,20 @@ wrong-is c w e = go (ltb (w .opening) (w .closing)) (leb c (w .opening)) (ltb-fa
 -- ---- an arrival that fits
 
 module _ (n dwell : ℕ) where
-  fits-is : (w : Window) → T (fits n dwell w) → (w .opening ≤ n) × (n < w .closing) × (n + dwell ≤ w .closing)
+  fits-is : (w : Window) → T (fitsWindow n dwell w) → (w .opening ≤ n) × (n < w .closing) × (n + dwell ≤ w .closing)
   fits-is w t =
       let a = both (leb (w .opening) n) (ltb n (w .closing) && leb (n + dwell) (w .closing)) t in
       let b = both (ltb n (w .closing)) (leb (n + dwell) (w .closing)) (a .1) in
       (leb→le (w .opening) n (a .0), ltb→lt n (w .closing) (b .0), leb→le (n + dwell) (w .closing) (b .1))
 
-  is-fits : (w : Window) → w .opening ≤ n → n < w .closing → n + dwell ≤ w .closing → T (fits n dwell w)
+  is-fits : (w : Window) → w .opening ≤ n → n < w .closing → n + dwell ≤ w .closing → T (fitsWindow n dwell w)
   is-fits w a b c =
       and (leb (w .opening) n) (ltb n (w .closing) && leb (n + dwell) (w .closing)) (true-T (le-leb (w .opening) n a))
       (and (ltb n (w .closing)) (leb (n + dwell) (w .closing)) (true-T (lt-ltb n (w .closing) b)) (true-T (le-leb (n + dwell) (w .closing) c)))
 
   one-is : (l : List Window) → T (fitsOne n dwell l) → FitsOne n dwell l
   one-is [] t = absurd t
-  one-is (w ∷ l) t = go (fits n dwell w) (fits-is w) t (one-is l)
+  one-is (w ∷ l) t = go (fitsWindow n dwell w) (fits-is w) t (one-is l)
     where
       go : (b : Bool) → (T b → (w .opening ≤ n) × (n < w .closing) × (n + dwell ≤ w .closing))
           → T (elim b as (λ _. Bool) [ true ↦ true | false ↦ fitsOne n dwell l ]) → (T (fitsOne n dwell l) → FitsOne n dwell l) → FitsOne n dwell (w ∷ l)
@@ -64,14 +64,14 @@ module _ (n dwell : ℕ) where
           let r : FitsOne n dwell l = h t in
           record { index = suc (r .index); window = r .window; here = r .here; opened = r .opened; below = r .below; stays = r .stays }
 
-  is-one : (l : List Window) (k : ℕ) (v : Window) → getElem? l k ≡ some v → T (fits n dwell v) → T (fitsOne n dwell l)
+  is-one : (l : List Window) (k : ℕ) (v : Window) → getElem? l k ≡ some v → T (fitsWindow n dwell v) → T (fitsOne n dwell l)
   is-one [] k v e t = absurd (none-some e)
-  is-one (w ∷ l) zero v e t = go (fits n dwell w) (let s : v ≡ w = cc in subst (λ (u : Window). T (fits n dwell u)) s t)
+  is-one (w ∷ l) zero v e t = go (fitsWindow n dwell w) (let s : v ≡ w = cc in subst (λ (u : Window). T (fitsWindow n dwell u)) s t)
     where
       go : (b : Bool) → T b → T (elim b as (λ _. Bool) [ true ↦ true | false ↦ fitsOne n dwell l ])
       go true t = tt
       go false t = absurd t
-  is-one (w ∷ l) (suc k) v e t = go (fits n dwell w) (is-one l k v e t)
+  is-one (w ∷ l) (suc k) v e t = go (fitsWindow n dwell w) (is-one l k v e t)
     where
       go : (b : Bool) → T (fitsOne n dwell l) → T (elim b as (λ _. Bool) [ true ↦ true | false ↦ fitsOne n dwell l ])
       go true h = tt

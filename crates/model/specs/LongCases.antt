@@ -15,41 +15,41 @@ rail asked start target end =
     (0x10000001 ∷ word 2 asked
     ∷ (start ++ (0x40000000 ∷ 0x5000000A ∷ 0x60000001 ∷ 0x70000000 ∷ 0x80000080 ∷ (target ++ (0xA0000000 ∷ end)))))
 
-abbrev pub two : ℕ → ℕ → ℕ → List ℕ
-two k high low = word 14 high ∷ word k low ∷ []
+abbrev pub twoWords : ℕ → ℕ → ℕ → List ℕ
+twoWords k high low = word 14 high ∷ word k low ∷ []
 
-abbrev pub last : List ℕ
-last = 0xF0000000 ∷ []
+abbrev pub endWord : List ℕ
+endWord = 0xF0000000 ∷ []
 
 -- start and target spelled by two payloads
 abbrev pub stay : ℕ → ℕ → Input
-stay high low = rail 0 (two 3 high low) (two 9 high low) last
+stay high low = rail 0 (twoWords 3 high low) (twoWords 9 high low) endWord
 
 -- the payload of −n
-abbrev pub minus : ℕ → ℕ
-minus n = 2 ^ 28 - n
+abbrev pub negative : ℕ → ℕ
+negative n = 2 ^ 28 - n
 
 abbrev pub longCases : List Case
 longCases =
     -- the low payload is unsigned: the first position past a single word, on both sides, and the ends of the range
     case (stay 0 (2 ^ 27)) 6 (positions ∷ []) (accepted 1 1 ((pos (256 * 134217728) ∷ pos (256 * 134217728) ∷ []) ∷ []))
-    ∷ case (stay (minus 1) (2 ^ 27 - 1)) 6 (positions ∷ [])
+    ∷ case (stay (negative 1) (2 ^ 27 - 1)) 6 (positions ∷ [])
     (accepted 1 1 ((negsuc (256 * 134217729 - 1) ∷ negsuc (256 * 134217729 - 1) ∷ []) ∷ []))
     ∷ case (stay 63 (2 ^ 28 - 1)) 6 (positions ∷ []) (accepted 1 1 ((pos (256 * 17179869183) ∷ pos (256 * 17179869183) ∷ []) ∷ []))
-    ∷ case (stay (minus 64) 0) 6 (positions ∷ [])
+    ∷ case (stay (negative 64) 0) 6 (positions ∷ [])
     (accepted 1 1 ((negsuc (256 * 17179869184 - 1) ∷ negsuc (256 * 17179869184 - 1) ∷ []) ∷ []))
     -- 14: a position that fits a single word, a payload outside −64 to 63
     ∷ case (stay 0 (2 ^ 27 - 1)) 6 [] (refused 14 2 0 0)
-    ∷ case (stay (minus 1) (2 ^ 27)) 6 [] (refused 14 2 0 0)
+    ∷ case (stay (negative 1) (2 ^ 27)) 6 [] (refused 14 2 0 0)
     ∷ case (stay 64 0) 6 [] (refused 14 2 0 0)
-    ∷ case (stay (minus 65) 0) 6 [] (refused 14 2 0 0)
+    ∷ case (stay (negative 65) 0) 6 [] (refused 14 2 0 0)
     -- the place is the first wrong word of kind 14, here the target's
-    ∷ case (rail 0 (two 3 1 0) (two 9 64 0) last) 6 [] (refused 14 9 0 0)
+    ∷ case (rail 0 (twoWords 3 1 0) (twoWords 9 64 0) endWord) 6 [] (refused 14 9 0 0)
     -- 14 after all of 2, and before 3
-    ∷ case (rail 0 (two 3 64 0) (two 9 64 0) []) 6 [] (refused 2 12 0 0)
-    ∷ case (rail 0 (two 3 64 0) (two 10 64 0) last) 6 [] (refused 2 10 0 0)
-    ∷ case (rail 5000 (two 3 64 0) (two 9 64 0) last) 6 [] (refused 14 2 0 0)
-    ∷ case (rail 5000 (two 3 1 0) (two 9 1 0) last) 6 [] (refused 3 1 0 0)
+    ∷ case (rail 0 (twoWords 3 64 0) (twoWords 9 64 0) []) 6 [] (refused 2 12 0 0)
+    ∷ case (rail 0 (twoWords 3 64 0) (twoWords 10 64 0) endWord) 6 [] (refused 2 10 0 0)
+    ∷ case (rail 5000 (twoWords 3 64 0) (twoWords 9 64 0) endWord) 6 [] (refused 14 2 0 0)
+    ∷ case (rail 5000 (twoWords 3 1 0) (twoWords 9 1 0) endWord) 6 [] (refused 3 1 0 0)
     ∷ []
 
 -- each call gives what the method says

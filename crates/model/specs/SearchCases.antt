@@ -8,7 +8,7 @@ use Rattle.model.specs.declared.Report.the-variants.{Found, Spent, Nothi
 use Rattle.model.specs.declared.SearchAnswer.{SearchAnswer}
 use Rattle.model.specs.Outcome.{Input, words}
 use Rattle.model.specs.Search.{refuseSearch, searchAnswer, searchCall}
-use Rattle.model.specs.Cases.{restTo, one, wordsC, inside, window}
+use Rattle.model.specs.Cases.{restTo, oneAxis, wordsC, inside, window}
 
 pub record SearchCase : Type 0 where
   pub input : Input
@@ -25,16 +25,16 @@ report r n = searchAnswer 1 (record { report = r; tried = n })
 
 abbrev pub searchCases : List SearchCase
 searchCases =
-    search (one 0 (restTo 4)) 1 4096 (report (Found 4) 4)
-    ∷ search (one 0 (restTo 4)) 1 4 (report (Found 4) 4)
-    ∷ search (one 0 (restTo 4)) 1 3 (report (Spent 4) 3)
-    ∷ search (one 0 (restTo 4)) 4 1 (report (Found 4) 1)
-    ∷ search (one 0 (restTo 4)) 6 1 (report (Found 6) 1)
+    search (oneAxis 0 (restTo 4)) 1 4096 (report (Found 4) 4)
+    ∷ search (oneAxis 0 (restTo 4)) 1 4 (report (Found 4) 4)
+    ∷ search (oneAxis 0 (restTo 4)) 1 3 (report (Spent 4) 3)
+    ∷ search (oneAxis 0 (restTo 4)) 4 1 (report (Found 4) 1)
+    ∷ search (oneAxis 0 (restTo 4)) 6 1 (report (Found 6) 1)
     -- budget 0 tries nothing, and hands the first back while one is left
-    ∷ search (one 0 (restTo 4)) 4 0 (report (Spent 4) 0)
-    ∷ search (one 0 (restTo 4)) 4096 0 (report (Spent 4096) 0)
-    ∷ search (one 0 (restTo 4)) 4097 0 (report Nothing 0)
-    ∷ search (one 0 (restTo 4)) 4097 5 (report Nothing 0)
+    ∷ search (oneAxis 0 (restTo 4)) 4 0 (report (Spent 4) 0)
+    ∷ search (oneAxis 0 (restTo 4)) 4096 0 (report (Spent 4096) 0)
+    ∷ search (oneAxis 0 (restTo 4)) 4097 0 (report Nothing 0)
+    ∷ search (oneAxis 0 (restTo 4)) 4097 5 (report Nothing 0)
     -- candidates outside the windows are tried too; a budget that just covers the rest gives none
     ∷ search (inside 0 0 (window 7 9 ∷ [])) 1 6 (report (Spent 7) 6)
     ∷ search (inside 0 0 (window 7 9 ∷ [])) 1 7 (report (Found 7) 7)
@@ -42,10 +42,10 @@ searchCases =
     ∷ search (inside 0 0 (window 7 9 ∷ [])) 4096 1 (report Nothing 1)
     -- the asked arrival is not read
     ∷ search (words wordsC) 1 9 (report (Found 2) 2)
-    ∷ search (one 5000 (restTo 4)) 1 9 (report (Found 4) 4)
+    ∷ search (oneAxis 5000 (restTo 4)) 1 9 (report (Found 4) 4)
     -- 18, after 1 and 13
-    ∷ search (one 0 (restTo 4)) 0 5 (refuseSearch 18 0)
-    ∷ search (one 0 (restTo 4)) 4098 5 (refuseSearch 18 0)
+    ∷ search (oneAxis 0 (restTo 4)) 0 5 (refuseSearch 18 0)
+    ∷ search (oneAxis 0 (restTo 4)) 4098 5 (refuseSearch 18 0)
     ∷ search (words []) 0 5 (refuseSearch 1 0)
     ∷ search (inside 0 0 []) 0 5 (refuseSearch 13 0)
     ∷ []

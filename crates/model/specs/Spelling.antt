@@ -30,18 +30,18 @@ bits (pos n) = n
 bits (negsuc n) = 2 ^ 28 - suc n
 
 -- a number by 2²⁸: the quotient downward, and what is left, from 0 up
-abbrev pub high : ℤ → ℤ
-high (pos n) = pos (n / 2 ^ 28)
-high (negsuc n) = negsuc (n / 2 ^ 28)
+abbrev pub highPart : ℤ → ℤ
+highPart (pos n) = pos (n / 2 ^ 28)
+highPart (negsuc n) = negsuc (n / 2 ^ 28)
 
-abbrev pub low : ℤ → ℕ
-low (pos n) = n % 2 ^ 28
-low (negsuc n) = 2 ^ 28 - suc (n % 2 ^ 28)
+abbrev pub lowPart : ℤ → ℕ
+lowPart (pos n) = n % 2 ^ 28
+lowPart (negsuc n) = 2 ^ 28 - suc (n % 2 ^ 28)
 
 -- the words of a position: one where it fits, else two
 abbrev pub positionWords : ℕ → ℤ → List ℕ
 positionWords k p =
-    elim (fitsWord p) [ true ↦ word k (bits p) ∷ [] | false ↦ word 14 (bits (high p)) ∷ word k (low p) ∷ [] ]
+    elim (fitsWord p) [ true ↦ word k (bits p) ∷ [] | false ↦ word 14 (bits (highPart p)) ∷ word k (lowPart p) ∷ [] ]
 
 -- ---- a position has one spelling only
 

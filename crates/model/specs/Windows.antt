@@ -26,12 +26,12 @@ abbrev pub noWindows : Windows
 noWindows = record { given = false; dwell = 0; count = 0; list = replicate mostWindows (record { opening = 0; closing = 0 }) }
 
 -- arrival n fits a window: at its opening or later, below its closing, and n + dwell not above its closing
-abbrev pub fits : ℕ → ℕ → Window → Bool
-fits n dwell w = leb (w .opening) n && (ltb n (w .closing) && leb (n + dwell) (w .closing))
+abbrev pub fitsWindow : ℕ → ℕ → Window → Bool
+fitsWindow n dwell w = leb (w .opening) n && (ltb n (w .closing) && leb (n + dwell) (w .closing))
 
 abbrev pub fitsOne : ℕ → ℕ → List Window → Bool
 fitsOne n dwell [] = false
-fitsOne n dwell (w ∷ ws) = elim (fits n dwell w) [ true ↦ true | false ↦ fitsOne n dwell ws ]
+fitsOne n dwell (w ∷ ws) = elim (fitsWindow n dwell w) [ true ↦ true | false ↦ fitsOne n dwell ws ]
 
 -- a job without windows may arrive at any tick
 abbrev pub inWindows : Windows → ℕ → Bool

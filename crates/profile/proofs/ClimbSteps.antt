@@ -9,12 +9,12 @@ use lib.Signed.{leZ, leZ-yes, _≤ℤ_}
 use Rattle.whole.proofs.Differences.{all₁, whole}
 use Rattle.whole.specs.Ranges.{Within}
 use Rattle.whole.proofs.Tests.{and-no, and-yes, by-bool, left}
-use Rattle.model.specs.Leg.{Leg, fitsAt, climb, climbSteps, cruise}
+use Rattle.model.specs.Leg.{Leg, fitsAt, climbByBits, climbSteps, cruise}
 use Rattle.profile.specs.Profiles.{climbStep}
 
 -- the climb from c with n steps to go: shut, so that a goal at 39 steps does not compute
 unfoldable pub climbFrom : Leg → ℤ → ℕ → ℤ → ℤ
-climbFrom g s n c = climb g s n c
+climbFrom g s n c = climbByBits g s n c
 
 -- the first of n steps to go
 abbrev pub firstOf : ℕ → ℕ
@@ -35,8 +35,8 @@ step-taken g s n c = go (leZ d (pos (g .speedLimit))) (fitsAt g s d)
     d = c +ℤ pos (2 ^ n)
 
     go : (a b : Bool)
-        → elim a [ true ↦ elim b [ true ↦ climb g s n d | false ↦ climb g s n c ] | false ↦ climb g s n c ]
-        ≡ climb g s n (elim (a && b) [ true ↦ d | false ↦ c ])
+        → elim a [ true ↦ elim b [ true ↦ climbByBits g s n d | false ↦ climbByBits g s n c ] | false ↦ climbByBits g s n c ]
+        ≡ climbByBits g s n (elim (a && b) [ true ↦ d | false ↦ c ])
     go true true = refl
     go true false = refl
     go false b = refl

@@ -9,7 +9,7 @@ use Rattle.whole.specs.Integers.{sumTo}
 use Rattle.whole.specs.Ranges.{Within}
 use Rattle.whole.proofs.Laws.{natAbs-negpos}
 use Rattle.whole.proofs.Tests.{by-bool, true-T}
-use Rattle.model.specs.Leg.{Leg, upper, lower, sumAt, fitsAt, required, sumIsWhole, climb, climbSteps, cruise, feasible}
+use Rattle.model.specs.Leg.{Leg, upper, lower, sumAt, fitsAt, required, sumIsWhole, climbByBits, climbSteps, cruise, feasible}
 use Rattle.model.proofs.Envelopes.{lowest-sum, highest-sum}
 use Rattle.profile.specs.Profiles.{endsAllowed}
 use Rattle.profile.specs.Areas.{areaAt, lowestArea, highestArea, feasibleByAreas, climbByAreas, cruiseByAreas, EnginesAgree}
@@ -50,13 +50,13 @@ module _ (g : Leg) (some : 0 < g .accelerationLimit) where
       higher : (n : ℕ) (c : ℤ) → Within L c → leZ (c +ℤ pos (2 ^ n)) (pos L) ≡ true → Within L (c +ℤ pos (2 ^ n))
       higher n c w e = step-inside (2 ^ n) L c w (leZ-yes (true-T e))
 
-      same-climb : (n : ℕ) (c : ℤ) → Within L c → climbByAreas g s n c ≡ climb g s n c
+      same-climb : (n : ℕ) (c : ℤ) → Within L c → climbByAreas g s n c ≡ climbByBits g s n c
       same-climb zero c w = refl
       same-climb (suc n) c w =
           stepped (leZ (c +ℤ pos (2 ^ n)) (pos L)) (λ e. ap (λ (z : ℤ). leZ z s) (area-at (c +ℤ pos (2 ^ n)) (higher n c w e)))
           (λ e. same-climb n (c +ℤ pos (2 ^ n)) (higher n c w e)) (same-climb n c w)
 
-      climb-keeps : (n : ℕ) (c : ℤ) → Within L c → Within L (climb g s n c)
+      climb-keeps : (n : ℕ) (c : ℤ) → Within L c → Within L (climbByBits g s n c)
       climb-keeps zero c w = w
       climb-keeps (suc n) c w =
           by-bool (Within L) (leZ (c +ℤ pos (2 ^ n)) (pos L)) _ _

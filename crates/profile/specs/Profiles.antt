@@ -51,7 +51,7 @@ sumBetween g s = leZ (sumTo (lower g) (g .ticks - 1)) s && leZ s (sumTo (upper g
 
 -- ---- rule 5
 
--- one step of `climb`: c + step where that keeps to the speed limit and fits the required sum s, else c
+-- one step of `climbByBits`: c + step where that keeps to the speed limit and fits the required sum s, else c
 abbrev pub climbStep : Leg → ℤ → ℤ → ℕ → ℤ
 climbStep g s c step =
     let d : ℤ = c +ℤ pos step in

@@ -7,7 +7,7 @@ use Rattle.whole.specs.Lists.{upTo}
 use Rattle.model.specs.Quantities.{finer}
 use Rattle.model.specs.Leg.{cruise}
 use Rattle.model.specs.Outcome.{words, call}
-use Rattle.model.specs.Cases.{wordsC, one, restTo}
+use Rattle.model.specs.Cases.{wordsC, oneAxis, restTo}
 use Rattle.text.specs.Printed.{ascii, decimal, signed, labelled, cellText, rowLine, arrivalLine, refusalLine, printed}
 
 pub printed-C : printed (call (words wordsC) (replicate 8192 (pos 0)))
@@ -15,6 +15,6 @@ pub printed-C : printed (call (words wordsC) (replicate 8192 (pos 0)))
 unfolding cruise finer flatten upTo decimal signed labelled cellText rowLine arrivalLine printed
 printed-C = refl
 
-pub printed-E : printed (call (one 3 (restTo 4)) (replicate 8192 (pos 0))) ≡ ascii "refused 8 place 0 axes 1 arrival 0\n"
+pub printed-E : printed (call (oneAxis 3 (restTo 4)) (replicate 8192 (pos 0))) ≡ ascii "refused 8 place 0 axes 1 arrival 0\n"
 unfolding cruise finer decimal labelled refusalLine printed
 printed-E = refl

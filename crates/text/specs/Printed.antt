@@ -25,12 +25,12 @@ abbrev pub digit : ℕ → List ℕ
 digit d = (48 + d) ∷ []
 
 -- the digits of n, the most significant first; the first argument, above n, only ends the recursion
-abbrev pub digits : ℕ → ℕ → List ℕ
-digits zero n = []
-digits (suc k) n = elim (ltb n 10) [ true ↦ digit n | false ↦ digits k (n / 10) ++ digit (n % 10) ]
+abbrev pub decimalDigits : ℕ → ℕ → List ℕ
+decimalDigits zero n = []
+decimalDigits (suc k) n = elim (ltb n 10) [ true ↦ digit n | false ↦ decimalDigits k (n / 10) ++ digit (n % 10) ]
 
 unfoldable pub decimal : ℕ → List ℕ
-decimal n = digits (suc n) n
+decimal n = decimalDigits (suc n) n
 
 unfoldable pub signed : ℤ → List ℕ
 signed (pos n) = decimal n

@@ -10,7 +10,7 @@ use native.Mathlib.Decide.{decLt}
 use lib.Dec.{ltb}
 use borrow.Author.Tests.{lt-ltb, le-ltb}
 use lib.IntN.{ℤ, pos, _+ℤ_, _-ℤ_, _*ℤ_}
-use Rattle.whole.specs.Integers.{nearest}
+use Rattle.whole.specs.Integers.{nearestQuotient}
 use Rattle.whole.proofs.Rounding.{nearest-times}
 use Rattle.model.specs.declared.Axis.{Axis}
 use Rattle.model.specs.declared.SecondSway.{SecondSway}
@@ -200,13 +200,13 @@ module _ (x : Axis) (n k : ℕ) (ready : Ready x n) (last : k ≤ n) where
       all (HalfPeriod d) = refl
 
   -- rounded
-  cell : (z y : ℤ) → z ≡ pos (scale x) *ℤ y → nearest z 65536 ≡ nearest y (divisor x)
-  cell z y e = ap₂ nearest e (sym (scale-divides x)) ∙ nearest-times (scale x) y (divisor x) (scale-some x) (divisor-some x)
+  cell : (z y : ℤ) → z ≡ pos (scale x) *ℤ y → nearestQuotient z 65536 ≡ nearestQuotient y (divisor x)
+  cell z y e = ap₂ nearestQuotient e (sym (scale-divides x)) ∙ nearest-times (scale x) y (divisor x) (scale-some x) (divisor-some x)
 
-  position-cell : (z y : ℤ) → z ≡ pos (scale x) *ℤ y → nearest z 131072 ≡ nearest y (2 * divisor x)
+  position-cell : (z y : ℤ) → z ≡ pos (scale x) *ℤ y → nearestQuotient z 131072 ≡ nearestQuotient y (2 * divisor x)
   position-cell z y e =
       let twice : 131072 ≡ scale x * (2 * divisor x) = omega (arith, scale-divides x) in
-      ap₂ nearest e twice ∙ nearest-times (scale x) y (2 * divisor x) (scale-some x) (omega (arith, divisor-some x))
+      ap₂ nearestQuotient e twice ∙ nearest-times (scale x) y (2 * divisor x) (scale-some x) (omega (arith, divisor-some x))
 
   pub cells-are : axisCells k p ≡ cells k (track n x)
   unfolding backTick blendedVelocity blendedBack

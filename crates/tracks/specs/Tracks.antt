@@ -6,7 +6,7 @@ use mathlib.Core.Bool.{true, false}
 use mathlib.Core.List.{List, [], _∷_}
 use lib.Dec.{ltb}
 use lib.IntN.{ℤ, pos, _+ℤ_, _-ℤ_, _*ℤ_}
-use Rattle.whole.specs.Integers.{nearest}
+use Rattle.whole.specs.Integers.{nearestQuotient}
 use Rattle.model.specs.declared.Order.{Order}
 use Rattle.model.specs.declared.Order.the-variants.{Forwards, Backwards}
 use Rattle.model.specs.declared.SecondSway.{SecondSway}
@@ -71,7 +71,7 @@ trackAt p k = record { position = blendedPosition p k; velocity = blendedVelocit
 -- ---- the cells of a row: from the tracks at its tick and one tick on
 
 abbrev pub cellsOf : Track → Track → List ℤ
-cellsOf t u = nearest (t .position) 131072 ∷ nearest (t .velocity) 65536 ∷ nearest (u .velocity -ℤ t .velocity) 65536 ∷ []
+cellsOf t u = nearestQuotient (t .position) 131072 ∷ nearestQuotient (t .velocity) 65536 ∷ nearestQuotient (u .velocity -ℤ t .velocity) 65536 ∷ []
 
 abbrev pub axisCells : ℕ → AxisPlan → List ℤ
 axisCells k p = cellsOf (trackAt p k) (trackAt p (suc k))

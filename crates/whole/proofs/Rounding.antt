@@ -1,5 +1,5 @@
 -- Division rounded down, to the nearest and, as the machine divides, toward zero. Theorems that hold whichever way a half is
--- rounded take no more of `nearest` than `nearest-half`: it is off by a half at most.
+-- rounded take no more of `nearestQuotient` than `nearest-half`: it is off by a half at most.
 use mathlib.Core.Path.{_≡_, refl, sym, ap, ap₂, _∙_}
 use mathlib.Core.Logic.{⊎-elim, _↔_}
 use Prim.Native.Nat.{ℕ, zero, suc, _+_, _*_, _/_, _%_, _<_, _≤_}
@@ -7,7 +7,7 @@ use native.Mathlib.Omega.{arith}
 use native.Mathlib.Nat.{div-add-mod, mod-lt, div-eq-of-lt, div-eq-of-lt-le, mul-div-mul-left, mul-le-mul}
 use lib.IntN.{ℤ, pos, negsuc, negℤ, natAbs, _+ℤ_, _-ℤ_, _*ℤ_, negℤ-negℤ}
 use lib.Signed.{_≤ℤ_, _<ℤ_, ≤ℤ-refl, shrZ, quotZ}
-use Rattle.whole.specs.Integers.{nearest, nearestSize}
+use Rattle.whole.specs.Integers.{nearestQuotient, nearestSize}
 use Rattle.whole.proofs.Differences.{whole, all₁, all₂, all₄}
 use Rattle.whole.proofs.Laws.{*ℤ-mono, ≤ℤ-total, ≤ℤ-antisym, next-≤ℤ, natAbs-*, natAbs-iff}
 
@@ -89,18 +89,18 @@ size-times c a d h = ap₂ _/_ (above c a d) (below c d) ∙ mul-div-mul-left (2
     below : (c d : ℕ) → 2 * (c * d) ≡ c * (2 * d)
     below c d = omega arith
 
-pub nearest-half : (x : ℤ) (d : ℕ) → 0 < d → WithinHalf x d (nearest x d)
+pub nearest-half : (x : ℤ) (d : ℕ) → 0 < d → WithinHalf x d (nearestQuotient x d)
 nearest-half (pos a) d h = size-half a d h
 nearest-half (negsuc a) d h = half-neg d (pos (suc a)) (pos (nearestSize (suc a) d)) (size-half (suc a) d h)
 
 -- the same left and right: the negative is rounded to the negative
-pub nearest-neg : (x : ℤ) (d : ℕ) → 0 < d → nearest (negℤ x) d ≡ negℤ (nearest x d)
+pub nearest-neg : (x : ℤ) (d : ℕ) → 0 < d → nearestQuotient (negℤ x) d ≡ negℤ (nearestQuotient x d)
 nearest-neg (pos zero) d h = let z : nearestSize 0 d ≡ 0 = div-eq-of-lt (omega arith) in ap (λ (n : ℕ). pos n) z ∙ sym (ap (λ (n : ℕ). negℤ (pos n)) z)
 nearest-neg (pos (suc a)) d h = refl
 nearest-neg (negsuc a) d h = sym (negℤ-negℤ (pos (nearestSize (suc a) d)))
 
 -- both numbers times c
-pub nearest-times : (c : ℕ) (x : ℤ) (d : ℕ) → 0 < c → 0 < d → nearest (pos c *ℤ x) (c * d) ≡ nearest x d
+pub nearest-times : (c : ℕ) (x : ℤ) (d : ℕ) → 0 < c → 0 < d → nearestQuotient (pos c *ℤ x) (c * d) ≡ nearestQuotient x d
 nearest-times c (pos a) d h k = ap pos (size-times c a d h)
 nearest-times c (negsuc a) d h k =
     nearest-neg (pos (c * suc a)) (c * d) (mul-le-mul h k) ∙ ap (λ (n : ℕ). negℤ (pos n)) (size-times c (suc a) d h)
@@ -118,7 +118,7 @@ half-whole {z} {d} {r} h w =
     below : (d : ℕ) (z r : ℤ) → 0 < d → ((r +ℤ pos 1) *ℤ pos d) ≤ℤ (z *ℤ pos d) → (pos 2 *ℤ (pos d *ℤ z)) ≤ℤ (pos d *ℤ (pos 2 *ℤ r +ℤ pos 1)) → ⊥
     below d = all₂ _ (λ a b c e. simp whole (omega arith))
 
-pub nearest-whole : (d : ℕ) (z : ℤ) → 0 < d → nearest (pos d *ℤ z) d ≡ z
+pub nearest-whole : (d : ℕ) (z : ℤ) → 0 < d → nearestQuotient (pos d *ℤ z) d ≡ z
 nearest-whole d z h = half-whole h (nearest-half (pos d *ℤ z) d h)
 
 -- a number at most dn in size is rounded to one at most n in size
@@ -151,14 +151,14 @@ size-halved a d h =
     (omega (arith, div-add-mod (a + d / 2) d))
     (omega (arith, div-add-mod (a + d / 2) d, mod-lt (a + d / 2) h)))
 
-pub quot-nearest : (x : ℤ) (d : ℕ) → 0 < d → pos 0 ≤ℤ x → quotZ (x +ℤ pos (d / 2)) (pos d) ≡ nearest x d
+pub quot-nearest : (x : ℤ) (d : ℕ) → 0 < d → pos 0 ≤ℤ x → quotZ (x +ℤ pos (d / 2)) (pos d) ≡ nearestQuotient x d
 quot-nearest (pos a) d h k = ap pos (size-halved a d h)
 quot-nearest (negsuc a) d h k = absurd (k .le)
 
 not-below : (a : ℕ) → pos a <ℤ pos 0 → ⊥
 not-below a = simp whole (omega arith)
 
-pub quot-nearest-below : (x : ℤ) (d : ℕ) → 0 < d → x <ℤ pos 0 → quotZ (x -ℤ pos (d / 2)) (pos d) ≡ nearest x d
+pub quot-nearest-below : (x : ℤ) (d : ℕ) → 0 < d → x <ℤ pos 0 → quotZ (x -ℤ pos (d / 2)) (pos d) ≡ nearestQuotient x d
 quot-nearest-below (pos a) d h k = absurd (not-below a k)
 quot-nearest-below (negsuc a) d h k =
     ap (λ (z : ℤ). quotZ z (pos d)) (further a (d / 2))

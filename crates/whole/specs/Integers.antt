@@ -25,6 +25,6 @@ abbrev pub nearestSize : ℕ → ℕ → ℕ
 nearestSize n m = (2 * n + m) / (2 * m)
 
 -- x / m rounded to the nearest whole number, halves away from zero: the size is rounded, halves upward, and keeps its sign
-abbrev pub nearest : ℤ → ℕ → ℤ
-nearest (pos n) m = pos (nearestSize n m)
-nearest (negsuc n) m = negℤ (pos (nearestSize (suc n) m))
+abbrev pub nearestQuotient : ℤ → ℕ → ℤ
+nearestQuotient (pos n) m = pos (nearestSize n m)
+nearestQuotient (negsuc n) m = negℤ (pos (nearestSize (suc n) m))

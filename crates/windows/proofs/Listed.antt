@@ -8,7 +8,7 @@ use mathlib.Core.List.{List, [], _∷_}
 use lib.ListN.{length, getD, take, drop}
 use lib.Seq.{drop-cons, drop-length, getD-take}
 use Rattle.model.specs.declared.Window.{Window}
-use Rattle.model.specs.Windows.{fits, fitsOne, inOrderAfter, firstWrong}
+use Rattle.model.specs.Windows.{fitsWindow, fitsOne, inOrderAfter, firstWrong}
 
 abbrev pub noWindow : Window
 noWindow = record { opening = 0; closing = 0 }
@@ -20,12 +20,12 @@ module _ (list : List Window) (count i : ℕ) (h : i < length (take count list))
       drop-cons (take count list) i noWindow h
       ∙ ap₂ (λ (v : Window) (j : ℕ). v ∷ drop j (take count list)) (getD-take count list i noWindow below) (sym (add-one i))
 
-  pub fits-here : (n dwell : ℕ) → fits n dwell (getD list i noWindow) ≡ true → fitsOne n dwell (drop i (take count list)) ≡ true
+  pub fits-here : (n dwell : ℕ) → fitsWindow n dwell (getD list i noWindow) ≡ true → fitsOne n dwell (drop i (take count list)) ≡ true
   fits-here n dwell e =
       ap (fitsOne n dwell) split
       ∙ ap (λ (b : Bool). elim b as (λ _. Bool) [ true ↦ true | false ↦ fitsOne n dwell (drop (i + 1) (take count list)) ]) e
 
-  pub fits-later : (n dwell : ℕ) → fits n dwell (getD list i noWindow) ≡ false
+  pub fits-later : (n dwell : ℕ) → fitsWindow n dwell (getD list i noWindow) ≡ false
       → fitsOne n dwell (drop i (take count list)) ≡ fitsOne n dwell (drop (i + 1) (take count list))
   fits-later n dwell e =
       ap (fitsOne n dwell) split

@@ -6,7 +6,7 @@ use mathlib.Core.Bool.{Bool, true, false, cond, _&&_, false≢true}
 use lib.Dec.{eqb, leb, ltb}
 use borrow.Author.Tests.{ltb-true, ltb-false, leb-true, eqb-true, eqb-false, le-leb, lt-ltb}
 use Rattle.model.specs.declared.Window.{Window}
-use Rattle.model.specs.Windows.{fits}
+use Rattle.model.specs.Windows.{fitsWindow}
 use Rattle.windows.specs.Ticks.{firstTick, upTo, afterLast}
 
 -- what an arrival that fits has
@@ -15,7 +15,7 @@ pub record Fit (n dwell : ℕ) (w : Window) : Type 0 where
   pub within : n < w .closing
   pub stays : n + dwell ≤ w .closing
 
-pub fit-is : (n dwell : ℕ) (w : Window) → fits n dwell w ≡ true → Fit n dwell w
+pub fit-is : (n dwell : ℕ) (w : Window) → fitsWindow n dwell w ≡ true → Fit n dwell w
 fit-is n dwell w e =
     go (leb (w .opening) n) (ltb n (w .closing)) (leb (n + dwell) (w .closing))
     (leb-true (w .opening) n) (ltb-true n (w .closing)) (leb-true (n + dwell) (w .closing)) e
@@ -26,7 +26,7 @@ fit-is n dwell w e =
     go true false c f g h e = absurd (false≢true e)
     go false b c f g h e = absurd (false≢true e)
 
-is-fit : (n dwell : ℕ) (w : Window) → Fit n dwell w → fits n dwell w ≡ true
+is-fit : (n dwell : ℕ) (w : Window) → Fit n dwell w → fitsWindow n dwell w ≡ true
 is-fit n dwell w f = λ i. le-leb (w .opening) n (f .opened) i && (lt-ltb n (w .closing) (f .within) i && le-leb (n + dwell) (w .closing) (f .stays) i)
 
 -- ---- by cases
@@ -63,7 +63,7 @@ module _ (first after n : ℕ) where
 -- ---- the ticks of a window
 
 module _ (first after n dwell : ℕ) (w : Window) where
-  pub fit-ticks : first ≤ n → n < after → fits n dwell w ≡ true → (firstTick first w ≤ n) × (n < afterLast dwell after w)
+  pub fit-ticks : first ≤ n → n < after → fitsWindow n dwell w ≡ true → (firstTick first w ≤ n) × (n < afterLast dwell after w)
   fit-ticks h k e =
       let f = fit-is n dwell w e in
       (first-is first after n w h (f .opened), go (eqb dwell 0) (ltb (w .closing) dwell) (ltb-true (w .closing) dwell) (f .within) (f .stays))
@@ -74,7 +74,7 @@ module _ (first after n dwell : ℕ) (w : Window) where
       go false true f p q = absurd (let z = f refl in omega arith)
       go false false f p q = up-to first after n (w .closing - dwell + 1) k (omega arith)
 
-  pub ticks-fit : firstTick first w ≤ n → n < afterLast dwell after w → (first ≤ n) × (n < after) × (fits n dwell w ≡ true)
+  pub ticks-fit : firstTick first w ≤ n → n < afterLast dwell after w → (first ≤ n) × (n < after) × (fitsWindow n dwell w ≡ true)
   ticks-fit h k =
       let o = is-first first after n w h in
       let s = go (eqb dwell 0) (ltb (w .closing) dwell) (eqb-true dwell 0) (eqb-false dwell 0) (ltb-false (w .closing) dwell) k in

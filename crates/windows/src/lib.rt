@@ -6,7 +6,7 @@ ghost use Prim.Native.Nat.{_≤_};
 ghost use lib.ListN.{take};
 ghost use mathlib.Core.Bool.{true};
 ghost use mathlib.Core.Option.{none};
-ghost use Rattle.model.specs.Windows.{noWindows, fits, fitsOne, inWindows, inOrderAfter, firstWrong, windowsRefused, refused13};
+ghost use Rattle.model.specs.Windows.{noWindows, fitsWindow, fitsOne, inWindows, inOrderAfter, firstWrong, windowsRefused, refused13};
 ghost use Rattle.windows.specs.Places.{placeOf};
 ghost use Rattle.windows.specs.Ticks.{firstTick, upTo, afterLast};
 
@@ -14,7 +14,7 @@ ghost use Rattle.windows.specs.Ticks.{firstTick, upTo, afterLast};
 fn fits(tick: u32, dwell: u32, window: Window) -> bool
     requires { ⌜ tick ≤ 4096 ⌝ }
     requires { ⌜ dwell ≤ 4096 ⌝ }
-    ensures { λ r. ⌜ r ≡ fits tick dwell window ⌝ }
+    ensures { λ r. ⌜ r ≡ fitsWindow tick dwell window ⌝ }
 {
     if window.opening <= tick {
         if tick < window.closing {

@@ -4,7 +4,7 @@ use Rattle.whole.proofs.Bounds.{exact, sfits, exactly, within}
 use lib.IntN.{ℤ, _-ℤ_}
 use mir.Syntax.{w64}
 use mir.Val.{toZ, ofZ}
-use Rattle.whole.specs.Integers.{nearest}
+use Rattle.whole.specs.Integers.{nearestQuotient}
 use native.Mathlib.Omega.{arith}
 use borrow.Author.Needs.{needs}
 use lib.ListN.{length-set}
@@ -65,12 +65,12 @@ returns c =
     let velocity : toZ w64 (ofZ w64 (t .velocity)) ≡ t .velocity = exactly (search exact depth 20) tt in
     let difference : ℤ = toZ w64 (ofZ w64 (u .velocity)) -ℤ toZ w64 (ofZ w64 (t .velocity)) in
     let acceleration : toZ w64 (ofZ w64 difference) ≡ u .velocity -ℤ t .velocity = exactly (search exact depth 20) tt in
-    let first : toZ w64 (ofZ w64 (p .result)) ≡ nearest (t .position) 131072 =
-    back-id (record { sfits = p .ok }) ∙ p .ensures ∙ ap (λ (z : ℤ). nearest z 131072) position in
-    let second : toZ w64 (ofZ w64 (v .result)) ≡ nearest (t .velocity) 65536 =
-    back-id (record { sfits = v .ok }) ∙ v .ensures ∙ ap (λ (z : ℤ). nearest z 65536) velocity in
-    let third : toZ w64 (ofZ w64 (w .result)) ≡ nearest (u .velocity -ℤ t .velocity) 65536 =
-    back-id (record { sfits = w .ok }) ∙ w .ensures ∙ ap (λ (z : ℤ). nearest z 65536) acceleration in
+    let first : toZ w64 (ofZ w64 (p .result)) ≡ nearestQuotient (t .position) 131072 =
+    back-id (record { sfits = p .ok }) ∙ p .ensures ∙ ap (λ (z : ℤ). nearestQuotient z 131072) position in
+    let second : toZ w64 (ofZ w64 (v .result)) ≡ nearestQuotient (t .velocity) 65536 =
+    back-id (record { sfits = v .ok }) ∙ v .ensures ∙ ap (λ (z : ℤ). nearestQuotient z 65536) velocity in
+    let third : toZ w64 (ofZ w64 (w .result)) ≡ nearestQuotient (u .velocity -ℤ t .velocity) 65536 =
+    back-id (record { sfits = w .ok }) ∙ w .ensures ∙ ap (λ (z : ℤ). nearestQuotient z 65536) acceleration in
     sym (over-three (a .args .table .now) (a .args .at) _ _ _ (omega arith))
     ∙ (λ i. over (a .args .table .now) (a .args .at) (first i ∷ second i ∷ third i ∷ []))
 

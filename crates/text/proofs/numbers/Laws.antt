@@ -17,19 +17,19 @@ use mir.Val.{SFits, toZ, ofZ}
 use mir.ValLaws.{toZ-ofZ}
 use Rattle.whole.specs.Lists.{Room, Written}
 use Rattle.whole.proofs.Lists.{written-nil, written-one, written-then, written-copy, room-front, room-then}
-use Rattle.text.specs.Printed.{ascii, digit, digits, decimal, signed, labelled}
+use Rattle.text.specs.Printed.{ascii, digit, decimalDigits, decimal, signed, labelled}
 
 by-size : ℕ → ℕ → Bool → List ℕ
-by-size k n b = elim b [ true ↦ digit n | false ↦ digits k (n / 10) ++ digit (n % 10) ]
+by-size k n b = elim b [ true ↦ digit n | false ↦ decimalDigits k (n / 10) ++ digit (n % 10) ]
 
 -- what ends the recursion does not matter while it is above the number
-fuel-free : (k m n : ℕ) → n < k → n < m → digits k n ≡ digits m n
+fuel-free : (k m n : ℕ) → n < k → n < m → decimalDigits k n ≡ decimalDigits m n
 unfolding by-size
 fuel-free zero m n h q = absurd (omega arith)
 fuel-free (suc k) zero n h q = absurd (omega arith)
 fuel-free (suc k) (suc m) n h q = go (ltb n 10) refl (λ t. fuel-free k m (n / 10) (omega arith) (omega arith))
   where
-    go : (b : Bool) → ltb n 10 ≡ b → (10 ≤ n → digits k (n / 10) ≡ digits m (n / 10)) → by-size k n b ≡ by-size m n b
+    go : (b : Bool) → ltb n 10 ≡ b → (10 ≤ n → decimalDigits k (n / 10) ≡ decimalDigits m (n / 10)) → by-size k n b ≡ by-size m n b
     go true e f = refl
     go false e f = ap (λ (l : List ℕ). l ++ digit (n % 10)) (f (ltb-false n 10 e))
 
