@@ -17,7 +17,8 @@ use Rattle.model.specs.Grammar.{WellFormed}
 use Rattle.model.specs.Spelling.{SpellsJob, OneSpelling}
 use Rattle.model.specs.Verdict.{MaskOutside, MaskWordWrong, FirstLongWrong, WordsAre, DecodesAre, ByInput, words1, words2, words14, wordsJob, typed1, typedJobs}
 use Rattle.model.proofs.LongWrong.{first-long-wrong, none-long-wrong}
-use Rattle.model.proofs.FirstWrongWord.{MaskWord, read-through, first-wrong-word, none-wrong, one-first}
+use Rattle.model.proofs.Walks.{none-wrong, one-first}
+use Rattle.model.proofs.FirstWrongWord.{MaskWord, read-through, first-wrong-word}
 use Rattle.model.proofs.PositionSpelling.{clean, clean-tail, word-is}
 use Rattle.model.proofs.Spelling.{read-spells}
 use Rattle.model.proofs.SpelledJob.{spelled-reads}
