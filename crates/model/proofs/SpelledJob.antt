@@ -1,5 +1,5 @@
 -- The words of a job are read as it: `spelled-reads`.
-use Prim.Native.Nat.{ℕ, suc, _+_, _<_, _^_}
+use Prim.Native.Nat.{ℕ, suc, _+_, _≤_, _<_, _^_}
 use native.Mathlib.Omega.{arith}
 use mathlib.Core.Path.{_≡_, refl, sym, ap, subst, _∙_}
 use mathlib.Core.Bool.{Bool, true, false, _&&_}
@@ -222,11 +222,14 @@ afterMaskWord j = word 2 (j .asked) ∷ (axesWords (j .axes) ++ (word 15 0 ∷ [
 job-reads : (j : Job) → JobInWords j → Reads (afterMask (j .mask)) j (afterMaskWord j) []
 job-reads j h =
     subst (λ (o : Job). Reads (afterMask (j .mask)) o (afterMaskWord j) []) same
-    (then (field 2) _ (j .asked) _ _ _ [] (field-reads 2 (j .asked) _ (λ e. omega (arith, e)) (h .asked))
+    (then (field 2) _ (j .asked) _ _ _ [] (field-reads 2 (j .asked) _ (λ e. omega (arith, e)) asked)
     (then (axes (setBits (j .mask))) _ (j .axes) _ _ (word 15 0 ∷ []) []
     (axes-reads (setBits (j .mask)) (j .axes) (word 15 0 ∷ []) (h .axes) (λ e. omega (arith, e)))
     (ends (readJob (j .mask) (j .asked) (j .axes)))))
   where
+    asked : j .asked < 2 ^ 28
+    asked = omega (arith, h .asked)
+
     same : readJob (j .mask) (j .asked) (j .axes) ≡ j
     same = ap (λ (w : Windows). record { mask = j .mask; asked = j .asked; axes = j .axes; windows = w }) (sym (h .windows))
 
@@ -235,10 +238,12 @@ spelled-reads ws j s =
     let h = s .inside in
     let r = job-reads j h in
     let m : ℕ = j .mask in
-    let small : m < 2 ^ 28 = omega (arith, h .mask .1) in
+    let some : 1 ≤ m = omega (arith, h .mask .0) in
+    let six : m ≤ 63 = omega (arith, h .mask .1) in
+    let small : m < 2 ^ 28 = omega (arith, six) in
     let right : eqb (kind (word 1 m)) 1 && goodMask (payload (word 1 m)) ≡ true =
     (λ i. eq-eqb (kind (word 1 m)) 1 (kind-of 1 m small) i && goodMask (payload-of 1 m small i))
-    ∙ (λ i. ltb-yes (h .mask .0) i && leb-yes (h .mask .1) i) in
+    ∙ (λ i. ltb-yes some i && leb-yes six i) in
     let good : firstBadLong 0 (jobWords j) ≡ none =
     clean-none 0 (jobWords j) (clean-cons (word 1 m) (afterMaskWord j) (λ z. omega (arith, z, h .mask .1)) (r .pass tt)) in
     ap decode (s .words)

@@ -208,7 +208,7 @@ read-spells m i ws j k vs l c e =
     let end = ending-is read (b .index) (b .rest) j k vs (b .then) in
     let same = ending-gives read (b .index) (b .rest) j k vs (b .then) in
     record {
-      inside = subst JobInWords same (record { mask = l; asked = first .1; axes = second .1; windows = refl });
+      inside = subst JobInWords same (record { mask = (omega (arith, l), omega (arith, l)); asked = omega (arith, first .1); axes = second .1; windows = refl });
       words =
           ap (λ (us : List ℕ). word 1 m ∷ us)
           (first .0 ∙ ap (λ (us : List ℕ). word 2 (a .value) ∷ us) (second .0 ∙ ap (λ (us : List ℕ). axesWords (b .value) ++ us) end))
