@@ -9,13 +9,16 @@ use mathlib.Core.List.{List, [], _∷_, _++_}
 use lib.IntN.{ℤ, pos}
 use lib.Dec.{eqb, leb}
 use lib.ListN.{length, getD, set, take, drop, drop-of-length-le, length-drop}
-use lib.Seq.{drop-cons, getD-take, length-take-le, take-suc, take-suc-set, set-at, append-snoc, ext-getD, length-front}
+use lib.Seq.{drop-cons, getD-take, length-take-le, take-suc, take-suc-set, set-at, append-snoc, length-front}
 use borrow.Author.Tests.{le-leb, lt-leb, leb-true, eq-eqb, ne-eqb}
 use Rattle.model.specs.declared.Answer.{Answer}
+use Rattle.model.specs.declared.Axis.{Axis}
+use Rattle.model.specs.declared.AxisLimits.{AxisLimits}
 use Rattle.model.specs.declared.Stop.{Stop}
 use Rattle.model.specs.declared.TourSettings.{TourSettings}
 use Rattle.model.specs.Windows.{longestDwell}
-use Rattle.model.specs.Tour.{Legs, legAxes, legAnswer, allLegs, refusedLeg, legsFrom, firstLongDwell}
+use Rattle.model.specs.Job.{unsetAxis}
+use Rattle.model.specs.Tour.{Legs, legAxis, legAxes, legAnswer, allLegs, refusedLeg, legsFrom, firstLongDwell}
 use Rattle.stops.specs.Parts.{noLimits, legAxisAt, legsIn}
 
 -- ---- the stops that are left
@@ -136,28 +139,32 @@ refused-row a i count l e h =
     by : Bool → List ℕ
     by b = elim b [ true ↦ take count l | false ↦ [] ]
 
--- ---- six axes
+-- ---- the axes of a leg
 
-six-is : {A : Type 0} (d : A) (l : List A) → length l ≡ 6 → l ≡ getD l 0 d ∷ getD l 1 d ∷ getD l 2 d ∷ getD l 3 d ∷ getD l 4 d ∷ getD l 5 d ∷ []
-six-is d l e = ext-getD d l (getD l 0 d ∷ getD l 1 d ∷ getD l 2 d ∷ getD l 3 d ∷ getD l 4 d ∷ getD l 5 d ∷ []) e (λ i h. go i (omega arith))
-  where
-    go : (i : ℕ) → i < 6 → getD l i d ≡ getD (getD l 0 d ∷ getD l 1 d ∷ getD l 2 d ∷ getD l 3 d ∷ getD l 4 d ∷ getD l 5 d ∷ []) i d
-    go zero h = refl
-    go (suc zero) h = refl
-    go (suc (suc zero)) h = refl
-    go (suc (suc (suc zero))) h = refl
-    go (suc (suc (suc (suc zero)))) h = refl
-    go (suc (suc (suc (suc (suc zero))))) h = refl
-    go (suc (suc (suc (suc (suc (suc i)))))) h = absurd (omega arith)
+-- axis i, for any i
+leg-at : (ls : List AxisLimits) (ps qs : List ℤ) (i : ℕ) → i < length ls → i < length ps → i < length qs
+    → getD (legAxes ls ps qs) i unsetAxis ≡ legAxis (getD ls i noLimits) (getD ps i (pos 0)) (getD qs i (pos 0))
+leg-at [] ps qs i h k m = absurd (omega arith)
+leg-at (l ∷ ls) [] qs i h k m = absurd (omega arith)
+leg-at (l ∷ ls) (p ∷ ps) [] i h k m = absurd (omega arith)
+leg-at (l ∷ ls) (p ∷ ps) (q ∷ qs) zero h k m = refl
+leg-at (l ∷ ls) (p ∷ ps) (q ∷ qs) (suc i) h k m = leg-at ls ps qs i (omega arith) (omega arith) (omega arith)
 
-pub six-legs : (t : TourSettings) (here there : List ℤ) → length (t .limits) ≡ 6 → length here ≡ 6 → length there ≡ 6
-    → legAxisAt t here there 0
-    ∷ legAxisAt t here there 1
-    ∷ legAxisAt t here there 2
-    ∷ legAxisAt t here there 3
-    ∷ legAxisAt t here there 4
-    ∷ legAxisAt t here there 5
-    ∷ []
-    ≡ legAxes (t .limits) here there
-six-legs t here there l p q =
-    sym ((λ j. legAxes (six-is noLimits (t .limits) l j) (six-is (pos 0) here p j) (six-is (pos 0) there q j)))
+pub legs-long : (ls : List AxisLimits) (ps qs : List ℤ) (n : ℕ) → length ls ≡ n → length ps ≡ n → length qs ≡ n → length (legAxes ls ps qs) ≡ n
+legs-long [] ps qs n h k m = h
+legs-long (l ∷ ls) [] qs n h k m = k
+legs-long (l ∷ ls) (p ∷ ps) [] n h k m = m
+legs-long (l ∷ ls) (p ∷ ps) (q ∷ qs) zero h k m = absurd (omega arith)
+legs-long (l ∷ ls) (p ∷ ps) (q ∷ qs) (suc n) h k m = ap suc (legs-long ls ps qs n (omega arith) (omega arith) (omega arith))
+
+-- the axes before axis i are those of the leg, and so is axis i
+pub legs-next : (t : TourSettings) (here there : List ℤ) (axes : List Axis) (i : ℕ) (x : Axis)
+    → i < length (t .limits) → i < length here → i < length there → i < length (legAxes (t .limits) here there) → i < length axes
+    → x ≡ legAxisAt t here there i
+    → take i axes ≡ take i (legAxes (t .limits) here there) → take (i + 1) (set axes i x) ≡ take (i + 1) (legAxes (t .limits) here there)
+legs-next t here there axes i x l p q h k e f =
+    let g = legAxes (t .limits) here there in
+    stored-next axes i x k
+    ∙ (λ j. f j ++ ((e ∙ sym (leg-at (t .limits) here there i l p q)) j ∷ []))
+    ∙ sym (take-suc g i unsetAxis h)
+    ∙ ap (λ (m : ℕ). take m g) (next-one i)

@@ -118,14 +118,15 @@ pub fn leg_job(settings: TourSettings, here: [i64; 6], there: [i64; 6]) -> Job
 fn leg_axes(settings: TourSettings, here: [i64; 6], there: [i64; 6]) -> [Axis; 6]
     ensures { λ r. ⌜ r ≡ legAxes (settings .limits) here there ⌝ }
 {
-    [
-        leg_axis(settings, here, there, 0),
-        leg_axis(settings, here, there, 1),
-        leg_axis(settings, here, there, 2),
-        leg_axis(settings, here, there, 3),
-        leg_axis(settings, here, there, 4),
-        leg_axis(settings, here, there, 5),
-    ]
+    let first = leg_axis(settings, here, there, 0);
+    let mut axes = [first; 6];
+    let mut i: usize = 0;
+    while i < 6 {
+        let axis = leg_axis(settings, here, there, i);
+        axes[i] = axis;
+        i += 1;
+    }
+    axes
 }
 
 // Axis i of a leg.
