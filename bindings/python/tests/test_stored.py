@@ -1,4 +1,5 @@
-"""What is stored of the reference is what it gives: the cases for the tests from outside, and what the program `engines` is to print."""
+"""What is stored of the reference is what it gives: the cases for the tests from outside, and what the programs `engines` and `table` are
+to print."""
 
 import sys
 import unittest
@@ -9,6 +10,7 @@ sys.path.insert(0, str(REPOSITORY / "tests" / "reference"))
 
 import engines
 import make_vectors
+import reference
 import sheets
 
 
@@ -22,6 +24,11 @@ class Stored(unittest.TestCase):
 
     def test_engines(self):
         self.assertEqual((REPOSITORY / "crates" / "engines" / "stdout").read_text(), engines.printed())
+
+    def test_table(self):
+        job = (REPOSITORY / "crates" / "table" / "stdin").read_bytes()
+        self.assertGreater(len(job), 256)
+        self.assertEqual((REPOSITORY / "crates" / "table" / "stdout").read_text(), reference.table_program(job))
 
 
 if __name__ == "__main__":

@@ -1,9 +1,12 @@
 //! The table program prints what the reference prints. `rt check table` builds it to target/bin/table; the variable
 //! POLGAMIR_TABLE names another place.
 
+use std::fs::OpenOptions;
 use std::io::Write;
 use std::path::{Path, PathBuf};
-use std::process::{Command, Stdio};
+use std::process::{Command, Output, Stdio};
+use std::thread::sleep;
+use std::time::Duration;
 
 use outside::jobs::{self, Reach};
 use outside::random::Random;
@@ -16,19 +19,36 @@ fn program() -> PathBuf {
     }
 }
 
-fn printed(input: &[u8]) -> String {
+/// Runs the program on a pipe that is written to in parts, each long after the last.
+fn run(parts: &[&[u8]], stdout: Stdio) -> Output {
     let mut child = Command::new(program())
         .stdin(Stdio::piped())
-        .stdout(Stdio::piped())
+        .stdout(stdout)
+        .stderr(Stdio::piped())
         .spawn()
         .expect("the table program is there: run `rt check table` first");
     let mut stdin = child.stdin.take().unwrap();
-    // The program reads 512 bytes at most, so that the rest may find nobody.
-    let _ = stdin.write_all(input);
+    for (n, part) in parts.iter().enumerate() {
+        if n > 0 {
+            sleep(Duration::from_millis(200));
+        }
+        // The program reads 512 bytes at most, so that the rest may find nobody.
+        let _ = stdin.write_all(part);
+    }
     drop(stdin);
-    let output = child.wait_with_output().unwrap();
-    assert!(output.status.success(), "{:?} {input:?}", output.status);
+    child.wait_with_output().unwrap()
+}
+
+/// What is printed, with nothing on standard error and status 0, after a table as after a refusal.
+fn printed_in_parts(parts: &[&[u8]]) -> String {
+    let output = run(parts, Stdio::piped());
+    assert!(output.status.success(), "{:?} {parts:?}", output.status);
+    assert_eq!(String::from_utf8_lossy(&output.stderr), "", "{parts:?}");
     String::from_utf8(output.stdout).unwrap()
+}
+
+fn printed(input: &[u8]) -> String {
+    printed_in_parts(&[input])
 }
 
 fn bytes(words: &[u32]) -> Vec<u8> {
@@ -116,4 +136,41 @@ fn input_of_few_bytes() {
     {
         assert_eq!(printed(input), reference::printed(input), "{input:?}");
     }
+}
+
+/// Case C's table and case E's refusal, as the method prints them.
+const TABLE_C: &str = "arrival 4\n0 0 0 86\n1 43 86 -1\n2 129 85 0\n3 214 85 -85\n4 256 0 0\n";
+const REFUSAL_E: &str = "refused 8 place 0 axes 1 arrival 0\n";
+
+#[test]
+fn a_table_and_a_refusal() {
+    assert_eq!(printed(&bytes(&jobs::CASE_C)), TABLE_C);
+    let mut case_e = jobs::CASE_C;
+    case_e[1] = 0x2000_0003;
+    case_e[8] = 0x9000_0004;
+    assert_eq!(printed(&bytes(&case_e)), REFUSAL_E);
+}
+
+/// A pipe may hand the input over in any parts, also in the middle of a word.
+#[test]
+fn input_in_parts() {
+    let case_c = bytes(&jobs::CASE_C);
+    for at in [1, 20, 22, 43] {
+        assert_eq!(printed_in_parts(&[&case_c[..at], &case_c[at..]]), TABLE_C, "{at}");
+    }
+    let whole = longest();
+    let parts: Vec<&[u8]> = whole.chunks(100).collect();
+    assert_eq!(printed_in_parts(&parts), reference::printed(&whole));
+}
+
+/// Where nothing can be written the program says so, and nothing else.
+#[test]
+fn output_that_cannot_be_written() {
+    let Ok(full) = OpenOptions::new().write(true).open("/dev/full") else {
+        println!("left out: output that cannot be written, for there is no /dev/full");
+        return;
+    };
+    let output = run(&[&bytes(&jobs::CASE_C)], Stdio::from(full));
+    assert!(output.status.success(), "{:?}", output.status);
+    assert_eq!(String::from_utf8(output.stderr).unwrap(), "table: cannot write\n");
 }
