@@ -184,9 +184,9 @@ typedef struct polgamir_answer {
  *
  * How to follow it. Row k is where the head is at tick k, how fast it moves then, and the acceleration that it keeps until tick
  * k + 1. A row carried on by one tick, to position + velocity + acceleration / 2 and velocity + acceleration, misses the position
- * and the velocity of the next row by at most 3/2 fine steps each: cells are rounded to the nearest, and the misses do not add up
- * where each tick starts from its own row. Row 0 has the start's position and velocity exactly, row N the target's position,
- * velocity and acceleration at tick N. No velocity cell exceeds 256 * L in size and no acceleration cell 256 * M.
+ * and the velocity of the next row by at most 3/2 fine steps each: cells are rounded to the nearest, halves away from zero, and the
+ * misses do not add up where each tick starts from its own row. Row 0 has the start's position and velocity exactly, row N the
+ * target's position, velocity and acceleration at tick N. No velocity cell exceeds 256 * L in size and no acceleration cell 256 * M.
  *
  * After row N the head goes on with its target: it rests where the target is fixed, and moves on with the acceleration of row N
  * where it moves. On a pole that swings as was entered, at one rate or at two, the motion then leaves no sway but that of the cells'

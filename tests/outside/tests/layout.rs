@@ -1,5 +1,5 @@
 //! The fields of every struct that passes between C and the library: what is marked `#[repr(C)]` in the crates has the header's fields, in its
-//! order and with its types. tests/c holds the header's offsets by number.
+//! order and with its types. bindings/c/layout.h holds the offsets by number.
 
 use std::collections::BTreeMap;
 use std::fs;
