@@ -88,6 +88,15 @@ class Plan:
         """The accelerations of an axis, by tick, in fine steps per tick squared: a read-only buffer, no copy."""
         return self._column(axis, 2)
 
+    def position_range(self, axis: int) -> Tuple[int, int]:
+        """The least and the greatest position of an axis among the rows, in fine steps.
+
+        End stops are not planned for: hold these against them. Between two rows a head that turns back goes past
+        them by at most an eighth of what its acceleration covers in a tick squared.
+        """
+        positions = self.positions(axis).tolist()
+        return min(positions), max(positions)
+
     def motion(self, axis: int, tick: int) -> Motion:
         """The motion of an axis at a tick, 0 to arrival."""
         return self[tick].motions[axis]

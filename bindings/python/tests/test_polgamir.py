@@ -268,6 +268,15 @@ class Tables(unittest.TestCase):
         self.assertEqual(flat, plan.cells.tolist())
         self.assertEqual([row[1][2] for row in plan.table.tolist()], plan.accelerations(4).tolist())
 
+    def test_positions_have_their_ends(self):
+        """A head that starts away from its target goes past its start: from velocity -3 by one a tick it turns at -4.5."""
+        away = Axis(start=RestPoint(0, -3), speed_limit=10, acceleration_limit=1, half_period=0, damping=Weight(128),
+                    target=Fixed(1))
+        plan = Job({0: away}).plan()
+        self.assertEqual(plan.position_range(0), (-9 * 128, 256))
+        self.assertEqual(Job({0: away}).plan_backwards().position_range(0), plan.position_range(0))
+        self.assertRaises(KeyError, plan.position_range, 1)
+
     def test_buffers_are_shared_and_read_only(self):
         plan = self.plan
         for buffer in (plan.cells, plan.table, plan.velocities(4)):

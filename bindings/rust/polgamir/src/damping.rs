@@ -47,6 +47,20 @@ impl Damping {
         (ratio > 0.0 && ratio <= 1.0).then(|| (1..=128).rev().find(is_met).unwrap_or(1))
     }
 
+    /// A swing by the one half a period before it, as it was entered: the ratio, the second peak by the first, or what the weight
+    /// stands for. The weight that is planned with is rounded from it. `None` where refusal 12 would come, or 5 of a weight.
+    pub fn ratio(&self) -> Option<f64> {
+        // The decimal number that was written, and not the nearest single-precision float.
+        let as_written = |number: f32| number.to_string().parse::<f64>().ok();
+        let ratio = match *self {
+            Damping::Weight(weight @ 1..=128) => f64::from(weight) / f64::from(256 - weight),
+            Damping::Weight(_) => return None,
+            Damping::Ratio(ratio) => as_written(ratio)?,
+            Damping::Peaks { first, second } => as_written(second)? / as_written(first)?,
+        };
+        self.weight().map(|_| ratio)
+    }
+
     /// Whether it is what a tap test shows, from which the weight is worked out.
     pub const fn is_measured(&self) -> bool {
         !matches!(self, Damping::Weight(_))
@@ -60,6 +74,23 @@ impl fmt::Display for Damping {
             Damping::Weight(weight) => write!(f, "weight {weight}"),
             Damping::Ratio(ratio) => write!(f, "shrinks {ratio}"),
             Damping::Peaks { first, second } => write!(f, "peaks {first} {second}"),
+        }
+    }
+}
+
+#[cfg(test)]
+mod tests {
+    use super::*;
+
+    /// A ratio is the one entered, and not that of its weight.
+    #[test]
+    fn ratios_are_as_entered() {
+        assert_eq!(Damping::Ratio(0.98).ratio(), Some(0.98));
+        assert_eq!(Damping::Peaks { first: 41.5, second: 36.2 }.ratio(), Some(36.2 / 41.5));
+        assert_eq!(Damping::Weight(128).ratio(), Some(1.0));
+        assert_eq!(Damping::Weight(64).ratio(), Some(1.0 / 3.0));
+        for refused in [Damping::Ratio(1.5), Damping::Peaks { first: 1.0, second: 2.0 }, Damping::Weight(129)] {
+            assert_eq!(refused.ratio(), None);
         }
     }
 }

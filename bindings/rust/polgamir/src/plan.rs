@@ -1,5 +1,7 @@
 //! The calls for a table, and the table that they give.
 
+use std::ops::RangeInclusive;
+
 use crate::job::Job;
 use crate::library;
 use crate::refusal::{Answer, AxisMask, Refusal};
@@ -117,6 +119,14 @@ impl<'t> Accepted<'t> {
     pub fn rows(&self) -> Rows<'t> {
         Rows::of(*self)
     }
+
+    /// The least and the greatest position of an axis among the rows, in fine steps, or `None` where the job does not have that
+    /// axis. End stops are not planned for: hold these against them. Between two rows a head that turns back goes past them by at
+    /// most an eighth of what its acceleration covers in a tick².
+    pub fn position_range(&self, axis: usize) -> Option<RangeInclusive<i64>> {
+        let positions = self.rows().filter_map(|row| row.axis(axis)).map(|motion| motion.position..=motion.position);
+        positions.reduce(|all, one| *all.start().min(one.start())..=*all.end().max(one.end()))
+    }
 }
 
 /// `for` walks the rows of ticks 0 to arrival.
@@ -183,6 +193,24 @@ impl Plan {
     /// The rows of ticks 0 to arrival, by tick in whichever order they stand; `rows().rev()` goes from the arrival back.
     pub fn rows(&self) -> Rows<'_> {
         self.accepted().rows()
+    }
+
+    /// The least and the greatest position of an axis among the rows, in fine steps: [`Accepted::position_range`].
+    ///
+    /// ```
+    /// # use polgamir::{Axis, Damping, Job, Refusal, RestPoint, Target};
+    /// # let (half_period, damping, second_half_period) = (0, Damping::NONE, None);
+    /// # let (speed_limit, acceleration_limit, target) = (10, 1, Target::still(4));
+    /// // A head that starts away from its target goes on for a while.
+    /// let start = RestPoint { position: 0, velocity: -3 };
+    /// let pan = Axis { start, speed_limit, acceleration_limit, half_period, damping, second_half_period, target };
+    /// let plan = Job::earliest().with_axis(0, pan).plan()?;
+    /// let range = plan.position_range(0).expect("an axis of the job");
+    /// assert!(range.contains(&(-4 * 256)) && !range.contains(&(-5 * 256)));
+    /// # Ok::<(), Refusal>(())
+    /// ```
+    pub fn position_range(&self, axis: usize) -> Option<RangeInclusive<i64>> {
+        self.accepted().position_range(axis)
     }
 
     /// The table's cells, to keep.
