@@ -3,8 +3,9 @@
 mod content;
 pub mod export;
 mod files;
-mod refusal;
-mod table;
+pub mod refusal;
+pub mod summary;
+pub mod table;
 mod tour;
 mod words;
 
@@ -14,14 +15,18 @@ use std::path::Path;
 use polgamir::sheet::{Rounded, Setup, Sheet};
 use polgamir::{Job, NoWords};
 
-use crate::arguments::{PlanForm, Request, TableForm, Task, Usage, HELP};
+use crate::arguments::{PlanForm, Request, TableForm, Task, Usage};
 use crate::{picture, report};
+use export::Source;
 use files::{about, FileError};
+use refusal::Told;
 
-/// What a command has to print, and its exit status: 0, or 1 for a refusal.
+/// What a command gives, and its exit status: 0, or 1 for a refusal.
 pub struct Done {
-    /// For standard output.
+    /// For the file that is named, or for standard output.
     pub output: Vec<u8>,
+    /// What a refusal says to a person, where the output goes to a file.
+    pub refusal: String,
     /// What is to be known about it, for standard error.
     pub notes: Vec<String>,
     /// The exit status.
@@ -31,12 +36,23 @@ pub struct Done {
 impl Done {
     /// Done as asked.
     fn well(output: impl Into<Vec<u8>>) -> Done {
-        Done { output: output.into(), notes: Vec::new(), status: 0 }
+        Done { output: output.into(), refusal: String::new(), notes: Vec::new(), status: 0 }
     }
 
-    /// Refused by the planner.
-    fn refused(output: impl Into<Vec<u8>>) -> Done {
-        Done { output: output.into(), notes: Vec::new(), status: 1 }
+    /// Refused by the planner, in the form that was asked for.
+    fn refused(told: &Told, output: impl Into<Vec<u8>>) -> Done {
+        Done { output: output.into(), refusal: told.text(), notes: Vec::new(), status: 1 }
+    }
+
+    /// Refused by the planner, where its line alone was asked for.
+    fn plainly_refused(told: &Told) -> Done {
+        let line = told.printed_line.clone() + "\n";
+        Done { output: line.clone().into(), refusal: line, notes: Vec::new(), status: 1 }
+    }
+
+    /// Refused by the planner, where text was asked for.
+    fn refused_in_words(told: &Told) -> Done {
+        Done::refused(told, told.text())
     }
 
     /// With what is to be known of the entries that were rounded, before all else.
@@ -87,33 +103,36 @@ impl From<Usage> for Failure {
     }
 }
 
-/// Does what is asked. What was asked for goes to the file that is named, if one is; a refusal is always to be printed.
+/// Does what is asked. What was asked for goes to the file that is named, if one is, a refusal too: no older answer stands there then.
 pub fn run(request: &Request) -> Result<Done, Failure> {
-    let done = done(&request.task).map_err(Failure::Input)?;
-    match &request.output {
-        Some(file) if done.status == 0 => {
-            files::write(file, &done.output).map_err(Failure::Output)?;
-            Ok(Done { output: Vec::new(), ..done })
-        }
-        _ => Ok(done),
+    let Some(file) = &request.output else {
+        return done(&request.task).map_err(Failure::Input);
+    };
+    let done = done(&request.task).map_err(|error| Failure::Input(error.beside_older(file)))?;
+    let printed = Done { output: done.refusal.clone().into(), ..done };
+    match files::write(file, &done.output) {
+        Ok(()) => Ok(printed),
+        Err(error) if printed.status == 0 => Err(Failure::Output(error)),
+        // The refusal is printed all the same.
+        Err(error) => Ok(Done { notes: vec![error.to_string()], status: 3, ..printed }),
     }
 }
 
 /// What a task gives.
 fn done(task: &Task) -> Result<Done, FileError> {
     match task {
-        Task::Help => Ok(Done::well(HELP)),
+        Task::Help(page) => Ok(Done::well(page.text())),
         Task::Version => Ok(Done::well(concat!("polgamir ", env!("CARGO_PKG_VERSION"), "\n"))),
         Task::Plan { job, form, cells } => {
             let sheet = read_job(job)?;
-            Ok(plan(&title_of(job), &sheet, *form, *cells).noting(sheet.rounded()))
+            Ok(plan(&Source::of(job), &sheet, *form, *cells).noting(sheet.rounded()))
         }
         Task::Words { job, bytes } => words_of(job, *bytes),
         Task::Convert { job, bytes } => converted(job, *bytes),
         Task::Show { words, bytes } => show(words, *bytes),
-        Task::Tour { sheet, form, tables } => {
-            let sheet = content::tour_of(&files::read(sheet)?).map_err(|cause| about(sheet, cause))?;
-            Ok(tour::planned(&sheet, *form, *tables).noting(sheet.rounded()))
+        Task::Tour { sheet: file, form } => {
+            let sheet = content::tour_of(&files::read(file)?).map_err(|cause| about(file, cause))?;
+            Ok(tour::planned(&Source::of(file), &sheet, *form).noting(sheet.rounded()))
         }
         Task::Plot { setup } => plot(setup),
         Task::Report { setup } => report(setup),
@@ -126,14 +145,19 @@ fn read_job(file: &Path) -> Result<Sheet, FileError> {
 }
 
 /// Plans a job and prints its table or its refusal.
-fn plan(title: &str, sheet: &Sheet, form: PlanForm, cells: Option<usize>) -> Done {
+fn plan(source: &Source, sheet: &Sheet, form: PlanForm, cells: Option<usize>) -> Done {
     let mut cells = vec![0; cells.unwrap_or(sheet.job.enough_cells())];
     match (polgamir::plan(&sheet.job, &mut cells), form) {
-        (Ok(accepted), PlanForm::Table(form)) => Done::well(table::print(sheet, &accepted, form)),
-        (Ok(accepted), PlanForm::Export(export)) => Done::well(export::written(title, sheet, &accepted, export)),
-        (Err(refusal), PlanForm::Table(TableForm::Plain)) => Done::refused(refusal.printed_line() + "\n"),
-        (Err(refusal), PlanForm::Table(_)) => Done::refused(refusal::explained(sheet, &refusal)),
-        (Err(refusal), PlanForm::Export(export)) => Done::refused(export::refused(&refusal, export)),
+        (Ok(accepted), PlanForm::Table { form, all }) => Done::well(table::print(sheet, &accepted, form, all)),
+        (Ok(accepted), PlanForm::Export(export)) => Done::well(export::written(source, sheet, &accepted, export)),
+        (Err(refusal), form) => {
+            let told = refusal::told(sheet, &refusal);
+            match form {
+                PlanForm::Table { form: TableForm::Plain, .. } => Done::plainly_refused(&told),
+                PlanForm::Table { .. } => Done::refused_in_words(&told),
+                PlanForm::Export(export) => Done::refused(&told, export::refused_job(source, sheet, &refusal, export)),
+            }
+        }
     }
 }
 
@@ -155,7 +179,7 @@ fn converted(file: &Path, bytes: bool) -> Result<Done, FileError> {
     let done = match polgamir::convert(&old) {
         Ok(converted) if bytes => Done::well(words::bytes_of(&converted)),
         Ok(converted) => Done::well(words::hexadecimal_of(&converted)),
-        Err(refusal) => return Ok(Done::refused(refusal::explained(&sheet, &refusal))),
+        Err(refusal) => return Ok(Done::refused_in_words(&refusal::told(&sheet, &refusal))),
     };
     let notes = weights_taken(&sheet).into_iter().chain(targets_converted(&sheet));
     Ok(Done { notes: notes.collect(), ..done }.noting(sheet.rounded()))
@@ -209,21 +233,23 @@ fn show(file: &Path, bytes: Option<bool>) -> Result<Done, FileError> {
     Ok(Done::well(Sheet::from(job).to_string()))
 }
 
-/// Writes the report of a job or of a tour.
+/// Writes the report of a job or of a tour; that of a refusal is a page too.
 fn report(file: &Path) -> Result<Done, FileError> {
     let content = files::read(file)?;
     let setup = content::setup_of(&content).map_err(|cause| about(file, cause))?;
-    let (title, entered) = (title_of(file), content::sheet_text(&content, &setup));
+    let (title, entered) = (Source::of(file).title, content::sheet_text(&content, &setup));
     let page = match &setup {
-        Setup::Job(sheet) => {
-            report::written(&title, &entered, sheet).map_err(|refusal| refusal::explained(sheet, &refusal))
-        }
+        Setup::Job(sheet) => report::written(&title, &entered, sheet).map_err(|refusal| refusal::told(sheet, &refusal)),
         Setup::Tour(sheet) => {
             let page = report::written_of_tour(&title, &entered, sheet);
-            page.map_err(|refusal| refusal::explained_tour(sheet, &refusal))
+            page.map_err(|refusal| refusal::told_of_tour(sheet, &refusal))
         }
     };
-    Ok(page.map_or_else(Done::refused, Done::well).noting(rounded_of(&setup)))
+    let done = match page {
+        Ok(page) => Done::well(page),
+        Err(told) => Done::refused(&told, report::refused(&title, &entered, &told)),
+    };
+    Ok(done.noting(rounded_of(&setup)))
 }
 
 /// The entries of a sheet that were rounded.
@@ -234,23 +260,19 @@ fn rounded_of(setup: &Setup) -> &[Rounded] {
     }
 }
 
-/// The title of what a file holds: its name without its ending.
-fn title_of(file: &Path) -> String {
-    match file.file_stem() {
-        Some(stem) if !files::is_standard(file) => stem.to_string_lossy().into_owned(),
-        _ => "plan".into(),
-    }
-}
-
-/// Draws the plan of a job, or the timeline of a tour.
+/// Draws the plan of a job, or the timeline of a tour; the picture of a refusal says it.
 fn plot(file: &Path) -> Result<Done, FileError> {
     let setup = content::setup_of(&files::read(file)?).map_err(|cause| about(file, cause))?;
-    let title = title_of(file);
+    let title = Source::of(file).title;
     let drawing = match &setup {
-        Setup::Job(sheet) => picture::draw(&title, sheet).map_err(|refusal| refusal::explained(sheet, &refusal)),
+        Setup::Job(sheet) => picture::draw(&title, sheet).map_err(|refusal| refusal::told(sheet, &refusal)),
         Setup::Tour(sheet) => {
-            picture::draw_tour(&title, sheet).map_err(|refusal| refusal::explained_tour(sheet, &refusal))
+            picture::draw_tour(&title, sheet).map_err(|refusal| refusal::told_of_tour(sheet, &refusal))
         }
     };
-    Ok(drawing.map_or_else(Done::refused, Done::well).noting(rounded_of(&setup)))
+    let done = match drawing {
+        Ok(drawing) => Done::well(drawing),
+        Err(told) => Done::refused(&told, picture::draw_refusal(&title, &told)),
+    };
+    Ok(done.noting(rounded_of(&setup)))
 }

@@ -7,6 +7,8 @@
 
 mod arguments;
 mod command;
+mod exact;
+mod help;
 mod measure;
 mod picture;
 mod report;
@@ -31,7 +33,7 @@ fn main() -> ExitCode {
 
 /// Does what the arguments ask, prints what it gives, and returns the exit status.
 fn done(arguments: &[std::ffi::OsString]) -> Result<u8, Failure> {
-    let Done { output, notes, status } = command::run(&arguments::Request::read(arguments)?)?;
+    let Done { output, notes, status, .. } = command::run(&arguments::Request::read(arguments)?)?;
     standard_output::print(&output).map_err(Failure::of_standard_output)?;
     for note in notes {
         eprintln!("polgamir: {note}");

@@ -31,6 +31,11 @@ impl Measure {
         Measure { size, name: name.into(), tick }
     }
 
+    /// Whether units and ticks stand for themselves.
+    pub fn is_plain(&self) -> bool {
+        self.tick.is_none() && self.size == 1.0 && self.name == "units"
+    }
+
     /// The names of positions, velocities and accelerations.
     pub fn names(&self) -> [String; 3] {
         let (name, by) = (&self.name, if self.tick.is_some() { "s" } else { "tick" });

@@ -6,9 +6,11 @@ pub mod chart;
 mod course;
 mod page;
 mod panel;
+mod refused;
 pub mod scale;
 pub mod svg;
 pub mod sway;
+pub mod swing;
 mod tour;
 
 use polgamir::sheet::Sheet;
@@ -16,16 +18,20 @@ use polgamir::{Arrival, Axis, Job, Refusal, Row};
 
 use crate::measure::{in_seconds, rounded, Measure};
 use course::{Course, Moment, Ticks};
-use page::{Page, Sample, Stack};
+pub use page::Sample;
+use page::{Page, Stack};
 use panel::{Mark, Panel, Span, Timeline};
 use scale::quantity;
 use svg::{colour, stroke, Stroke};
 use sway::{Point, Pole};
+use swing::{Entered, Swing};
 
-pub use tour::{draw_tour, draw_tour_parts};
+pub use page::AxisPictures;
+pub use refused::draw_refusal;
+pub use tour::{draw_tour, tour_pictures, LEGEND as TOUR_LEGEND};
 
-/// The width of the plots of a picture with one axis that is a part of a page.
-const PART_WIDTH: f64 = 640.0;
+/// The width of a panel that is a picture of its own on a page: readable at a third of a screen, on a phone, and at a third of A4.
+pub const PANEL_WIDTH: f64 = 290.0;
 
 /// Draws the plan of a sheet.
 pub fn draw(title: &str, sheet: &Sheet) -> Result<String, Refusal> {
@@ -33,17 +39,27 @@ pub fn draw(title: &str, sheet: &Sheet) -> Result<String, Refusal> {
     Ok(page.draw())
 }
 
-/// Draws the plan of a sheet axis by axis, each as a part of a page.
-pub fn draw_parts(title: &str, sheet: &Sheet) -> Result<Vec<String>, Refusal> {
-    let page = page_of(title, sheet)?;
-    let parts = page.of_each_axis((1, PART_WIDTH));
-    Ok(parts.iter().enumerate().map(|(index, part)| part.draw_part(&format!("plan{index}"))).collect())
+/// The pictures of each axis of a sheet's plan, panel by panel.
+pub fn pictures(title: &str, sheet: &Sheet) -> Result<Vec<AxisPictures>, Refusal> {
+    Ok(page_of(title, sheet)?.of_each_axis(PANEL_WIDTH, "plan"))
+}
+
+/// What the lines of a job's pictures stand for.
+pub fn key(sheet: &Sheet) -> Vec<(&'static str, Sample)> {
+    let sways = sheet.job.entered().any(|(number, axis)| !Swing::of(axis, entered_in(sheet, number)).is_empty());
+    legend(&sheet.job, sways && Planned::of(&without_blend(&sheet.job)).is_ok())
+}
+
+/// The half periods of an axis as its sheet has them.
+pub fn entered_in(_sheet: &Sheet, _number: usize) -> Entered {
+    Entered::default()
 }
 
 /// The page of a sheet's plan.
 fn page_of(title: &str, sheet: &Sheet) -> Result<Page, Refusal> {
     let planned = Planned::of(&sheet.job)?;
-    let sways = sheet.job.entered().any(|(_, axis)| Pole::rates(axis).next().is_some());
+    let swings = |(number, axis)| Swing::of(axis, entered_in(sheet, number));
+    let sways = sheet.job.entered().any(|entered| !swings(entered).is_empty());
     let unblended = sways.then(|| Planned::of(&without_blend(&sheet.job)));
     let compared = unblended.as_ref().and_then(|unblended| unblended.as_ref().ok());
     let dwell = sheet.job.windows.map_or(0, |windows| windows.dwell());
@@ -52,7 +68,14 @@ fn page_of(title: &str, sheet: &Sheet) -> Result<Page, Refusal> {
     let stacks = sheet.job.entered().map(|(number, axis)| Stack {
         title: sheet.axis_title(number),
         pole: pole_of(axis),
-        panels: panels_of(number, axis, &Measure::of(sheet, number), &planned, compared, ticks),
+        panels: panels_of(
+            (number, axis),
+            &swings((number, axis)),
+            &Measure::of(sheet, number),
+            &planned,
+            compared,
+            ticks,
+        ),
     });
     Ok(Page {
         title: heading(title, sheet, planned.arrival),
@@ -70,20 +93,12 @@ fn timeline(sheet: &Sheet, ticks: Ticks) -> Timeline {
     for window in sheet.job.windows.iter().flat_map(|windows| windows.list()) {
         spans.push(Span { from: window.opening, to: window.closing, colour: colour::WINDOW });
     }
-    Timeline {
-        name: tick_name(sheet.tick_seconds()),
-        last: ticks.last,
-        spans,
-        marks: vec![Mark { tick: ticks.arrival, label: format!("arrival {}", ticks.arrival) }],
-    }
-}
-
-/// What the numbers along the ticks are.
-fn tick_name(tick: Option<f64>) -> String {
-    match tick {
-        Some(seconds) => format!("tick of {} s", rounded(seconds)),
-        None => "tick".into(),
-    }
+    let tick = sheet.tick_seconds();
+    let label = match tick {
+        Some(seconds) => format!("arrival {} s", rounded(f64::from(ticks.arrival) * seconds)),
+        None => format!("arrival {}", ticks.arrival),
+    };
+    Timeline { tick, last: ticks.last, spans, marks: vec![Mark { tick: ticks.arrival, label }] }
 }
 
 /// What the lines and areas of a job's picture stand for; the sway without the blend only where the picture compares.
@@ -113,15 +128,15 @@ fn heading(title: &str, sheet: &Sheet, arrival: u32) -> String {
     format!("{title}: arrival at tick {arrival}{}, {why}", in_seconds(arrival, sheet.tick_seconds()))
 }
 
-/// What the sway of a picture is.
-const SWAY: &str =
-    "Sway: how far the top of the pole is from upright, in the axis's units. The pole has the entered half period \
-                    and weight, is at rest at tick 0 and is driven by the table's accelerations.";
+/// What a sway is.
+pub const SWAY: &str =
+    "Sway: that of an oscillator with the half period and the damping as entered, at rest at tick 0 and driven by the \
+                    table's accelerations. A real pole's sway is in proportion to it; it is not the tip in degrees.";
 
 /// What is left of it.
-const LEFT: &str =
-    "Left: the greatest sway from arrival on, measured from where the pole comes to rest. The exact plan leaves 0, \
-                    which is proved; rounding its cells to 1/256 unit leaves the rest.";
+pub const LEFT: &str =
+    "Left: the greatest sway from arrival on, measured from where the pole comes to rest. On a pole that fits the weight the exact plan \
+     leaves 0, which is proved; rounding the damping to a weight and the cells to 1/256 unit leaves the rest.";
 
 /// What a second sway is, after another sentence.
 const SECOND: &str =
@@ -213,8 +228,8 @@ fn weight_of(axis: &Axis) -> String {
 
 /// The panels of an axis; those of the sway only where the axis has a half period, one for each.
 fn panels_of(
-    number: usize,
-    axis: &Axis,
+    (number, axis): (usize, &Axis),
+    swings: &[Swing],
     measure: &Measure,
     planned: &Planned,
     unblended: Option<&Planned>,
@@ -240,10 +255,15 @@ fn panels_of(
         planned.accelerations(number).into_iter().map(|units| measure.position(units)).collect()
     };
     let (with, without) = (scaled(planned), unblended.map(scaled));
-    for (sway, pole) in Pole::rates(axis) {
-        panels.push(sway_panel(format!("{sway}, {position}"), pole, &with, without.as_deref(), ticks));
+    for swing in swings {
+        panels.push(sway_panel(sway_name(swing, &position), swing.pole(), &with, without.as_deref(), ticks));
     }
     panels
+}
+
+/// The name of a panel of sway.
+fn sway_name(swing: &Swing, measure: &str) -> String {
+    format!("{} in proportion, {measure}", swing.name())
 }
 
 /// The curves of a course, the target's at the top, where it shows on that of the plan.
@@ -276,7 +296,7 @@ fn limited_panel(name: String, limit: f64, course: Course) -> Panel {
 /// The panel of the sway, beside that without the blend, whose arrival is an upright line.
 fn sway_panel(name: String, pole: Pole, accelerations: &[f64], without_blend: Option<&[f64]>, ticks: Ticks) -> Panel {
     let sway = pole.sway(accelerations, ticks.last);
-    let mut remark = format!("left {}, exact plan 0", quantity(sway.remaining));
+    let mut remark = format!("left {}", quantity(sway.remaining));
     let mut curves = vec![(sway.curve, stroke::PLAN)];
     if let Some(accelerations) = without_blend {
         let without = pole.sway(accelerations, ticks.last);

@@ -4,91 +4,66 @@
 //! `picture::sway`, which is tested against the oscillator's closed form.
 
 mod arrivals;
+mod as_entered;
+mod bound;
+mod entry;
 mod html;
+mod refused;
 mod rows;
+mod set_by;
 mod told;
 mod tour;
 mod wrong_axis;
 mod wrong_pole;
 
 use polgamir::sheet::Sheet;
-use polgamir::{Arrival, Axis, Motion, Plan, Refusal, LATEST_ARRIVAL};
+use polgamir::{in_units, Arrival, Plan, Refusal, LATEST_ARRIVAL};
 
-use crate::measure::{in_seconds, rounded, Measure};
+use crate::command::summary::NOT_LIMITED;
+use crate::measure::{in_seconds, rounded};
 use crate::picture::{self, without_blend, Planned};
 use arrivals::Arrivals;
+use entry::Entry;
 use html::Cell;
 use told::{at_tick, cost_of, cost_told, earlier_told, fine_steps, halves, left_card, limit_row, planned_by};
 use wrong_pole::WrongPole;
 
+pub use refused::refused;
 pub use tour::written as written_of_tour;
 
 /// The report of a sheet whose text is as entered; job words have the sheet that stands for them.
 pub fn written(title: &str, entered: &str, sheet: &Sheet) -> Result<String, Refusal> {
     let report = Report::of(sheet)?;
-    let pictures = picture::draw_parts(title, sheet)?;
+    let poles: Vec<(&Entry, Vec<WrongPole>)> = report.axes.iter().map(|entry| (entry, entry.wrong_poles())).collect();
     let body = [
         format!("<h1>{}</h1>\n", picture::svg::escaped(title)),
         format!("<p class=\"sub\">{}</p>\n", report.headline()),
         html::cards(&report.cards()),
-        html::section("The set-up sheet, as entered", &html::as_written(entered)),
         html::section("The answer", &report.answer()),
-        html::section("The plan", &(html::paragraph(&report.plan_told()) + &pictures.concat())),
-        html::section("If the pole was measured wrongly", &report.wrong_poles()),
+        html::section("If the pole is as entered", &as_entered::section(&poles)),
+        html::section("Axis by axis, and if the pole was measured wrongly", &report.axis_blocks(title, &poles)?),
         html::section("What the blend costs", &report.cost()),
         html::section("What sets the arrival, and one tick earlier", &report.arrivals()),
         html::section("How near each axis is to its limits", &report.limits()),
         html::section("Carrying a row on", &report.misses()),
         html::section("How these numbers were made", &html::paragraph(METHOD)),
+        html::section("The set-up sheet, as entered", &html::as_written(entered)),
     ];
     Ok(html::page(&format!("{title}: report"), &body.concat()))
 }
 
 /// How the numbers of a report were made.
-const METHOD: &str = "Arrival and table are those of the proved planner, which lands on the target exactly and leaves no sway before rounding. \
-    Other arrivals, and the limits that would do, are its answers to the same job with the half periods, the asked tick or one limit changed. \
-    Limits and carry misses are read off the table's cells. The sway is computed: an oscillator with the half period and the damping that are \
-    named, at rest at tick 0, follows each row's acceleration until the next row, by the exact solution for a constant acceleration; nothing is \
-    approximated but by double-precision floats. Left is the greatest distance, from arrival on, from where the pole comes to rest.";
+const METHOD: &str = "Arrival and table are those of the proved planner, which lands on the target exactly and leaves no sway before rounding on \
+    a pole that fits half period and weight. Other arrivals, and the limits that would do, are its answers to the same job with the half periods, \
+    the asked tick or one limit changed. Positions, limits and carry misses are read off the table's cells. The sway is computed: an oscillator \
+    with the half period and the swing ratio that are named, at rest at tick 0, follows each row's acceleration until the next row, by the exact \
+    solution for a constant acceleration; nothing is approximated but by double-precision floats. What rounding leaves is computed from the exact \
+    accelerations, which are worked out again from the method and checked against every cell. The bound is the theorem sway-most, worked out in \
+    whole numbers and rounded upward.";
 
 /// What a carry miss is.
 const CARRIED: &str = "A row that is carried on by one tick, to position + velocity + acceleration / 2 and velocity + acceleration, misses the \
     next row by at most 3/2 fine steps of 1/256 unit; this is proved of every table.";
-
-/// An axis of the report.
-struct Entry<'s> {
-    number: usize,
-    title: String,
-    axis: &'s Axis,
-    measure: Measure,
-    rows: Vec<Motion>,
-    /// Accelerations in the shown measure per tick², with the blend and without.
-    accelerations: Vec<f64>,
-    unblended: Option<Vec<f64>>,
-}
-
-impl Entry<'_> {
-    /// The swings of its pole, for what is left of each; none where the axis has no half period.
-    fn wrong_poles(&self) -> Vec<WrongPole<'_>> {
-        WrongPole::all_of(&[self])
-    }
-
-    /// The measure of a sway.
-    fn sway_name(&self) -> String {
-        self.measure.names()[0].clone()
-    }
-
-    /// How far its blend looks back: an arrival has to be after so many ticks.
-    fn delay(&self) -> u32 {
-        self.axis.half_period + self.axis.second_half_period.unwrap_or(0)
-    }
-
-    /// Its half periods, as `30` or `30 + 11`.
-    fn half_periods(&self) -> String {
-        let first = self.axis.half_period.to_string();
-        self.axis.second_half_period.map_or(first.clone(), |second| format!("{first} + {second}"))
-    }
-}
 
 /// What a report tells of.
 struct Report<'s> {
@@ -104,21 +79,7 @@ impl<'s> Report<'s> {
         let plan = sheet.job.plan()?;
         let planned = Planned::of(&sheet.job)?;
         let unblended = Planned::of(&without_blend(&sheet.job)).ok();
-        let entry = |(number, axis): (usize, &'s Axis)| {
-            let measure = Measure::of(sheet, number);
-            let scaled = |planned: &Planned| -> Vec<f64> {
-                planned.accelerations(number).into_iter().map(|units| measure.position(units)).collect()
-            };
-            Entry {
-                number,
-                title: sheet.axis_title(number),
-                axis,
-                rows: plan.rows().filter_map(|row| row.axis(number)).collect(),
-                accelerations: scaled(&planned),
-                unblended: unblended.as_ref().map(scaled),
-                measure,
-            }
-        };
+        let entry = |entered| Entry::of(sheet, entered, &plan, &planned, unblended.as_ref());
         let axes = sheet.job.entered().map(entry).collect();
         let arrivals = Arrivals::of(&sheet.job, plan.arrival());
         Ok(Report { sheet, plan, axes, arrivals })
@@ -182,38 +143,51 @@ impl<'s> Report<'s> {
         }
     }
 
-    /// The answer, and where the table begins and ends.
+    /// The answer, where the table begins and ends, and how far each axis goes.
     fn answer(&self) -> String {
         let arrival = self.plan.arrival();
         let text = format!(
             "Accepted: number 0, mask {}, arrival {}. The table has rows 0 to {arrival} and {} cells. Row 0 is on the start and row {arrival} \
-             on the target, both exactly.",
+             on the target, both exactly. The least and the greatest position are those of the rows; a head that starts away from its target goes \
+             past its start. {NOT_LIMITED}",
             self.plan.axes().0,
             self.tick(arrival),
             self.plan.cells().len()
         );
-        let row = |entry: &Entry, tick: usize| -> Vec<Cell> {
-            let numbers = entry.measure.shown(entry.rows[tick]).map(|number| Cell::Number(rounded(number)));
-            let [title, tick] = [entry.title.clone(), tick.to_string()];
-            let measures = Cell::Words(entry.measure.names().join(", "));
-            [Cell::Words(title), Cell::Number(tick)].into_iter().chain(numbers).chain([measures]).collect()
+        let row = |entry: &Entry| -> Vec<Cell> {
+            let position = |cell: i64| Cell::Number(rounded(entry.measure.position(in_units(cell))));
+            let velocity = |cell: i64| Cell::Number(rounded(entry.measure.velocity(in_units(cell))));
+            let (first, last) = (entry.rows[0], entry.rows[entry.rows.len() - 1]);
+            let range = self.plan.position_range(entry.number).unwrap_or(first.position..=last.position);
+            let [positions, velocities, _] = entry.measure.names();
+            vec![
+                Cell::Words(entry.title.clone()),
+                position(first.position),
+                position(last.position),
+                position(*range.start()),
+                position(*range.end()),
+                Cell::Words(positions),
+                velocity(first.velocity),
+                velocity(last.velocity),
+                Cell::Words(velocities),
+            ]
         };
-        let rows: Vec<Vec<Cell>> =
-            self.axes.iter().flat_map(|entry| [row(entry, 0), row(entry, arrival as usize)]).collect();
-        let headings = ["axis", "row", "position", "velocity", "acceleration", "in"];
+        let rows: Vec<Vec<Cell>> = self.axes.iter().map(row).collect();
+        let headings =
+            ["axis", "start", "arrival", "least", "greatest", "in", "start velocity", "arrival velocity", "in"];
         html::paragraph(&text) + &html::table(&headings, &rows)
     }
 
     /// What the pictures show.
     fn plan_told(&self) -> String {
-        let sways = self.axes.iter().any(|entry| !entry.wrong_poles().is_empty());
         let compared = match self.axes.iter().any(|entry| entry.unblended.is_some()) {
             true => " The dashed line is the same job planned with half period 0 on every axis and no second one.",
             false => "",
         };
-        let sway = match sways {
+        let sway = match self.axes.iter().any(|entry| !entry.swings.is_empty()) {
             true => format!(
-                " The sway is how far the top of the pole is from upright, at each of its rates; after arrival there should be none.{compared}"
+                " Sway is in proportion to the real pole's, at each of its rates; it is not the tip in degrees. After arrival there should be \
+                 next to none.{compared}"
             ),
             false => " No axis has a half period, so no sway is drawn.".into(),
         };
@@ -222,10 +196,25 @@ impl<'s> Report<'s> {
         )
     }
 
-    /// What is left of the sway over the errors of half period and damping, axis by axis.
-    fn wrong_poles(&self) -> String {
-        let axes: Vec<(&Entry, Vec<WrongPole>)> = self.axes.iter().map(|entry| (entry, entry.wrong_poles())).collect();
-        wrong_axis::of_axes(&axes)
+    /// For each axis its pictures, and what is left over the errors of half period and damping.
+    fn axis_blocks(&self, title: &str, poles: &[(&Entry, Vec<WrongPole>)]) -> Result<String, Refusal> {
+        let entries: Vec<(picture::Sample, String)> =
+            picture::key(self.sheet).into_iter().map(|(name, sample)| (sample, name.into())).collect();
+        let mut text = html::paragraph(&self.plan_told()) + &html::key(&entries);
+        if let Some(pole) = poles.iter().flat_map(|(_, poles)| poles).next() {
+            let name = pole.tables_name();
+            text += &(html::paragraph(&wrong_axis::told(name)) + &wrong_axis::key(name));
+        }
+        for (pictures, (entry, poles)) in picture::pictures(title, self.sheet)?.iter().zip(poles) {
+            let charts = poles.iter().enumerate().flat_map(|(index, pole)| wrong_axis::charts(entry, pole, index));
+            let drawn = pictures.panels.concat() + &charts.collect::<String>();
+            let tables: String = poles.iter().map(|pole| wrong_axis::tables(entry, pole)).collect();
+            let body = html::heading(&pictures.title, &pictures.pole)
+                + &html::block("pictures", &drawn)
+                + &html::block("tables", &tables);
+            text += &html::block("axis", &body);
+        }
+        Ok(text)
     }
 
     /// What the blend costs in ticks.
@@ -273,56 +262,6 @@ impl<'s> Report<'s> {
         };
         let headings = ["axis", "least arrival alone", &before];
         html::paragraph(&self.setter_told()) + &html::table(&headings, &rows)
-    }
-
-    /// What sets the arrival, in a sentence or two.
-    fn setter_told(&self) -> String {
-        let (found, least) = (self.arrivals.found, self.arrivals.least);
-        if self.sheet.job.arrival != Arrival::Earliest {
-            return match least {
-                Some(least) if least == found => {
-                    format!("The sheet asks for tick {found}, the least that suits all axes, {}.", self.set_by(least))
-                }
-                Some(least) => format!(
-                    "The sheet asks for tick {found}; the least that suits all axes is tick {least}, {}.",
-                    self.set_by(least)
-                ),
-                None => format!("The sheet asks for tick {found}."),
-            };
-        }
-        match least {
-            Some(least) if least < found => format!(
-                "Every axis can arrive at tick {least}, {}; tick {found} is the least after it that suits all axes and fits a window with \
-                 its dwell.{}",
-                self.set_by(least),
-                self.window_told(found - 1)
-            ),
-            _ if self.arrivals.setting(found).next().is_some() => format!(
-                "The arrival is set by {}: tick {found} is the least that it reaches alone.{}",
-                self.titles(self.arrivals.setting(found)),
-                if self.axes.len() > 1 { " Axes that could be sooner are planned to arrive with it." } else { "" }
-            ),
-            _ => format!(
-                "No axis alone sets the arrival. A head that moves may reach a tick and then none for a while, and tick {found} is the first \
-                 that suits all axes, later than each one's own least."
-            ),
-        }
-    }
-
-    /// Which axes set the least arrival of all: those that alone reach no tick before it.
-    fn set_by(&self, least: u32) -> String {
-        match self.arrivals.setting(least).next() {
-            Some(_) => format!("set by {}", self.titles(self.arrivals.setting(least))),
-            None => "later than each one's own least".into(),
-        }
-    }
-
-    /// That a tick fits no window, where it fits none.
-    fn window_told(&self, tick: u32) -> String {
-        match self.sheet.job.windows.is_some_and(|windows| !windows.fit(tick)) {
-            true => format!(" Tick {tick} fits none."),
-            false => String::new(),
-        }
     }
 
     /// How near each axis is to its limits.

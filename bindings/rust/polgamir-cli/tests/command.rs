@@ -3,7 +3,6 @@
 mod common;
 
 use std::fs;
-use std::path::Path;
 
 use common::command::{printed, run, run_with, scratch, sheet, told};
 use common::{changed_case_c, folder, CASE_C_TABLE};
@@ -12,6 +11,10 @@ use common::{changed_case_c, folder, CASE_C_TABLE};
 fn plan_prints_the_arrival_and_aligned_columns() {
     let expected = "\
 arrival 4
+
+axis 0: position 0 to 1 units, speed up to 0.3359375 of 10 units/tick, acceleration up to 0.3359375 of 1 units/tick²
+Jerk and end stops are not limited.
+
 in fine steps, 1/256 unit
 
       axis 0
@@ -29,7 +32,7 @@ tick  position  velocity  acceleration
 fn plan_prints_units() {
     let (text, status) = printed(&run(&["plan", "--units", &sheet("case-c")]));
     assert_eq!(status, Some(0));
-    assert!(text.starts_with("arrival 4\nin units\n\n      axis 0\n"), "{text}");
+    assert!(text.contains("\nJerk and end stops are not limited.\n\nin units\n\n      axis 0\n"), "{text}");
     assert!(text.contains("\n   1  0.16796875  0.33593750   -0.00390625\n"), "{text}");
 }
 
@@ -42,15 +45,34 @@ fn plan_prints_as_the_table_program() {
     assert_eq!(refused, ("refused 8 place 0 axes 1 arrival 0\n".into(), Some(1)));
 }
 
+/// A long table shows its first and last rows, and all of them where they are asked for.
 #[test]
-fn plan_prints_each_axis_by_its_name() {
+fn plan_prints_the_first_and_the_last_rows() {
     let (text, status) = printed(&run(&["plan", &sheet("common-arrival")]));
     assert_eq!(status, Some(0));
     let lines: Vec<&str> = text.lines().collect();
     assert_eq!(lines[0], "arrival 39");
-    assert_eq!(lines[3], "      axis 0 pan                        axis 1 tilt");
-    assert_eq!(lines.len(), 5 + 40);
-    assert!(lines[4..].iter().all(|line| line.len() == lines[4].len()), "{text}");
+    assert!(lines[2].starts_with("axis 0 pan: position ") && lines[3].starts_with("axis 1 tilt: position "), "{text}");
+    assert_eq!(lines[8], "      axis 0 pan                        axis 1 tilt");
+    assert_eq!(lines[14], "  ..  32 rows more: --all prints them");
+    assert_eq!(lines.len(), 10 + 4 + 1 + 4);
+    let (all, _) = printed(&run(&["plan", "--all", &sheet("common-arrival")]));
+    let all: Vec<&str> = all.lines().collect();
+    assert_eq!(all.len(), 10 + 40);
+    assert!(all[9..].iter().all(|line| line.len() == all[9].len()), "{all:?}");
+    assert!(lines[..14].iter().chain(&lines[15..]).all(|line| all.contains(line)));
+}
+
+/// A head that starts away from its target goes past its start: by hand, from velocity −3 by one a tick, it turns at −4.5 after rows at
+/// −2.5, −4 and −4.5.
+#[test]
+fn plan_prints_how_far_an_axis_goes() {
+    let away = changed_case_c("start velocity       0", "start velocity -3").replace("arrival 4", "arrival earliest");
+    let (text, _) = printed(&run_with(&["plan", "-"], away.as_bytes()));
+    assert!(text.contains("\naxis 0: position -4.5 to 1 units, "), "{text}");
+    let scaled = format!("tick 0.5\nunit 2 mm\n{away}");
+    let (text, _) = printed(&run_with(&["plan", "-"], scaled.as_bytes()));
+    assert!(text.contains("\naxis 0: position -9 to 2 mm, speed up to "), "{text}");
 }
 
 /// A file of job words is planned, drawn and turned into words as its sheet is.
@@ -65,11 +87,8 @@ fn job_words_are_taken_for_a_sheet() {
     assert!(printed(&run(&["plot", "-o", "-", &job])).0.starts_with("<svg "));
 
     let refused = printed(&run(&["plan", folder("jobs").join("too-soon.job").to_str().expect("letters")]));
-    assert!(
-        refused.0.ends_with("\narrival 3\naxis 0: speed limit 10\naxis 0: acceleration limit 1\n"),
-        "{}",
-        refused.0
-    );
+    assert!(refused.0.contains("\nWrite `arrival 4` or `arrival earliest`.\n"), "{}", refused.0);
+    assert!(refused.0.contains("\n  axis 0: the acceleration limit by 1 to 2\n"), "{}", refused.0);
     assert_eq!(
         told(&run_with(&["plan", "-"], b"10000001 30000000")),
         "polgamir: standard input: word 1: expected kind 2 (arrival), found kind 3 (30000000)\n"
@@ -192,11 +211,24 @@ fn plot_draws_a_picture() {
         assert_eq!(picture.matches("<clipPath").count(), panels, "{name}");
         assert!(!picture.contains("NaN") && !picture.contains("inf"), "{name}");
     }
-    let file = scratch("too-soon.svg");
-    let (text, status) = printed(&run(&["plot", &sheet("too-soon"), "-o", &file]));
-    assert_eq!(status, Some(1));
-    assert!(text.starts_with("refused 8 "), "{text}");
-    assert!(!Path::new(&file).exists(), "a refused job has no picture");
+}
+
+/// Axis names stay whole in pictures of six axes, whatever stands beside them.
+#[test]
+fn axis_names_stay_readable() {
+    let text = fs::read_to_string(sheet("six-axes")).expect("a sheet");
+    let text = text.replace("weight               120", "peaks 41.5 36.2\nsecond half period 19");
+    let text = text.replace("axis 0 pan", "axis 0 pan of the northern mast");
+    let (picture, status) = printed(&run_with(&["plot", "-o", "-", "-"], text.as_bytes()));
+    assert_eq!(status, Some(0));
+    assert!(!picture.contains('…'), "{picture}");
+    for text in [
+        ">axis 0 pan of the northern mast</text>",
+        ">axis 5 focus</text>",
+        ">half period 24, peaks 41.5 36.2 (weight 119), second</text>",
+    ] {
+        assert!(picture.contains(text), "{text}");
+    }
 }
 
 /// The texts of a picture: title, numbers, remarks, caption.

@@ -3,9 +3,8 @@
 mod common;
 
 use std::fs;
-use std::path::Path;
 
-use common::command::{printed, run, run_with, scratch, sheet};
+use common::command::{printed, run, run_with, sheet};
 use common::{changed_case_c, folder};
 use polgamir::sheet::Sheet;
 use polgamir::Motion;
@@ -27,7 +26,8 @@ fn cells(page: &str) -> Vec<Vec<String>> {
     let rows = page.split("<tr>").skip(1).filter_map(|row| row.split("</tr>").next());
     let text = |cell: &str| {
         let text = cell.split_once('>').expect("the end of a tag").1.split("</t").next().unwrap_or_default();
-        text.rsplit("</span>").next().unwrap_or_default().to_string()
+        // The text within a cell's own tags: of a bar, the number after it.
+        text.trim_end_matches("</span>").rsplit('>').next().unwrap_or_default().to_string()
     };
     rows.map(|row| row.split("<t").skip(1).filter(|cell| !cell.starts_with("r>")).map(text).collect()).collect()
 }
@@ -35,6 +35,12 @@ fn cells(page: &str) -> Vec<Vec<String>> {
 /// The row of a page that begins with a text.
 fn row(page: &str, first: &str) -> Vec<String> {
     cells(page).into_iter().find(|row| row[0] == first).unwrap_or_else(|| panic!("no row {first}"))
+}
+
+/// The rows of the table below a caption.
+fn below(page: &str, caption: &str) -> Vec<Vec<String>> {
+    let table = page.split(&format!("<caption>{caption}</caption>")).nth(1).unwrap_or_else(|| panic!("no {caption}"));
+    cells(table.split("</table>").next().unwrap_or_default()).split_off(1)
 }
 
 const SHEETS: [&str; 10] = [
@@ -147,15 +153,49 @@ fn what_sets_the_arrival_is_told() {
 #[test]
 fn sways_are_told_apart() {
     let page = report("jointed-pole");
-    for name in ["sway left on axis 0 pan if", "second sway left on axis 0 pan if", "second sway left, units"] {
+    for name in
+        ["sway left on axis 0 pan if", "second sway left on axis 0 pan if", "second sway left, units in proportion<"]
+    {
         assert!(page.contains(name), "{name}");
     }
-    assert_eq!(row(&page, "second half period").len(), 12);
+    let caption = "second sway left, units in proportion, over the error of the second half period";
+    assert_eq!(below(&page, caption).len(), 9);
+    assert_eq!(row(&page, "axis 0 pan, second sway")[1..3], ["11 ticks, 1", "11 ticks, 1"]);
     for name in ["case-c", "common-arrival"] {
         let page = report(name);
         assert!(page.contains("No axis has a half period: there is no blend, and it costs nothing."), "{name}");
         assert!(!page.contains("this table<") && !page.contains("is what the blend costs"), "{name}");
     }
+}
+
+/// Wherever a number of a sway stands, the page says that it is in proportion.
+#[test]
+fn a_sway_is_in_proportion() {
+    for name in SHEETS {
+        let page = report(name);
+        // The title of a picture, which has a label of its own, and a column beside another that says it, need not.
+        let excused = |said: &str| said.starts_with(" over the error") || said.starts_with("\">") || said.is_empty();
+        for said in page.split("sway left").skip(1).filter_map(|sway| sway.split('<').next()) {
+            assert!(said.contains("in proportion") || excused(said), "{name}: sway left{said}");
+        }
+        assert!(!page.contains("top of the pole"), "{name}");
+    }
+    let page = report("pan-tilt-stem");
+    assert!(page.contains("it is not the tip in degrees"));
+    assert_eq!(row(&page, "axis 0 pan").len(), 9);
+}
+
+/// The least and the greatest position of an axis stand in the answer.
+#[test]
+fn positions_have_their_ends() {
+    let (page, plan) = (report("six-axes"), job("six-axes").plan().expect("a plan"));
+    let range = plan.position_range(3).expect("an axis");
+    let shown = |cell: i64| polgamir::in_units(cell).to_string();
+    assert_eq!(
+        row(&page, "axis 3 slide")[1..6],
+        ["-200", "640", &shown(*range.start()), &shown(*range.end()), "units"]
+    );
+    assert!(*range.start() < -200 * 256 && page.contains("Jerk and end stops are not limited."));
 }
 
 /// Limits and misses are those of the cells.
@@ -184,16 +224,32 @@ fn limits_and_misses_are_read_off_the_cells() {
     }
 }
 
-/// The pole as entered keeps next to nothing, and an error of its half period leaves more on both sides.
+/// The pole as entered keeps next to nothing, an error of its half period leaves more on both sides, and never more than is proved.
 #[test]
 fn errors_of_the_pole_leave_sway() {
-    let left = row(&report("pan-tilt-stem"), "this table, units");
-    let left: Vec<f64> = left[1..].iter().map(|number| number.parse().expect("a number")).collect();
-    assert_eq!(left.len(), 11);
-    assert!(left[5] < 0.05 && left[..5].windows(2).all(|pair| pair[0] > pair[1]), "{left:?}");
-    assert!(left[6..].windows(2).all(|pair| pair[0] < pair[1]), "{left:?}");
-    let without = row(&report("pan-tilt-stem"), "without the blend");
-    assert!(without[6].parse::<f64>().expect("a number") > 100.0, "{without:?}");
+    let rows = below(&report("pan-tilt-stem"), "sway left, units in proportion, over the error of the half period");
+    let numbers =
+        |column: usize| -> Vec<f64> { rows.iter().map(|row| row[column].parse().expect("a number")).collect() };
+    let (left, bound, without) = (numbers(1), numbers(2), numbers(3));
+    assert_eq!((left.len(), rows[4][0].as_str()), (9, "as entered"));
+    assert!(left[4] < 0.05 && left[..5].windows(2).all(|pair| pair[0] > pair[1]), "{left:?}");
+    assert!(left[4..].windows(2).all(|pair| pair[0] < pair[1]), "{left:?}");
+    assert!(without[4] > 100.0, "{without:?}");
+    assert!(left.iter().zip(&bound).all(|(left, bound)| left < bound), "{bound:?}");
+}
+
+/// The bound is the library's, in the sheet's measure: on a pole that is as entered, and on one whose half period is 10 percent longer.
+#[test]
+fn the_bound_is_the_proved_one() {
+    let text = format!("unit 0.01 degree\n{}", fs::read_to_string(sheet("pan-tilt-stem")).expect("a sheet"));
+    let (page, _) = printed(&run_with(&["report", "-o", "-", "-"], text.as_bytes()));
+    let rows = below(&page, "sway left, degree in proportion, over the error of the half period");
+    let pan = job("pan-tilt-stem").axes[0].expect("an axis");
+    for (row, error) in [(&rows[4], 0), (&rows[8], 3)] {
+        let bound = pan.sway_bound(110, error.into(), 0.into()).expect("a bound").rounded as f64 / 256.0 * 0.01;
+        let told: f64 = row[2].parse().expect("a number");
+        assert!((told - bound).abs() <= 0.005 * bound, "{told} {bound}");
+    }
 }
 
 #[test]
@@ -201,23 +257,16 @@ fn ticks_and_units_scale_a_report() {
     let text = fs::read_to_string(sheet("laser-windows")).expect("a sheet");
     let text = format!("tick 0.02\nunit 0.01 degree\n{text}");
     let (page, _) = printed(&run_with(&["report", "-o", "-", "-"], text.as_bytes()));
-    for text in ["<b>tick 150 (3 s)</b>", "sway left, degree", "velocity, degree/s", "tick of 0.02 s"] {
+    for text in [
+        "<b>tick 150 (3 s)</b>",
+        "sway left, degree",
+        "velocity, degree/s",
+        ">seconds; a tick is 0.02 s<",
+        ">arrival 3 s<",
+    ] {
         assert!(page.contains(text), "{text}");
     }
     assert_eq!(row(&page, "axis 0 pan, speed")[3..5], ["20", "degree/s"]);
-}
-
-#[test]
-fn a_refused_job_has_no_report() {
-    let file = scratch("too-soon.html");
-    let _ = fs::remove_file(&file);
-    let (text, status) = printed(&run(&["report", &sheet("too-soon"), "-o", &file]));
-    assert!(status == Some(1) && text.starts_with("refused 8 "), "{text}");
-    assert!(!Path::new(&file).exists());
-    let text = fs::read_to_string(sheet("plot-of-stems")).expect("a sheet").replace("stop  3900", "stop  3000000000");
-    let (text, status) = printed(&run_with(&["report", "-", "-o", &file], text.as_bytes()));
-    assert!(status == Some(1) && text.starts_with("refused 9 place 2 "), "{text}");
-    assert!(!Path::new(&file).exists());
 }
 
 /// The report of a tour over the stops 4 and 0 on one axis: each leg is case B or its mirror image, of four ticks, and by half periods
@@ -239,15 +288,17 @@ fn a_tour_is_told_by_its_legs() {
     let answer: Vec<Vec<String>> = of_length(6).collect();
     assert_eq!(answer, [["0", "4", "4", "3", "7", "4"], ["1", "4", "11", "5", "16", "0"]]);
     assert_eq!(row(&page, "axis 1 pan, acceleration")[1..], ["100 %", "4", "4", "units/s²", "0", "8", "0"]);
-    assert_eq!(row(&page, "axis 1 pan")[1..], ["0", "–", "–", "0", "–", "–"]);
+    let misses: Vec<Vec<String>> = of_length(7).collect();
+    assert_eq!(misses, [["axis 1 pan", "0", "–", "–", "0", "–", "–"]]);
     let earlier = "it could not; it would take an acceleration limit of 8 units/s² in place of 4";
-    let set: Vec<Vec<String>> = of_length(4).collect();
+    let set: Vec<Vec<String>> = of_length(4).filter(|row| row[2] == "axis 1 pan").collect();
     assert_eq!(set, [["0", "4", "axis 1 pan", earlier], ["1", "4", "axis 1 pan", earlier]]);
+    assert_eq!(row(&page, "axis 1 pan"), ["axis 1 pan", "0", "4", "units"]);
 
     let page = tour("3");
     assert!(page.contains("<b>22 ticks (11 s)</b>") && page.contains("<b>6 ticks (3 s)</b>"), "{page}");
     assert_eq!(row(&page, "leg to stop 1")[1..], ["7", "4", "3"]);
     assert_eq!(row(&page, "all legs")[1..], ["14", "8", "6"]);
-    let left = row(&page, "the worst leg, units");
-    assert!(left[6] == "0" && left[1] != "0" && left[11] != "0", "{left:?}");
+    let left = below(&page, "sway left, units in proportion, over the error of the half period");
+    assert!(left[4][1] == "0" && left[0][1] != "0" && left[8][1] != "0", "{left:?}");
 }

@@ -70,29 +70,44 @@ fn tour_prints_the_tables_of_its_legs() {
 #[test]
 fn refused_tours_name_the_stop_and_its_line() {
     let expected = "\
-refused 9 place 1 axes 2 arrival 0
-the leg to stop 1 has no plan: axis 1 pan can arrive at no tick from 1 to 4096
-look at \"enter start and target, still or moving\": bring start and target nearer, change a moving target, or raise \
-limits as far as the motors allow
-line 7: axis 1 pan: start position 4
-line 4: axis 1 pan: speed limit 10
-line 5: axis 1 pan: acceleration limit 1
-line 8: axis 1 pan: target position 100000000
+No plan for the leg to stop 1 (line 8): pan can arrive at no tick from 1 to 4096.
+Bring start and target nearer, change a moving target, or raise limits as far as the motors allow.
+  line 7: pan: start position 4
+  line 4: pan: speed limit 10
+  line 5: pan: acceleration limit 1
+  line 8: pan: target position 100000000
+On the set-up sheet look at \"enter start and target, still or moving\". [refusal 9]
 ";
     assert_eq!(tour_with(&[], "stop 0", "stop 100000000"), (expected.into(), Some(1)));
     let plain = ("refused 9 place 1 axes 2 arrival 0\n".into(), Some(1));
     assert_eq!(tour_with(&["--plain"], "stop 0", "stop 100000000"), plain);
     let expected = "\
-refused 11 place 1 axes 0 arrival 0
-the dwell of stop 1 is above 4096
-look at \"enter start and target, still or moving\": enter a dwell from 0 to 4096
-line 8: stop 1: dwell 4097
+No plan: the dwell of stop 1 is above 4096 ticks.
+Enter a dwell from 0 to 4096 ticks.
+  line 8: stop 1: dwell 4097
+On the set-up sheet look at \"enter start and target, still or moving\". [refusal 11]
 ";
     assert_eq!(tour_with(&[], "dwell 5", "dwell 4097"), (expected.into(), Some(1)));
     let (text, status) = tour_with(&[], "stop 4 dwell 3", &"stop 4 dwell 3\n".repeat(70));
     assert_eq!(status, Some(1));
-    assert!(text.starts_with("refused 11 place 64 axes 0 arrival 0\nthere are 71 stops, and"), "{text}");
-    assert!(text.ends_with("\nline 71: the first stop too many\n"), "{text}");
+    assert!(text.starts_with("No plan: there are 71 stops, and a tour has at most 64.\n"), "{text}");
+    assert!(text.contains("\n  line 71: the first stop too many\n"), "{text}");
+}
+
+/// In units a tour has seconds and what the sheet says that a unit stands for.
+#[test]
+fn tour_prints_units() {
+    let expected = "\
+total 16 (4 s)
+
+stop  arrival, s  dwell, s  departure, s  axis 1 pan, degree
+   0           1      0.75          1.75                   2
+   1        2.75      1.25             4                   0
+";
+    let scaled = "tick 0.25\nunit 0.5 degree\naxis 1 pan";
+    assert_eq!(tour_with(&["--units"], "axis 1 pan", scaled), (expected.into(), Some(0)));
+    let (plain, _) = tour_with(&["--units"], "", "");
+    assert!(plain.starts_with("total 16\n\nstop  arrival  dwell  departure  axis 1 pan, units\n"), "{plain}");
 }
 
 #[test]
@@ -172,12 +187,27 @@ fn plot_draws_the_timeline() {
     assert_eq!(picture.matches("<clipPath").count(), 6);
     for stop in 0..6 {
         assert_eq!(
-            picture.matches(&format!(">{stop}</text>")).count() % 2,
-            0,
+            picture
+                .matches(&format!(" font-weight=\"bold\" text-anchor=\"middle\" fill=\"#1F2328\">{stop}</text>"))
+                .count(),
+            2,
             "each axis has the number of stop {stop}"
         );
     }
     assert!(!picture.contains("NaN") && !picture.contains("inf"));
     let (_, status) = printed(&run_with(&["plot", "-o", "-", "-"], TOUR.replace("dwell 5", "dwell 4097").as_bytes()));
     assert_eq!(status, Some(1));
+}
+
+/// Every one of 64 stops keeps its number above its line.
+#[test]
+fn sixty_four_stops_keep_their_labels() {
+    let stops: String = (0..64).map(|stop| format!("stop {} dwell {}\n", stop * 37 % 50, stop % 5)).collect();
+    let text = TOUR.split("stop 4").next().unwrap_or_default().to_string() + &stops;
+    let (picture, status) = printed(&run_with(&["plot", "-o", "-", "-"], text.as_bytes()));
+    assert_eq!(status, Some(0));
+    for stop in 0..64 {
+        let label = format!(" font-weight=\"bold\" text-anchor=\"middle\" fill=\"#1F2328\">{stop}</text>");
+        assert_eq!(picture.matches(&label).count(), 1, "{stop}");
+    }
 }

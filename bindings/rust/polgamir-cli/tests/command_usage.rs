@@ -48,7 +48,7 @@ fn wrong_sheets_end_with_2() {
     for command in ["plan", "words"] {
         assert_eq!(
             told(&run_with(&[command, "-"], wrong.as_bytes())),
-            "polgamir: standard input: line 8: expected a whole number of units per tick from 1 to 1048576 after \
+            "polgamir: standard input: line 8: expected a whole number of units per tick from 1 to 1048576, or one as in `60 degree/s`, after \
              `speed limit`, found `ten`\n"
         );
     }
@@ -87,18 +87,30 @@ fn wrong_usage_ends_with_2() {
         &["plot", &case_c, "-o", "x", "-o", "y"],
     ] {
         let text = told(&run(arguments));
-        assert!(text.ends_with("; `polgamir --help` lists what can be asked\n"), "{arguments:?}: {text}");
+        let expected = match arguments {
+            [] | ["draw"] => "; `polgamir --help` lists what can be asked\n".into(),
+            [command, ..] => format!("; `polgamir {command} --help` lists its options\n"),
+        };
+        assert!(text.ends_with(&expected), "{arguments:?}: {text}");
     }
 }
 
+/// Each command has a page of its own, of one screen, and the first page lists them.
 #[test]
-fn help_is_given() {
-    for arguments in [&["--help"][..], &["help"], &["-h"], &["plan", "--help"]] {
-        let (text, status) = printed(&run(arguments));
-        assert_eq!(status, Some(0));
-        for command in ["plan", "words", "show", "tour", "plot", "report", "Exit status"] {
-            assert!(text.contains(command), "{command}");
-        }
+fn each_command_has_a_page_of_help() {
+    let (all, status) = printed(&run(&["--help"]));
+    assert_eq!(status, Some(0));
+    assert!(all.contains("Exit status"), "{all}");
+    assert_eq!((printed(&run(&["help"])), printed(&run(&["-h"]))), ((all.clone(), Some(0)), (all.clone(), Some(0))));
+    let listed = all.lines().filter_map(|line| line.strip_prefix("  ")?.split(' ').next());
+    let commands: Vec<&str> = listed.filter(|word| !word.is_empty()).collect();
+    assert!(commands.len() >= 7, "{commands:?}");
+    for command in commands {
+        let (page, status) = printed(&run(&[command, "--help"]));
+        assert_eq!((status, printed(&run(&["help", command])).0), (Some(0), page.clone()));
+        assert!(page.contains(&format!("Usage: polgamir {command} ")) && page != all, "{page}");
+        assert!(page.lines().count() <= 24 && page.lines().all(|line| line.chars().count() <= 80), "{page}");
     }
+    assert!(told(&run(&["help", "draw"])).contains("found `draw`"));
     assert_eq!(printed(&run(&["--version"])), (concat!("polgamir ", env!("CARGO_PKG_VERSION"), "\n").into(), Some(0)));
 }

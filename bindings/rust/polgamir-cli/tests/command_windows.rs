@@ -14,7 +14,9 @@ fn refused(lines: &str) -> String {
 
 #[test]
 fn refusals_name_the_windows_at_fault() {
-    let last = |lines: &str| refused(lines).lines().last().map(String::from).unwrap_or_default();
+    // The line before the last one, which has the refusal's number.
+    let last =
+        |lines: &str| refused(lines).lines().rev().nth(1).map(|line| line.trim().into()).unwrap_or_else(String::new);
     assert_eq!(last("arrival 4\ndwell 0"), "line 4: dwell 0, expected a `window` beside it");
     assert_eq!(last("arrival 4\ndwell 4097\nwindow 0 9"), "line 4: dwell 4097, expected 0 to 4096");
     assert_eq!(last("arrival 4\ndwell 0\nwindow 9 9"), "line 5: window 9 9, expected a closing above 9");
@@ -28,18 +30,18 @@ fn refusals_name_the_windows_at_fault() {
     );
     assert_eq!(last(&many), "line 37: the first window too many");
     let expected = "\
-refused 8 place 0 axes 0 arrival 0
-every axis can arrive at tick 4, but it fits no window; the least arrival that would do is tick 7
-look at \"read the arrival tick before the first sighting\": ask for another tick, or look whether the site permits other \
-windows or a shorter dwell does
-line 3: arrival 4
-line 5: window 7 9
-line 4: dwell 1
+No plan: every axis can arrive at tick 4, but it fits no window. Earliest: tick 7.
+Write `arrival 7` or `arrival earliest` in line 3, or look whether the site permits other windows or a shorter dwell does.
+  line 5: window 7 9
+  line 4: dwell 1
+On the set-up sheet look at \"read the arrival tick before the first sighting\". [refusal 8]
 ";
     assert_eq!(refused("arrival 4\ndwell 1\nwindow 7 9"), expected);
     let text = refused("arrival earliest\ndwell 0\nwindow 0 1");
     assert!(
-        text.starts_with("refused 9 place 0 axes 0 arrival 0\neach axis can arrive, but no tick from 1 to 4096 suits"),
+        text.starts_with(
+            "No plan: each axis can arrive, but no tick from 1 to 4096 suits all of them and fits a window.\n"
+        ),
         "{text}"
     );
 

@@ -31,9 +31,9 @@ fn planned_jobs(seed: u64, count: usize) -> Vec<(Job, Plan)> {
     planned
 }
 
-/// The fields of lines of comma-separated numbers, without the heading.
+/// The fields of lines of comma-separated numbers, without what made them and the heading.
 fn numbers<T: std::str::FromStr>(csv: &str) -> Vec<Vec<T>> {
-    let lines = csv.lines().skip(1);
+    let lines = csv.lines().skip(2);
     lines.map(|line| line.split(',').map(|field| field.parse().ok().expect("a number")).collect()).collect()
 }
 
@@ -50,7 +50,12 @@ fn comma_separated_values_read_back() {
         assert!(units.iter().copied().eq(plan.cells().iter().map(|&cell| in_units(cell))));
     }
     let heading = "tick,axis 0 position,axis 0 velocity,axis 0 acceleration\n0,0,0,86\n";
-    assert!(printed(&run(&["plan", "--csv", &sheet("case-c")])).0.starts_with(heading));
+    let made = concat!(
+        "# polgamir ",
+        env!("CARGO_PKG_VERSION"),
+        " from case-c.sheet: arrival 4, in fine steps of 1/256 unit\n"
+    );
+    assert!(printed(&run(&["plan", "--csv", &sheet("case-c")])).0.starts_with(&format!("{made}{heading}")));
 }
 
 /// A name with a comma or a quote stays one field.
@@ -58,7 +63,7 @@ fn comma_separated_values_read_back() {
 fn names_are_quoted() {
     let named = changed_case_c("axis 0", "axis 0 pan, \"left\"");
     let (csv, _) = printed(&run_with(&["plan", "--csv", "-"], named.as_bytes()));
-    assert!(csv.starts_with("tick,\"axis 0 pan, \"\"left\"\" position\",\"axis"), "{csv}");
+    assert!(csv.contains("\ntick,\"axis 0 pan, \"\"left\"\" position\",\"axis"), "{csv}");
     let (json, _) = printed(&run_with(&["plan", "--json", "-"], named.as_bytes()));
     let json = Json::read(&json);
     assert_eq!(
@@ -117,12 +122,29 @@ fn a_c_array_compiles_and_is_the_table() {
 #[test]
 fn refusals_are_exported() {
     let refused = |option: &str| printed(&run(&["plan", option, &sheet("too-soon")]));
-    let line = "refused 8 place 0 axes 1 arrival 0\n";
-    assert_eq!((refused("--csv"), refused("--c-array")), ((line.into(), Some(1)), (line.into(), Some(1))));
+    let line = "refused 8 place 0 axes 1 arrival 0";
+    assert_eq!(refused("--csv"), (format!("{line}\n"), Some(1)));
+    let (array, status) = refused("--c-array");
+    assert!(status == Some(1) && array.starts_with(&format!("#error \"{line}: No plan: axis 0 ")), "{array}");
     let (text, status) = refused("--json");
     let json = Json::read(&text);
     let number = |name: &str| json.get(name).expect(name).number::<u32>();
     assert_eq!((status, ["refused", "place", "axes", "arrival"].map(number)), (Some(1), [8, 0, 1, 0]));
+    // Case E: tick 4 would do, or one more of acceleration.
+    assert_eq!(["least_arrival", "next_arrival"].map(number), [4, 4]);
+    let raised = &json.get("raises").expect("raises").list()[0];
+    let raise = &raised.get("raises").expect("its raises").list()[0];
+    assert_eq!((raised.get("axis").map(Json::number), raise.get("by").map(Json::number)), (Some(0), Some(1)));
+    assert_eq!(raise.get("limit"), Some(&Json::Text("acceleration_limit".into())));
+    assert_eq!(raise.get("to").map(Json::number), Some(2));
+    assert_eq!(json.get("sheet"), Some(&Json::Text("too-soon.sheet".into())));
+    let far = changed_case_c("target position      1", "target position 100000000");
+    let json = Json::read(&printed(&run_with(&["plan", "--json", "-"], far.as_bytes())).0);
+    assert_eq!(
+        (json.get("least_arrival"), json.get("sheet")),
+        (Some(&Json::Null), Some(&Json::Text("standard input".into())))
+    );
+    assert_eq!(json.get("polgamir"), Some(&Json::Text(env!("CARGO_PKG_VERSION").into())));
 }
 
 #[test]
@@ -131,7 +153,7 @@ fn exports_do_not_mix() {
         [&["--csv", "--json"][..], &["--csv", "--plain"], &["--c-array", "--units"], &["--json", "--c-array"]]
     {
         let text = told(&run(&[&["plan", &sheet("case-c")], options].concat()));
-        assert!(text.ends_with("; `polgamir --help` lists what can be asked\n"), "{text}");
+        assert!(text.ends_with("; `polgamir plan --help` lists its options\n"), "{text}");
     }
 }
 
@@ -146,6 +168,10 @@ fn ticks_and_units_scale_what_is_shown() {
     let (text, status) = printed(&run_with(&["plan", "--units", "-"], scaled_case_c().as_bytes()));
     let expected = "\
 arrival 4 (1 s)
+
+axis 0: position 0 to 0.5 degree, speed up to 0.671875 of 20 degree/s, acceleration up to 2.6875 of 8 degree/s²
+Jerk and end stops are not limited.
+
 in degree, degree/s, degree/s², a tick is 0.25 s
 
       axis 0
@@ -158,7 +184,7 @@ tick  position  velocity  acceleration
 ";
     assert_eq!((text.as_str(), status), (expected, Some(0)));
     let (csv, _) = printed(&run_with(&["plan", "--units", "--csv", "-"], scaled_case_c().as_bytes()));
-    assert!(csv.starts_with("tick,time (s),axis 0 position (degree),axis 0 velocity (degree/s),"), "{csv}");
+    assert!(csv.contains("\ntick,time (s),axis 0 position (degree),axis 0 velocity (degree/s),"), "{csv}");
     assert_eq!(numbers::<f64>(&csv)[1], [1.0, 0.25, 43.0 / 512.0, 86.0 / 128.0, -1.0 / 32.0]);
     let (json, _) = printed(&run_with(&["plan", "--units", "--json", "-"], scaled_case_c().as_bytes()));
     let json = Json::read(&json);
@@ -167,7 +193,9 @@ tick  position  velocity  acceleration
     let names = ["degree", "degree/s", "degree/s²"].map(|name| Json::Text(name.into()));
     assert_eq!(measures, Some(Some(Json::List(names.into()))));
     let (picture, _) = printed(&run_with(&["plot", "-o", "-", "-"], scaled_case_c().as_bytes()));
-    for text in ["arrival at tick 4 (1 s)", "velocity, degree/s<", "tick of 0.25 s", "limit ±20"] {
+    for text in
+        ["arrival at tick 4 (1 s)", ">arrival 1 s<", "velocity, degree/s<", ">seconds; a tick is 0.25 s<", "limit ±20"]
+    {
         assert!(picture.contains(text), "{text}");
     }
 }
@@ -204,7 +232,7 @@ fn units_are_read_and_written() {
     assert!((0..6).all(|axis| again.unit_of(axis) == sheet.unit_of(axis)));
     let (shown, _) = printed(&run_with(&["plan", "--units", "-"], text.as_bytes()));
     let line = "in degree, degree/s, degree/s² (axis 0 pan); mm per turn, mm per turn/s, mm per turn/s² (axis 1 tilt), a tick is 0.02 s";
-    assert_eq!(shown.lines().nth(1), Some(line));
+    assert_eq!(shown.lines().nth(6), Some(line));
 
     let tour = String::from("tick 0.02\nunit degree\n")
         + &fs::read_to_string(common::command::sheet("plot-of-stems")).expect("a tour");

@@ -110,8 +110,9 @@ fn other_text(text: &str) -> Option<&'static str> {
     let mut first_words = words_in(text).filter_map(|mut words| words.next());
     match first_words.next()?.to_ascii_lowercase().trim_end_matches([':', '=']) {
         "refused" => Some("a printed refusal"),
+        "no" if text.trim_end().ends_with(']') => Some("a printed refusal"),
         "total" => Some("a printed tour"),
-        "arrival" if first_words.next().is_some_and(is_below_a_printed_arrival) => Some("a printed table"),
+        "arrival" if has_rows(text) => Some("a printed table"),
         "arrival" | "axis" | "stop" | "window" | "dwell" | "tick" | "unit" => Some(
             "a set-up sheet: `polgamir plan` plans a job, `polgamir tour` a tour, `polgamir words` writes job words",
         ),
@@ -119,7 +120,8 @@ fn other_text(text: &str) -> Option<&'static str> {
     }
 }
 
-/// Whether a line's first word is one that follows the arrival of a printed table: `in` units or fine steps, or tick 0.
-fn is_below_a_printed_arrival(word: &str) -> bool {
-    word == "in" || word == "0"
+/// Whether a text has the rows of a printed table: a heading of columns, or row 0 below the arrival.
+fn has_rows(text: &str) -> bool {
+    let mut lines = words_in(text).map(|words| words.take(2).collect::<Vec<_>>());
+    lines.nth(1).is_some_and(|second| second[0] == "0") || lines.any(|line| line == ["tick", "position"])
 }

@@ -20,6 +20,19 @@ impl fmt::Display for FileError {
     }
 }
 
+impl FileError {
+    /// The error, and that a file which was to be written is still an older one, where it is.
+    pub fn beside_older(self, output: &Path) -> FileError {
+        match output.is_file() {
+            true => {
+                let cause = format!("{}\n{} is left as it was: it is not of this file", self.cause, output.display());
+                FileError { cause, ..self }
+            }
+            false => self,
+        }
+    }
+}
+
 /// An error about a file that is read.
 pub fn about(file: &Path, cause: impl fmt::Display) -> FileError {
     let file = if is_standard(file) { "standard input".into() } else { file.display().to_string() };

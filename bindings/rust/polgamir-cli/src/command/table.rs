@@ -5,26 +5,41 @@ use std::fmt::Write;
 use polgamir::sheet::Sheet;
 use polgamir::{Accepted, Motion};
 
+use super::summary;
 use crate::arguments::TableForm;
 use crate::measure::{in_seconds, rounded, Measure};
 
 /// The columns of each axis.
 pub const COLUMNS: [&str; 3] = ["position", "velocity", "acceleration"];
 
-/// The arrival, then the table.
-pub fn print(sheet: &Sheet, accepted: &Accepted, form: TableForm) -> String {
-    let tick = sheet.tick_seconds();
-    let seconds = in_seconds(accepted.arrival(), tick);
-    let arrival = format!("arrival {}{seconds}\n", accepted.arrival());
+/// The rows that are shown from the beginning of a long table, and as many from its end.
+const SHOWN: usize = 4;
+
+/// The rows of a table that is shown whole.
+const SHORT: usize = 12;
+
+/// The arrival and a summary, then the table: every row, or the first and the last ones.
+pub fn print(sheet: &Sheet, accepted: &Accepted, form: TableForm, all: bool) -> String {
     match form {
         TableForm::Plain => format!("arrival {}\n", accepted.arrival()) + &plain_rows(accepted),
+        form => {
+            let arrival = format!("{}{}", accepted.arrival(), in_seconds(accepted.arrival(), sheet.tick_seconds()));
+            format!("arrival {arrival}\n\n{}\n{}", summary::of(sheet, accepted), rows(sheet, accepted, form, all))
+        }
+    }
+}
+
+/// The rows in columns below what they are in.
+pub fn rows(sheet: &Sheet, accepted: &Accepted, form: TableForm, all: bool) -> String {
+    match form {
+        TableForm::Plain => plain_rows(accepted),
         TableForm::FineSteps => {
-            arrival + "in fine steps, 1/256 unit\n\n" + &aligned(sheet, accepted, |_, motion| cells_of(motion))
+            "in fine steps, 1/256 unit\n\n".to_string() + &aligned(sheet, accepted, all, |_, motion| cells_of(motion))
         }
         TableForm::Units => {
-            let ticks = tick.map(|tick| format!(", a tick is {} s", rounded(tick))).unwrap_or_default();
-            let table = aligned(sheet, accepted, |axis, motion| in_measure(&Measure::of(sheet, axis), motion));
-            format!("{arrival}in {}{ticks}\n\n{table}", measures(sheet, accepted))
+            let ticks = sheet.tick_seconds().map(|tick| format!(", a tick is {} s", rounded(tick)));
+            let table = aligned(sheet, accepted, all, |axis, motion| in_measure(&Measure::of(sheet, axis), motion));
+            format!("in {}{}\n\n{table}", measures(sheet, accepted), ticks.unwrap_or_default())
         }
     }
 }
@@ -67,10 +82,13 @@ fn plain_rows(accepted: &Accepted) -> String {
     text
 }
 
-/// The rows in columns of even width, below the axes' titles and the columns' names.
-fn aligned(sheet: &Sheet, accepted: &Accepted, format: impl Fn(usize, Motion) -> [String; 3]) -> String {
-    let rows: Vec<Vec<String>> = accepted
-        .rows()
+/// The rows in columns of even width, below the axes' titles and the columns' names; of a long table the first and the last ones,
+/// unless all are asked for.
+fn aligned(sheet: &Sheet, accepted: &Accepted, all: bool, format: impl Fn(usize, Motion) -> [String; 3]) -> String {
+    let count = accepted.rows().len();
+    let hidden = if all || count <= SHORT { 0..0 } else { SHOWN..count - SHOWN };
+    let shown = accepted.rows().filter(|row| !hidden.contains(&(row.tick() as usize)));
+    let rows: Vec<Vec<String>> = shown
         .map(|row| {
             let tick = row.tick().to_string();
             std::iter::once(tick).chain(row.axes().flat_map(|(axis, motion)| format(axis, motion))).collect()
@@ -84,7 +102,10 @@ fn aligned(sheet: &Sheet, accepted: &Accepted, format: impl Fn(usize, Motion) ->
         .collect();
     let mut text = titles(sheet, accepted, &widths);
     push_line(&mut text, &widths, names.into_iter());
-    for row in &rows {
+    for (index, row) in rows.iter().enumerate() {
+        if index == SHOWN && !hidden.is_empty() {
+            let _ = writeln!(text, "  ..  {} rows more: --all prints them", hidden.len());
+        }
         push_line(&mut text, &widths, row.iter().map(String::as_str));
     }
     text

@@ -5,16 +5,26 @@ use std::fmt::Write;
 use polgamir::sheet::TourSheet;
 use polgamir::{Schedule, TourRefusal};
 
+use super::export::{self, Source};
 use super::{refusal, table, Done};
-use crate::arguments::TableForm;
-use crate::measure::in_seconds;
+use crate::arguments::{TableForm, TourForm};
+use crate::measure::{in_seconds, rounded, Measure};
 
 /// Plans a tour and prints its arrivals, and the tables of its legs where they are asked for, or its refusal.
-pub fn planned(sheet: &TourSheet, form: TableForm, tables: bool) -> Done {
-    match text_of(sheet, form, tables) {
-        Ok(text) => Done::well(text),
-        Err(refusal) if form == TableForm::Plain => Done::refused(refusal.printed_line() + "\n"),
-        Err(refusal) => Done::refused(refusal::explained_tour(sheet, &refusal)),
+pub fn planned(source: &Source, sheet: &TourSheet, form: TourForm) -> Done {
+    let text = match form {
+        TourForm::Table { form, tables } => text_of(sheet, form, tables),
+        TourForm::Export(export) => export::tour_written(source, sheet, export),
+    };
+    let refusal = match text {
+        Ok(text) => return Done::well(text),
+        Err(refusal) => refusal,
+    };
+    let told = refusal::told_of_tour(sheet, &refusal);
+    match form {
+        TourForm::Table { form: TableForm::Plain, .. } => Done::plainly_refused(&told),
+        TourForm::Table { .. } => Done::refused_in_words(&told),
+        TourForm::Export(export) => Done::refused(&told, export::refused_tour(source, sheet, &refusal, export)),
     }
 }
 
@@ -23,7 +33,7 @@ fn text_of(sheet: &TourSheet, form: TableForm, tables: bool) -> Result<String, T
     let schedule = sheet.tour.schedule(&sheet.stops)?;
     let mut text = match form {
         TableForm::Plain => plain(&schedule),
-        _ => aligned(sheet, &schedule),
+        form => aligned(sheet, &schedule, form == TableForm::Units),
     };
     if tables {
         for stop in 0..sheet.stops.len() {
@@ -42,15 +52,26 @@ fn plain(schedule: &Schedule) -> String {
     text
 }
 
-/// The total, then the stops in columns of even width.
-fn aligned(sheet: &TourSheet, schedule: &Schedule) -> String {
-    let titles = sheet.tour.entered().map(|(number, _)| sheet.axis_title(number));
-    let names = ["stop", "arrival", "dwell", "departure"].map(String::from).into_iter().chain(titles);
-    let mut lines: Vec<Vec<String>> = vec![names.collect()];
+/// The total, then the stops in columns of even width: in ticks and units, or in what the sheet says that they stand for.
+fn aligned(sheet: &TourSheet, schedule: &Schedule, in_measures: bool) -> String {
+    let seconds = sheet.tick_seconds().filter(|_| in_measures);
+    let time = |ticks: u32| seconds.map_or(ticks.to_string(), |tick| rounded(f64::from(ticks) * tick));
+    let by_time = |name: &str| if seconds.is_some() { format!("{name}, s") } else { name.into() };
+    let measures: Vec<(usize, Measure)> =
+        sheet.tour.entered().map(|(number, _)| (number, Measure::of_tour(sheet, number))).collect();
+    let titles = measures.iter().map(|(number, measure)| match in_measures {
+        true => format!("{}, {}", sheet.axis_title(*number), measure.names()[0]),
+        false => sheet.axis_title(*number),
+    });
+    let times = ["arrival", "dwell", "departure"].map(by_time);
+    let mut lines: Vec<Vec<String>> = vec![std::iter::once("stop".into()).chain(times).chain(titles).collect()];
     for (index, (stop, &arrival)) in sheet.stops.iter().zip(&schedule.arrivals).enumerate() {
-        let times = [index as u32, arrival, stop.dwell, arrival + stop.dwell].map(|time| time.to_string());
-        let positions = sheet.tour.entered().map(|(number, _)| stop.positions[number].to_string());
-        lines.push(times.into_iter().chain(positions).collect());
+        let times = [arrival, stop.dwell, arrival + stop.dwell].map(time);
+        let positions = measures.iter().map(|(number, measure)| match in_measures {
+            true => rounded(measure.position(stop.positions[*number] as f64)),
+            false => stop.positions[*number].to_string(),
+        });
+        lines.push(std::iter::once(index.to_string()).chain(times).chain(positions).collect());
     }
     let width = |column: usize| lines.iter().map(|line| line[column].chars().count()).max().unwrap_or(0);
     let widths: Vec<usize> = (0..lines[0].len()).map(width).collect();
@@ -69,9 +90,13 @@ fn leg(sheet: &TourSheet, schedule: &Schedule, stop: usize, form: TableForm) -> 
     };
     let leg = sheet.leg(stop).unwrap_or_default();
     let plan = leg.job.plan().map_err(|refusal| TourRefusal::Leg { stop, refusal })?;
-    let table = table::print(&leg, &plan.accepted(), form);
+    let table = table::rows(&leg, &plan.accepted(), form, true);
+    let arrival = plan.arrival();
     Ok(match form {
-        TableForm::Plain => table,
-        _ => format!("\nleg to stop {stop}, from tick {departure} of the tour\n{table}"),
+        TableForm::Plain => format!("arrival {arrival}\n{table}"),
+        _ => {
+            let seconds = in_seconds(arrival, sheet.tick_seconds());
+            format!("\nleg to stop {stop}, from tick {departure} of the tour\narrival {arrival}{seconds}\n{table}")
+        }
     })
 }

@@ -3,16 +3,14 @@
 use super::scale::{label, Scale};
 use super::svg::{stroke, Anchor, Drawing, Stroke, Type};
 use super::sway::Point;
-
-/// The width of a chart.
-const WIDTH: f64 = 400.0;
+use super::PANEL_WIDTH as WIDTH;
 
 /// The height of its plot.
-const HEIGHT: f64 = 170.0;
+const HEIGHT: f64 = 104.0;
 
 /// The room above the plot for the name of the values, and below it for the errors and their name.
-const ABOVE: f64 = 24.0;
-const BELOW: f64 = 40.0;
+const ABOVE: f64 = 20.0;
+const BELOW: f64 = 32.0;
 
 /// A chart.
 pub struct Chart {
@@ -39,9 +37,9 @@ impl Chart {
             greatest => 1.06 * greatest,
         };
         let upward = Scale { least: 0.0, greatest, from: ABOVE + HEIGHT, to: ABOVE };
-        let labels = labelled(&upward, 5.0, 0.0);
+        let labels = labelled(&upward, 4.0, 0.0);
         let left = labels.iter().map(|(_, text)| Type::LABEL.width_of(text)).fold(0.0, f64::max) + 10.0;
-        let across = Scale { least: self.range.0, greatest: self.range.1, from: left, to: WIDTH - 20.0 };
+        let across = Scale { least: self.range.0, greatest: self.range.1, from: left, to: WIDTH - 18.0 };
         let mut drawing = Drawing::new(prefix);
         self.draw_grid(&mut drawing, &across, &upward, &labels);
         drawing.clipped(left, ABOVE, across.to - left, HEIGHT, |drawing| {
@@ -51,8 +49,8 @@ impl Chart {
             }
         });
         drawing.frame(left, ABOVE, across.to - left, HEIGHT);
-        drawing.text(left, ABOVE - 8.0, Anchor::Start, Type::BODY, &self.upward);
-        drawing.text(across.to, ABOVE + HEIGHT + 31.0, Anchor::End, Type::BODY, &self.across);
+        drawing.text(left, ABOVE - 6.0, Anchor::Start, Type::BODY, &self.upward);
+        drawing.text(across.to, ABOVE + HEIGHT + 28.0, Anchor::End, Type::BODY, &self.across);
         drawing.finish(WIDTH, ABOVE + HEIGHT + BELOW, &self.title, &self.upward)
     }
 
@@ -63,7 +61,7 @@ impl Chart {
             drawing.line(&[(across.from, y), (across.to, y)], stroke::GRID);
             drawing.text(across.from - 6.0, y + 3.7, Anchor::End, Type::LABEL, text);
         }
-        for (error, text) in labelled(across, 7.0, 0.0) {
+        for (error, text) in labelled(across, 6.0, 0.0) {
             let x = across.at(error);
             let entered = error.abs() < 1e-9;
             let (sign, stroke) = match error > 0.0 {
@@ -72,7 +70,7 @@ impl Chart {
             };
             drawing.line(&[(x, ABOVE), (x, ABOVE + HEIGHT)], stroke);
             let text = format!("{sign}{text}{}", self.suffix);
-            drawing.text(x, ABOVE + HEIGHT + 15.0, Anchor::Middle, Type::LABEL, &text);
+            drawing.text(x, ABOVE + HEIGHT + 14.0, Anchor::Middle, Type::LABEL, &text);
         }
     }
 }

@@ -9,8 +9,8 @@ const MARGIN: f64 = 24.0;
 /// The room between two stacks of panels that stand side by side.
 const BETWEEN: f64 = 28.0;
 
-/// The room for the heading of a stack.
-const HEADING: f64 = 20.0;
+/// The height of a line of a stack's heading.
+const HEADING: f64 = 18.0;
 
 /// The whole picture.
 pub struct Page {
@@ -57,37 +57,84 @@ pub struct Stack {
 }
 
 impl Stack {
-    /// The height of the stack with its heading.
-    fn height(&self) -> f64 {
-        HEADING + self.panels.len() as f64 * (panel::ABOVE + panel::HEIGHT) + panel::BELOW
+    /// The lines of its heading: title and pole beside each other where they fit, else one below the other.
+    fn heading(&self, width: f64) -> Vec<(String, Anchor, Type)> {
+        let room = Type::HEADING.width_of(&self.title) + Type::LABEL.width_of(&self.pole) + 12.0;
+        let titles = wrapped(&self.title, width, Type::HEADING);
+        let titles = titles.into_iter().map(|line| (line, Anchor::Start, Type::HEADING));
+        match room <= width {
+            true => titles.collect(),
+            false => {
+                let poles = wrapped(&self.pole, width, Type::LABEL);
+                titles.chain(poles.into_iter().map(|line| (line, Anchor::Start, Type::LABEL))).collect()
+            }
+        }
     }
 
-    /// Draws the stack, its heading at the top and its plots of a width at the left.
-    fn draw(&self, drawing: &mut Drawing, left: f64, top: f64, width: f64, time: &Timeline) {
-        let room = width - Type::LABEL.width_of(&self.pole) - 8.0;
-        drawing.text(left, top + 14.0, Anchor::Start, Type::HEADING, &shortened(&self.title, room));
-        drawing.text(left + width, top + 14.0, Anchor::End, Type::LABEL, &self.pole);
+    /// The height of the heading.
+    fn heading_height(&self, width: f64) -> f64 {
+        2.0 + HEADING * self.heading(width).len() as f64
+    }
+
+    /// The height of the stack below its heading, of plots of a width.
+    fn height(&self, width: f64, time: &Timeline) -> f64 {
+        let panels = self.panels.iter().enumerate();
+        panels.map(|(index, panel)| panel.above(width, time, index == 0) + panel::HEIGHT).sum::<f64>() + panel::BELOW
+    }
+
+    /// Draws the stack, its heading at the top, its plots of a width at the left, and these from another height on.
+    fn draw(&self, drawing: &mut Drawing, left: f64, (top, plots): (f64, f64), width: f64, time: &Timeline) {
+        let heading = self.heading(width);
+        for (index, (line, anchor, set)) in heading.iter().enumerate() {
+            drawing.text(left, top + 14.0 + index as f64 * HEADING, *anchor, *set, line);
+        }
+        if heading.len() == 1 {
+            drawing.text(left + width, top + 14.0, Anchor::End, Type::LABEL, &self.pole);
+        }
+        let mut top = plots;
         for (index, panel) in self.panels.iter().enumerate() {
-            let top = top + HEADING + panel::ABOVE + index as f64 * (panel::ABOVE + panel::HEIGHT);
+            top += panel.above(width, time, index == 0);
             let last = index + 1 == self.panels.len();
             panel.draw(drawing, Place { left, top, width }, time, index == 0, last);
+            top += panel::HEIGHT;
         }
+    }
+
+    /// The pictures of its panels one by one, of a width in all; names begin with a prefix.
+    fn pictures(&self, width: f64, time: &Timeline, prefix: &str) -> Vec<String> {
+        let picture = |(index, panel): (usize, &Panel)| {
+            let mut drawing = Drawing::new(&format!("{prefix}panel{index}"));
+            let left = panel.label_width() + 8.0;
+            let plot = width - left - 8.0;
+            let top = panel.above(plot, time, index == 0) - 6.0;
+            panel.draw(&mut drawing, Place { left, top, width: plot }, time, index == 0, true);
+            let height = top + panel::HEIGHT + panel::BELOW;
+            drawing.finish(width, height, &format!("{}: {}", self.title, panel.name), &panel.remark)
+        };
+        self.panels.iter().enumerate().map(picture).collect()
     }
 }
 
+/// The pictures of an axis for a page: its title, its pole, and its panels one by one.
+pub struct AxisPictures {
+    /// What the axis is called.
+    pub title: String,
+    /// What pole it stands on.
+    pub pole: String,
+    /// The panels.
+    pub panels: Vec<String>,
+}
+
 impl Page {
-    /// The pages of the stacks one by one, with so many columns of a width.
-    pub fn of_each_axis(self, columns: (usize, f64)) -> Vec<Page> {
-        let Page { title, stacks, legend, caption, time, .. } = self;
-        let part = |stack: Stack| Page {
-            title: format!("{}, {title}", stack.title),
-            stacks: vec![stack],
-            columns,
-            legend: legend.clone(),
-            caption: caption.clone(),
-            time: time.clone(),
-        };
-        stacks.into_iter().map(part).collect()
+    /// The pictures of each axis, panel by panel, of a width; names begin with a prefix.
+    pub fn of_each_axis(&self, width: f64, prefix: &str) -> Vec<AxisPictures> {
+        let stacks = self.stacks.iter().enumerate();
+        let pictures = stacks.map(|(index, stack)| AxisPictures {
+            title: stack.title.clone(),
+            pole: stack.pole.clone(),
+            panels: stack.pictures(width, &self.time, &format!("{prefix}{index}")),
+        });
+        pictures.collect()
     }
 
     /// Draws the page as a file of its own.
@@ -95,18 +142,11 @@ impl Page {
         let mut drawing = Drawing::new("");
         drawing.text(MARGIN, MARGIN + 14.0, Anchor::Start, Type::TITLE, &self.title);
         let (width, mut top) = self.draw_stacks(&mut drawing, MARGIN + 30.0);
-        for line in wrapped(&self.caption, width - 2.0 * MARGIN) {
+        for line in wrapped(&self.caption, width - 2.0 * MARGIN, Type::BODY) {
             top += 16.0;
             drawing.text(MARGIN, top, Anchor::Start, Type::BODY, &line);
         }
         drawing.finish(width, top + MARGIN, &self.title, &self.caption)
-    }
-
-    /// Draws the page as a part of another, which has its title and its caption; names begin with a prefix.
-    pub fn draw_part(&self, prefix: &str) -> String {
-        let mut drawing = Drawing::new(prefix);
-        let (width, top) = self.draw_stacks(&mut drawing, 6.0);
-        drawing.finish(width, top, &self.title, &self.caption)
     }
 
     /// Draws the legend, from a height on, and the stacks; returns the width of the page and the height below them.
@@ -117,12 +157,14 @@ impl Page {
         let pitch = labels + plot_width + BETWEEN;
         let width = 2.0 * MARGIN + columns as f64 * pitch - BETWEEN;
         let mut top = draw_legend(drawing, top, width, &self.legend) + 14.0;
+        let greatest = |heights: &mut dyn Iterator<Item = f64>| heights.fold(0.0, f64::max);
         for row in self.stacks.chunks(columns) {
+            let plots = top + greatest(&mut row.iter().map(|stack| stack.heading_height(plot_width)));
             for (column, stack) in row.iter().enumerate() {
                 let left = MARGIN + labels + column as f64 * pitch;
-                stack.draw(drawing, left, top, plot_width, &self.time);
+                stack.draw(drawing, left, (top, plots), plot_width, &self.time);
             }
-            top += row.iter().map(Stack::height).fold(0.0, f64::max) + 12.0;
+            top = plots + greatest(&mut row.iter().map(|stack| stack.height(plot_width, &self.time))) + 12.0;
         }
         (width, top)
     }
@@ -151,11 +193,11 @@ fn draw_legend(drawing: &mut Drawing, top: f64, width: f64, legend: &[(&str, Sam
 }
 
 /// A text in lines of a width.
-fn wrapped(text: &str, width: f64) -> Vec<String> {
+pub fn wrapped(text: &str, width: f64, set: Type) -> Vec<String> {
     let mut lines = vec![String::new()];
     for word in text.split(' ') {
         let line = lines.last_mut().expect("there is a first line");
-        if !line.is_empty() && Type::BODY.width_of(&format!("{line} {word}")) > width {
+        if !line.is_empty() && set.width_of(&format!("{line} {word}")) > width {
             lines.push(word.into());
         } else {
             if !line.is_empty() {
@@ -165,14 +207,4 @@ fn wrapped(text: &str, width: f64) -> Vec<String> {
         }
     }
     lines
-}
-
-/// A heading that fits a room, cut with an ellipsis where it is too long.
-fn shortened(title: &str, room: f64) -> String {
-    let mut text = String::from(title);
-    while Type::HEADING.width_of(&text) > room && text.chars().count() > 2 {
-        text.truncate(text.trim_end_matches('…').char_indices().last().map_or(0, |(index, _)| index));
-        text.push('…');
-    }
-    text
 }

@@ -1,14 +1,22 @@
 //! One panel: a quantity of one axis over the ticks.
 
+mod labels;
+mod thin;
+
 use super::scale::{label, quantity, Scale};
 use super::svg::{stroke, Anchor, Drawing, Stroke, Type};
 use super::sway::Point;
+use crate::measure::rounded;
+use thin::thinned;
 
 /// The height of a panel's plot.
 pub const HEIGHT: f64 = 104.0;
 
 /// The room above a panel's plot for its name.
-pub const ABOVE: f64 = 26.0;
+const ABOVE: f64 = 26.0;
+
+/// The room for a second line, where name and remark do not fit one.
+const SECOND_LINE: f64 = 15.0;
 
 /// The room below the last panel of a stack for the ticks' numbers.
 pub const BELOW: f64 = 32.0;
@@ -30,14 +38,33 @@ pub struct Panel {
 /// The ticks that all panels of a picture share, and what stands out among them.
 #[derive(Clone)]
 pub struct Timeline {
-    /// What the numbers below are.
-    pub name: String,
+    /// The seconds of a tick, where time is shown in these.
+    pub tick: Option<f64>,
     /// The last tick drawn.
     pub last: u32,
     /// Shaded spans, the first one at the bottom.
     pub spans: Vec<Span>,
     /// Upright lines, from the left to the right.
     pub marks: Vec<Mark>,
+}
+
+impl Timeline {
+    /// What the numbers below are.
+    fn name(&self) -> String {
+        match self.tick {
+            Some(seconds) => format!("seconds; a tick is {} s", rounded(seconds)),
+            None => "ticks".into(),
+        }
+    }
+
+    /// The times that have a grid line: the tick of each, and its number in ticks or seconds.
+    fn labels(&self, count: f64) -> Vec<(f64, String)> {
+        let (size, smallest) = self.tick.map_or((1.0, 1.0), |seconds| (seconds, 0.0));
+        let times = Scale { least: 0.0, greatest: f64::from(self.last) * size, from: 0.0, to: 1.0 };
+        let values = times.round_values(count, smallest);
+        let step = values.windows(2).map(|pair| pair[1] - pair[0]).next().unwrap_or(1.0);
+        values.into_iter().map(|value| (value / size, label(value, step))).collect()
+    }
 }
 
 /// A shaded span of ticks.
@@ -106,7 +133,24 @@ impl Panel {
         self.labels().iter().map(|(_, text)| Type::LABEL.width_of(text)).fold(0.0, f64::max)
     }
 
-    /// Draws the panel; the first of a stack says what the upright lines are, the last has the ticks' numbers below it.
+    /// The room that the panel needs above its plot of a width, for its name, its remark and, where it is the first of a stack, the
+    /// labels of several upright lines.
+    pub fn above(&self, width: f64, time: &Timeline, first: bool) -> f64 {
+        let second = if self.fits_one_line(width) { 0.0 } else { SECOND_LINE };
+        let across = Place { left: 0.0, top: 0.0, width }.across(time);
+        let lanes = match first && time.marks.len() > 1 {
+            true => labels::placed(&time.marks, across).iter().map(|label| label.lane + 1).max().unwrap_or(0),
+            false => 0,
+        };
+        ABOVE + second + lanes as f64 * labels::LANE
+    }
+
+    /// Whether name and remark fit one line of a width.
+    fn fits_one_line(&self, width: f64) -> bool {
+        Type::BODY.width_of(&self.name) + Type::LABEL.width_of(&self.remark) + 10.0 <= width
+    }
+
+    /// Draws the panel; the first of a stack says what the upright lines are, the last has the times below it.
     pub fn draw(&self, drawing: &mut Drawing, place: Place, time: &Timeline, first: bool, last: bool) {
         let across = place.across(time);
         let upward = self.upward(place.top);
@@ -129,24 +173,22 @@ impl Panel {
             }
         });
         drawing.frame(place.left, place.top, place.width, HEIGHT);
+        let upright = if time.marks.len() == 1 { stroke::ARRIVAL } else { stroke::STOP };
         for mark in &time.marks {
             let x = across.at(mark.tick.into());
-            drawing.line(&[(x, place.top), (x, place.bottom())], stroke::ARRIVAL);
+            drawing.line(&[(x, place.top), (x, place.bottom())], upright);
         }
-        self.draw_names(drawing, place);
-        if first {
-            self.draw_labels(drawing, place, across, &time.marks);
-        }
+        self.draw_names(drawing, place, time, first);
     }
 
     /// Draws grid lines and the numbers along them.
     fn draw_grid(&self, drawing: &mut Drawing, place: Place, time: &Timeline, last: bool) {
-        let (across, upward, time_name) = (place.across(time), self.upward(place.top), &time.name);
-        for tick in across.round_values((place.width / 48.0).floor(), 1.0) {
+        let (across, upward) = (place.across(time), self.upward(place.top));
+        for (tick, text) in time.labels((place.width / 48.0).floor()) {
             let x = across.at(tick);
             drawing.line(&[(x, place.top), (x, place.bottom())], stroke::GRID);
             if last {
-                drawing.text(x, place.bottom() + 14.0, Anchor::Middle, Type::LABEL, &label(tick, 1.0));
+                drawing.text(x, place.bottom() + 14.0, Anchor::Middle, Type::LABEL, &text);
             }
         }
         for (value, text) in self.labels() {
@@ -156,28 +198,37 @@ impl Panel {
             drawing.text(place.left - 6.0, y + 3.7, Anchor::End, Type::LABEL, &text);
         }
         if last {
-            drawing.text(place.right(), place.bottom() + 28.0, Anchor::End, Type::BODY, time_name);
+            drawing.text(place.right(), place.bottom() + 28.0, Anchor::End, Type::BODY, &time.name());
         }
     }
 
-    /// Draws the quantity's name and the remark above the plot.
-    fn draw_names(&self, drawing: &mut Drawing, place: Place) {
-        drawing.text(place.left, place.top - 6.0, Anchor::Start, Type::BODY, &self.name);
-        drawing.text(place.right(), place.top - 6.0, Anchor::End, Type::LABEL, &self.remark);
-    }
-
-    /// Draws what each upright line is, above it, clear of the panel's name and of the label before; a label that would
-    /// stand too far from its line for that is left out, except an only one.
-    fn draw_labels(&self, drawing: &mut Drawing, place: Place, across: Scale, marks: &[Mark]) {
-        let set = Type { bold: true, ..Type::BODY };
-        let mut free_from = place.left + Type::BODY.width_of(&self.name) + 10.0;
-        for mark in marks {
-            let (x, half) = (across.at(mark.tick.into()), Type::BODY.width_of(&mark.label) / 2.0);
-            let middle = x.clamp(free_from + half, (place.right() - half).max(free_from + half));
-            if marks.len() == 1 || (middle - x).abs() <= 12.0 {
-                drawing.text(middle, place.top - 6.0, Anchor::Middle, set, &mark.label);
-                free_from = middle + half + 4.0;
+    /// Draws the quantity's name and the remark above the plot, and of a first panel the labels of the upright lines.
+    fn draw_names(&self, drawing: &mut Drawing, place: Place, time: &Timeline, first: bool) {
+        let line = place.top - 6.0;
+        let marks = if first { time.marks.as_slice() } else { &[] };
+        let labels = if marks.len() > 1 { labels::placed(marks, place.across(time)) } else { Vec::new() };
+        let lanes = labels.iter().map(|label| label.lane + 1).max().unwrap_or(0);
+        for labels::Label { middle, text, lane } in &labels {
+            let line = line - *lane as f64 * labels::LANE;
+            drawing.text(*middle, line, Anchor::Middle, labels::SET, text);
+        }
+        let line = line - lanes as f64 * labels::LANE;
+        match self.fits_one_line(place.width) {
+            true => {
+                drawing.text(place.left, line, Anchor::Start, Type::BODY, &self.name);
+                drawing.text(place.right(), line, Anchor::End, Type::LABEL, &self.remark);
             }
+            false => {
+                drawing.text(place.left, line - SECOND_LINE, Anchor::Start, Type::BODY, &self.name);
+                drawing.text(place.left, line, Anchor::Start, Type::LABEL, &self.remark);
+            }
+        }
+        if let [only] = marks {
+            let half = labels::SET.width_of(&only.label) / 2.0;
+            let free_from = place.left + Type::BODY.width_of(&self.name) + 10.0 + half;
+            let middle =
+                place.across(time).at(only.tick.into()).clamp(free_from, (place.right() - half).max(free_from));
+            drawing.text(middle, line, Anchor::Middle, labels::SET, &only.label);
         }
     }
 }
@@ -215,89 +266,9 @@ fn extremes(values: impl Iterator<Item = f64>) -> (f64, f64) {
     values.fold((f64::INFINITY, f64::NEG_INFINITY), |(least, greatest), value| (least.min(value), greatest.max(value)))
 }
 
-/// The points of a curve without those that lie near the line through the points that are kept.
-fn thinned(points: &[Point]) -> Vec<Point> {
-    let Some((&first, others)) = points.split_first() else {
-        return Vec::new();
-    };
-    let mut kept = vec![first];
-    let mut corridor = Corridor::from(first);
-    let mut before = first;
-    for &point in others {
-        if !corridor.leads_to(point) {
-            kept.push(before);
-            corridor = Corridor::from(before);
-        }
-        corridor.narrow_to(point);
-        before = point;
-    }
-    kept.push(before);
-    kept
-}
-
-/// The slopes of the lines from a kept point that pass near every point since.
-struct Corridor {
-    start: Point,
-    least: f64,
-    greatest: f64,
-    /// Whether a point straight above or below the kept one has come since.
-    upright: bool,
-}
-
-impl Corridor {
-    /// How far a line may pass from a point that is left out, in pixels.
-    const TOLERANCE: f64 = 0.05;
-
-    /// Every slope from a kept point.
-    fn from(start: Point) -> Corridor {
-        Corridor { start, least: f64::NEG_INFINITY, greatest: f64::INFINITY, upright: false }
-    }
-
-    /// Whether the line from the kept point to a point is in the corridor.
-    fn leads_to(&self, (x, y): Point) -> bool {
-        let slope = (y - self.start.1) / (x - self.start.0);
-        !self.upright && (x == self.start.0 || (self.least..=self.greatest).contains(&slope))
-    }
-
-    /// Leaves out the lines that do not pass near a point.
-    fn narrow_to(&mut self, (x, y): Point) {
-        let run = x - self.start.0;
-        if run > 0.0 {
-            self.least = self.least.max((y - Self::TOLERANCE - self.start.1) / run);
-            self.greatest = self.greatest.min((y + Self::TOLERANCE - self.start.1) / run);
-        } else {
-            self.upright |= y != self.start.1;
-        }
-    }
-}
-
 #[cfg(test)]
 mod tests {
     use super::*;
-
-    /// Straight runs keep their ends, corners and steps stay.
-    #[test]
-    fn thinning_keeps_corners() {
-        let straight: Vec<Point> = (0..100).map(|x| (f64::from(x), 2.0 * f64::from(x))).collect();
-        assert_eq!(thinned(&straight), [(0.0, 0.0), (99.0, 198.0)]);
-        let steps = [(0.0, 0.0), (5.0, 0.0), (5.0, 9.0), (8.0, 9.0), (10.0, 9.0), (10.0, 0.0)];
-        assert_eq!(thinned(&steps), [(0.0, 0.0), (5.0, 0.0), (5.0, 9.0), (10.0, 9.0), (10.0, 0.0)]);
-        assert_eq!(thinned(&[]), []);
-    }
-
-    /// No point of a thinned curve is further than the tolerance from the curve.
-    #[test]
-    fn thinning_stays_near() {
-        let wave: Vec<Point> = (0..2000).map(|x| (f64::from(x) * 0.1, 40.0 * (f64::from(x) * 0.02).sin())).collect();
-        let thin = thinned(&wave);
-        assert!(thin.len() < wave.len() / 3, "{}", thin.len());
-        for &(x, y) in &wave {
-            let after = thin.iter().position(|&(other, _)| other >= x).expect("an end").max(1);
-            let ((x0, y0), (x1, y1)) = (thin[after - 1], thin[after]);
-            let line = y0 + (x - x0) / (x1 - x0) * (y1 - y0);
-            assert!((line - y).abs() < 0.11, "{x} {y} {line}");
-        }
-    }
 
     #[test]
     fn ranges_show_near_limits_only() {

@@ -10,6 +10,8 @@ pub mod colour {
     pub const UNBLENDED: &str = "#D55E00";
     /// The target.
     pub const TARGET: &str = "#007F5F";
+    /// A proved bound.
+    pub const BOUND: &str = "#8A3B71";
     /// Limits.
     pub const LIMIT: &str = "#5A5A5A";
     /// Text and the arrival.
@@ -51,12 +53,16 @@ pub mod stroke {
     pub const UNBLENDED: Stroke = Stroke { colour: colour::UNBLENDED, width: 1.5, dashes: "6 3" };
     /// The arrival of the same job without the blend.
     pub const UNBLENDED_ARRIVAL: Stroke = Stroke { width: 1.0, dashes: "3 3", ..UNBLENDED };
+    /// A proved bound.
+    pub const BOUND: Stroke = Stroke { colour: colour::BOUND, width: 1.4, dashes: "2 3" };
     /// The target.
     pub const TARGET: Stroke = Stroke { colour: colour::TARGET, width: 1.5, dashes: "1.5 3" };
     /// Limits.
     pub const LIMIT: Stroke = Stroke { colour: colour::LIMIT, width: 1.0, dashes: "8 3 2 3" };
     /// An arrival.
     pub const ARRIVAL: Stroke = Stroke { colour: colour::INK, width: 1.0, dashes: "" };
+    /// One of many arrivals.
+    pub const STOP: Stroke = Stroke { colour: colour::FAINT_INK, width: 0.6, dashes: "" };
     /// Grid lines.
     pub const GRID: Stroke = Stroke { colour: colour::GRID, width: 1.0, dashes: "" };
     /// The line of value 0.

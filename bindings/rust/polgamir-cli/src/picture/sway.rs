@@ -1,11 +1,9 @@
 //! The sway of a pole, driven by the accelerations of a table.
 //!
-//! The pole is an oscillator that swings over in `half_period` ticks and whose swing shrinks to B / (256 − B) in that time, B
-//! being the second weight. One with a second half period swings at two rates: the second is an oscillator of its own, which swings
-//! over in that time and does not shrink. Each row's acceleration holds from its tick to the next, the last one's from the arrival
-//! on, and pushes the pole the other way.
-
-use polgamir::Axis;
+//! The pole is an oscillator that swings over in its half period and whose swing shrinks to its ratio in that time, both as entered.
+//! One with a second half period swings at two rates: the second is an oscillator of its own, which swings over in that time and does
+//! not shrink. Each row's acceleration holds from its tick to the next, the last one's from the arrival on, and pushes the pole the
+//! other way. A real pole's sway is in proportion to this one.
 
 /// A pole, or one of its two rates: how fast it swings and how fast the swing dies away.
 #[derive(Debug, Clone, Copy)]
@@ -38,11 +36,6 @@ impl Pole {
             decay: -shrinks_to.ln() / half_period,
             points_to_a_tick: (16.0 / half_period).ceil() as u32,
         }
-    }
-
-    /// The rates at which the pole under an axis swings, each with the name of its sway.
-    pub fn rates(axis: &Axis) -> impl Iterator<Item = (&'static str, Pole)> {
-        Swing::of(axis).into_iter().map(|swing| (swing.name(), Pole::new(swing.half_period.into(), swing.ratio)))
     }
 
     /// The stiffness by the mass: what an acceleration is divided by to give the displacement at which the pole rests.
@@ -135,52 +128,11 @@ impl Step {
     }
 }
 
-/// A swing of the pole under an axis.
-#[derive(Debug, Clone, Copy, PartialEq)]
-pub struct Swing {
-    /// Whether it is that of the second half period.
-    pub second: bool,
-    /// The ticks from one side to the other, at least 1.
-    pub half_period: u32,
-    /// How far it shrinks in that time: B / (256 − B), and 1 for a second swing.
-    pub ratio: f64,
-}
-
-impl Swing {
-    /// The swings that the blend of an axis cancels: that of its half period, where the damping has a weight, and that of its second half
-    /// period, each where it is above 0.
-    pub fn of(axis: &Axis) -> Vec<Swing> {
-        let ratio = |weight: u32| f64::from(weight) / (256.0 - f64::from(weight));
-        let first = axis.damping.weight().map(|weight| (false, axis.half_period, ratio(weight)));
-        let second = axis.second_half_period.map(|half_period| (true, half_period, 1.0));
-        let swings =
-            first.into_iter().chain(second).map(|(second, half_period, ratio)| Swing { second, half_period, ratio });
-        swings.filter(|swing| swing.half_period > 0).collect()
-    }
-
-    /// The name of its sway.
-    pub fn name(&self) -> &'static str {
-        if self.second {
-            "second sway"
-        } else {
-            "sway"
-        }
-    }
-
-    /// The name of its half period.
-    pub fn half_period_name(&self) -> &'static str {
-        if self.second {
-            "second half period"
-        } else {
-            "half period"
-        }
-    }
-}
-
 #[cfg(test)]
 mod tests {
     use super::*;
-    use polgamir::{Damping, RestPoint, Target};
+    use crate::picture::swing::{Entered, Swing};
+    use polgamir::{Axis, Damping, RestPoint, Target};
 
     fn axis(half_period: u32, second_weight: u32, second_half_period: Option<u32>) -> Axis {
         Axis {
@@ -194,9 +146,14 @@ mod tests {
         }
     }
 
+    /// The rates of the pole under an axis, each with the name of its sway.
+    fn rates(axis: &Axis) -> Vec<(&'static str, Pole)> {
+        Swing::of(axis, Entered::default()).into_iter().map(|swing| (swing.name(), swing.pole())).collect()
+    }
+
     /// The rate of a sway of the pole under an axis.
     fn rate(axis: &Axis, name: &str) -> Pole {
-        Pole::rates(axis).find(|&(sway, _)| sway == name).expect("a half period").1
+        rates(axis).into_iter().find(|&(sway, _)| sway == name).expect("a half period").1
     }
 
     fn pole(half_period: u32, second_weight: u32) -> Pole {
@@ -308,7 +265,7 @@ mod tests {
     /// A pole has a rate for each of its half periods, the second one undamped.
     #[test]
     fn a_pole_swings_at_each_of_its_rates() {
-        let names = |axis: Axis| Pole::rates(&axis).map(|(name, _)| name).collect::<Vec<_>>();
+        let names = |axis: Axis| rates(&axis).into_iter().map(|(name, _)| name).collect::<Vec<_>>();
         assert!(names(axis(0, 128, None)).is_empty());
         assert_eq!(names(axis(7, 85, None)), ["sway"]);
         assert_eq!(names(axis(0, 128, Some(3))), ["second sway"]);
@@ -331,7 +288,7 @@ mod tests {
             twice[tick + 8] += once[tick];
         }
         let axis = axis(5, 100, Some(8));
-        for (name, pole) in Pole::rates(&axis) {
+        for (name, pole) in rates(&axis) {
             assert!(pole.sway(&twice, 90).remaining < 1e-9, "{name}");
         }
         let second = rate(&axis, "second sway");

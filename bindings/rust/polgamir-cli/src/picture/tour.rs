@@ -4,24 +4,25 @@ use polgamir::sheet::TourSheet;
 use polgamir::{Axis, Job, Schedule, TourRefusal};
 
 use super::course::Moment;
-use super::page::{Page, Sample, Stack};
+use super::page::{AxisPictures, Page, Sample, Stack};
 use super::panel::{self, Mark, Panel, Span, Timeline};
 use super::scale::{self, quantity};
 use super::svg::{colour, stroke};
-use super::sway::{Point, Pole};
-use super::{pole_of, tick_name, Planned, SECOND};
+use super::sway::Point;
+use super::swing::{Entered, Swing};
+use super::{pole_of, sway_name, Planned, SECOND};
 use crate::measure::{in_seconds, Measure};
 
-/// The width of a timeline's plots, and where it is a part of a page.
+/// The width of a timeline's plots.
 const WIDTH: f64 = 900.0;
-const PART_WIDTH: f64 = 800.0;
 
 /// What a timeline shows.
 const CAPTION: &str =
-    "Upright lines are arrivals, each with its stop's number; the head then rests for the dwell. Sway: how far the top of the pole \
-     is from upright, in the axis's units. The pole has the entered half period and weight, is at rest at tick 0 and is driven by \
-     the accelerations of the legs' tables. Left: the greatest sway from an arrival to the next departure. The exact plan leaves \
-     0, which is proved of every leg; rounding its cells to 1/256 unit leaves the rest.";
+    "Upright lines are arrivals, each with its stop's number; the head then rests for the dwell. Sway: that of an oscillator with the \
+     half period and the damping as entered, at rest at tick 0 and driven by the accelerations of the legs' tables. A real pole's sway is in \
+     proportion to it; it is not the tip in degrees. Left: the greatest sway from an arrival to the next departure. On a pole that fits the \
+     weight the exact plan leaves 0, which is proved of every leg; rounding the damping to a weight and the cells to 1/256 unit leaves the \
+     rest.";
 
 /// What the timeline of a sheet shows.
 fn caption(sheet: &TourSheet) -> String {
@@ -34,11 +35,19 @@ pub fn draw_tour(title: &str, sheet: &TourSheet) -> Result<String, TourRefusal> 
     Ok(page_of(title, sheet)?.draw())
 }
 
-/// Draws the timeline of a tour axis by axis, each as a part of a page.
-pub fn draw_tour_parts(title: &str, sheet: &TourSheet) -> Result<Vec<String>, TourRefusal> {
-    let parts = page_of(title, sheet)?.of_each_axis((1, PART_WIDTH));
-    Ok(parts.iter().enumerate().map(|(index, part)| part.draw_part(&format!("plan{index}"))).collect())
+/// The pictures of each axis of a tour, panel by panel, of a width; names begin with a prefix.
+pub fn tour_pictures(sheet: &TourSheet, width: f64, prefix: &str) -> Result<Vec<AxisPictures>, TourRefusal> {
+    Ok(page_of("", sheet)?.of_each_axis(width, prefix))
 }
+
+/// What the lines and areas of a timeline stand for.
+pub const LEGEND: [(&str, Sample); 5] = [
+    ("plan", Sample::Line(stroke::PLAN)),
+    ("stop", Sample::Line(stroke::TARGET)),
+    ("limit", Sample::Line(stroke::LIMIT)),
+    ("arrival", Sample::Line(stroke::STOP)),
+    ("dwell", Sample::Area(colour::DWELL)),
+];
 
 /// The page of a tour's timeline.
 fn page_of(title: &str, sheet: &TourSheet) -> Result<Page, TourRefusal> {
@@ -59,13 +68,7 @@ fn page_of(title: &str, sheet: &TourSheet) -> Result<Page, TourRefusal> {
         ),
         stacks: stacks.collect(),
         columns: (1, WIDTH),
-        legend: vec![
-            ("plan", Sample::Line(stroke::PLAN)),
-            ("stop", Sample::Line(stroke::TARGET)),
-            ("limit", Sample::Line(stroke::LIMIT)),
-            ("arrival", Sample::Line(stroke::ARRIVAL)),
-            ("dwell", Sample::Area(colour::DWELL)),
-        ],
+        legend: LEGEND.to_vec(),
         caption: caption(sheet),
         time: timeline(&stays, schedule.total, sheet.tick_seconds()),
     })
@@ -105,7 +108,7 @@ fn timeline(stays: &[Stay], total: u32, tick: Option<f64>) -> Timeline {
     let span = |stay: &Stay| Span { from: stay.arrival, to: stay.departure, colour: colour::DWELL };
     let mark = |(stop, stay): (usize, &Stay)| Mark { tick: stay.arrival, label: stop.to_string() };
     Timeline {
-        name: tick_name(tick),
+        tick,
         last: total.max(1),
         spans: stays.iter().map(span).collect(),
         marks: stays.iter().enumerate().map(mark).collect(),
@@ -147,7 +150,8 @@ impl Way {
     /// The panels; those of the sway only where the axis has a half period, one for each.
     fn panels(&self, stays: &[Stay], measure: &Measure) -> Vec<Panel> {
         let mut panels = vec![self.position_panel(measure), self.velocity_panel(measure)];
-        panels.extend(Pole::rates(&self.axis).map(|(sway, pole)| self.sway_panel(sway, pole, stays, measure)));
+        let swings = Swing::of(&self.axis, Entered::default());
+        panels.extend(swings.iter().map(|swing| self.sway_panel(swing, stays, measure)));
         panels
     }
 
@@ -181,16 +185,16 @@ impl Way {
     }
 
     /// The panel of a sway.
-    fn sway_panel(&self, sway: &str, pole: Pole, stays: &[Stay], measure: &Measure) -> Panel {
+    fn sway_panel(&self, swing: &Swing, stays: &[Stay], measure: &Measure) -> Panel {
         let accelerations: Vec<f64> = self.rows.iter().map(|row| measure.position(row.acceleration)).collect();
-        let curve = pole.sway(&accelerations, accelerations.len() as u32 - 1).curve;
+        let curve = swing.pole().sway(&accelerations, accelerations.len() as u32 - 1).curve;
         let stays_at =
             |tick: f64| stays.iter().any(|stay| (stay.arrival.into()..=stay.departure.into()).contains(&tick));
         let left = curve.iter().filter(|&&(tick, _)| stays_at(tick)).map(|&(_, sway)| sway.abs()).fold(0.0, f64::max);
-        let remark = format!("left {}, exact plan 0", quantity(left));
+        let remark = format!("left {}", quantity(left));
         let range = panel::range_of(curve.iter().map(|&(_, sway)| sway));
         Panel {
-            name: format!("{sway}, {}", measure.names()[0]),
+            name: sway_name(swing, &measure.names()[0]),
             remark,
             range,
             limits: Vec::new(),

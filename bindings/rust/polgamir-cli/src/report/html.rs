@@ -1,53 +1,10 @@
 //! A small writer of HTML.
 
-use crate::picture::svg::escaped;
+use crate::picture::svg::{escaped, Stroke};
+use crate::picture::Sample;
 
-/// How the page looks: on a screen as wide as a laptop's, and printed on A4.
-const STYLE: &str = "
-:root { color-scheme: light; }
-* { box-sizing: border-box; }
-body { margin: 0 auto; padding: 28px 32px 48px; max-width: 1040px; color: #1F2328; background: #FFFFFF;
-  font: 15px/1.5 Helvetica, Arial, 'DejaVu Sans', sans-serif; }
-h1 { font-size: 26px; line-height: 1.25; margin: 0 0 4px; }
-h2 { font-size: 19px; margin: 36px 0 8px; padding-top: 14px; border-top: 1px solid #D0D7DE; }
-h3 { font-size: 15.5px; margin: 22px 0 6px; }
-p { margin: 8px 0; max-width: 78ch; }
-.sub { color: #57606A; margin: 0 0 18px; }
-.cards { display: grid; grid-template-columns: repeat(auto-fit, minmax(150px, 1fr)); gap: 12px; margin: 18px 0 6px; }
-.card { border: 1px solid #D0D7DE; border-radius: 6px; padding: 10px 12px; }
-.card b { display: block; font-size: 17px; line-height: 1.3; font-variant-numeric: tabular-nums; }
-.card span { display: block; color: #57606A; font-size: 13px; line-height: 1.35; margin-top: 2px; }
-pre { background: #F6F8FA; border: 1px solid #D0D7DE; border-radius: 6px; padding: 12px 16px; white-space: pre-wrap;
-  overflow-wrap: anywhere; font: 13px/1.45 'DejaVu Sans Mono', Menlo, Consolas, monospace; }
-table { border-collapse: collapse; margin: 10px 0; font-variant-numeric: tabular-nums; font-size: 14px; }
-th, td { text-align: right; padding: 4px 12px; border-bottom: 1px solid #E4E8EC; vertical-align: top; }
-th { font-weight: bold; border-bottom: 1px solid #B4BCC4; vertical-align: bottom; }
-th:first-child, td:first-child, td.words, th.words { text-align: left; }
-th:first-child, td:first-child { padding-left: 2px; }
-.wide { overflow-x: auto; }
-td { white-space: nowrap; } td:last-child.words { white-space: normal; }
-.bar { display: inline-block; width: 130px; height: 10px; background: #EDF0F3; border-radius: 2px; margin-right: 8px; }
-.bar i { display: block; height: 10px; background: #0072B2; border-radius: 2px; }
-.charts { display: flex; flex-wrap: wrap; gap: 12px 20px; }
-.charts svg { flex: 1 1 380px; max-width: 480px; }
-svg { display: block; max-width: 100%; height: auto; }
-.key { color: #57606A; font-size: 13px; }
-.key i { display: inline-block; width: 28px; margin: 0 6px 3px 0; border-top: 2.5px solid #0072B2; }
-.key i.without { border-top: 2px dashed #D55E00; margin-left: 18px; }
-@page { size: A4; margin: 14mm 14mm 16mm; }
-@media print {
-  body { padding: 0; max-width: none; font-size: 10.5pt; }
-  h1 { font-size: 18pt; } h2 { font-size: 13.5pt; margin-top: 20pt; } h3 { font-size: 11.5pt; }
-  h2, h3, p { break-after: avoid; }
-  table { font-size: 9pt; } th, td { padding: 2.5pt 7pt; } p, svg, .wide, .card, .unit { break-inside: avoid; }
-  pre { font-size: 8.5pt; }
-  .wide { overflow: visible; }
-  .charts { flex-wrap: nowrap; gap: 10pt; } .charts svg { flex: 1 1 0; min-width: 0; }
-  .bar { width: 70pt; }
-  .cards { grid-template-columns: repeat(3, 1fr); gap: 8pt; } .card b { font-size: 13pt; } .card span { font-size: 8.5pt; }
-  * { print-color-adjust: exact; -webkit-print-color-adjust: exact; }
-}
-";
+/// How the page looks: on a screen as wide as a laptop's, on a phone's, and printed on A4.
+const STYLE: &str = include_str!("style.css");
 
 /// A whole page.
 pub fn page(title: &str, body: &str) -> String {
@@ -64,9 +21,17 @@ pub fn section(heading: &str, body: &str) -> String {
     format!("<section>\n<h2>{}</h2>\n{body}</section>\n", escaped(heading))
 }
 
-/// A heading within a section.
-pub fn heading(text: &str) -> String {
-    format!("<h3>{}</h3>\n", escaped(text))
+/// A heading within a section, with what is said of it in smaller letters.
+pub fn heading(text: &str, more: &str) -> String {
+    match more {
+        "" => format!("<h3>{}</h3>\n", escaped(text)),
+        more => format!("<h3>{} <span>{}</span></h3>\n", escaped(text), escaped(more)),
+    }
+}
+
+/// A part of a page that is not to be broken; the body is HTML.
+pub fn block(class: &str, body: &str) -> String {
+    format!("<div class=\"{class}\">\n{body}</div>\n")
 }
 
 /// A paragraph of plain text.
@@ -77,7 +42,18 @@ pub fn paragraph(text: &str) -> String {
 /// A text as it was written, line by line.
 pub fn as_written(text: &str) -> String {
     let lines: Vec<String> = text.lines().map(|line| escaped(&line.replace('\t', "    "))).collect();
-    format!("<pre>{}</pre>\n", lines.join("\n"))
+    let class = if lines.len() > 40 { " class=\"columns\"" } else { "" };
+    format!("<pre{class}>{}</pre>\n", lines.join("\n"))
+}
+
+/// A text as it was written, each line with its number.
+pub fn numbered(text: &str) -> String {
+    let lines: Vec<String> = text
+        .lines()
+        .enumerate()
+        .map(|(index, line)| format!("<i>{}</i>{}", index + 1, escaped(&line.replace('\t', "    "))))
+        .collect();
+    format!("<pre class=\"numbered\">{}</pre>\n", lines.join("\n"))
 }
 
 /// A cell of a table.
@@ -91,38 +67,67 @@ pub enum Cell {
 }
 
 impl Cell {
-    fn html(&self) -> String {
+    /// The cell, with the heading of its column, which stands beside it where the table is narrow.
+    fn html(&self, heading: &str) -> String {
+        let label = format!(" data-label=\"{}\"", escaped(heading).replace('"', "&quot;"));
         match self {
-            Cell::Number(text) => format!("<td>{}</td>", escaped(text)),
-            Cell::Words(text) => format!("<td class=\"words\">{}</td>", escaped(text)),
+            Cell::Number(text) => format!("<td{label}>{}</td>", escaped(text)),
+            Cell::Words(text) => format!("<td class=\"words\"{label}>{}</td>", escaped(text)),
             Cell::Bar(part, text) => {
                 let percent = (100.0 * part).clamp(0.0, 100.0);
                 let bar = format!("<span class=\"bar\"><i style=\"width:{percent:.1}%\"></i></span>");
-                format!("<td class=\"words\">{bar}{}</td>", escaped(text))
+                format!("<td class=\"words\"{label}><span>{bar}{}</span></td>", escaped(text))
             }
         }
     }
 }
 
-/// A table with a heading for each column.
+/// A table with a heading for each column; on a phone each row is a list.
 pub fn table(headings: &[&str], rows: &[Vec<Cell>]) -> String {
+    table_of(" class=\"stacks\"", "", headings, rows)
+}
+
+/// A table of few columns, which fits a phone as it is, with a caption.
+pub fn narrow_table(caption: &str, headings: &[&str], rows: &[Vec<Cell>]) -> String {
+    table_of("", &format!("<caption>{}</caption>\n", escaped(caption)), headings, rows)
+}
+
+fn table_of(class: &str, caption: &str, headings: &[&str], rows: &[Vec<Cell>]) -> String {
     let is_words =
         |column: usize| rows.iter().any(|row| matches!(row.get(column), Some(Cell::Words(_) | Cell::Bar(..))));
-    let headings: Vec<String> = headings
-        .iter()
-        .enumerate()
-        .map(|(column, text)| match is_words(column) {
-            true => format!("<th class=\"words\">{}</th>", escaped(text)),
-            false => format!("<th>{}</th>", escaped(text)),
-        })
-        .collect();
-    let rows: Vec<String> =
-        rows.iter().map(|row| format!("<tr>{}</tr>\n", row.iter().map(Cell::html).collect::<String>())).collect();
+    let row = |row: &Vec<Cell>| -> String {
+        let cells = row.iter().zip(headings).map(|(cell, heading)| cell.html(heading));
+        format!("<tr>{}</tr>\n", cells.collect::<String>())
+    };
+    let rows_written: String = rows.iter().map(row).collect();
+    let headings = headings.iter().enumerate().map(|(column, text)| match is_words(column) {
+        true => format!("<th class=\"words\">{}</th>", escaped(text)),
+        false => format!("<th>{}</th>", escaped(text)),
+    });
     format!(
-        "<div class=\"wide\"><table>\n<thead><tr>{}</tr></thead>\n<tbody>\n{}</tbody>\n</table></div>\n",
-        headings.concat(),
-        rows.concat()
+        "<table{class}>\n{caption}<thead><tr>{}</tr></thead>\n<tbody>\n{rows_written}</tbody>\n</table>\n",
+        headings.collect::<String>()
     )
+}
+
+/// What lines and areas stand for.
+pub fn key(entries: &[(Sample, String)]) -> String {
+    let entry = |(sample, name): &(Sample, String)| format!("<span>{}{}</span>\n", drawn(*sample), escaped(name));
+    format!("<p class=\"key\">\n{}</p>\n", entries.iter().map(entry).collect::<String>())
+}
+
+/// A sample of a line or an area.
+fn drawn(sample: Sample) -> String {
+    let shape = match sample {
+        Sample::Line(Stroke { colour, width, dashes }) => format!(
+            "<path d=\"M0 6L28 6\" fill=\"none\" stroke=\"{colour}\" stroke-width=\"{width}\" stroke-dasharray=\"{}\"/>",
+            if dashes.is_empty() { "none" } else { dashes }
+        ),
+        Sample::Area(colour) => {
+            format!("<rect x=\"0.5\" y=\"0.5\" width=\"27\" height=\"11\" fill=\"{colour}\" stroke=\"#B4BCC4\"/>")
+        }
+    };
+    format!("<svg viewBox=\"0 0 28 12\" aria-hidden=\"true\">{shape}</svg>")
 }
 
 /// The numbers that are read first, each with what it is.

@@ -3,12 +3,13 @@
 use polgamir::{AxisRaises, Limit, Raise};
 
 use super::arrivals::{Earlier, OfAxis};
+use super::entry::Entry;
 use super::html::Cell;
 use super::rows::{Miss, Nearest};
 use super::wrong_pole::{Left, WrongPole};
-use super::Entry;
 use crate::measure::rounded;
 use crate::picture::scale::quantity;
+use crate::picture::swing::Swing;
 
 /// How many axes were planned, and by what.
 pub fn planned_by(axes: usize, tick: Option<f64>) -> String {
@@ -30,9 +31,26 @@ pub fn cost_told(cost: i64, tick: Option<f64>) -> String {
 /// What is left of a sway on the pole that was entered.
 pub fn left_card(entry: &Entry, pole: &WrongPole) -> (String, String) {
     let Left { plan, unblended } = pole.left();
-    let without = unblended.map(|left| format!(", without the blend {}", amount(left))).unwrap_or_default();
-    let left = format!("{} left on {} if the pole is as entered{without}", pole.swing().name(), entry.title);
-    (format!("{} {}", amount(plan), entry.sway_name()), left)
+    let without = unblended.map(|left| format!("; without the blend {}", amount(left))).unwrap_or_default();
+    let left = format!(
+        "{} left on {} if the pole is as entered, in proportion to the real pole's{without}",
+        pole.swing().name(),
+        entry.title
+    );
+    (format!("{} {}", amount(plan), entry.position_name()), left)
+}
+
+/// The half period of a swing as entered, in ticks.
+pub fn half_period_told(swing: &Swing) -> String {
+    match swing.half_period_is_rounded() {
+        true => rounded(swing.entered_half_period),
+        false => swing.half_period.to_string(),
+    }
+}
+
+/// A swing ratio with up to four decimals.
+pub fn ratio_told(ratio: f64) -> String {
+    format!("{ratio:.4}").trim_end_matches('0').trim_end_matches('.').into()
 }
 
 /// Half fine steps as a number of fine steps with its name.
@@ -49,13 +67,13 @@ pub fn counted(ticks: u32) -> String {
     }
 }
 
-/// A quantity of a sway with three significant digits.
+/// A quantity of a sway with three significant digits; below a millionth it is 0, for floats carry no further.
 pub fn amount(value: f64) -> String {
     match value.abs() {
-        size if size < 1e-9 => "0".into(),
+        size if size < 1e-6 => "0".into(),
         size if size >= 1.0 => quantity(value),
         size => {
-            let decimals = (2.0 - size.log10().floor()).clamp(0.0, 12.0) as usize;
+            let decimals = (2.0 - size.log10().floor()).clamp(0.0, 8.0) as usize;
             format!("{value:.decimals$}")
         }
     }

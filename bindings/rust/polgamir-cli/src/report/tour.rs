@@ -5,14 +5,16 @@
 use polgamir::sheet::{Sheet, TourSheet};
 use polgamir::{Schedule, TourRefusal};
 
+use super::entry::Entry;
 use super::html::{self, Cell};
 use super::rows::{self, Miss, Nearest};
 use super::told::{at_tick, cost_of, cost_told, earlier_told, fine_steps, halves, left_card, limit_row, planned_by};
 use super::wrong_pole::WrongPole;
-use super::{wrong_axis, Entry, Report};
+use super::{as_entered, wrong_axis, Report};
+use crate::command::summary::NOT_LIMITED;
 use crate::measure::{in_seconds, rounded};
-use crate::picture;
 use crate::picture::svg::escaped;
+use crate::picture::{self, Sample, PANEL_WIDTH, TOUR_LEGEND};
 
 /// The report of a tour whose text is as entered.
 pub fn written(title: &str, entered: &str, sheet: &TourSheet) -> Result<String, TourRefusal> {
@@ -20,29 +22,33 @@ pub fn written(title: &str, entered: &str, sheet: &TourSheet) -> Result<String, 
     let jobs: Vec<Sheet> = (0..).map_while(|stop| sheet.leg(stop)).collect();
     let of_leg = |(stop, job)| Report::of(job).map_err(|refusal| TourRefusal::Leg { stop, refusal });
     let legs = jobs.iter().enumerate().map(of_leg).collect::<Result<_, _>>()?;
-    let pictures = picture::draw_tour_parts(title, sheet)?;
     let report = TourReport { sheet, schedule, legs };
+    let legs: Vec<Vec<&Entry>> = report.axes().collect();
+    let poles: Vec<(&Entry, Vec<WrongPole>)> = legs.iter().map(|legs| (legs[0], WrongPole::all_of(legs))).collect();
     let body = [
         format!("<h1>{}</h1>\n", escaped(title)),
         format!("<p class=\"sub\">{}</p>\n", report.headline()),
         html::cards(&report.cards()),
-        html::section("The set-up sheet, as entered", &html::as_written(entered)),
-        html::section("The answer", &report.answer()),
-        html::section("The plan", &(html::paragraph(PLAN) + &pictures.concat())),
-        html::section("If the pole was measured wrongly", &report.wrong_poles()),
+        html::section("The answer", &(report.answer() + &report.ranges())),
+        html::section("If the pole is as entered", &as_entered::section(&poles)),
+        html::section("Axis by axis, and if the pole was measured wrongly", &report.axis_blocks(&poles)?),
         html::section("What the blend costs", &report.cost()),
         html::section("What sets each arrival, and one tick earlier", &report.arrivals()),
         html::section("How near each axis is to its limits", &report.limits()),
         html::section("Carrying a row on", &report.misses()),
         html::section("How these numbers were made", &html::paragraph(&format!("{LEGS} {}", super::METHOD))),
+        html::section("The set-up sheet, as entered", &html::as_written(entered)),
     ];
     Ok(html::page(&format!("{title}: report"), &body.concat()))
 }
 
+/// The width of a timeline on a screen and on paper.
+const TIMELINE_WIDTH: f64 = 900.0;
+
 /// What the pictures show.
 const PLAN: &str = "Position, velocity and sway of each axis from the tour's start to its end, with the limits of its speed. Upright lines are \
-    arrivals, each with its stop's number; the head then rests for the dwell. The sway is how far the top of the pole is from upright, at each of \
-    its rates; at the stops there should be none.";
+    arrivals, each with its stop's number; the head then rests for the dwell. Sway is in proportion to the real pole's, at each of its rates; it is \
+    not the tip in degrees. At the stops there should be next to none.";
 
 /// What the numbers of a tour are made from.
 const LEGS: &str =
@@ -100,7 +106,7 @@ impl TourReport<'_> {
              after its dwell, and arrives as early as it can.",
             in_seconds(total, self.sheet.tick_seconds())
         );
-        let measures = self.legs[0].axes.iter().map(|entry| format!("{}, {}", entry.title, entry.sway_name()));
+        let measures = self.legs[0].axes.iter().map(|entry| format!("{}, {}", entry.title, entry.position_name()));
         let names = ["stop", "leg takes", "arrival", "dwell", "departure"].map(String::from);
         let headings: Vec<String> = names.into_iter().chain(measures).collect();
         let headings: Vec<&str> = headings.iter().map(String::as_str).collect();
@@ -117,11 +123,46 @@ impl TourReport<'_> {
         html::paragraph(&text) + &html::table(&headings, &rows)
     }
 
-    /// What is left of the sway over the errors of half period and damping, axis by axis.
-    fn wrong_poles(&self) -> String {
-        let legs: Vec<Vec<&Entry>> = self.axes().collect();
-        let axes: Vec<(&Entry, Vec<WrongPole>)> = legs.iter().map(|legs| (legs[0], WrongPole::all_of(legs))).collect();
-        wrong_axis::of_axes(&axes)
+    /// The least and the greatest position of each axis over all legs.
+    fn ranges(&self) -> String {
+        let row = |legs: Vec<&Entry>| -> Vec<Cell> {
+            let positions = || legs.iter().flat_map(|entry| &entry.rows).map(|row| row.position);
+            let entry = legs[0];
+            let shown = |cell: Option<i64>| {
+                Cell::Number(rounded(entry.measure.position(polgamir::in_units(cell.unwrap_or(0)))))
+            };
+            vec![
+                Cell::Words(entry.title.clone()),
+                shown(positions().min()),
+                shown(positions().max()),
+                Cell::Words(entry.position_name()),
+            ]
+        };
+        let rows: Vec<Vec<Cell>> = self.axes().map(row).collect();
+        html::paragraph(NOT_LIMITED) + &html::table(&["axis", "least position", "greatest position", "in"], &rows)
+    }
+
+    /// For each axis its timeline, and what is left over the errors of half period and damping.
+    fn axis_blocks(&self, poles: &[(&Entry, Vec<WrongPole>)]) -> Result<String, TourRefusal> {
+        let entries: Vec<(Sample, String)> = TOUR_LEGEND.iter().map(|&(name, sample)| (sample, name.into())).collect();
+        let mut text = html::paragraph(PLAN) + &html::key(&entries);
+        if let Some(pole) = poles.iter().flat_map(|(_, poles)| poles).next() {
+            let name = pole.tables_name();
+            text += &(html::paragraph(&wrong_axis::told(name)) + &wrong_axis::key(name));
+        }
+        let wide = picture::tour_pictures(self.sheet, TIMELINE_WIDTH, "wide")?;
+        let narrow = picture::tour_pictures(self.sheet, PANEL_WIDTH, "narrow")?;
+        for ((wide, narrow), (entry, poles)) in wide.iter().zip(&narrow).zip(poles) {
+            let charts = poles.iter().enumerate().flat_map(|(index, pole)| wrong_axis::charts(entry, pole, index));
+            let tables: String = poles.iter().map(|pole| wrong_axis::tables(entry, pole)).collect();
+            let body = html::heading(&wide.title, &wide.pole)
+                + &html::block("timeline onscreen", &wide.panels.concat())
+                + &html::block("timeline onphone", &narrow.panels.concat())
+                + &html::block("pictures", &charts.collect::<String>())
+                + &html::block("tables", &tables);
+            text += &html::block("axis", &body);
+        }
+        Ok(text)
     }
 
     /// What the blend costs in ticks.

@@ -5,6 +5,8 @@ use std::collections::BTreeMap;
 /// A value of JSON.
 #[derive(Debug, Clone, PartialEq)]
 pub enum Json {
+    /// Nothing.
+    Null,
     /// A number, as it is written.
     Number(String),
     /// A text.
@@ -83,6 +85,9 @@ impl<'t> Rest<'t> {
         let end = self.0.find([',', ']', '}', '\n']).unwrap_or(self.0.len());
         let (number, rest) = self.0.split_at(end);
         self.0 = rest;
+        if number == "null" {
+            return Json::Null;
+        }
         let size = number.strip_prefix('-').unwrap_or(number);
         let well = size == "0" || size.starts_with("0.") || size.starts_with(|first| ('1'..='9').contains(&first));
         assert!(well && number.parse::<f64>().is_ok(), "no number of JSON: {number}");
