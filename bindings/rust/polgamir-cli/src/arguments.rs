@@ -4,10 +4,11 @@ use std::ffi::OsString;
 use std::fmt;
 use std::path::PathBuf;
 
-use polgamir::MOST_CELLS;
+use polgamir::{LATEST_ARRIVAL, MOST_CELLS};
 
 use crate::command::export::{Export, Quantity};
 use crate::help::Page;
+use crate::verify::Standing;
 
 /// What is asked for, and where it goes.
 #[derive(Debug, PartialEq, Eq)]
@@ -39,6 +40,12 @@ pub enum Task {
     Plot { setup: PathBuf },
     /// Write the report of a job or of a tour.
     Report { setup: PathBuf },
+    /// Hold tables to a job.
+    Verify { job: PathBuf, tables: Vec<PathBuf>, standing: Standing },
+    /// Hold a certificate to its own job.
+    VerifyCertificate { file: PathBuf },
+    /// Write the certificate of a job.
+    Certify { job: PathBuf },
 }
 
 /// How a table is printed.
@@ -143,6 +150,8 @@ impl Request {
             Page::Tour => rest.tour(),
             Page::Plot => rest.plot(),
             Page::Report => rest.report(),
+            Page::Verify => rest.verify(),
+            Page::Certify => Ok(Task::Certify { job: rest.file("sheet")? }),
             Page::All => Ok(Task::Help(Page::All)),
         }?;
         let output = rest.output.take().filter(|file| file != "-").map(PathBuf::from);
@@ -162,6 +171,7 @@ struct Rest {
     flags: Vec<String>,
     output: Option<OsString>,
     cells: Option<OsString>,
+    first: Option<OsString>,
     files: Vec<OsString>,
 }
 
@@ -173,7 +183,7 @@ impl Rest {
         while let Some(argument) = arguments.next() {
             match argument.to_str() {
                 Some("--") => rest.files.extend(arguments.by_ref().cloned()),
-                Some(option @ ("-o" | "--cells")) => rest.take_value(option, arguments.next())?,
+                Some(option @ ("-o" | "--cells" | "--first")) => rest.take_value(option, arguments.next())?,
                 Some(flag) if flag.starts_with('-') && flag != "-" => rest.flags.push(flag.into()),
                 _ => rest.files.push(argument.clone()),
             }
@@ -186,7 +196,11 @@ impl Rest {
         let Some(value) = value else {
             return Err(Usage::of(format!("expected a value after `{option}`")));
         };
-        let place = if option == "-o" { &mut self.output } else { &mut self.cells };
+        let place = match option {
+            "-o" => &mut self.output,
+            "--first" => &mut self.first,
+            _ => &mut self.cells,
+        };
         match place.replace(value.clone()) {
             None => Ok(()),
             Some(_) => Err(Usage::of(format!("expected `{option}` once"))),
@@ -308,11 +322,33 @@ impl Rest {
         }
     }
 
+    /// A certificate alone, or a job and the files of its table.
+    fn verify(&mut self) -> Result<Task, Usage> {
+        let backwards = self.flag("--backwards");
+        let first = match self.first.take() {
+            None => None,
+            Some(given) => {
+                let row = given.to_str().and_then(|row| row.parse().ok()).filter(|row| *row <= LATEST_ARRIVAL);
+                let found = given.to_string_lossy();
+                let wrong = || Usage::of(format!("expected a row from 0 to {LATEST_ARRIVAL} after `--first`, found `{found}`"));
+                Some(row.ok_or_else(wrong)?)
+            }
+        };
+        let mut files: Vec<PathBuf> = self.files.drain(..).map(PathBuf::from).collect();
+        match files.len() {
+            0 => Err(Usage::of("expected a job and its table, or a certificate")),
+            1 if backwards || first.is_some() => Err(Usage::of("expected a table after the job")),
+            1 => Ok(Task::VerifyCertificate { file: files.remove(0) }),
+            _ => Ok(Task::Verify { job: files.remove(0), tables: files, standing: Standing { backwards, first } }),
+        }
+    }
+
     /// Whether every argument has been taken.
     fn is_spent(&self) -> Result<(), Usage> {
-        match (self.flags.first(), &self.cells) {
-            (Some(flag), _) => Err(Usage::of(format!("`{flag}` is no option of this command"))),
-            (_, Some(_)) => Err(Usage::of("`--cells` is no option of this command")),
+        match (self.flags.first(), &self.cells, &self.first) {
+            (Some(flag), ..) => Err(Usage::of(format!("`{flag}` is no option of this command"))),
+            (_, Some(_), _) => Err(Usage::of("`--cells` is no option of this command")),
+            (.., Some(_)) => Err(Usage::of("`--first` is no option of this command")),
             _ => Ok(()),
         }
     }

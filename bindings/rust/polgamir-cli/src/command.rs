@@ -1,13 +1,13 @@
 //! The commands: what each reads, and what it gives.
 
-mod content;
+pub mod content;
 pub mod export;
-mod files;
+pub mod files;
 pub mod refusal;
 pub mod summary;
 pub mod table;
 mod tour;
-mod words;
+pub mod words;
 
 use std::fmt;
 use std::path::Path;
@@ -16,7 +16,7 @@ use polgamir::sheet::{Rounded, Setup, Sheet};
 use polgamir::{Job, NoWords};
 
 use crate::arguments::{PlanForm, Request, TableForm, Task, Usage};
-use crate::{picture, report};
+use crate::{picture, report, verify};
 use export::Source;
 use files::{about, FileError};
 use refusal::Told;
@@ -35,7 +35,7 @@ pub struct Done {
 
 impl Done {
     /// Done as asked.
-    fn well(output: impl Into<Vec<u8>>) -> Done {
+    pub fn well(output: impl Into<Vec<u8>>) -> Done {
         Done { output: output.into(), refusal: String::new(), notes: Vec::new(), status: 0 }
     }
 
@@ -51,8 +51,13 @@ impl Done {
     }
 
     /// Refused by the planner, where text was asked for.
-    fn refused_in_words(told: &Told) -> Done {
+    pub fn refused_in_words(told: &Told) -> Done {
         Done::refused(told, told.text())
+    }
+
+    /// Not what a file was taken for, in words.
+    pub fn differs(text: String) -> Done {
+        Done { output: text.clone().into(), refusal: text, notes: Vec::new(), status: 1 }
     }
 
     /// With what is to be known of the entries that were rounded, before all else.
@@ -136,6 +141,9 @@ fn done(task: &Task) -> Result<Done, FileError> {
         }
         Task::Plot { setup } => plot(setup),
         Task::Report { setup } => report(setup),
+        Task::Verify { job, tables, standing } => verify::verified(job, tables, *standing),
+        Task::VerifyCertificate { file } => verify::verified_certificate(file),
+        Task::Certify { job } => verify::certified(job),
     }
 }
 

@@ -19,12 +19,25 @@ pub enum Page {
     Show,
     /// `convert`.
     Convert,
+    /// `verify`.
+    Verify,
+    /// `certify`.
+    Certify,
 }
 
 impl Page {
     /// Every command's page, in the order in which the first page lists them.
-    pub const COMMANDS: [Page; 7] =
-        [Page::Plan, Page::Tour, Page::Report, Page::Plot, Page::Words, Page::Show, Page::Convert];
+    pub const COMMANDS: [Page; 9] = [
+        Page::Plan,
+        Page::Tour,
+        Page::Report,
+        Page::Plot,
+        Page::Words,
+        Page::Show,
+        Page::Convert,
+        Page::Verify,
+        Page::Certify,
+    ];
 
     /// The page of a command.
     pub fn of(command: &str) -> Option<Page> {
@@ -42,6 +55,8 @@ impl Page {
             Page::Words => "words",
             Page::Show => "show",
             Page::Convert => "convert",
+            Page::Verify => "verify",
+            Page::Certify => "certify",
         }
     }
 
@@ -62,6 +77,8 @@ impl Page {
             Page::Words => WORDS,
             Page::Show => SHOW,
             Page::Convert => CONVERT,
+            Page::Verify => VERIFY,
+            Page::Certify => CERTIFY,
         }
     }
 }
@@ -78,6 +95,8 @@ Usage: polgamir COMMAND [OPTIONS] FILE
   words    write the job words of a sheet
   show     print the sheet of job words
   convert  write old job words again, with moving targets for flying ones
+  verify   hold a table, or a certificate, to its job
+  certify  write a job's table with all that it takes to check it, in one file
 
 `polgamir COMMAND --help` tells more of a command. `--version` says the version.
 
@@ -206,6 +225,36 @@ The arrival is asked for; a job that seeks the earliest is refused with 17.
 Other jobs stay as they are.
 
   --bytes  write bytes, each word little-endian
+  -o FILE  write to a file
+";
+
+const VERIFY: &str = "\
+Says whether a table is the table of a job: planned anew and compared cell for
+cell, with the checks that need no planner.
+
+Usage: polgamir verify [--backwards] [--first ROW] JOB TABLE...
+       polgamir verify CERTIFICATE
+
+TABLE is what `polgamir plan` writes with --csv, --json or --c-array, or the
+cells as bytes, 64-bit numbers with the low byte first. A table in parts is
+given as several files, in order.
+
+  --backwards  the arrival's row comes first
+  --first ROW  the table is a part by itself, which begins with this row
+
+Exit status: 0 it is the job's table; 1 it is not, and the first cell that
+differs is named; 2 a file cannot be read.
+";
+
+const CERTIFY: &str = "\
+Writes one file with a job's sheet, words, answer, table and checks, and what
+the command was built from: for a quality folder.
+
+Usage: polgamir certify [-o FILE] JOB
+
+`polgamir verify FILE` plans its sheet anew and compares all of it. The file
+carries its own SHA-256, so that an edit or a cut is seen. It is no signature.
+
   -o FILE  write to a file
 ";
 

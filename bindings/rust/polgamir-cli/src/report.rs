@@ -9,7 +9,7 @@ mod bound;
 mod entry;
 mod html;
 mod refused;
-mod rows;
+pub mod rows;
 mod set_by;
 mod told;
 mod tour;
