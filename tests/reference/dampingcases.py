@@ -179,6 +179,12 @@ def damping() -> Group:
     return Group('damping', 'Damping as measured, by ratio and by peaks.', refused_jobs() + accepted_jobs())
 
 
+def by_a_job(case: WeightCase) -> Case:
+    """A job whose table is another one for every weight."""
+    one = to(1000, speed_limit=2000, acceleration_limit=1000, half_period=1, second_weight=case.damping)
+    return typed(case.name, [one], asked=3, lent=15)
+
+
 # --- Random ones -----------------------------------------------------------
 
 def random_damping(rng: random.Random) -> Damping:

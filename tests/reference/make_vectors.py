@@ -11,7 +11,9 @@ import sys
 from typing import List, Optional
 
 import backwardcases
+import cases
 import convertcases
+import dampingcases
 import partcases
 import raisecases
 import searchcases
@@ -150,6 +152,25 @@ def part_line(case: partcases.PartCase) -> str:
 
 # --- Files -----------------------------------------------------------------
 
+def group_lines(*groups) -> List[str]:
+    return [plan_line(case) for group in groups for case in group.cases]
+
+
+def plan_lines() -> List[str]:
+    return group_lines(cases.field(), cases.readings(), cases.accepted(), cases.corrected(), cases.refused_words(),
+                       cases.refused_values(), cases.hostile(), cases.mirrors(), cases.drawn())
+
+
+def tour_lines() -> List[str]:
+    return [tour_line(case) for case in cases.tours() + cases.drawn_tours()]
+
+
+def damping_lines() -> List[str]:
+    """Jobs, and then every weight case by a job whose table tells the weight."""
+    told = [plan_line(dampingcases.by_a_job(case)) for case in cases.weights() + cases.drawn_weights()]
+    return group_lines(cases.damping(), cases.drawn_damping()) + told
+
+
 def sway_lines() -> List[str]:
     jobs = swaycases.sways().cases + swaycases.drawn_sways().cases
     return [plan_line(case) for case in jobs] + [tour_line(case) for case in swaycases.tours() + swaycases.drawn_sway_tours()]
@@ -177,6 +198,11 @@ def part_lines() -> List[str]:
 
 
 FILES = {
+    'plans.txt': ('Tables, and every refusal of a job.', plan_lines),
+    'tours.txt': ('A tour of stops (request 2.1).', tour_lines),
+    'damping.txt': ('Damping as measured (request 2.3).', damping_lines),
+    'windows.txt': ('Laser windows (request 2.5).', lambda: group_lines(cases.windows(), cases.drawn_windows())),
+    'rails.txt': ('Positions past 28 bits (request 2.8).', lambda: group_lines(cases.rails(), cases.drawn_rails())),
     'sway.txt': ('Poles with a second sway (request 2.9).', sway_lines),
     'raises.txt': ('The smallest change that makes it (request 2.10).', raises_lines),
     'convert.txt': ('Flying fixed targets go (request 2.11).', convert_lines),

@@ -417,6 +417,8 @@ def weights_by_hand(rng, count=30):
     for b in range(2, 129):
         at = dampingcases.edge(b)
         same('an edge', [damping.weight_of(damping.Ratio(x)) for x in (at - 1, at)], [b - 1, b])
+    jobs = [dampingcases.by_a_job(dampingcases.WeightCase('', b, b)) for b in range(1, 129)]
+    same('a table for each weight', len({str(outcome(job, [0] * job.lent)) for job in jobs}), 128)
     for _ in range(count):
         entered = dampingcases.random_damping(rng)
         b = damping.weight_of(entered)

@@ -73,13 +73,20 @@ fn tour(side: Side, call: &mut Tokens, expected: &mut Tokens) {
     assert!(list[wanted.len()..].iter().all(|&entry| entry == ENTRY));
 }
 
-#[test]
-fn second_sways() {
-    every_case("sway.txt", |side, call, expected| match call.word() {
+/// Every case of a file of tables and tours.
+fn tables_and_tours(file: &str) {
+    every_case(file, |side, call, expected| match call.word() {
         "plan" => plan(side, Order::Forwards, call, expected),
         "tour" => tour(side, call, expected),
         other => panic!("{other} is no call"),
     });
+}
+
+#[test]
+fn tables() {
+    for file in ["plans.txt", "damping.txt", "windows.txt", "rails.txt", "tours.txt", "sway.txt"] {
+        tables_and_tours(file);
+    }
 }
 
 #[test]
