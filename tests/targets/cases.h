@@ -5,30 +5,26 @@
 #ifndef CASES_H
 #define CASES_H
 
-#include "reading.h"
+#include "calls.h"
 
-#define CELL (-1234567890123)
-#define ENTRY 987654321u
-#define WORD 0xDEADBEEFu
-#define MOST_LENT (POLGAMIR_MOST_CELLS + 64)
-#define MOST_ENTRIES 256
-
-static int64_t table[MOST_LENT];
-static uint32_t list[MOST_ENTRIES];
-static polgamir_stop stops[MOST_ENTRIES];
-
-/* The calls of the header, and which of them were made. */
-enum { VERSION, PLAN, PLAN_WORDS, BACK, BACK_WORDS, PART, PART_WORDS, TOUR, RAISES, RAISES_WORDS, CONVERT, SEARCH, SEARCH_WORDS, CALLS };
-static int made[CALLS];
-
-/* Lends `lent` cells; all behind them are looked at too. */
-static size_t lend(uint64_t lent)
+/* Lends cells; those behind them are looked at too. */
+static void lend(uint64_t cells)
 {
-    expect(lent <= MOST_LENT, "too many cells for this test");
+    expect(cells <= MOST_LENT, "too many cells for this test");
+    lent = cells <= MOST_LENT ? (size_t)cells : 0;
     for (size_t i = 0; i < MOST_LENT && i < lent + 64; i++) {
         table[i] = CELL;
     }
-    return lent <= MOST_LENT ? (size_t)lent : 0;
+}
+
+/* Lends entries or words of the list. */
+static void lend_list(uint64_t entries, uint32_t untouched)
+{
+    expect(entries <= MOST_ENTRIES, "too many entries for this test");
+    lent = entries <= MOST_ENTRIES ? (size_t)entries : 0;
+    for (size_t i = 0; i < MOST_ENTRIES; i++) {
+        list[i] = untouched;
+    }
 }
 
 /* A field that is expected; '-' is one that the method leaves free. */
@@ -38,17 +34,17 @@ static void field(struct text *expected, uint64_t got, const char *what)
     expect(is(wanted, "-") || value(wanted, 10) == got, what);
 }
 
-static void check_answer(struct text *expected, polgamir_answer answer)
+static void check_answer(struct text *expected, polgamir_answer got)
 {
     keyword(expected, "answer");
-    field(expected, answer.number, "the number");
-    field(expected, answer.place, "the place");
-    field(expected, answer.mask, "the mask");
-    field(expected, answer.arrival, "the arrival");
+    field(expected, got.number, "the number");
+    field(expected, got.place, "the place");
+    field(expected, got.mask, "the mask");
+    field(expected, got.arrival, "the arrival");
 }
 
 /* The cells: how many are written, their sum, some of them, and the others as they were. */
-static void check_table(struct text *expected, size_t lent)
+static void check_table(struct text *expected)
 {
     const uint64_t prime = 2147483647;
     keyword(expected, "table");
@@ -69,89 +65,71 @@ static void check_table(struct text *expected, size_t lent)
     }
 }
 
-static void run_plan(struct text *call, struct text *expected, int backwards)
+/* The call for words, or the one for typed values. */
+static void make_by(int call)
 {
-    size_t lent = lend(number(call));
+    make(by_words ? call : call + 1);
+}
+
+static void run_plan(struct text *call, struct text *expected, int kind)
+{
+    lend(number(call));
     read_job(call);
-    polgamir_answer answer = {0};
-    if (problem == NULL && by_words) {
-        answer = (backwards ? polgamir_plan_words_backwards : polgamir_plan_words)(words, word_count, table, lent);
-        made[backwards ? BACK_WORDS : PLAN_WORDS] = 1;
-    } else if (problem == NULL) {
-        answer = (backwards ? polgamir_plan_job_backwards : polgamir_plan_job)(job, table, lent);
-        made[backwards ? BACK : PLAN] = 1;
-    }
+    make_by(kind);
     check_answer(expected, answer);
-    check_table(expected, lent);
+    check_table(expected);
 }
 
 static void run_part(struct text *call, struct text *expected)
 {
-    uint32_t first = (uint32_t)number(call);
-    size_t lent = lend(number(call));
+    first = (uint32_t)number(call);
+    lend(number(call));
     read_job(call);
-    polgamir_part_answer part = {0};
-    if (problem == NULL) {
-        part = by_words ? polgamir_plan_words_part(words, word_count, first, table, lent) : polgamir_plan_job_part(job, first, table, lent);
-        made[by_words ? PART_WORDS : PART] = 1;
-    }
+    make_by(PART);
     check_answer(expected, (polgamir_answer){part.number, part.mask, part.place, part.arrival});
     keyword(expected, "rows");
     field(expected, part.rows, "the rows");
-    check_table(expected, lent);
+    check_table(expected);
 }
 
-static size_t read_tour(struct text *call, polgamir_tour *tour)
+static void read_tour(struct text *call)
 {
-    tour->mask = (uint32_t)number(call);
+    memset(&tour, 0, sizeof tour);
+    tour.mask = (uint32_t)number(call);
     for (uint64_t axes = number(call); axes > 0 && problem == NULL; axes--) {
         size_t bit = read_bit(call);
-        tour->start[bit] = (int64_t)number(call);
-        tour->limits[bit] = read_limits(call);
+        tour.start[bit] = (int64_t)number(call);
+        tour.limits[bit] = read_limits(call);
     }
-    size_t count = (size_t)number(call);
-    expect(count <= MOST_ENTRIES, "too many stops for this test");
-    for (size_t i = 0; i < count && problem == NULL; i++) {
+    stop_count = (size_t)number(call);
+    expect(stop_count <= MOST_ENTRIES, "too many stops for this test");
+    for (size_t i = 0; i < stop_count && problem == NULL; i++) {
         keyword(call, "stop");
         for (size_t axis = 0; axis < POLGAMIR_AXES; axis++) {
             stops[i].positions[axis] = (int64_t)number(call);
         }
         stops[i].dwell = (uint32_t)number(call);
     }
-    return count;
 }
 
 /* The numbers that are written to the list, each to a base, and the others as they were. */
 static void check_list(struct text *expected, unsigned base, uint32_t untouched)
 {
     size_t written = (size_t)number(expected);
-    expect(written <= MOST_ENTRIES, "too many entries for this test");
+    expect(written <= lent, "more entries than are lent");
     for (size_t i = 0; i < MOST_ENTRIES && problem == NULL; i++) {
         expect(list[i] == (i < written ? (uint32_t)value(token(expected), base) : untouched), "an entry of the list");
     }
 }
 
-static size_t lend_list(uint64_t lent, uint32_t untouched)
-{
-    expect(lent <= MOST_ENTRIES, "too many entries for this test");
-    for (size_t i = 0; i < MOST_ENTRIES; i++) {
-        list[i] = untouched;
-    }
-    return (size_t)lent;
-}
-
 static void run_tour(struct text *call, struct text *expected)
 {
-    polgamir_tour tour = {0};
-    polgamir_tour_answer answer = {0};
-    size_t lent = lend_list(number(call), ENTRY), count = read_tour(call, &tour);
-    if (problem == NULL) {
-        answer = polgamir_plan_tour(tour, stops, count, list, lent);
-        made[TOUR] = 1;
-    }
-    check_answer(expected, (polgamir_answer){answer.number, answer.mask, answer.place, answer.arrival});
+    lend_list(number(call), ENTRY);
+    read_tour(call);
+    make(TOUR);
+    check_answer(expected, (polgamir_answer){toured.number, toured.mask, toured.place, toured.arrival});
     keyword(expected, "total");
-    field(expected, answer.total, "the total");
+    field(expected, toured.total, "the total");
     keyword(expected, "list");
     check_list(expected, 10, ENTRY);
 }
@@ -169,12 +147,8 @@ static void check_raise(struct text *expected, polgamir_raise raise, int listed)
 
 static void run_raises(struct text *call, struct text *expected)
 {
-    polgamir_raises raises = {0};
     read_job(call);
-    if (problem == NULL) {
-        raises = by_words ? polgamir_raises_words(words, word_count) : polgamir_raises_job(job);
-        made[by_words ? RAISES_WORDS : RAISES] = 1;
-    }
+    make_by(RAISES);
     check_answer(expected, raises.answer);
     keyword(expected, "raises");
     uint64_t axes = number(expected);
@@ -195,14 +169,10 @@ static void run_raises(struct text *call, struct text *expected)
 
 static void run_convert(struct text *call, struct text *expected)
 {
-    polgamir_answer answer = {0};
-    size_t lent = lend_list(number(call), WORD);
+    lend_list(number(call), WORD);
     keyword(call, "words");
     read_words(call);
-    if (problem == NULL) {
-        answer = polgamir_convert(words, word_count, list, lent);
-        made[CONVERT] = 1;
-    }
+    make(CONVERT);
     check_answer(expected, answer);
     keyword(expected, "words");
     check_list(expected, 16, WORD);
@@ -210,23 +180,20 @@ static void run_convert(struct text *call, struct text *expected)
 
 static void run_search(struct text *call, struct text *expected)
 {
-    uint32_t first = (uint32_t)number(call), budget = (uint32_t)number(call);
-    polgamir_search_answer got = {0};
+    first = (uint32_t)number(call);
+    budget = (uint32_t)number(call);
     read_job(call);
-    if (problem == NULL) {
-        got = by_words ? polgamir_search_words(words, word_count, first, budget) : polgamir_search_job(job, first, budget);
-        made[by_words ? SEARCH_WORDS : SEARCH] = 1;
-    }
-    if (got.number != 0) {
-        check_answer(expected, (polgamir_answer){got.number, got.mask, got.place, got.arrival});
+    make_by(SEARCH);
+    if (searched.number != 0) {
+        check_answer(expected, (polgamir_answer){searched.number, searched.mask, searched.place, searched.arrival});
         return;
     }
     struct text report = token(expected);
-    expect(is(report, got.report == POLGAMIR_FOUND ? "found" : got.report == POLGAMIR_SPENT ? "spent" : "none"), "the report");
-    if (got.report != POLGAMIR_NONE) {
-        field(expected, got.report == POLGAMIR_FOUND ? got.arrival : got.next, "the tick");
+    expect(is(report, searched.report == POLGAMIR_FOUND ? "found" : searched.report == POLGAMIR_SPENT ? "spent" : "none"), "the report");
+    if (searched.report != POLGAMIR_NONE) {
+        field(expected, searched.report == POLGAMIR_FOUND ? searched.arrival : searched.next, "the tick");
     }
-    field(expected, got.tried, "the candidates tried");
+    field(expected, searched.tried, "the candidates tried");
 }
 
 #endif

@@ -3,8 +3,8 @@
  *
  *     vectors FILE..        # FILE is a file of vectors, or a job (NAME.job), whose text stands beside it
  *
- * What is expected was worked out by the reference. Prints the cases that fail and the number of cases, and ends with status 0 where none
- * fails and every call of the header was made.
+ * What is expected was worked out by the reference. Prints the cases that fail, the stack that each call took at most and the number of cases,
+ * and ends with status 0 where none fails and every call of the header was made.
  */
 #include "cases.h"
 #include "platform.h"
@@ -55,7 +55,7 @@ static void run_call(struct text *call, struct text *expected)
 {
     struct text what = token(call);
     if (is(what, "plan") || is(what, "backwards")) {
-        run_plan(call, expected, is(what, "backwards"));
+        run_plan(call, expected, is(what, "plan") ? PLAN : BACKWARDS);
     } else if (is(what, "part")) {
         run_part(call, expected);
     } else if (is(what, "tour")) {
@@ -124,7 +124,7 @@ static void follows_number(struct text *text, const char *before, int64_t number
     follows(text, digits(number));
 }
 
-static void check_text(struct text text, polgamir_answer answer)
+static void check_text(struct text text)
 {
     size_t width = 3 * (size_t)polgamir_axis_count(answer.mask);
     if (answer.number == POLGAMIR_ACCEPTED) {
@@ -155,32 +155,54 @@ static void run_job_file(char *name, size_t name_length, long bytes)
     expect(bytes % 4 == 0 && bytes <= 4 * MOST_WORDS, "a job is words of four bytes");
     if (problem == NULL) {
         memcpy(words, file, (size_t)bytes);
-        check_text((struct text){stored, stored + length}, polgamir_plan_words(words, (size_t)bytes / 4, table, POLGAMIR_MOST_CELLS));
+        word_count = (size_t)bytes / 4;
+        lent = POLGAMIR_MOST_CELLS;
+        make(PLAN);
+        check_text((struct text){stored, stored + length});
     }
     done(whole);
+}
+
+/* Every call was made, and the version is the header's. */
+static void run_calls(void)
+{
+    make(VERSION);
+    expect(version == POLGAMIR_VERSION, "the version is another one");
+    for (int call = 0; call < CALLS; call++) {
+        expect(made[call], "a call of the header was not made");
+    }
+    const char *all = "all calls";
+    done((struct text){all, all + strlen(all)});
+}
+
+static void run_file(char *name)
+{
+    size_t length = strlen(name);
+    long bytes = load(name, file, sizeof file);
+    if (bytes < 0) {
+        say(name);
+        say(": cannot be read\n");
+        failures++;
+    } else if (length > 4 && memcmp(name + length - 4, ".job", 4) == 0) {
+        run_job_file(name, length, bytes);
+    } else {
+        run_vectors((struct text){file, file + bytes});
+    }
 }
 
 int program(int count, char **names)
 {
     for (int i = 0; i < count; i++) {
-        size_t length = strlen(names[i]);
-        long bytes = load(names[i], file, sizeof file);
-        if (bytes < 0) {
-            say(names[i]);
-            say(": cannot be read\n");
-            failures++;
-        } else if (length > 4 && memcmp(names[i] + length - 4, ".job", 4) == 0) {
-            run_job_file(names[i], length, bytes);
-        } else {
-            run_vectors((struct text){file, file + bytes});
-        }
+        run_file(names[i]);
     }
-    made[VERSION] = polgamir_version() == POLGAMIR_VERSION;
+    run_calls();
     for (int call = 0; call < CALLS; call++) {
-        expect(made[call], "a call of the header was not made, or the version is another one");
+        say("stack ");
+        say_number((int64_t)most_stack[call]);
+        say(" ");
+        say(name_of[call]);
+        say("\n");
     }
-    const char *all = "all calls";
-    done((struct text){all, all + 9});
     say_number((int64_t)cases);
     say(" cases, ");
     say_number((int64_t)failures);
