@@ -5,9 +5,10 @@ Duhamel's integral in fifty decimal digits.
 
     python3 tests/reference/poles.py
 
-prints for two poles, whose damping no whole weight fits, what the table leaves
-on the pole as entered, what the rounding of the damping leaves by itself, what
-that of the cells does, and what the table leaves on the pole of the weight.
+prints for three poles, whose damping no whole weight fits and one of whose half
+periods no whole tick, what the table leaves on the pole as entered, what the
+rounding of half period, damping and cells leaves by itself, and what the table
+leaves on the pole that it is planned for.
 bindings/rust/polgamir-cli/tests/poles.rs holds `polgamir report` to them.
 """
 
@@ -77,7 +78,7 @@ class Pole:
         return greatest / self.stiffness
 
 
-def told(name: str, damping, ratio: Fraction):
+def told(name: str, damping, ratio: Fraction, half_period: Fraction = Fraction(27)):
     weight = weight_of(damping)
     axis = Axis(RestPoint(420, 0), 25, 3, 27, weight, RestPoint(-437, 0))
     arrival = next(n for n in range(1, 4097) if reachable(axis, n))
@@ -85,17 +86,20 @@ def told(name: str, damping, ratio: Fraction):
     cells = [Fraction(row_cells(axis, plan, k)[2], 256) for k in range(arrival + 1)]
     exact = [Fraction(blended(axis, plan, k)[2], 256 * weights(axis) * finer(axis)) for k in range(arrival + 1)]
     added = [cell - blend for cell, blend in zip(cells, exact)]
-    entered = Pole(Decimal(27), decimal(ratio))
-    of_weight = Pole(Decimal(27), decimal(Fraction(weight, 256 - weight)))
+    planned_ratio = Fraction(weight, 256 - weight)
+    entered, planned = Pole(decimal(half_period), decimal(ratio)), Pole(Decimal(27), decimal(planned_ratio))
     print('%s: weight %d, arrival %d' % (name, weight, arrival))
-    for what, pole, accelerations in [('the table, on the pole as entered', entered, cells),
-                                      ('by rounding the damping', entered, exact),
-                                      ('by rounding the cells', entered, added),
-                                      ('the table, on the pole of the weight', of_weight, cells),
-                                      ('the exact plan, on the pole of the weight', of_weight, exact)]:
-        print('  %-42s %.6f' % (what, pole.left(accelerations)))
+    for what, pole, accelerations in [
+            ('the table, on the pole as entered', entered, cells),
+            ('by rounding the half period', Pole(decimal(half_period), decimal(planned_ratio)), exact),
+            ('by rounding the damping', Pole(Decimal(27), decimal(ratio)), exact),
+            ('by rounding the cells', entered, added),
+            ('the table, on the pole that it is planned for', planned, cells),
+            ('the exact plan, on that pole', planned, exact)]:
+        print('  %-47s %.6f' % (what, pole.left(accelerations)))
 
 
 if __name__ == '__main__':
     told('peaks 41.5 36.2', Peaks(single(41.5), single(36.2)), Fraction(362, 415))
     told('shrinks 0.98', Ratio(single(0.98)), Fraction(98, 100))
+    told('shrinks 0.98, half period 26.75 ticks', Ratio(single(0.98)), Fraction(98, 100), Fraction(107, 4))

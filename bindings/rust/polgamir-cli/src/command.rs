@@ -130,7 +130,11 @@ fn done(task: &Task) -> Result<Done, FileError> {
         Task::Version => Ok(Done::well(concat!("polgamir ", env!("CARGO_PKG_VERSION"), "\n"))),
         Task::Plan { job, form, cells } => {
             let sheet = read_job(job)?;
-            Ok(plan(&Source::of(job), &sheet, *form, *cells).noting(sheet.rounded()))
+            let done = plan(&Source::of(job), &sheet, *form, *cells);
+            // The summary says what was rounded.
+            let summed_up =
+                done.status == 0 && matches!(form, PlanForm::Table { form, .. } if *form != TableForm::Plain);
+            Ok(done.noting(if summed_up { &[] } else { sheet.rounded() }))
         }
         Task::Words { job, bytes } => words_of(job, *bytes),
         Task::Convert { job, bytes } => converted(job, *bytes),
@@ -255,7 +259,7 @@ fn report(file: &Path) -> Result<Done, FileError> {
     };
     let done = match page {
         Ok(page) => Done::well(page),
-        Err(told) => Done::refused(&told, report::refused(&title, &entered, &told)),
+        Err(told) => Done::refused(&told, report::refused(&title, &entered, rounded_of(&setup), &told)),
     };
     Ok(done.noting(rounded_of(&setup)))
 }

@@ -46,19 +46,14 @@ pub fn pictures(title: &str, sheet: &Sheet) -> Result<Vec<AxisPictures>, Refusal
 
 /// What the lines of a job's pictures stand for.
 pub fn key(sheet: &Sheet) -> Vec<(&'static str, Sample)> {
-    let sways = sheet.job.entered().any(|(number, axis)| !Swing::of(axis, entered_in(sheet, number)).is_empty());
+    let sways = sheet.job.entered().any(|(_, axis)| !Swing::of(axis, Entered::default()).is_empty());
     legend(&sheet.job, sways && Planned::of(&without_blend(&sheet.job)).is_ok())
-}
-
-/// The half periods of an axis as its sheet has them.
-pub fn entered_in(_sheet: &Sheet, _number: usize) -> Entered {
-    Entered::default()
 }
 
 /// The page of a sheet's plan.
 fn page_of(title: &str, sheet: &Sheet) -> Result<Page, Refusal> {
     let planned = Planned::of(&sheet.job)?;
-    let swings = |(number, axis)| Swing::of(axis, entered_in(sheet, number));
+    let swings = |(number, axis)| Swing::of(axis, Entered::of(sheet.rounded(), number, axis));
     let sways = sheet.job.entered().any(|entered| !swings(entered).is_empty());
     let unblended = sways.then(|| Planned::of(&without_blend(&sheet.job)));
     let compared = unblended.as_ref().and_then(|unblended| unblended.as_ref().ok());

@@ -25,7 +25,9 @@ use crate::picture::{self, without_blend, Planned};
 use arrivals::Arrivals;
 use entry::Entry;
 use html::Cell;
-use told::{at_tick, cost_of, cost_told, earlier_told, fine_steps, halves, left_card, limit_row, planned_by};
+use told::{
+    at_tick, cost_of, cost_told, earlier_told, fine_steps, halves, left_card, limit_row, planned_by, rounded_entries,
+};
 use wrong_pole::WrongPole;
 
 pub use refused::refused;
@@ -39,6 +41,7 @@ pub fn written(title: &str, entered: &str, sheet: &Sheet) -> Result<String, Refu
         format!("<h1>{}</h1>\n", picture::svg::escaped(title)),
         format!("<p class=\"sub\">{}</p>\n", report.headline()),
         html::cards(&report.cards()),
+        rounded_entries(sheet.rounded()),
         html::section("The answer", &report.answer()),
         html::section("If the pole is as entered", &as_entered::section(&poles)),
         html::section("Axis by axis, and if the pole was measured wrongly", &report.axis_blocks(title, &poles)?),

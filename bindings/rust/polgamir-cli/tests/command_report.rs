@@ -238,6 +238,20 @@ fn errors_of_the_pole_leave_sway() {
     assert!(left.iter().zip(&bound).all(|(left, bound)| left < bound), "{bound:?}");
 }
 
+/// Entries that were rounded are listed, in the plan and in the report, each with what was entered and what is planned.
+#[test]
+fn rounded_entries_are_listed() {
+    let (plan, _) = printed(&run(&["plan", &sheet("stem-in-degrees")]));
+    let page = report("stem-in-degrees");
+    assert!(plan.contains("\nEntries that were rounded:\nline 8: axis 0 pan: swings 10 in 11.9 s, "), "{plan}");
+    assert!(
+        page.contains("<h2>Entries that were rounded</h2>\n<ul>\n<li>line 8: axis 0 pan: swings 10 in 11.9 s, "),
+        "{page}"
+    );
+    assert_eq!(row(&page, "axis 0 pan")[1], "-3.5");
+    assert!(page.contains("29.75 ticks, 0.8<") && !report("pan-tilt-stem").contains("were rounded"));
+}
+
 /// The bound is the library's, in the sheet's measure: on a pole that is as entered, and on one whose half period is 10 percent longer.
 #[test]
 fn the_bound_is_the_proved_one() {

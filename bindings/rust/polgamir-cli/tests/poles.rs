@@ -4,10 +4,11 @@ mod common;
 
 use common::command::{printed, run_with};
 
-/// The row of a pole in the report: pole as entered, planned for, measure, left, by the damping, by the cells, without the blend.
-fn row(damping: &str) -> Vec<String> {
+/// The row of a pole in the report: pole as entered, planned for, measure, left, by the half period where it was rounded, by the damping, by the
+/// cells, without the blend.
+fn row(half_period: &str, damping: &str) -> Vec<String> {
     let text = format!(
-        "arrival earliest\nunit mm\naxis 0 pan\nhalf period 27\n{damping}\nspeed limit 25\nacceleration limit 3\nstart position 420\n\
+        "arrival earliest\ntick 20 ms\nunit mm\naxis 0 pan\nhalf period {half_period}\n{damping}\nspeed limit 25\nacceleration limit 3\nstart position 420\n\
          start velocity 0\ntarget still\ntarget position -437\n"
     );
     let (page, status) = printed(&run_with(&["report", "-o", "-", "-"], text.as_bytes()));
@@ -30,7 +31,7 @@ fn two_peaks() {
         "0.632",
         "0.0325",
     ];
-    assert_eq!(row("peaks 41.5 36.2")[..7], expected);
+    assert_eq!(row("27", "peaks 41.5 36.2")[..7], expected);
 }
 
 /// `shrinks 0.98`: 1.946766 are left, 1.965401 by the damping's rounding and 0.036767 by the cells'.
@@ -38,11 +39,20 @@ fn two_peaks() {
 fn a_ratio() {
     let expected =
         ["axis 0 pan", "27 ticks, 0.98", "27 ticks, 0.9692 (weight 126)", "mm in proportion", "1.95", "1.97", "0.0368"];
-    assert_eq!(row("shrinks 0.98")[..7], expected);
+    assert_eq!(row("27", "shrinks 0.98")[..7], expected);
 }
 
 /// With the weight itself nothing is left by its rounding; the cells' rounding leaves what it left before, 0.032299.
 #[test]
 fn the_weight_itself() {
-    assert_eq!(row("weight 119")[4..7], ["0.0323", "0", "0.0323"]);
+    assert_eq!(row("0.54 s", "weight 119")[4..7], ["0.0323", "0", "0.0323"]);
+}
+
+/// A half period of 0.535 s is 26.75 ticks, and 27 are planned: 5.358177 are left, of which that rounding by itself leaves 4.960621, the damping's
+/// 1.965401 and the cells' 0.036052.
+#[test]
+fn a_rounded_half_period() {
+    let row = row("0.535 s", "shrinks 0.98");
+    assert_eq!(row[1..3], ["26.75 ticks, 0.98", "27 ticks, 0.9692 (weight 126)"]);
+    assert_eq!(row[4..8], ["5.36", "4.96", "1.97", "0.0361"]);
 }

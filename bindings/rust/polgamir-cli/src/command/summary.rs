@@ -8,11 +8,13 @@ use crate::measure::{rounded, Measure};
 /// What a plan does not heed.
 pub const NOT_LIMITED: &str = "Jerk and end stops are not limited.";
 
-/// A line for each axis, and what is not limited.
+/// A line for each axis, what is not limited, and the entries that were rounded.
 pub fn of(sheet: &Sheet, accepted: &Accepted) -> String {
     let axes = accepted.axes().axes();
     let lines: String = axes.filter_map(|axis| Some(of_axis(sheet, accepted, axis)? + "\n")).collect();
-    lines + NOT_LIMITED + "\n"
+    let rounded: String = sheet.rounded().iter().map(|rounded| format!("{rounded}\n")).collect();
+    let rounded = if rounded.is_empty() { rounded } else { format!("\nEntries that were rounded:\n{rounded}") };
+    lines + NOT_LIMITED + "\n" + &rounded
 }
 
 /// The least and greatest position of an axis, and its greatest speed and acceleration beside their limits.

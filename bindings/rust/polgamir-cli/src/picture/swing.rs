@@ -1,6 +1,7 @@
 //! The swings of the pole under an axis: as they were entered, and as the blend is planned for.
 
-use polgamir::Axis;
+use polgamir::sheet::Rounded;
+use polgamir::{Axis, WordKind};
 
 use super::sway::Pole;
 
@@ -11,6 +12,21 @@ pub struct Entered {
     pub half_period: Option<f64>,
     /// The second half period.
     pub second_half_period: Option<f64>,
+}
+
+impl Entered {
+    /// The half periods of an axis as its sheet has them, of those entries that were rounded.
+    pub fn of(rounded: &[Rounded], number: usize, axis: &Axis) -> Entered {
+        let entered = |entry: WordKind, planned: Option<u32>| {
+            let mut of_axis = rounded.iter().filter(|rounded| rounded.axis == Some(number));
+            let rounded = of_axis.find(|rounded| rounded.entry == Some(entry))?;
+            Some(f64::from(planned?) - rounded.steps_off())
+        };
+        Entered {
+            half_period: entered(WordKind::HalfPeriod, Some(axis.half_period)),
+            second_half_period: entered(WordKind::SecondHalfPeriod, axis.second_half_period),
+        }
+    }
 }
 
 /// A swing of the pole under an axis.

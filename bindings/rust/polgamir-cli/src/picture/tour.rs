@@ -56,7 +56,8 @@ fn page_of(title: &str, sheet: &TourSheet) -> Result<Page, TourRefusal> {
     let stays = stays_of(sheet, &schedule);
     let stacks = sheet.tour.entered().map(|(number, _)| {
         let way = Way::of(sheet, number, &legs, &stays);
-        let panels = way.panels(&stays, &Measure::of_tour(sheet, number));
+        let swings = Swing::of(&way.axis, Entered::of(sheet.rounded(), number, &way.axis));
+        let panels = way.panels(&swings, &stays, &Measure::of_tour(sheet, number));
         Stack { title: sheet.axis_title(number), pole: pole_of(&way.axis), panels }
     });
     Ok(Page {
@@ -148,9 +149,8 @@ impl Way {
     }
 
     /// The panels; those of the sway only where the axis has a half period, one for each.
-    fn panels(&self, stays: &[Stay], measure: &Measure) -> Vec<Panel> {
+    fn panels(&self, swings: &[Swing], stays: &[Stay], measure: &Measure) -> Vec<Panel> {
         let mut panels = vec![self.position_panel(measure), self.velocity_panel(measure)];
-        let swings = Swing::of(&self.axis, Entered::default());
         panels.extend(swings.iter().map(|swing| self.sway_panel(swing, stays, measure)));
         panels
     }

@@ -7,8 +7,8 @@ use super::wrong_pole::{Roundings, WrongPole};
 use crate::picture::{LEFT, SWAY};
 
 /// What the numbers of the section are.
-const ROUNDINGS: &str = "The planner takes the damping as a whole weight and writes whole cells. What each of these leaves by itself is told \
-    apart; together they leave at most the sum.";
+const ROUNDINGS: &str = "The planner takes the half period in whole ticks and the damping as a whole weight, and writes whole cells. What the \
+    rounding of each leaves by itself is told apart; together they add up, or cancel in part.";
 
 /// The section: a row for each swing of each axis.
 pub fn section(axes: &[(&Entry, Vec<WrongPole>)]) -> String {

@@ -6,8 +6,8 @@ use polgamir::{Axis, Motion, Plan};
 use super::wrong_pole::WrongPole;
 use crate::exact;
 use crate::measure::Measure;
-use crate::picture::swing::Swing;
-use crate::picture::{entered_in, Planned};
+use crate::picture::swing::{Entered, Swing};
+use crate::picture::Planned;
 
 /// An axis of the report, in one table.
 pub struct Entry<'s> {
@@ -47,7 +47,7 @@ impl<'s> Entry<'s> {
             number,
             title: sheet.axis_title(number),
             axis,
-            swings: Swing::of(axis, entered_in(sheet, number)),
+            swings: Swing::of(axis, Entered::of(sheet.rounded(), number, axis)),
             accelerations: scaled(planned.accelerations(number)),
             exact: exact::accelerations(axis, &rows).map(scaled),
             unblended: unblended.map(|unblended| scaled(unblended.accelerations(number))),

@@ -39,6 +39,12 @@ pub fn paragraph(text: &str) -> String {
     format!("<p>{}</p>\n", escaped(text))
 }
 
+/// A list of sentences.
+pub fn list(sentences: &[String]) -> String {
+    let items: String = sentences.iter().map(|text| format!("<li>{}</li>\n", escaped(text))).collect();
+    format!("<ul>\n{items}</ul>\n")
+}
+
 /// A text as it was written, line by line.
 pub fn as_written(text: &str) -> String {
     let lines: Vec<String> = text.lines().map(|line| escaped(&line.replace('\t', "    "))).collect();

@@ -1,15 +1,27 @@
 //! Numbers and answers of a report in words.
 
+use polgamir::sheet::Rounded;
 use polgamir::{AxisRaises, Limit, Raise};
 
 use super::arrivals::{Earlier, OfAxis};
 use super::entry::Entry;
-use super::html::Cell;
+use super::html::{self, Cell};
 use super::rows::{Miss, Nearest};
 use super::wrong_pole::{Left, WrongPole};
 use crate::measure::rounded;
 use crate::picture::scale::quantity;
 use crate::picture::swing::Swing;
+
+/// The section of the entries that no whole number of ticks or units meets; nothing where all are met.
+pub fn rounded_entries(rounded: &[Rounded]) -> String {
+    match rounded {
+        [] => String::new(),
+        rounded => {
+            let sentences: Vec<String> = rounded.iter().map(Rounded::to_string).collect();
+            html::section("Entries that were rounded", &html::list(&sentences))
+        }
+    }
+}
 
 /// How many axes were planned, and by what.
 pub fn planned_by(axes: usize, tick: Option<f64>) -> String {

@@ -8,7 +8,9 @@ use polgamir::{Schedule, TourRefusal};
 use super::entry::Entry;
 use super::html::{self, Cell};
 use super::rows::{self, Miss, Nearest};
-use super::told::{at_tick, cost_of, cost_told, earlier_told, fine_steps, halves, left_card, limit_row, planned_by};
+use super::told::{
+    at_tick, cost_of, cost_told, earlier_told, fine_steps, halves, left_card, limit_row, planned_by, rounded_entries,
+};
 use super::wrong_pole::WrongPole;
 use super::{as_entered, wrong_axis, Report};
 use crate::command::summary::NOT_LIMITED;
@@ -29,6 +31,7 @@ pub fn written(title: &str, entered: &str, sheet: &TourSheet) -> Result<String, 
         format!("<h1>{}</h1>\n", escaped(title)),
         format!("<p class=\"sub\">{}</p>\n", report.headline()),
         html::cards(&report.cards()),
+        rounded_entries(sheet.rounded()),
         html::section("The answer", &(report.answer() + &report.ranges())),
         html::section("If the pole is as entered", &as_entered::section(&poles)),
         html::section("Axis by axis, and if the pole was measured wrongly", &report.axis_blocks(&poles)?),

@@ -68,6 +68,11 @@ impl Rounded {
 }
 
 impl Rounded {
+    /// What is planned less what was entered, in ticks or units.
+    pub fn steps_off(&self) -> f64 {
+        self.steps_off.shown(17, Rounding::Nearest).parse().unwrap_or(0.0)
+    }
+
     /// Works out what a half period of an axis that is off leaves, in a unit's size and name. A number that the planner refuses leaves nothing to
     /// be told.
     pub fn weigh(&mut self, axis: &Axis, unit: (&Fraction, &str)) {
