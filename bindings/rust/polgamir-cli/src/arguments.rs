@@ -330,7 +330,8 @@ impl Rest {
             Some(given) => {
                 let row = given.to_str().and_then(|row| row.parse().ok()).filter(|row| *row <= LATEST_ARRIVAL);
                 let found = given.to_string_lossy();
-                let wrong = || Usage::of(format!("expected a row from 0 to {LATEST_ARRIVAL} after `--first`, found `{found}`"));
+                let wrong =
+                    || Usage::of(format!("expected a row from 0 to {LATEST_ARRIVAL} after `--first`, found `{found}`"));
                 Some(row.ok_or_else(wrong)?)
             }
         };

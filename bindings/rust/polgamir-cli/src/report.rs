@@ -44,7 +44,7 @@ pub fn written(title: &str, entered: &str, sheet: &Sheet) -> Result<String, Refu
         rounded_entries(sheet.rounded()),
         html::section("The answer", &report.answer()),
         html::section("If the pole is as entered", &as_entered::section(&poles)),
-        html::section("Axis by axis, and if the pole was measured wrongly", &report.axis_blocks(title, &poles)?),
+        html::long_section("Axis by axis, and if the pole was measured wrongly", &report.axis_blocks(title, &poles)?),
         html::section("What the blend costs", &report.cost()),
         html::section("What sets the arrival, and one tick earlier", &report.arrivals()),
         html::section("How near each axis is to its limits", &report.limits()),

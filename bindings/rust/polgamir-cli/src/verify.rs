@@ -70,7 +70,9 @@ pub fn verified(job: &Path, tables: &[PathBuf], standing: Standing) -> Result<Do
         Compared::Whole(rows) => {
             let count = plan.cells().len();
             let arrival = plan.arrival();
-            let head = format!("{names} is the table of this job: rows 0 to {arrival}, each of its {count} cells as planned anew.\n");
+            let head = format!(
+                "{names} is the table of this job: rows 0 to {arrival}, each of its {count} cells as planned anew.\n"
+            );
             told(head, true, &checks_of(&sheet, &rows))
         }
         Compared::Part { from, to } => {
@@ -94,7 +96,8 @@ fn checks_of(sheet: &Sheet, rows: &[Vec<i64>]) -> Vec<Check> {
 
 /// A verdict with its checks below it.
 fn told(head: String, same: bool, checks: &[Check]) -> Done {
-    let lines = checks.iter().map(|check| format!("  {}  {}\n", if check.holds { "ok   " } else { "WRONG" }, check.line));
+    let lines =
+        checks.iter().map(|check| format!("  {}  {}\n", if check.holds { "ok   " } else { "WRONG" }, check.line));
     let text = head + &lines.collect::<String>();
     match same && checks.iter().all(|check| check.holds) {
         true => Done::well(text),

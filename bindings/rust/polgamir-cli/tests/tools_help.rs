@@ -9,7 +9,19 @@ use std::{env, fs};
 const STAND_INS: [&str; 7] = ["rt", "cc", "gcc", "ld", "apt-get", "install", "mkdir"];
 
 /// The scripts.
-const TOOLS: [&str; 6] = ["describe", "gate-times", "library", "shared", "table", "version"];
+const TOOLS: [&str; 11] = [
+    "describe",
+    "gate-times",
+    "library",
+    "manual",
+    "module",
+    "release",
+    "retarget",
+    "shared",
+    "table",
+    "toolchain",
+    "version",
+];
 
 #[test]
 fn help_does_nothing() {

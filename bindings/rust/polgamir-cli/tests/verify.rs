@@ -53,7 +53,10 @@ fn every_form() {
     for form in &forms {
         let (text, status) = verified(&[], &[form]);
         assert_eq!(status, Some(0), "{form}: {text}");
-        assert!(text.contains("is the table of this job: rows 0 to 4, each of its 15 cells as planned anew."), "{text}");
+        assert!(
+            text.contains("is the table of this job: rows 0 to 4, each of its 15 cells as planned anew."),
+            "{text}"
+        );
         assert!(text.contains("worst carry miss in position 0.5 of 1.5, from row 1"), "{text}");
         assert!(!text.contains("WRONG"), "{text}");
     }
@@ -114,7 +117,11 @@ fn unreadable() {
         ("past.csv", b"tick,a,b,c\n0,0,0,99999999999999999999\n", "line 2: expected a whole number of 64 bits"),
         ("text.txt", b"hello\n", "expected a table"),
         ("cut.json", b"{\"axes\": [", "expected a value, found the end"),
-        ("past.json", b"{\"axes\": [{\"axis\": 0, \"position\": [99999999999999999999]}]}", "a whole number of 64 bits"),
+        (
+            "past.json",
+            b"{\"axes\": [{\"axis\": 0, \"position\": [99999999999999999999]}]}",
+            "a whole number of 64 bits",
+        ),
         ("units.csv", b"tick,time (s),axis 0 position (degree)\n", "in units"),
         ("cut.c", b"const int64_t t[1][1][3] = {{{1, 2, 3}}", "expected `};`"),
     ] {
@@ -132,7 +139,13 @@ fn certificates() {
     let (_, status) = printed(&run(&["certify", "-o", &name, &sheet("case-c")]));
     assert_eq!(status, Some(0));
     let text = fs::read_to_string(&name).expect("a certificate");
-    for said in ["polgamir certificate 1", "\nanswer 0 place 0 axes 1 arrival 4\n", "\n1 43 86 -1\n", "\n4 256 0 0\n", "5000000A"] {
+    for said in [
+        "polgamir certificate 1",
+        "\nanswer 0 place 0 axes 1 arrival 4\n",
+        "\n1 43 86 -1\n",
+        "\n4 256 0 0\n",
+        "5000000A",
+    ] {
         assert!(text.contains(said), "{said}: {text}");
     }
     let (said, status) = printed(&run(&["verify", &name]));

@@ -16,9 +16,14 @@ pub fn page(title: &str, body: &str) -> String {
     )
 }
 
-/// A section with its heading; the body is HTML.
+/// A section with its heading, which a printer does not break where it fits a page; the body is HTML.
 pub fn section(heading: &str, body: &str) -> String {
     format!("<section>\n<h2>{}</h2>\n{body}</section>\n", escaped(heading))
+}
+
+/// A section of several pages.
+pub fn long_section(heading: &str, body: &str) -> String {
+    format!("<section class=\"long\">\n<h2>{}</h2>\n{body}</section>\n", escaped(heading))
 }
 
 /// A heading within a section, with what is said of it in smaller letters.

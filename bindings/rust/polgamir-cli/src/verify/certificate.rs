@@ -77,7 +77,10 @@ pub fn verified(file: &Path) -> Result<Done, FileError> {
 fn held(file: &Path, content: &[u8]) -> Result<Done, FileError> {
     let text = std::str::from_utf8(content).map_err(|error| about(file, error))?;
     if !text.starts_with(TITLE) {
-        return Err(about(file, "expected a certificate, as `polgamir certify` writes it; a table is verified with its job before it"));
+        return Err(about(
+            file,
+            "expected a certificate, as `polgamir certify` writes it; a table is verified with its job before it",
+        ));
     }
     let sum_at = text.rfind("sha256 ").filter(|at| text[..*at].ends_with('\n'));
     let (whole, said) = match sum_at {
@@ -86,7 +89,10 @@ fn held(file: &Path, content: &[u8]) -> Result<Done, FileError> {
     };
     let sum = sha256::sum(whole.as_bytes());
     if sum != said {
-        return Err(about(file, format!("it was changed after it was written: its SHA-256 is {sum}, and it says {said}")));
+        return Err(about(
+            file,
+            format!("it was changed after it was written: its SHA-256 is {sum}, and it says {said}"),
+        ));
     }
     let entered = section(whole, "sheet").ok_or_else(|| about(file, "it has no sheet"))?;
     let entered: String = entered.lines().map(|line| line.strip_prefix("| ").unwrap_or("").to_owned() + "\n").collect();
@@ -133,7 +139,8 @@ fn different(certified: &str, anew: &str, sheet: &Sheet, plan: &Plan) -> Option<
     let (line, wanted) = (certified.lines().nth(at).unwrap_or_default(), anew.lines().nth(at).unwrap_or_default());
     let numbers: Option<Vec<i64>> = line.split(' ').map(|word| word.parse().ok()).collect();
     let in_table = numbers.as_ref().zip(numbers.as_ref().and_then(|numbers| u32::try_from(numbers[0]).ok()));
-    let cell = in_table.and_then(|(numbers, tick)| first_difference(sheet, tick, &numbers[1..], plan.row(tick)?.cells()));
+    let cell =
+        in_table.and_then(|(numbers, tick)| first_difference(sheet, tick, &numbers[1..], plan.row(tick)?.cells()));
     Some(cell.unwrap_or_else(|| format!("it says `{line}`, planned anew is `{wanted}`")))
 }
 
@@ -141,7 +148,8 @@ fn different(certified: &str, anew: &str, sheet: &Sheet, plan: &Plan) -> Option<
 mod tests {
     use super::*;
 
-    const SHEET: &str = "arrival 4\naxis 0\n  half period 0\n  weight 128\n  speed limit 10\n  acceleration limit 1\n  \
+    const SHEET: &str =
+        "arrival 4\naxis 0\n  half period 0\n  weight 128\n  speed limit 10\n  acceleration limit 1\n  \
                          start position 0\n  start velocity 0\n  target still\n  target position 1\n";
 
     /// A certificate whose sum is right and whose table is not the job's: the cell is named.

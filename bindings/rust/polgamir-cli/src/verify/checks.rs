@@ -36,7 +36,10 @@ fn of_axis(title: &str, axis: &Axis, rows: &[Motion], checks: &mut Vec<Check>) {
     let steps = i128::from(FINE_STEPS);
     let start = [axis.start.position, axis.start.velocity].map(|number| steps * i128::from(number));
     let first = [rows[0].position, rows[0].velocity].map(i128::from);
-    say(first == start, format!("row 0 is at {} moving {}; the start is {} moving {}", first[0], first[1], start[0], start[1]));
+    say(
+        first == start,
+        format!("row 0 is at {} moving {}; the start is {} moving {}", first[0], first[1], start[0], start[1]),
+    );
     let target = target_at(axis, arrival);
     let last = rows[arrival];
     let last = [last.position, last.velocity, last.acceleration].map(i128::from);
@@ -53,7 +56,10 @@ fn of_axis(title: &str, axis: &Axis, rows: &[Motion], checks: &mut Vec<Check>) {
     for rate in rates(axis) {
         let sway = greatest_sway(rate, &cells);
         let shown = format!("{}.{:03}", sway / 1000, sway % 1000);
-        let line = format!("sway left of half period {}, over all swing lists, {shown} of {arrival} times their size", rate.half_period);
+        let line = format!(
+            "sway left of half period {}, over all swing lists, {shown} of {arrival} times their size",
+            rate.half_period
+        );
         say(sway <= 1000 * arrival as u64, line);
     }
 }
@@ -65,7 +71,8 @@ fn target_at(axis: &Axis, arrival: usize) -> [i128; 3] {
         Target::Fixed(point) => [steps * i128::from(point.position), steps * i128::from(point.velocity), 0],
         Target::Moving(state) => {
             let later = arrival as i128 - i128::from(state.tick);
-            let [position, velocity, acceleration] = [state.position, state.velocity, state.acceleration].map(i128::from);
+            let [position, velocity, acceleration] =
+                [state.position, state.velocity, state.acceleration].map(i128::from);
             [
                 steps * (position + velocity * later) + steps / 2 * acceleration * later * later,
                 steps * (velocity + acceleration * later),

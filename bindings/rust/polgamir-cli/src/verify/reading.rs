@@ -47,7 +47,8 @@ pub fn rows(content: &[u8], axes: &[usize]) -> Result<Vec<Read>, Fault> {
     } else if first.trim_start_matches('"').starts_with("tick") {
         csv(text, 3 * axes.len())
     } else {
-        Err("expected a table, as `polgamir plan` writes it with --csv, --json or --c-array, or its cells as bytes".into())
+        Err("expected a table, as `polgamir plan` writes it with --csv, --json or --c-array, or its cells as bytes"
+            .into())
     }
 }
 
@@ -57,7 +58,11 @@ const IN_UNITS: &str = "these numbers are in units, of which some were rounded: 
 fn bytes(content: &[u8], width: usize) -> Result<Vec<Read>, String> {
     if content.len() % (8 * width) != 0 {
         let rest = content.len() % (8 * width);
-        return Err(format!("expected rows of {} bytes, found {} and {rest} bytes more", 8 * width, content.len() / (8 * width)));
+        return Err(format!(
+            "expected rows of {} bytes, found {} and {rest} bytes more",
+            8 * width,
+            content.len() / (8 * width)
+        ));
     }
     let cell = |bytes: &[u8]| bytes.iter().rev().fold(0_u64, |cell, byte| cell << 8 | u64::from(*byte)) as i64;
     let cells: Vec<i64> = content.chunks_exact(8).map(cell).collect();
@@ -144,13 +149,22 @@ fn c_array(text: &str, width: usize) -> Result<Vec<Read>, String> {
     let end = text[begin..].find("};").map(|end| begin + end).ok_or("expected `};` at the end of the array")?;
     let line_of = |at: usize| 1 + text[..at].matches('\n').count();
     let mut cells: Vec<i64> = Vec::new();
-    for word in text[begin..end].split(|c: char| c == '{' || c == '}' || c == ',' || c.is_whitespace()).filter(|w| !w.is_empty()) {
+    for word in text[begin..end]
+        .split(|c: char| c == '{' || c == '}' || c == ',' || c.is_whitespace())
+        .filter(|w| !w.is_empty())
+    {
         let at = word.as_ptr() as usize - text.as_ptr() as usize;
-        let cell = word.parse().map_err(|_| format!("line {}: expected a whole number of 64 bits, found `{word}`", line_of(at)))?;
+        let cell = word
+            .parse()
+            .map_err(|_| format!("line {}: expected a whole number of 64 bits, found `{word}`", line_of(at)))?;
         cells.push(cell);
     }
     if cells.len() % width != 0 {
-        return Err(format!("expected rows of {width} cells, found {} rows and {} cells more", cells.len() / width, cells.len() % width));
+        return Err(format!(
+            "expected rows of {width} cells, found {} rows and {} cells more",
+            cells.len() / width,
+            cells.len() % width
+        ));
     }
     Ok(cells.chunks_exact(width).map(|cells| Read { tick: None, cells: cells.into() }).collect())
 }
