@@ -5,15 +5,10 @@ use mathlib.Core.Path.{_≡_}
 use mathlib.Core.List.{List}
 use lib.IntN.{ℤ}
 use lib.ListN.{length}
-use Rattle.model.specs.declared.Axis.{Axis}
 use Rattle.model.specs.declared.PartAnswer.{PartAnswer}
-use Rattle.model.specs.declared.Order.the-variants.{Forwards}
-use Rattle.model.specs.Outcome.{Input, call, inputAxes, cellsNeeded, partOver}
-use Rattle.model.specs.Parts.{partRows, PartOutcome, partCall, PartOf}
-
--- an answer with its number of rows, and the lent table as the call leaves it
-abbrev pub partOutcome : PartAnswer → List ℤ → PartOutcome
-partOutcome r cells = record { answer = r .answer; rows = r .rows; cells = cells }
+use Rattle.model.specs.Outcome.{Input, call, inputAxes, cellsNeeded}
+use Rattle.model.specs.Parts.{partCall, PartOf}
+use Rattle.planner.specs.Promise.{partOutcome}
 
 -- q is what the call was given and k the first row, entry and exit are the lent table before and after it, r is the answer
 pub record PartPromise (q : Input) (k : ℕ) (entry : List ℤ) (r : PartAnswer) (exit : List ℤ) : Type 0 where
@@ -23,8 +18,3 @@ pub record PartPromise (q : Input) (k : ℕ) (entry : List ℤ) (r : PartAnswer)
   -- that table's rows from row k on
   pub whole : r .answer .number ≡ 0 → (lent : List ℤ) → cellsNeeded (length (inputAxes q)) (r .answer .arrival) ≤ length lent
       → PartOf q (r .answer .arrival) k (r .rows) exit (call q lent)
-
--- what `write_part` promises for the axes xs, m of them, and arrival n: r rows from row k on are written
-pub record PartWritten (m : ℕ) (xs : List Axis) (n k : ℕ) (entry : List ℤ) (r : ℕ) (exit : List ℤ) : Type 0 where
-  pub rows : r ≡ partRows m n k (length entry)
-  pub cells : exit ≡ partOver Forwards xs n k r entry

@@ -1,30 +1,33 @@
--- The answer of the definitions with no table lent: 10 is read as acceptance.
+-- The answer before refusal 10, and words: what is promised of the typed values that they hold is promised of them.
 use Prim.Native.Nat.{ℕ, _≤_}
 use native.Mathlib.Omega.{arith}
-use mathlib.Core.Path.{_≡_, refl, sym, ap, ap₂, _∙_}
-use mathlib.Core.Bool.{Bool, true, false, false≢true}
+use mathlib.Core.Path.{_≡_, refl, sym, ap, ap₂, subst, _∙_}
+use mathlib.Core.Bool.{Bool, true, false}
 use mathlib.Core.List.{List, []}
 use lib.Dec.{eqb}
 use lib.IntN.{ℤ}
-use borrow.Author.Tests.{eq-eqb, ne-eqb}
 use Rattle.model.specs.declared.Answer.{Answer}
 use Rattle.model.specs.declared.Job as Typed
 use Rattle.model.specs.declared.Order.the-variants.{Forwards}
-use Rattle.model.specs.Job.{Job, jobOf}
+use Rattle.model.specs.declared.PartAnswer.{PartAnswer}
+use Rattle.model.specs.Job.{Job, jobOf, axesOf}
 use Rattle.model.specs.Words.{Decoded, noMask, badWord, badLong, job, decode}
 use Rattle.model.specs.Refusals.{lastTick}
-use Rattle.model.specs.Outcome.{Outcome, Input, call, outcomeOf}
+use Rattle.model.specs.Outcome.{Outcome, Input, call, inputAxes, ordered}
 use Rattle.model.specs.Outcome.{words, typed, jobRead, inputJob, beforeTen, answerOf}
 use Rattle.model.specs.Verdict.{Verdict, refused3, refused4, refused12, refused5, refused15, refused6, refused16, refused17, refused13, refused8, refused9, refused10}
 use Rattle.model.specs.Verdict.{accepted, CallVerdict, words1, words2, words14, wordsJob, typed1, typedJobs}
-use Rattle.model.proofs.BeforeTen.{same-answer}
+use Rattle.model.specs.Parts.{PartOutcome, partAccepted, partRefused, partWith, partCall}
 use Rattle.model.proofs.CallVerdict.{call-verdict}
 use Rattle.words.specs.declared.DecodedJob.{DecodedJob}
 use Rattle.words.specs.Decoding.{decodedJob, Decodes}
-use Rattle.planner.specs.Promise.{Answered}
-use Rattle.planner.proofs.Calls.{words-refused, words-passed}
+use Rattle.planner.specs.declared.Wanted.{Wanted}
+use Rattle.planner.specs.declared.Wanted.the-variants.{Whole, From}
+use Rattle.planner.specs.Promise.{PromiseIn, Answered, partOutcome}
+use Rattle.planner.proofs.Stages.{before-ten}
+use Rattle.planner.proofs.Calls.{promise, words-refused, words-passed}
 
--- ---- the answer of the definitions: 10 is read as acceptance
+-- ---- the answer before 10
 
 -- no call answers with an arrival past 4,096
 of-verdict : (j : Job) (lent : List ℤ) (o : Outcome) → Verdict Forwards j lent o → o .arrival ≤ lastTick
@@ -50,42 +53,37 @@ of-call lent o q (wordsJob ws j a v) = of-verdict j lent o v
 of-call lent o q (typed1 t a r) = omega (arith, r .arrival)
 of-call lent o q (typedJobs t a b v) = of-verdict (jobOf t) lent o v
 
--- the answer r to a call, whatever was lent
-module _ (t : Typed.Job) (r : Answer) (lent exit : List ℤ) (is : outcomeOf r exit ≡ call (typed t) lent) where
-  late : r .arrival ≤ lastTick
-  late = omega (arith, ap (λ (o : Outcome). o .arrival) is, of-call lent (call (typed t) lent) (typed t) (call-verdict (typed t) lent))
+-- nor does the answer before 10
+late : (q : Input) → answerOf q .arrival ≤ lastTick
+unfolding answerOf
+late q = go (eqb (o .number) 10)
+  where
+    o : Outcome
+    o = call q []
 
-  read : beforeTen (t .mask) (outcomeOf r exit) ≡ answerOf (typed t)
-  read = ap (beforeTen (t .mask)) is ∙ same-answer (typed t) lent
+    go : (b : Bool) → (elim b as (λ _. Answer) [
+      | true ↦ record { number = 0; place = 0; mask = inputJob q .mask; arrival = o .arrival }
+      | false ↦ record { number = o .number; place = o .place; mask = o .mask; arrival = o .arrival }
+    ]) .arrival ≤ lastTick
+    go true = of-call [] o q (call-verdict q [])
+    go false = of-call [] o q (call-verdict q [])
 
-  abbrev by-ten : Bool → Answer
-  by-ten b =
-      elim b [
-        | true ↦ record { number = 0; place = 0; mask = t .mask; arrival = r .arrival }
-        | false ↦ record { number = r .number; place = r .place; mask = r .mask; arrival = r .arrival }
-      ]
+-- the answer of a call for a part
+pub part-answer : (q : Input) (k : ℕ) (entry : List ℤ) → partCall q k entry .answer ≡ answerOf q
+unfolding partCall
+part-answer q k entry = go (eqb (answerOf q .number) 0)
+  where
+    go : (b : Bool)
+        → (elim b as (λ _. PartOutcome) [ true ↦ partAccepted (answerOf q) (inputAxes q) k entry | false ↦ partRefused (answerOf q) entry ]) .answer ≡ answerOf q
+    go true = refl
+    go false = refl
 
-  pub ten-accepts : (s : Answer) → s ≡ record { number = 0; place = 0; mask = t .mask; arrival = r .arrival } → r .number ≡ 10 → Answered t s
-  ten-accepts s e h =
-      record {
-        is = e ∙ sym (ap by-ten (eq-eqb (r .number) 10 h)) ∙ read;
-        last = let a = ap (λ (z : Answer). z .arrival) e in omega (arith, late);
-      }
-
-  pub other-stays : (r .number ≡ 10 → ⊥) → Answered t r
-  other-stays h = record { is = sym (ap by-ten (ne-eqb (r .number) 10 h)) ∙ read; last = late }
+pub answered : (t : Typed.Job) (k : ℕ) (entry : List ℤ) (r : PartAnswer) (exit : List ℤ) → partOutcome r exit ≡ partCall (typed t) k entry → Answered t (r .answer)
+answered t k entry r exit e =
+    let is = ap (λ (p : PartOutcome). p .answer) e ∙ part-answer (typed t) k entry in
+    record { is = is; last = subst (λ (a : Answer). a .arrival ≤ lastTick) (sym is) (late (typed t)) }
 
 -- ---- words: the answer, and the job, are those of the typed values that the words hold
-
-before-ten : (m : ℕ) (r : Answer) → (r .number ≡ 10 → ⊥) → beforeTen m (outcomeOf r []) ≡ r
-before-ten m r not-ten = go (eqb (r .number) 10) (ne-eqb (r .number) 10 not-ten)
-  where
-    go : (b : Bool) → b ≡ false → (elim b as (λ _. Answer) [
-      | true ↦ record { number = 0; place = 0; mask = m; arrival = r .arrival }
-      | false ↦ record { number = r .number; place = r .place; mask = r .mask; arrival = r .arrival }
-    ]) ≡ r
-    go false e = refl
-    go true e = absurd (false≢true (sym e))
 
 module _ (ws : List ℕ) (d : DecodedJob) (is : Decodes ws d) where
   pub job-of-words : d .number ≡ 0 → jobOf (d .job) ≡ inputJob (words ws)
@@ -95,17 +93,30 @@ module _ (ws : List ℕ) (d : DecodedJob) (is : Decodes ws d) where
   unfolding answerOf
   answer-of-words z = ap₂ (λ (j : Job). beforeTen (j .mask)) (job-of-words z) (words-passed ws [] d is z)
 
+  pub words-not-ten : d .number ≡ 10 → ⊥
+  words-not-ten e = absurd (go (decode ws) (sym (ap (λ (r : DecodedJob). r .number) (is .decoded)) ∙ e))
+    where
+      go : (w : Decoded) → decodedJob w .number ≡ 10 → ⊥
+      go noMask e = omega arith
+      go (badWord p) e = omega arith
+      go (badLong p) e = omega arith
+      go (job j) e = omega arith
+
   pub refusal-of-words : (d .number ≡ 0 → ⊥) → record { number = d .number; place = d .place; mask = 0; arrival = 0 } ≡ answerOf (words ws)
   unfolding answerOf
   refusal-of-words h =
-      sym (before-ten (inputJob (words ws) .mask) (record { number = d .number; place = d .place; mask = 0; arrival = 0 }) not-ten)
+      before-ten (inputJob (words ws) .mask) (record { number = d .number; place = d .place; mask = 0; arrival = 0 }) [] words-not-ten
       ∙ ap (beforeTen (inputJob (words ws) .mask)) (words-refused ws [] d is h)
-    where
-      not-ten : d .number ≡ 10 → ⊥
-      not-ten e = absurd (go (decode ws) (sym (ap (λ (r : DecodedJob). r .number) (is .decoded)) ∙ e))
-        where
-          go : (w : Decoded) → decodedJob w .number ≡ 10 → ⊥
-          go noMask e = omega arith
-          go (badWord p) e = omega arith
-          go (badLong p) e = omega arith
-          go (job j) e = omega arith
+
+  -- what is promised of the typed values is promised of the words
+  pub words-promise : (w : Wanted) (entry : List ℤ) (r : PartAnswer) (exit : List ℤ) → d .number ≡ 0
+      → PromiseIn w (typed (d .job)) entry r exit → PromiseIn w (words ws) entry r exit
+  unfolding partCall
+  words-promise (Whole o) entry r exit z p =
+      promise o (words ws) entry (r .answer) exit
+      (record {
+        outcome = p .outcome ∙ ap₂ (λ (j : Job) (r : Outcome). ordered o (axesOf j) entry r) (job-of-words z) (words-passed ws entry d is z);
+        fitted = p .fitted;
+      })
+  words-promise (From k) entry r exit z p =
+      p ∙ ap₂ (λ (a : Answer) (j : Job). partWith a (axesOf j) k entry) (answer-of-words z) (job-of-words z)

@@ -2,28 +2,33 @@
 use Prim.Native.Nat.{ℕ, _<_}
 use Rattle.model.proofs.Demand.{demand3, cell-limits, exact-start}
 use Rattle.model.proofs.VerdictIn.{verdict-in}
+use Rattle.model.proofs.BeforeTen.{same-answer}
 use native.Mathlib.Omega.{arith}
 use mathlib.Core.Path.{_≡_, refl, sym, ap, ap₂, subst, _∙_}
 use mathlib.Core.Bool.{Bool, true, false, _&&_, false≢true}
 use mathlib.Core.List.{List}
 use lib.IntN.{ℤ}
 use lib.Dec.{ltb, leb}
-use borrow.Author.Tests.{leb-true}
+use borrow.Author.Tests.{leb-true, ltb-true}
 use Rattle.model.specs.declared.Job as Typed
 use Rattle.model.specs.declared.Answer.{Answer}
 use Rattle.model.specs.declared.Order.{Order}
+use Rattle.model.specs.declared.PartAnswer.{PartAnswer}
 use Rattle.model.specs.Job.{Job, jobOf, axesOf}
 use Rattle.model.specs.Words.{goodMask, Decoded, noMask, badWord, badLong, job, decode}
-use Rattle.model.specs.Outcome.{Outcome, Input, refuse, jobOutcome, outcomeOfJob, outcomeOfWords, ordered, callIn, inputAxes, words, typed, jobRead}
+use Rattle.model.specs.Outcome.{Outcome, Input, refuse, jobOutcome, outcomeOfJob, outcomeOfWords, call, callIn, inputJob, inputAxes}
 use Rattle.model.specs.Verdict.{CallVerdict}
+use Rattle.model.specs.Parts.{partWith, partCall}
 use Rattle.model.specs.Demand.{Demand3, CellLimits, ExactStart}
 use Rattle.words.specs.declared.DecodedJob.{DecodedJob}
 use Rattle.words.specs.Decoding.{decodedJob, Decodes}
-use Rattle.planner.specs.Promise.{Promise}
-use Rattle.planner.specs.Stages.{Gives}
+use Rattle.planner.specs.Promise.{Promise, PromiseIn}
+use Rattle.planner.specs.declared.Wanted.{Wanted}
+use Rattle.planner.specs.declared.Wanted.the-variants.{Whole, From}
+use Rattle.planner.specs.Stages.{GivesAll, Gives}
 
 -- the verdict, demand 3, the limits and the start of the definitions, carried to what the call leaves
-pub promise : (o : Order) (q : Input) (entry : List ℤ) (r : Answer) (exit : List ℤ) → Gives (callIn o q entry) r exit → Promise o q entry r exit
+pub promise : (o : Order) (q : Input) (entry : List ℤ) (r : Answer) (exit : List ℤ) → GivesAll (callIn o q entry) r exit → Promise o q entry r exit
 promise o q entry r exit g =
     let number = ap (λ (s : Outcome). s .number) (g .outcome) in
     record {
@@ -37,6 +42,13 @@ promise o q entry r exit g =
           subst (λ (s : Outcome). ExactStart o (inputAxes q) (s .arrival) (s .cells)) (sym (g .outcome)) (exact-start o q entry (sym number ∙ z));
       fitted = g .fitted;
     }
+
+-- the same for what is wanted
+pub promise-in : (w : Wanted) (q : Input) (entry : List ℤ) (r : PartAnswer) (exit : List ℤ) → Gives w (inputJob q .mask) (inputAxes q) entry (call q entry) r exit
+    → PromiseIn w q entry r exit
+unfolding partCall
+promise-in (Whole o) q entry r exit g = promise o q entry (r .answer) exit g
+promise-in (From k) q entry r exit g = g ∙ ap (λ (a : Answer). partWith a (inputAxes q) k entry) (same-answer q entry)
 
 -- ---- a job of typed values
 
@@ -52,12 +64,15 @@ module _ (t : Typed.Job) (lent : List ℤ) where
   unfolding by-mask
   mask-passed e = sym (ap by-mask e)
 
-pub six-bits-mask : (m : ℕ) → goodMask m ≡ true → m < 64
-six-bits-mask m e = let h = leb-true m 63 (second (ltb 0 m) (leb m 63) e) in omega arith
+pub good-mask : (m : ℕ) → goodMask m ≡ true → (0 < m) × (m < 64)
+good-mask m e =
+    let b = both (ltb 0 m) (leb m 63) e in
+    let h = leb-true m 63 (b .1) in
+    (ltb-true 0 m (b .0), omega arith)
   where
-    second : (a b : Bool) → a && b ≡ true → b ≡ true
-    second true b e = e
-    second false b e = absurd (false≢true e)
+    both : (a b : Bool) → a && b ≡ true → (a ≡ true) × (b ≡ true)
+    both true b e = (refl, e)
+    both false b e = absurd (false≢true e)
 
 -- ---- words
 
@@ -86,12 +101,3 @@ module _ (ws : List ℕ) (lent : List ℤ) (d : DecodedJob) (is : Decodes ws d) 
   pub words-passed : d .number ≡ 0 → outcomeOfJob (d .job) lent ≡ outcomeOfWords ws lent
   unfolding by-words
   words-passed z = sym (mask-passed (d .job) lent (is .allowed z)) ∙ sym (ap by-words (is .typed z))
-
-  -- the same with the rows in an order
-  pub words-passed-in : (o : Order) → d .number ≡ 0 → callIn o (typed (d .job)) lent ≡ callIn o (words ws) lent
-  words-passed-in o z =
-      ap₂ (λ (j : Job) (r : Outcome). ordered o (axesOf j) lent r) (sym (ap jobRead (is .typed z))) (words-passed z)
-
--- a stage that ends in a call
-pub kept : (o : Order) (q : Input) (entry : List ℤ) (r : Answer) (exit : List ℤ) → Promise o q entry r exit → Gives (callIn o q entry) r exit
-kept o q entry r exit p = record { outcome = p .outcome; fitted = p .fitted }

@@ -5,55 +5,64 @@ use native.Mathlib.Omega.{arith}
 use mathlib.Core.Path.{_≡_, refl, sym, ap, subst, _∙_}
 use mathlib.Core.Bool.{Bool, true, false, cond}
 use mathlib.Core.Option.{Option, none, some}
-use mathlib.Core.List.{List}
+use mathlib.Core.List.{List, [], _∷_}
 use lib.IntN.{ℤ}
-use lib.ListN.{length}
-use lib.Dec.{eqb, lit<}
-use borrow.Author.Tests.{lt-ltb, le-ltb, eq-eqb, ne-eqb}
+use lib.ListN.{length, length-map}
+use lib.Dec.{eqb, leb, lit<}
+use borrow.Author.Tests.{eq-eqb, ne-eqb}
+use Rattle.whole.proofs.Tests.{choice-no}
 use Rattle.model.specs.declared.Axis.{Axis}
 use Rattle.model.specs.declared.Answer.{Answer}
-use Rattle.model.specs.declared.Order.{Order}
-use Rattle.model.specs.declared.Order.the-variants.{Forwards, Backwards}
+use Rattle.model.specs.declared.Order.the-variants.{Forwards}
+use Rattle.model.specs.declared.PartAnswer.{PartAnswer}
 use Rattle.model.specs.declared.Windows.{Windows}
-use Rattle.model.specs.Job.{Job, JobAxis, setBits, setAxes, axesOf, typedJob, jobWith, jobByHand}
+use Rattle.model.specs.Job.{Job, JobAxis, setBits, axesOf, jobWith, jobByHand}
+use Rattle.model.specs.Windows.{refused13}
 use Rattle.model.specs.Refusals.{lastTick}
-use Rattle.model.specs.Outcome.{accept, Outcome, outcomeOf, refuse, leastFrom, arrives, cellsNeeded, tableOver, filled, arrived, jobOutcome, ordered}
+use Rattle.model.specs.Outcome.{Outcome, Tests, axisRefusals, firstAxis, outcomeOf, refuse, leastFrom, arrives, partOver, filled, arrived, jobOutcome, ordered, beforeTen}
+use Rattle.model.specs.Parts.{PartOutcome, partRows, partAccepted, partRefused, partWith}
 use Rattle.arrival.specs.declared.Arrival.{Arrival}
 use Rattle.arrival.specs.Arrivals.{leastOr, askedOr, arrivalFor}
-use Rattle.arrival.proofs.SetAxes.{six-axes-bits, six-bits}
+use Rattle.arrival.proofs.SetAxes.{six-bits}
 use Rattle.model.proofs.Ordered.{refusal-stays}
-use Rattle.model.proofs.ByHand.{ordered-by-hand, arrived-by-hand}
+use Rattle.model.proofs.ByHand.{ordered-by-hand, arrived-by-hand, part-by-hand}
 use Rattle.checks.specs.declared.Refusal.{Refusal}
-use Rattle.planner.specs.Promise.{Fitted}
-use Rattle.checks.specs.Checks.{checkedFor, namedByHand}
-use Rattle.planner.specs.Stages.{arrivedIn, filledIn, Gives}
+use Rattle.checks.specs.Checks.{firstRefusal, checkedFor, namedByHand}
+use Rattle.planner.specs.declared.Wanted.{Wanted}
+use Rattle.planner.specs.declared.Wanted.the-variants.{Whole, From}
+use Rattle.planner.specs.Promise.{partOutcome}
+use Rattle.planner.specs.Stages.{GivesAll, Gives, GivesFrom}
 use Rattle.checks.proofs.Checks.{afterChecks, checks-are}
 use Rattle.checks.proofs.Weights.{axes-given}
 
 -- ---- where a stage ends a call
 
--- the stage's own answer, where it is a refusal
-pub ended : (r : Answer) (lent : List ℤ) (o : Outcome) → (r .number ≡ 0 → ⊥) → outcomeOf r lent ≡ o → Gives o r lent
-ended r lent o h e = record { outcome = e; fitted = λ z. absurd (h z) }
+-- an answer that is not 10 is the answer before 10
+pub before-ten : (m : ℕ) (r : Answer) (lent : List ℤ) → (r .number ≡ 10 → ⊥) → r ≡ beforeTen m (outcomeOf r lent)
+before-ten m r lent h = choice-no (eqb (r .number) 10) (record { number = 0; place = 0; mask = m; arrival = r .arrival }) r (ne-eqb (r .number) 10 h)
 
-pub onward : (o o' : Outcome) (r : Answer) (exit : List ℤ) → o ≡ o' → Gives o r exit → Gives o' r exit
-onward o o' r exit e g = subst (λ (q : Outcome). Gives q r exit) e g
+module _ (m : ℕ) (xs : List Axis) (lent : List ℤ) where
+  pub onward : (w : Wanted) (o o′ : Outcome) (r : PartAnswer) (exit : List ℤ) → o ≡ o′ → Gives w m xs lent o r exit → Gives w m xs lent o′ r exit
+  onward w o o′ r exit e g = subst (λ (q : Outcome). Gives w m xs lent q r exit) e g
 
--- the same with the rows in an order w
-pub ended-in : (w : Order) (xs : List Axis) (r : Answer) (lent : List ℤ) (o : Outcome)
-    → (r .number ≡ 0 → ⊥) → outcomeOf r lent ≡ o → Gives (ordered w xs lent o) r lent
-ended-in w xs r lent o h e =
-    ended r lent _ h (refusal-stays xs lent (outcomeOf r lent) w h ∙ ap (λ (q : Outcome). ordered w xs lent q) e)
-
--- a refusal by its numbers
-pub refused-in : (w : Order) (xs : List Axis) (r : Answer) (k p m a : ℕ) (lent : List ℤ) (o : Outcome)
-    → r ≡ record { number = k; place = p; mask = m; arrival = a } → (k ≡ 0 → ⊥) → refuse k p m a lent ≡ o → Gives (ordered w xs lent o) r lent
-refused-in w xs r k p m a lent o e h f =
-    ended-in w xs r lent o (λ z. h (sym (ap (λ (s : Answer). s .number) e) ∙ z)) (ap (λ (s : Answer). outcomeOf s lent) e ∙ f)
-
-pub onward-in : (w : Order) (xs : List Axis) (lent : List ℤ) (o o' : Outcome) (r : Answer) (exit : List ℤ) → o ≡ o'
-    → Gives (ordered w xs lent o) r exit → Gives (ordered w xs lent o') r exit
-onward-in w xs lent o o' r exit e g = onward _ _ r exit (ap (λ (q : Outcome). ordered w xs lent q) e) g
+  -- a refusal before 10, by its numbers
+  pub refuses : (w : Wanted) (r : PartAnswer) (k p n : ℕ) (o : Outcome)
+      → r ≡ record { answer = record { number = k; place = p; mask = n; arrival = 0 }; rows = 0 }
+      → (k ≡ 0 → ⊥) → (k ≡ 10 → ⊥) → refuse k p n 0 lent ≡ o → Gives w m xs lent o r lent
+  refuses (Whole w) r k p n o e h t q =
+      record {
+        outcome =
+            ap (λ (s : PartAnswer). outcomeOf (s .answer) lent) e
+            ∙ refusal-stays xs lent (refuse k p n 0 lent) w h
+            ∙ ap (λ (x : Outcome). ordered w xs lent x) q;
+        fitted = λ z. absurd (h (sym (ap (λ (s : PartAnswer). s .answer .number) e) ∙ z));
+      }
+  refuses (From f) r k p n o e h t q =
+      let a : Answer = record { number = k; place = p; mask = n; arrival = 0 } in
+      ap (λ (s : PartAnswer). partOutcome s lent) e
+      ∙ choice-no (eqb k 0) (partAccepted a xs f lent) (partRefused a lent) (ne-eqb k 0 h)
+      ∙ ap (λ (x : Answer). partWith x xs f lent) (before-ten m a lent t)
+      ∙ ap (λ (x : Outcome). partWith (beforeTen m x) xs f lent) q
 
 -- ---- after the checks
 
@@ -70,15 +79,77 @@ module _ (j : Job) (lent : List ℤ) (c : Refusal) (is : c ≡ checkedFor j) whe
   pub checks-pass : c .number ≡ 0 → arrived j (j .asked) lent ≡ jobOutcome j lent
   checks-pass h = by-checks true (eq-eqb (c .number) 0 h)
 
+-- no test of an axis has the number 10
+abbrev NoTen : Tests → Type 0
+NoTen [] = Unit
+NoTen (t ∷ ts) = (t .0 ≡ 10 → ⊥) × NoTen ts
+
+tests-not-ten : (ts : Tests) (xs : List JobAxis) (v : Windows) → NoTen ts → firstRefusal ts xs v .number ≡ 10 → ⊥
+tests-not-ten [] xs v n = go (refused13 v)
+  where
+    go : (o : Option ℕ) → (elim o as (λ _. Refusal) [ some p ↦ record { number = 13; place = p } | none ↦ record { number = 0; place = 0 } ]) .number ≡ 10 → ⊥
+    go (some p) e = omega arith
+    go none e = omega arith
+tests-not-ten (t ∷ ts) xs v n = go (firstAxis (t .1) xs) (tests-not-ten ts xs v (n .1))
+  where
+    go : (o : Option ℕ) → (firstRefusal ts xs v .number ≡ 10 → ⊥)
+        → (elim o as (λ _. Refusal) [ some i ↦ record { number = t .0; place = i } | none ↦ firstRefusal ts xs v ]) .number ≡ 10 → ⊥
+    go (some i) h e = n .0 e
+    go none h e = h e
+
+no-ten : NoTen axisRefusals
+no-ten = (λ e. omega arith, (λ e. omega arith, (λ e. omega arith, (λ e. omega arith, (λ e. omega arith, (λ e. omega arith, (λ e. omega arith, tt)))))))
+
+pub checks-not-ten : (j : Job) (c : Refusal) → c ≡ checkedFor j → c .number ≡ 10 → ⊥
+checks-not-ten j c is e = go (leb (j .asked) lastTick) (sym (ap (λ (r : Refusal). r .number) is) ∙ e)
+  where
+    go : (b : Bool)
+        → (elim b as (λ _. Refusal) [ true ↦ firstRefusal axisRefusals (j .axes) (j .windows) | false ↦ record { number = 3; place = 1 } ]) .number ≡ 10 → ⊥
+    go true e = tests-not-ten axisRefusals (j .axes) (j .windows) no-ten e
+    go false e = omega arith
+
 -- ---- with the weights by hand
 
-module _ (m asked : ℕ) (axes given : List Axis) (w : Windows) (is : given ≡ namedByHand m axes) where
-  pub given-arrives : (o : Order) (lent : List ℤ) → arrivedIn o (jobWith m asked given w) lent ≡ arrivedIn o (jobWith m asked axes w) lent
-  given-arrives o lent =
-      let j = jobWith m asked axes w in
-      ap (λ (l : List JobAxis). arrivedIn o (record { mask = m; asked = asked; axes = l; windows = w }) lent) (axes-given m axes given is)
-      ∙ ordered-by-hand o j lent (arrived (jobByHand j) asked lent)
-      ∙ ap (λ (r : Outcome). ordered o (axesOf j) lent r) (arrived-by-hand j asked lent)
+part-with-by-hand : (j : Job) (k : ℕ) (lent : List ℤ) (a : Answer) → partWith a (axesOf (jobByHand j)) k lent ≡ partWith a (axesOf j) k lent
+part-with-by-hand j k lent a =
+    λ i. elim (eqb (a .number) 0) as (λ _. PartOutcome) [ true ↦ accepted i | false ↦ partRefused a lent ]
+  where
+    xs : List Axis
+    xs = axesOf (jobByHand j)
+
+    c : ℕ → ℕ
+    c l = partRows l (a .arrival) k (length lent)
+
+    same : length xs ≡ length (axesOf j)
+    same = length-map (jobByHand j .axes) (λ x. x .axis) ∙ length-map (j .axes) _ ∙ sym (length-map (j .axes) (λ x. x .axis))
+
+    accepted : partAccepted a xs k lent ≡ partAccepted a (axesOf j) k lent
+    accepted =
+        ap (λ (l : ℕ). record { answer = a; rows = c l; cells = partOver Forwards xs (a .arrival) k (c l) lent }) same
+        ∙ ap (λ (l : List ℤ). record { answer = a; rows = c (length (axesOf j)); cells = l }) (part-by-hand Forwards j (a .arrival) k (c (length (axesOf j))) lent)
+
+module _ (m asked : ℕ) (axes given : List Axis) (v : Windows) (is : given ≡ namedByHand m axes) (lent : List ℤ) (r : PartAnswer) (exit : List ℤ) where
+  Given : Wanted → Job → Type 0
+  Given w j = Gives w (j .mask) (axesOf j) lent (arrived j asked lent) r exit
+
+  j : Job
+  j = jobWith m asked axes v
+
+  by-hand : (w : Wanted) → Given w (jobByHand j) → Given w j
+  unfolding Given j
+  by-hand (Whole o) g =
+      subst (λ (q : Outcome). GivesAll q (r .answer) exit)
+      (ordered-by-hand o j lent (arrived (jobByHand j) asked lent) ∙ ap (λ (q : Outcome). ordered o (axesOf j) lent q) (arrived-by-hand j asked lent)) g
+  by-hand (From k) g =
+      g
+      ∙ part-with-by-hand j k lent (beforeTen m (arrived (jobByHand j) asked lent))
+      ∙ ap (λ (q : Outcome). partWith (beforeTen m q) (axesOf j) k lent) (arrived-by-hand j asked lent)
+
+  pub given-arrives : (w : Wanted) → GivesFrom w (jobWith m asked given v) (λ j. arrived j asked) lent r exit
+      → GivesFrom w (jobWith m asked axes v) (λ j. arrived j asked) lent r exit
+  unfolding Given j
+  given-arrives w g =
+      by-hand w (subst (λ (l : List JobAxis). Given w (record { mask = m; asked = asked; axes = l; windows = v })) (axes-given m axes given is) g)
 
 -- ---- after the arrival
 
@@ -114,45 +185,22 @@ module _ (j : Job) (lent : List ℤ) where
     pub found : f .number ≡ 0 → filled j (f .tick) lent ≡ arrived j (j .asked) lent
     found h = by-arrival true (eq-eqb (f .number) 0 h)
 
--- ---- refusal 10, or the table
+arrivals-not-ten : (j : Job) (asked : ℕ) → arrivalFor (j .windows) (j .axes) asked .number ≡ 10 → ⊥
+arrivals-not-ten j zero = go (leastFrom (arrives j) 1 lastTick)
+  where
+    go : (o : Option ℕ) → leastOr (j .axes) o .number ≡ 10 → ⊥
+    go (some n) e = omega arith
+    go none e = omega arith
+arrivals-not-ten j (suc n) = go (arrives j (suc n))
+  where
+    go : (b : Bool) → askedOr (j .axes) (suc n) b .number ≡ 10 → ⊥
+    go true e = omega arith
+    go false e = omega arith
 
-module _ (m n : ℕ) (six : List Axis) (long : length six ≡ 6) (k : ℕ) (is : k ≡ cellsNeeded (length (setBits m)) n) where
-  abbrev j : Job
-  j = typedJob m n six
+pub found-not-ten : (j : Job) (f : Arrival) → f ≡ arrivalFor (j .windows) (j .axes) (j .asked) → f .number ≡ 10 → ⊥
+found-not-ten j f is e = arrivals-not-ten j (j .asked) (sym (ap (λ (a : Arrival). a .number) is) ∙ e)
 
-  needed : k ≡ cellsNeeded (length (setAxes 0 m six)) n
-  needed = is ∙ ap (λ (c : ℕ). cellsNeeded c n) (sym (six-axes-bits m six long))
-
-  module _ (lent : List ℤ) where
-    by-room : Bool → Outcome
-    by-room b = elim b [ true ↦ refuse 10 0 0 n lent | false ↦ accept j n lent ]
-
-    pub too-small : length lent < k → refuse 10 0 0 n lent ≡ filled j n lent
-    unfolding by-room
-    too-small h = sym (ap by-room (lt-ltb (length lent) (cellsNeeded (length (setAxes 0 m six)) n) (subst (λ (v : ℕ). length lent < v) needed h)))
-
-    pub room : k ≤ length lent → cellsNeeded (length (setAxes 0 m six)) n ≤ length lent
-    room h = subst (λ (v : ℕ). v ≤ length lent) needed h
-
-    accepted : (o : Order) → outcomeOf (record { number = 0; place = 0; mask = m; arrival = n }) (tableOver o (axesOf j) n lent)
-        ≡ ordered o (axesOf j) lent (accept j n lent)
-    accepted Forwards = refl
-    accepted Backwards = refl
-
-    pub written : (o : Order) → k ≤ length lent → (r : Answer) (exit : List ℤ) → r ≡ record { number = 0; place = 0; mask = m; arrival = n }
-        → exit ≡ tableOver o (axesOf j) n lent → m < 64 → n ≤ lastTick → length exit ≡ length lent → Gives (filledIn o j n lent) r exit
-    unfolding by-room
-    written o h r exit e w g l q =
-        record {
-          outcome =
-              ap (λ (s : Answer). outcomeOf s exit) e
-              ∙ ap (λ (c : List ℤ). record { number = 0; place = 0; mask = m; arrival = n; cells = c }) w
-              ∙ accepted o
-              ∙ ap (λ (b : Bool). ordered o (axesOf j) lent (by-room b))
-              (sym (le-ltb (length lent) (cellsNeeded (length (setAxes 0 m six)) n) (room h)));
-          fitted = λ z. subst (λ (s : Answer). Fitted s exit) (sym e)
-              (record { mask = g; last = l; room = subst (λ (v : ℕ). v ≤ length exit) is (omega arith) });
-        }
+-- ---- sizes
 
 pub few-axes : (m k : ℕ) → k ≡ length (setBits m) → k ≤ 6
 few-axes m k e = subst (λ (n : ℕ). n ≤ 6) (sym e) (six-bits m)

@@ -8,11 +8,15 @@ use lib.ListN.{length}
 use Rattle.model.specs.declared.Answer.{Answer}
 use Rattle.model.specs.declared.Job.{Job}
 use Rattle.model.specs.declared.Order.{Order}
+use Rattle.model.specs.declared.PartAnswer.{PartAnswer}
 use Rattle.model.specs.Job.{setBits}
 use Rattle.model.specs.Refusals.{lastTick}
 use Rattle.model.specs.Outcome.{Input, typed, outcomeOf, callIn, inputAxes, cellsNeeded, answerOf}
 use Rattle.model.specs.Verdict.{CallVerdict}
 use Rattle.model.specs.Demand.{Demand3, CellLimits, ExactStart}
+use Rattle.model.specs.Parts.{PartOutcome, partCall}
+use Rattle.planner.specs.declared.Wanted.{Wanted}
+use Rattle.planner.specs.declared.Wanted.the-variants.{Whole, From}
 
 -- the rows are in the lent table: a caller may walk them by the mask and the arrival of the answer
 pub record Fitted (r : Answer) (exit : List ℤ) : Type 0 where
@@ -36,6 +40,16 @@ pub record Promise (o : Order) (q : Input) (entry : List ℤ) (r : Answer) (exit
   -- its row 0 is on the start exactly
   pub start : r .number ≡ 0 → ExactStart o (inputAxes q) (r .arrival) exit
   pub fitted : r .number ≡ 0 → Fitted r exit
+
+-- an answer with its number of rows, and the lent table as the call leaves it
+abbrev pub partOutcome : PartAnswer → List ℤ → PartOutcome
+partOutcome r cells = record { answer = r .answer; rows = r .rows; cells = cells }
+
+-- what `plan_job_in` and `plan_words_in` promise: for all rows the promise above; for those from row k on the answer, the number of rows and every cell of
+-- the definition, from which the calls of `parts` promise the rest
+abbrev pub PromiseIn : Wanted → Input → List ℤ → PartAnswer → List ℤ → Type 0
+PromiseIn (Whole o) q entry r exit = Promise o q entry (r .answer) exit
+PromiseIn (From k) q entry r exit = partOutcome r exit ≡ partCall q k entry
 
 -- what `answer_of` promises: the answer to a job of typed values before refusal 10
 pub record Answered (t : Job) (r : Answer) : Type 0 where

@@ -1,27 +1,27 @@
 use native.Mathlib.Omega.{arith}
 use mathlib.Core.Path.{_≡_, refl, sym, _∙_}
 use mathlib.Core.Logic.{⊎-elim}
-use borrow.Author.Needs.{needs}
 use Rattle.model.specs.Job.{Job, jobWith}
 use Rattle.checks.specs.Checks.{Checked, namedByHand}
 use Rattle.checks.proofs.Checks.{asked-late, asked-in-time}
-use Rattle.planner.proofs.Stages.{refused-in, onward, onward-in, checks-refuse, checks-pass, given-arrives}
 use Rattle.checks.proofs.Weights.{given-are, given-passed}
+use Rattle.planner.proofs.Stages.{refuses, onward, checks-refuse, checks-pass, checks-not-ten, given-arrives}
+use borrow.Author.Needs.{needs}
 use Rattle.planner.proofs.plan_allowed.Statement.{statement}
 use Rattle.planner.proofs.plan_allowed.Tie as tie
 
 abbrev job : tie.Start → Job
 job s = jobWith (s .args .mask) (s .args .asked) (s .args .axes) (s .args .windows)
 
-answer-requires : tie.Need-answer-requires
-answer-requires c κs = search needs
+refused-requires : tie.Need-refused-requires
+refused-requires c κs = search needs
 
 returns : tie.Need-returns
 returns c =
     let s = c .before .before in
     let a = s .args in
     let k = asked-late (job s) (record { number = 3; place = 1 }) (c .before .if1 .taken) refl in
-    refused-in (a .order) _ (c .answer .result) 3 1 0 0 (a .table .now) _ (c .answer .ensures) (λ z. omega arith)
+    refuses (a .mask) _ (a .table .now) (a .wanted) (c .refused .result) 3 1 0 _ (c .refused .ensures) (λ z. omega arith) (λ z. omega arith)
     (checks-refuse (job s) (a .table .now) _ (k .is) (λ z. omega arith))
 
 check-requires : tie.Need-check-requires
@@ -30,8 +30,8 @@ check-requires c κs = search needs
 checked : (d : tie.After-check) → Checked (job (d .before .before)) (d .check .result)
 checked d = asked-in-time (job (d .before .before)) (d .check .result) (d .before .if1 .left) (d .check .ensures)
 
-answer-requires-2 : tie.Need-answer-requires-2
-answer-requires-2 c κs = search needs
+refused-requires-2 : tie.Need-refused-requires-2
+refused-requires-2 c κs = search needs
 
 returns-2 : tie.Need-returns-2
 returns-2 c =
@@ -39,9 +39,9 @@ returns-2 c =
     let s = d .before .before in
     let a = s .args in
     let r = d .check .result in
-    let refuses = c .before .if2 .taken in
-    refused-in (a .order) _ (c .answer2 .result) (r .number) (r .place) 0 0 (a .table .now) _ (c .answer2 .ensures) refuses
-    (checks-refuse (job s) (a .table .now) r (checked d .is) refuses)
+    let no = c .before .if2 .taken in
+    refuses (a .mask) _ (a .table .now) (a .wanted) (c .refused2 .result) (r .number) (r .place) 0 _ (c .refused2 .ensures) no
+    (checks-not-ten (job s) r (checked d .is)) (checks-refuse (job s) (a .table .now) r (checked d .is) no)
 
 any-measured-requires : tie.Need-any-measured-requires
 any-measured-requires c κs = search needs
@@ -67,7 +67,7 @@ plan-checked-requires c κs =
     let zero = g .before .before .if2 .left in
     let k = checked d in
     let passed = given-passed (a .mask) (a .axes) (g .if3 .given) (by-hand g) (k .passed zero) in
-    (s .pre, (k .asked zero, (passed, k .windows zero)))
+    (s .pre .0, (s .pre .1, (k .asked zero, (passed, k .windows zero))))
 
 same-length : tie.Need-same-length
 same-length c = search needs
@@ -81,17 +81,17 @@ returns-3 c =
     let w = c .before .plan-checked in
     let lent = a .table .now in
     let exit = w .last .1 .1 .1 .1 .1 .0 in
-    onward-in (a .order) _ lent _ _ (w .result) exit (checks-pass (job s) lent (d .check .result) (checked d .is) (g .before .before .if2 .left))
-    (onward _ _ (w .result) exit (given-arrives (a .mask) (a .asked) (a .axes) (g .if3 .given) (a .windows) (by-hand g) (a .order) lent) (w .ensures))
+    onward (a .mask) _ lent (a .wanted) _ _ (w .result) exit (checks-pass (job s) lent (d .check .result) (checked d .is) (g .before .before .if2 .left))
+    (given-arrives (a .mask) (a .asked) (a .axes) (g .if3 .given) (a .windows) (by-hand g) lent (w .result) exit (a .wanted) (w .ensures))
 
 pub plan-allowed-spec : {M : Type 1} → statement M
 plan-allowed-spec =
     tie.close
     (tie.spec
-    answer-requires
+    refused-requires
     returns
     check-requires
-    answer-requires-2
+    refused-requires-2
     returns-2
     any-measured-requires
     by-hand-requires

@@ -2,11 +2,11 @@ use Prim.Native.Nat.{ℕ, _*_, _/_}
 use mathlib.Core.Path.{ap, _∙_}
 use native.Mathlib.Omega.{arith}
 use Rattle.model.specs.Parts.{partRows}
 use Rattle.planner.proofs.Stages.{few-axes}
-use Rattle.parts.proofs.Rows.{some-bits, held-rows, left-rows}
+use Rattle.planner.proofs.Rows.{some-bits, held-rows, left-rows}
 use borrow.Author.Needs.{needs}
-use Rattle.parts.proofs.part_rows.Statement.{statement}
-use Rattle.parts.proofs.part_rows.Tie as tie
+use Rattle.planner.proofs.part_rows.Statement.{statement}
+use Rattle.planner.proofs.part_rows.Tie as tie
 
 returns : tie.Need-returns
 returns c = search needs
