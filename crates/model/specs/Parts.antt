@@ -1,9 +1,9 @@
 -- Rows in parts (docs/METHOD.md, section 24): a call for the rows from a first one on, as many whole rows as the lent table holds. The theorem
--- `parts-hold` says that they are rows of the table for which demand 3 holds.
-use Prim.Native.Nat.{ℕ, suc, _-_, _*_, _/_, _≤_, min}
+-- `parts-hold` says that they are rows of the table for which demand 3 holds, and `parts-make-the-table` that the parts put together are that table.
+use Prim.Native.Nat.{ℕ, suc, _+_, _-_, _*_, _/_, _≤_, min}
 use mathlib.Core.Path.{_≡_}
 use mathlib.Core.Bool.{true, false}
-use mathlib.Core.List.{List}
+use mathlib.Core.List.{List, [], _∷_, _++_}
 use lib.Dec.{eqb}
 use lib.IntN.{ℤ}
 use lib.ListN.{length, take, drop}
@@ -54,3 +54,24 @@ PartsHold =
     (q : Input) (k : ℕ) (lent whole : List ℤ) → answerOf q .number ≡ 0
     → cellsNeeded (length (inputAxes q)) (answerOf q .arrival) ≤ length whole
     → PartOf q (answerOf q .arrival) k (partCall q k lent .rows) (partCall q k lent .cells) (call q whole)
+
+-- ---- the parts put together: calls one after the other, each with a table of its own, of any size, and from the row after the last one that was written
+
+-- the row after the last one that they write, from row k on
+abbrev pub nextRow : Input → ℕ → List (List ℤ) → ℕ
+nextRow q k [] = k
+nextRow q k (lent ∷ lents) = nextRow q (k + partCall q k lent .rows) lents
+
+-- the cells of the rows that they write, in a row
+abbrev pub partsWritten : Input → ℕ → List (List ℤ) → List ℤ
+partsWritten q k [] = []
+partsWritten q k (lent ∷ lents) =
+    let p : PartOutcome = partCall q k lent in
+    take (3 * length (inputAxes q) * p .rows) (p .cells) ++ partsWritten q (k + p .rows) lents
+
+-- however rows 0 to N are cut into parts, the parts are the table that the call for all rows writes, and meet demand 3
+abbrev pub PartsMakeTheTable : Type 0
+PartsMakeTheTable =
+    (q : Input) (lents : List (List ℤ)) (whole : List ℤ) → answerOf q .number ≡ 0 → nextRow q 0 lents ≡ suc (answerOf q .arrival)
+    → length whole ≡ cellsNeeded (length (inputAxes q)) (answerOf q .arrival)
+    → (partsWritten q 0 lents ≡ call q whole .cells) × Demand3 Forwards (inputAxes q) (answerOf q .arrival) (partsWritten q 0 lents)
