@@ -1,140 +1,92 @@
--- The area under the velocities at a cruise is their sum over ticks 1 to T − 1.
-use Prim.Native.Nat.{ℕ, zero, suc, _+_, _-_, _*_, _/_, _≤_, _<_, min}
-use mathlib.Core.Path.{_≡_, sym, ap, ap₂, _∙_}
+-- The area under the velocities at a cruise is their sum over ticks 1 to T − 1: it is the area of the first T − 1 ticks, of which none is raised.
+use Prim.Native.Nat.{ℕ, _+_, _-_, _≤_, _<_, min}
+use mathlib.Core.Path.{_≡_, refl, sym, ap, _∙_}
 use mathlib.Core.List.{[], _∷_}
+use mathlib.Core.Logic.{_⊎_, inl, inr}
 use native.Mathlib.Omega.{arith}
-use native.Mathlib.Nat.{mul-suc, mul-comm}
-use lib.IntN.{ℤ, pos, _+ℤ_, _*ℤ_, +ℤ-assoc}
+use lib.IntN.{ℤ, pos, _+ℤ_, _*ℤ_}
 use lib.Signed.{≤ℤ-refl}
-use Rattle.whole.specs.Integers.{sumTo}
 use Rattle.whole.specs.Ranges.{Within}
 use Rattle.whole.proofs.Laws.{≤ℤ-next}
 use Rattle.whole.proofs.Ring.{pol, same}
-use Rattle.whole.proofs.Sums.{sum-first}
+use Rattle.whole.proofs.Sums.{sum-same}
+use Rattle.whole.proofs.Tests.{lt-or-le}
 use Rattle.model.specs.Leg.{Leg, clamped, sumAt}
 use Rattle.model.proofs.Envelopes.{Joined}
 use Rattle.profile.specs.declared.Regions.{Regions}
-use Rattle.profile.specs.Regions.{rampChange, regionsOf}
-use Rattle.profile.specs.Areas.{triangle, rampArea, areaOf, areaAt, risingTicks, fallingTicks, levelTicks}
+use Rattle.profile.specs.Regions.{regionsOf, velocityIn}
+use Rattle.profile.specs.Areas.{rampArea, areaOf, areaAt, areaTo, fallArea, risingTicks, levelTicks, levelTo, fallingTo}
 use Rattle.profile.proofs.ThreeRegions.{on-start, on-end, on-level}
+use Rattle.profile.proofs.ChosenRegions.{in-start, in-end, in-level}
+use Rattle.profile.proofs.PartSums.{area-to-is-sum}
 
--- ---- parts of a sum
+-- ---- the parts of all ticks are those of the first T − 1: the first ramp up to tick a, t ticks, f of them on the ramp to the end
 
--- the first m ticks, then n more
-pub parts : (f : ℕ → ℤ) (m n : ℕ) → sumTo f (m + n) ≡ sumTo f m +ℤ sumTo (λ k. f (m + k)) n
-parts f m zero = ap (sumTo f) {x = m + zero} {y = m} (omega arith) ∙ none (sumTo f m)
+module _ (a t f : ℕ) where
+  level-all : min t (t - f) - a ≡ t - min a t - min f (t - min a t)
+  level-all = ap (λ (s : ℕ). s - a) {x = min t (t - f)} {y = t - f} (omega arith) ∙ go (lt-or-le t a)
+    where
+      short : t < a → t - f - a ≡ t - t - min f (t - t)
+      short h = omega arith
+
+      long : a ≤ t → t - f - a ≡ t - a - min f (t - a)
+      long h = omega arith
+
+      go : (t < a) ⊎ (a ≤ t) → t - f - a ≡ t - min a t - min f (t - min a t)
+      go (inl h) = let e : t ≡ min a t = omega arith in short h ∙ ap (λ (m : ℕ). t - m - min f (t - m)) e
+      go (inr h) = let e : a ≡ min a t = omega arith in long h ∙ ap (λ (m : ℕ). t - m - min f (t - m)) e
+
+  falling-all : t - min a t - (min t (t - f) - a) ≡ min f (t - min a t)
+  falling-all = ap (λ (l : ℕ). t - min a t - l) level-all ∙ left (t - min a t)
+    where
+      left : (x : ℕ) → x - (x - min f x) ≡ min f x
+      left x = omega arith
+
+area-all : (r : Regions) → r .raised ≡ 0 → areaTo r (r .ticks - 1) ≡ areaOf r
+unfolding areaOf areaTo fallArea
+area-all r e =
+    ap (λ (m : ℕ). ramp +ℤ (pos level *ℤ r .cruise +ℤ pos m) +ℤ rampArea (r .end +ℤ pos (t - t) *ℤ r .down) (r .down) falling) {x = min (r .raised) level} {y = 0} (omega arith)
+    ∙ ap (λ (m : ℕ). ramp +ℤ (pos level *ℤ r .cruise +ℤ pos 0) +ℤ rampArea (r .end +ℤ pos m *ℤ r .down) (r .down) falling) {x = t - t} {y = 0} (omega arith)
+    ∙ ap (λ (z : ℤ). ramp +ℤ (pos level *ℤ r .cruise +ℤ pos 0) +ℤ rampArea z (r .down) falling) (at-end (r .end) (r .down))
+    ∙ none ramp (pos level *ℤ r .cruise) (rampArea (r .end) (r .down) falling)
+    ∙ ap (λ (m : ℕ). ramp +ℤ pos m *ℤ r .cruise +ℤ rampArea (r .end) (r .down) falling) (level-all (r .rise) t (r .fall))
+    ∙ ap (λ (m : ℕ). ramp +ℤ pos (levelTicks r) *ℤ r .cruise +ℤ rampArea (r .end) (r .down) m) (falling-all (r .rise) t (r .fall))
   where
-    none : (x : ℤ) → x ≡ x +ℤ pos 0
-    none x = same (x ∷ []) (search pol depth 20 fits 9000) tt
-parts f m (suc n) =
-    ap (sumTo f) {x = m + suc n} {y = suc (m + n)} (omega arith)
-    ∙ ap₂ (λ (a b : ℤ). a +ℤ b) (parts f m n) (ap f {x = suc (m + n)} {y = m + suc n} (omega arith))
-    ∙ +ℤ-assoc (sumTo f m) (sumTo (λ k. f (m + k)) n) (f (m + suc n))
+    t : ℕ
+    t = r .ticks - 1
 
-triangle-next : (n : ℕ) → triangle (suc n) ≡ triangle n + suc n
-unfolding triangle
-triangle-next n = halves (suc n * (suc n + 1)) (n * (n + 1)) (suc n) (omega (arith, mul-suc (suc n) (suc n), mul-comm (suc n) (suc n)))
-  where
-    halves : (x y m : ℕ) → x ≡ y + (m + m) → x / 2 ≡ y / 2 + m
-    halves x y m e = omega arith
+    ramp : ℤ
+    ramp = rampArea (r .start) (r .up) (risingTicks r)
 
-one-up : (n : ℕ) → pos (suc n) ≡ pos n +ℤ pos 1
-one-up n = ap pos {x = suc n} {y = n + 1} (omega arith)
+    level : ℕ
+    level = levelTo r t
 
-ramp-none : (v u : ℤ) → rampArea v u 0 ≡ pos 0
-unfolding rampArea triangle
-ramp-none v u = same (v ∷ u ∷ []) (search pol depth 20 fits 9000) tt
+    falling : ℕ
+    falling = fallingTo r t
 
-ramp-next : (v u : ℤ) (n : ℕ) → rampArea v u (suc n) ≡ rampArea v u n +ℤ (v +ℤ pos (suc n) *ℤ u)
-unfolding rampArea
-ramp-next v u n =
-    ap (λ (m : ℕ). pos (suc n) *ℤ v +ℤ pos m *ℤ u) (triangle-next n)
-    ∙ ap (λ (z : ℤ). z *ℤ v +ℤ (pos (triangle n) +ℤ pos (suc n)) *ℤ u) (one-up n)
-    ∙ law v u (pos n) (pos (triangle n)) (pos (suc n))
-  where
-    law : (v u n t m : ℤ) → (n +ℤ pos 1) *ℤ v +ℤ (t +ℤ m) *ℤ u ≡ n *ℤ v +ℤ t *ℤ u +ℤ (v +ℤ m *ℤ u)
-    law v u n t m = same (v ∷ u ∷ n ∷ t ∷ m ∷ []) (search pol depth 20 fits 9000) tt
+    at-end : (e d : ℤ) → e +ℤ pos 0 *ℤ d ≡ e
+    at-end e d = same (e ∷ d ∷ []) (search pol depth 20 fits 9000) tt
 
--- n ticks of a ramp that begins there, of a level part, and of a ramp that ends after them
-pub ramp-sum : (f : ℕ → ℤ) (v u : ℤ) (n : ℕ) → ((k : ℕ) → 0 < k → k ≤ n → f k ≡ v +ℤ pos k *ℤ u) → sumTo f n ≡ rampArea v u n
-ramp-sum f v u zero e = sym (ramp-none v u)
-ramp-sum f v u (suc n) e =
-    ap₂ (λ (a b : ℤ). a +ℤ b) (ramp-sum f v u n (λ k h q. e k h (omega arith))) (e (suc n) (omega arith) (omega arith)) ∙ sym (ramp-next v u n)
+    none : (x y z : ℤ) → x +ℤ (y +ℤ pos 0) +ℤ z ≡ x +ℤ y +ℤ z
+    none x y z = same (x ∷ y ∷ z ∷ []) (search pol depth 20 fits 9000) tt
 
-pub level-sum : (f : ℕ → ℤ) (c : ℤ) (n : ℕ) → ((k : ℕ) → 0 < k → k ≤ n → f k ≡ c) → sumTo f n ≡ pos n *ℤ c
-level-sum f c zero e = same (c ∷ []) (search pol depth 20 fits 9000) tt
-level-sum f c (suc n) e =
-    ap₂ (λ (a b : ℤ). a +ℤ b) (level-sum f c n (λ k h q. e k h (omega arith))) (e (suc n) (omega arith) (omega arith))
-    ∙ one-more (pos n) c
-    ∙ ap (λ (z : ℤ). z *ℤ c) (sym (one-up n))
-  where
-    one-more : (n c : ℤ) → n *ℤ c +ℤ c ≡ (n +ℤ pos 1) *ℤ c
-    one-more n c = same (n ∷ c ∷ []) (search pol depth 20 fits 9000) tt
-
--- the first of the level ones raised by one
-pub raised-sum : (f : ℕ → ℤ) (c : ℤ) (r n : ℕ) → ((k : ℕ) → 0 < k → k ≤ n → k ≤ r → f k ≡ c +ℤ pos 1)
-    → ((k : ℕ) → 0 < k → k ≤ n → r < k → f k ≡ c) → sumTo f n ≡ pos n *ℤ c +ℤ pos (min r n)
-raised-sum f c r n up level =
-    ap (sumTo f) {x = n} {y = min r n + (n - min r n)} (omega arith)
-    ∙ parts f (min r n) (n - min r n)
-    ∙ ap₂ (λ (x y : ℤ). x +ℤ y) (level-sum f (c +ℤ pos 1) (min r n) (λ k h q. up k h (omega arith) (omega arith)))
-    (level-sum (λ k. f (min r n + k)) c (n - min r n) (λ k h q. level (min r n + k) (omega arith) (omega arith) (omega arith)))
-    ∙ ring c (pos (min r n)) (pos (n - min r n))
-    ∙ ap (λ (m : ℕ). pos m *ℤ c +ℤ pos (min r n)) {x = min r n + (n - min r n)} {y = n} (omega arith)
-  where
-    ring : (c a b : ℤ) → a *ℤ (c +ℤ pos 1) +ℤ b *ℤ c ≡ (a +ℤ b) *ℤ c +ℤ a
-    ring c a b = same (c ∷ a ∷ b ∷ []) (search pol depth 20 fits 9000) tt
-
-pub back-sum : (f : ℕ → ℤ) (v u : ℤ) (n : ℕ) → ((k : ℕ) → 0 < k → k ≤ n → f k ≡ v +ℤ pos (suc n - k) *ℤ u) → sumTo f n ≡ rampArea v u n
-back-sum f v u zero e = sym (ramp-none v u)
-back-sum f v u (suc n) e =
-    sum-first f n
-    ∙ ap₂ (λ (a b : ℤ). a +ℤ b) (e 1 (omega arith) (omega arith) ∙ ap (λ (m : ℕ). v +ℤ pos m *ℤ u) {x = suc (suc n) - 1} {y = suc n} (omega arith))
-    (back-sum (λ k. f (suc k)) v u n
-    (λ k h q. e (suc k) (omega arith) (omega arith) ∙ ap (λ (m : ℕ). v +ℤ pos m *ℤ u) {x = suc (suc n) - suc k} {y = suc n - k} (omega arith)))
-    ∙ swap (v +ℤ pos (suc n) *ℤ u) (rampArea v u n)
-    ∙ sym (ramp-next v u n)
-  where
-    swap : (x y : ℤ) → x +ℤ y ≡ y +ℤ x
-    swap x y = same (x ∷ y ∷ []) (search pol depth 20 fits 9000) tt
-
--- ---- the three parts of a cruise
+-- ---- a cruise
 
 module _ (g : Leg) (joined : Joined g) (some : 0 < g .accelerationLimit) (c : ℤ) (inside : Within (g .speedLimit) c) where
   abbrev R : Regions
   R = regionsOf g c 0
 
-  abbrev f : ℕ → ℤ
-  f = clamped g c
-
-  all-parts : risingTicks R + levelTicks R + fallingTicks R ≡ g .ticks - 1
-  all-parts = omega arith
-
-  -- as many ticks before the end
-  until : (t m n k : ℕ) → m + n ≡ t - 1 → 0 < k → k ≤ n → t - (m + k) ≡ suc n - k
-  until t m n k e h q = omega arith
-
-  first : sumTo f (risingTicks R) ≡ rampArea (g .start) (rampChange (g .accelerationLimit) (g .start) c) (risingTicks R)
-  first =
-      ramp-sum f _ _ (risingTicks R)
-      (λ k h q. on-start g joined some c inside k (omega arith) c (≤ℤ-refl c) (≤ℤ-next c) (omega arith))
-
-  second : sumTo (λ k. f (risingTicks R + k)) (levelTicks R) ≡ pos (levelTicks R) *ℤ c
-  second = level-sum _ c (levelTicks R) (λ k h q. on-level g joined some c inside (risingTicks R + k) (omega arith) (omega arith) (omega arith))
-
-  third : sumTo (λ k. f (risingTicks R + levelTicks R + k)) (fallingTicks R)
-      ≡ rampArea (g .end) (rampChange (g .accelerationLimit) (g .end) c) (fallingTicks R)
-  third =
-      back-sum _ _ _ (fallingTicks R)
-      (λ k h q.
-      on-end g joined some c inside (risingTicks R + levelTicks R + k) (omega arith) c (≤ℤ-refl c) (≤ℤ-next c) (omega arith) (omega arith)
-      ∙ ap (λ (m : ℕ). g .end +ℤ pos m *ℤ rampChange (g .accelerationLimit) (g .end) c)
-      (until (g .ticks) (risingTicks R + levelTicks R) (fallingTicks R) k all-parts h q))
+  -- the velocity of a tick, by its region
+  velocity-is : (k : ℕ) → k ≤ g .ticks → velocityIn R k ≡ clamped g c k
+  velocity-is k h = go (lt-or-le (R .rise) k) (lt-or-le (k + R .fall) (g .ticks))
+    where
+      go : (R .rise < k) ⊎ (k ≤ R .rise) → (k + R .fall < g .ticks) ⊎ (g .ticks ≤ k + R .fall) → velocityIn R k ≡ clamped g c k
+      go (inr p) q = in-start R k p ∙ sym (on-start g joined some c inside k h c (≤ℤ-refl c) (≤ℤ-next c) p)
+      go (inl p) (inl q) = in-level R k p q (omega arith) ∙ sym (on-level g joined some c inside k h p q)
+      go (inl p) (inr q) = in-end R k p q ∙ sym (on-end g joined some c inside k h c (≤ℤ-refl c) (≤ℤ-next c) p q)
 
   pub area-is-sum : areaAt g c ≡ sumAt g c
-  unfolding areaOf
   area-is-sum =
-      sym
-      (ap (sumTo f) (sym all-parts)
-      ∙ parts f (risingTicks R + levelTicks R) (fallingTicks R)
-      ∙ ap₂ (λ (a b : ℤ). a +ℤ b) (parts f (risingTicks R) (levelTicks R) ∙ ap₂ (λ (a b : ℤ). a +ℤ b) first second) third)
+      sym (area-all R refl)
+      ∙ area-to-is-sum R (g .ticks - 1) (omega arith)
+      ∙ sum-same (velocityIn R) (clamped g c) (g .ticks - 1) (λ k h. velocity-is k (omega arith))

@@ -9,7 +9,7 @@ use Rattle.whole.proofs.Ring.{pol, same}
 use Rattle.profile.specs.declared.Regions.{Regions}
 use Rattle.profile.specs.Regions.{velocityIn}
 use Rattle.profile.specs.Areas.{rampArea, lastLevel, risingTo, levelTo, fallingTo, fallArea, areaTo}
-use Rattle.profile.proofs.AreaIsSum.{parts, ramp-sum, raised-sum, back-sum}
+use Rattle.profile.proofs.RampSums.{parts, ramp-sum, raised-sum, back-sum}
 use Rattle.profile.proofs.ChosenRegions.{in-start, in-end, in-raised, in-level}
 
 -- ---- the ticks of the parts: the first ramp up to tick a, the level part up to tick s
@@ -38,10 +38,10 @@ before-fall t f j h q = omega arith
 on-fall : (t f j : ℕ) → t - 1 - f < j → t ≤ j + f
 on-fall t f j h = omega arith
 
-until : (t k b n j : ℕ) → k < t → b + n ≡ k → 0 < j → j ≤ n → t - (b + j) ≡ t - 1 - k + (suc n - j)
+until : (t k b n j : ℕ) → k ≤ t - 1 → b + n ≡ k → 0 < j → j ≤ n → t - (b + j) ≡ t - 1 - k + (suc n - j)
 until t k b n j l e h q = omega arith
 
-module _ (r : Regions) (k : ℕ) (below : k < r .ticks) where
+module _ (r : Regions) (k : ℕ) (below : k ≤ r .ticks - 1) where
   abbrev f : ℕ → ℤ
   f = velocityIn r
 

@@ -16,7 +16,7 @@ use Rattle.profile.specs.declared.Parts.{Parts}
 use Rattle.profile.specs.Areas.{rampArea, areaOf, splitArea, upperParts}
 use Rattle.profile.proofs.FeasibleParts.{joined-ends}
 use Rattle.profile.proofs.ThreeRegions.{change-up}
-use Rattle.profile.proofs.AreaIsSum.{parts, ramp-sum, level-sum, back-sum}
+use Rattle.profile.proofs.RampSums.{parts, ramp-sum, level-sum, back-sum}
 use Rattle.profile.proofs.Engines.{highest-area}
 
 -- ---- each of the three lines is above the envelope at every tick

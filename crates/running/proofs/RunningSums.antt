@@ -19,7 +19,7 @@ use Rattle.model.proofs.Envelopes.{Joined, since, until, highest, lowest, clamp
 use Rattle.running.specs.declared.Running.{Running}
 use Rattle.running.specs.Running.{crossing, peakOf, troughOf, runningAt, stepped, RunningRanged, withTicks}
 use Rattle.profile.proofs.ThreeRegions.{before, after, up-is, up-late, before-half, after-half}
-use Rattle.profile.proofs.AreaIsSum.{parts}
+use Rattle.profile.proofs.RampSums.{parts}
 
 -- ---- a sum with one entry more
 

@@ -14,7 +14,7 @@ use Rattle.model.specs.declared.SecondSway.{SecondSway}
 use Rattle.model.specs.declared.SecondSway.the-variants.{Absent, HalfPeriod}
 use Rattle.profile.specs.Areas.{rampArea}
 use Rattle.profile.specs.Regions.{velocityIn}
-use Rattle.profile.proofs.AreaIsSum.{parts, ramp-sum, level-sum}
+use Rattle.profile.proofs.RampSums.{parts, ramp-sum, level-sum}
 use Rattle.tracks.specs.declared.AxisPlan.{AxisPlan}
 use Rattle.tracks.specs.declared.Track.{Track}
 use Rattle.tracks.specs.Plans.{arrivalOf, PlanRanges}

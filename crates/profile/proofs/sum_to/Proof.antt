@@ -109,7 +109,7 @@ returns c =
     let cruise = d .before .pre .0 .cruise in
     then-is (is-of (search exact depth 30 fits 9000) tt)
     ((λ i. rampArea (s i) (u i) (p i .rising) +ℤ (pos (p i .level) *ℤ r .cruise +ℤ pos (min (r .raised) (p i .level))) +ℤ fallArea r k (p i .falling))
-    ∙ area-to-is-sum r k (d .before .pre .1))
+    ∙ area-to-is-sum r k (omega (arith, d .before .pre .1)))
 
 pub sum-to-spec : {M : Type 1} → statement M
 sum-to-spec =
