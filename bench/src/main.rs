@@ -2,7 +2,8 @@
 //! with the same formulas, in one run; beside them also the engine by ticks, in plain Rust. Plain Rust makes the same call,
 //! with the job by value in the header's layout; where it lends a typed job instead, that stands beside it.
 //!
-//!     cargo run --release --offline
+//!     cargo run --release --offline             all tables
+//!     cargo run --release --offline -- parts    that of rows in parts alone
 //!
 //! Every time is processor time, the least of some batches; a difference is that of the fastest round. The batches of
 //! all sides alternate, and each round of them runs at another depth of the stack, whose beginning the system draws by
@@ -11,6 +12,7 @@
 
 mod budgets;
 mod call;
+mod parts;
 mod plain;
 mod raises;
 mod searches;
@@ -275,6 +277,20 @@ fn search_table(short: &Job, long: &Job, wide: &Job, never: &Job) {
 }
 
 fn main() {
+    let words: Vec<String> = std::env::args().skip(1).collect();
+    match words.iter().map(String::as_str).collect::<Vec<_>>()[..] {
+        [] => all_tables(),
+        ["parts"] => parts::table(),
+        ["parts", "names"] => parts::names(),
+        ["parts", case, kind, count] => match (case.parse(), count.parse()) {
+            (Ok(case), Ok(count)) => parts::calls(case, kind, count),
+            _ => eprintln!("expected the number of a case and of calls"),
+        },
+        _ => eprintln!("expected nothing, `parts`, `parts names`, or `parts CASE part|whole COUNT`"),
+    }
+}
+
+fn all_tables() {
     let short = one(axis(10, 1, 4, 100, 56));
     let long = one(axis(100, 1, 40, 128, 185_900));
     let wide = Job { mask: 63, asked: 0, axes: six(), windows: None };
@@ -311,6 +327,7 @@ fn main() {
     println!();
     search_table(&short, &long, &wide, &never);
     budgets::table();
+    parts::table();
     println!("| velocities and rows, by row and axis | outcome | library, ns | plain Rust, ns | ratio |");
     println!("|---|---|---|---|---|");
     by_row("one axis, short", &short, short_arrival);
