@@ -358,6 +358,9 @@ typedef struct polgamir_part_answer {
  * whole rows as it holds, up to row N; the cells after them stay. Row `first` + i of the axis that is the j-th of the set bits is
  * table[3 * (axes * i + j)] and the two cells after it. The answer is that of the calls above with a table that is long enough, so
  * that 10 never comes. Each row equals the whole table's, and no call works out the rows before its first.
+ *
+ * A row takes 24 bytes an axis: 16 rows of one axis 384 bytes, of six axes 2,304, where a whole table takes up to 589,968. Ask for
+ * the arrival that the first call gave, so that no later one searches again.
  */
 polgamir_part_answer polgamir_plan_words_part(const uint32_t *words, size_t word_count, uint32_t first, int64_t *table, size_t table_cells);
 
