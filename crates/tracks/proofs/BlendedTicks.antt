@@ -17,9 +17,9 @@ use Rattle.model.specs.declared.SecondSway.{SecondSway}
 use Rattle.model.specs.declared.SecondSway.the-variants.{Absent, HalfPeriod}
 use Rattle.model.specs.Quantities.{halfPeriod, secondWeight, asMoving, twicePositionAt}
 use Rattle.model.specs.Motion.{Tick, earlier}
-use Rattle.model.specs.Rows.{track, tickAt, tickBack, blendOnce, blendBy, blend, divisor, cells}
+use Rattle.model.specs.Rows.{track, tickAt, tickBack, blendOnce, blendBy, blend, divisor, cells, fromLanding}
 use Rattle.model.specs.Refusals.{Ready}
-use Rattle.model.proofs.Landing.{exact-blend}
+use Rattle.model.proofs.FromLanding.{sums-from-landing}
 use Rattle.model.proofs.TwoBlends.{divisor-some}
 use Rattle.motion.proofs.ReadyAxis.{ready-after}
 use Rattle.tracks.specs.declared.AxisPlan.{AxisPlan}
@@ -232,7 +232,7 @@ module _ (x : Axis) (n k : ℕ) (ready : Ready x n) (last : k ≤ n) where
               let e = d + halfPeriod x in
               mix-change A B (velocityBack p d (suc k)) (velocityBack p d k) (velocityBack p e (suc k)) (velocityBack p e k)
 
--- ---- at the arrival: the landing is exact
+-- ---- at the arrival: the landing is exact, and the sums from the landing end begin there
 
 pub lands : (x : Axis) (n : ℕ) → Ready x n → Lands n (planOf n x)
 unfolding backTick
@@ -240,12 +240,15 @@ lands x n ready =
     record {
       position =
           ring (pos (scale x)) (pos (divisor x)) (twicePositionAt (asMoving (x .target) n) (pos n)) (ap pos (scale-divides x))
-          ∙ sym (ap (λ (z : ℤ). pos (scale x) *ℤ z) (exact-blend x n ready))
+          ∙ ap (λ (z : ℤ). pos (scale x) *ℤ z) landed
           ∙ sym (position-is (planOf n x) (some x n n ready last) n ∙ blend-is x n n ready last (λ s. s .position));
     }
   where
     last : n ≤ n
     last = omega arith
+
+    landed : fromLanding x n 0 ≡ blend (track n x) n (λ s. s .position)
+    landed = sums-from-landing x n ready 0 (omega arith) ∙ ap (λ (k : ℕ). blend (track n x) k (λ s. s .position)) {x = n - 0} {y = n} (omega arith)
 
     ring : (s d z : ℤ) → s *ℤ d ≡ pos 65536 → pos halfUnit *ℤ z ≡ s *ℤ (pos 2 *ℤ d *ℤ (pos 128 *ℤ z))
     ring s d z e =

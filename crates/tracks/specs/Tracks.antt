@@ -87,6 +87,7 @@ comesTo Backwards n j = suc n - j
 abbrev pub halfUnit : ℕ
 halfUnit = 16777216
 
--- the blended motion is on the destination at the arrival
+-- the blended motion is on the destination at the arrival: there the position sums taken from the landing end begin (`fromLanding` in
+-- `model/specs/Rows.antt`), and backward rows with them
 pub record Lands (n : ℕ) (p : AxisPlan) : Type 0 where
   pub position : pos halfUnit *ℤ p .destination ≡ blendedPosition p n
