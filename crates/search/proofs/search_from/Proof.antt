@@ -23,7 +23,7 @@ least-common-requires : tie.Need-least-common-requires
 least-common-requires c κs =
     let p = c .before .pre in
     let few = no-more _ (candidates (c .before .args .first)) (c .within-budget .result) (c .within-budget .ensures) in
-    (p .0, (p .1 .0, (p .1 .1 .0, omega (arith, p .1 .1 .1))))
+    (p .0, (p .1 .0, (omega (arith, p .1 .1 .0), omega (arith, p .1 .1 .1))))
 
 sub-report-of : tie.Need-sub-report-of
 sub-report-of c =
