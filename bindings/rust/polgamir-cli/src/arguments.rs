@@ -8,6 +8,7 @@ use polgamir::{LATEST_ARRIVAL, MOST_CELLS};
 
 use crate::command::export::{Export, Quantity};
 use crate::help::Page;
+use crate::tap::Tapped;
 use crate::verify::Standing;
 
 /// What is asked for, and where it goes.
@@ -46,6 +47,8 @@ pub enum Task {
     VerifyCertificate { file: PathBuf },
     /// Write the certificate of a job.
     Certify { job: PathBuf },
+    /// Fit a recorded tap and print the lines of a sheet.
+    Tap(Tapped),
 }
 
 /// How a table is printed.
@@ -138,6 +141,10 @@ impl Request {
 
     /// What a command is asked for by the arguments after its name.
     fn of_command(page: Page, rest: &[OsString]) -> Result<Request, Usage> {
+        let asks_for_help = |argument: &OsString| argument == "-h" || argument == "--help";
+        if page == Page::Tap && !rest.iter().any(asks_for_help) {
+            return Ok(Request::only(Task::Tap(Tapped::read(rest).map_err(Usage::of)?)));
+        }
         let mut rest = Rest::sort(rest)?;
         if rest.flag("-h") || rest.flag("--help") {
             return Ok(Request::only(Task::Help(page)));
@@ -152,7 +159,7 @@ impl Request {
             Page::Report => rest.report(),
             Page::Verify => rest.verify(),
             Page::Certify => Ok(Task::Certify { job: rest.file("sheet")? }),
-            Page::All => Ok(Task::Help(Page::All)),
+            Page::All | Page::Tap => Ok(Task::Help(page)),
         }?;
         let output = rest.output.take().filter(|file| file != "-").map(PathBuf::from);
         rest.is_spent()?;

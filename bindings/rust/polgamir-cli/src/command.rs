@@ -16,6 +16,7 @@ use polgamir::sheet::{Rounded, Setup, Sheet};
 use polgamir::{Job, NoWords};
 
 use crate::arguments::{PlanForm, Request, TableForm, Task, Usage};
+use crate::tap::{self, Tap, Tapped};
 use crate::{picture, report, verify};
 use export::Source;
 use files::{about, FileError};
@@ -110,6 +111,9 @@ impl From<Usage> for Failure {
 
 /// Does what is asked. What was asked for goes to the file that is named, if one is, a refusal too: no older answer stands there then.
 pub fn run(request: &Request) -> Result<Done, Failure> {
+    if let Task::Tap(tapped @ Tapped { picture: Some(picture), .. }) = &request.task {
+        return draw_tap(tapped, picture);
+    }
     let Some(file) = &request.output else {
         return done(&request.task).map_err(Failure::Input);
     };
@@ -148,6 +152,7 @@ fn done(task: &Task) -> Result<Done, FileError> {
         Task::Verify { job, tables, standing } => verify::verified(job, tables, *standing),
         Task::VerifyCertificate { file } => verify::verified_certificate(file),
         Task::Certify { job } => verify::certified(job),
+        Task::Tap(tapped) => Ok(Done::well(tap::lines(&Source::of(&tapped.record).title, &read_tap(tapped)?))),
     }
 }
 
@@ -262,6 +267,25 @@ fn report(file: &Path) -> Result<Done, FileError> {
         Err(told) => Done::refused(&told, report::refused(&title, &entered, rounded_of(&setup), &told)),
     };
     Ok(done.noting(rounded_of(&setup)))
+}
+
+/// Fits a recorded tap.
+fn read_tap(tapped: &Tapped) -> Result<Tap, FileError> {
+    let content = files::read(&tapped.record)?;
+    let text = content::text_of(&content).map_err(|cause| about(&tapped.record, cause))?;
+    tap::read(text, tapped.rate(), tapped.column).map_err(|cause| about(&tapped.record, cause))
+}
+
+/// Draws a recorded tap; its lines are printed all the same, but where the picture itself is printed.
+fn draw_tap(tapped: &Tapped, picture: &Path) -> Result<Done, Failure> {
+    let tap = read_tap(tapped).map_err(|error| Failure::Input(error.beside_older(picture)))?;
+    let title = Source::of(&tapped.record).title;
+    let drawing = tap::drawn(&title, &tap);
+    if files::is_standard(picture) {
+        return Ok(Done::well(drawing));
+    }
+    files::write(picture, drawing.as_bytes()).map_err(Failure::Output)?;
+    Ok(Done::well(tap::lines(&title, &tap)))
 }
 
 /// The entries of a sheet that were rounded.

@@ -23,15 +23,18 @@ pub enum Page {
     Verify,
     /// `certify`.
     Certify,
+    /// `tap`.
+    Tap,
 }
 
 impl Page {
     /// Every command's page, in the order in which the first page lists them.
-    pub const COMMANDS: [Page; 9] = [
+    pub const COMMANDS: [Page; 10] = [
         Page::Plan,
         Page::Tour,
         Page::Report,
         Page::Plot,
+        Page::Tap,
         Page::Words,
         Page::Show,
         Page::Convert,
@@ -57,6 +60,7 @@ impl Page {
             Page::Convert => "convert",
             Page::Verify => "verify",
             Page::Certify => "certify",
+            Page::Tap => "tap",
         }
     }
 
@@ -79,6 +83,7 @@ impl Page {
             Page::Convert => CONVERT,
             Page::Verify => VERIFY,
             Page::Certify => CERTIFY,
+            Page::Tap => TAP,
         }
     }
 }
@@ -92,6 +97,7 @@ Usage: polgamir COMMAND [OPTIONS] FILE
   tour     plan a tour of stops: each arrival, the tables, or CSV, JSON, C
   report   write a page about a job or a tour, for a browser and for A4
   plot     draw a job or a tour
+  tap      from a recorded tap of the pole to the lines of a sheet
   words    write the job words of a sheet
   show     print the sheet of job words
   convert  write old job words again, with moving targets for flying ones
@@ -105,9 +111,8 @@ input. `-o FILE` writes to a file, `-o -` to standard output. After `--`
 everything is a file's name. A refusal is always printed, and `-o` leaves it in
 the file too, so that no older answer stands there.
 
-Exit status: 0 done; 1 the planner refuses the job or tour; 2 a wrong sheet,
-wrong words, wrong usage, or a file that cannot be read; 3 the output cannot be
-written.
+Exit status: 0 done; 1 the planner refuses the job or tour; 2 wrong input, wrong
+usage, or a file that cannot be read; 3 the output cannot be written.
 ";
 
 const PLAN: &str = "\
@@ -191,6 +196,25 @@ tick is, time is in seconds.
 A sway is in proportion to a real pole's; it is not its tip in degrees.
 
   -o FILE  write to a file; `-o -` is standard output
+";
+
+const TAP: &str = "\
+Fits a recorded tap of the pole and prints the lines of a sheet: half period and
+shrink ratio with their spread, of one rate or of two.
+
+Usage: polgamir tap [--rate HZ] [--column N] [-o FILE.svg] RECORD
+
+RECORD has a line for each sample, its time in seconds and its deflection, with
+commas, semicolons, tabs or spaces between them: a log of a phone or a sensor,
+of any sign, offset or drift. A heading may say ms, us or ns.
+
+  --rate HZ     the samples of a second, where there are deflections alone
+  --column N    the column of the deflections, from 1; else the one that varies
+                most
+  -o FILE.svg   draw the record with the fitted swing
+
+Comments say which swings were used, and what was left out and why. The truth
+lies within the spread in 95 of 100.
 ";
 
 const WORDS: &str = "\

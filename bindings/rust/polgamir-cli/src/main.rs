@@ -13,6 +13,7 @@ mod measure;
 mod picture;
 mod report;
 mod standard_output;
+mod tap;
 mod verify;
 
 use std::process::ExitCode;

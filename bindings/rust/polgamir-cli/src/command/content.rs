@@ -47,7 +47,7 @@ fn first_word(text: &str) -> &str {
 }
 
 /// The text of a content.
-fn text_of(content: &[u8]) -> Result<&str, String> {
+pub fn text_of(content: &[u8]) -> Result<&str, String> {
     match std::str::from_utf8(content) {
         Ok(text) => Ok(text.strip_prefix('\u{FEFF}').unwrap_or(text)),
         Err(_) if is_wide(content) => Err("this is text in utf-16; save it as utf-8".into()),

@@ -64,7 +64,7 @@ impl Amount {
     /// The number of an amount whose measure is a unit's name with an ending.
     pub fn in_unit(&self, name: &str, endings: &[&str]) -> Option<Fraction> {
         let fits = |ending: &&str| self.measure.strip_suffix(*ending).is_some_and(|found| is_name(found, name));
-        endings.iter().any(|ending| fits(&ending)).then(|| self.number()).flatten()
+        endings.iter().any(fits).then(|| self.number()).flatten()
     }
 }
 

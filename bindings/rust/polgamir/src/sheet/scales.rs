@@ -156,7 +156,7 @@ fn unit_size(value: &[&str]) -> Option<SizedUnit> {
     };
     let is_named = !name.is_empty() && name.split(' ').all(|word| split(word).is_none());
     let size = Size { shown: exact.to_f64(), exact, text: text.into() };
-    is_named.then(|| (Unit { size: size.shown, name }, size))
+    is_named.then_some((Unit { size: size.shown, name }, size))
 }
 
 /// What stands after `unit` that is no unit; where the number stands last, how to write it.
