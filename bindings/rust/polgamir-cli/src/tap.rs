@@ -8,6 +8,8 @@ mod record;
 mod request;
 mod solve;
 mod spectrum;
+#[cfg(test)]
+mod tests;
 mod text;
 
 use fit::{Fit, Samples};
@@ -20,7 +22,10 @@ pub use request::Tapped;
 pub use text::lines;
 
 /// How many standard deviations a spread goes to either side: more than 95 of 100 truths lie within.
-const WITHIN: f64 = 2.3;
+const WITHIN: f64 = 2.5;
+
+/// How much of what is left of one sample may be seen in the next where nothing but noise is left.
+const MOST_FOLLOWING: f64 = 0.25;
 
 /// The least swings there and back that a fit is made of.
 const LEAST_SWINGS: f64 = 2.0;
@@ -67,7 +72,9 @@ pub fn read(text: &str, rate: Option<f64>, column: Option<usize>) -> Result<Tap,
     let record = record::read(text, rate, column)?;
     let mut part = part::used(&record).ok_or("expected a swing, found samples that are all the same")?;
     let fit = fitted(&part.samples)?;
-    match before_a_push(&fit, &part.samples) {
+    // What a push leaves goes on from sample to sample, as noise does not.
+    let before = if fit.follows(&part.samples) > MOST_FOLLOWING { before_a_push(&fit, &part.samples) } else { None };
+    match before {
         None => Tap::new(record, part, fit, None),
         Some(before) => {
             let pushed = part.start + before.samples.length();
@@ -147,11 +154,10 @@ impl Tap {
     /// What a fit shows, where there is enough to be seen.
     fn new(record: Record, part: Part, fit: Fit, pushed: Option<f64>) -> Result<Tap, String> {
         let samples = &part.samples;
-        let (rest, noise) = (fit.rest(samples), fit.noise(samples));
+        let noise = fit.noise(samples);
         let covariance = fit.covariance(samples).ok_or("expected a swing, found too little of it to tell its rate")?;
         // What is left may go on from sample to sample: then fewer of them count.
-        let follow: f64 = rest.windows(2).map(|pair| pair[0] * pair[1]).sum::<f64>() / fit.left.max(f64::MIN_POSITIVE);
-        let follow = follow.clamp(0.0, 0.99);
+        let follow = fit.follows(samples).clamp(0.0, 0.99);
         let deviation = noise * ((1.0 + follow) / (1.0 - follow)).sqrt();
         let mut rates: Vec<Rate> = (0..fit.swings.len())
             .map(|index| rate(&fit, index, &covariance, deviation, noise, samples.length()))
@@ -173,18 +179,17 @@ impl Tap {
                     2.0 * half
                 ));
             }
-            let times = &self.part.samples.times;
-            let seen = times.partition_point(|&time| time < 2.0 * half * rate.swings).max(2).min(times.len());
-            let in_half = seen as f64 * half / times[seen - 1];
+            let times = &self.record.times;
+            let from = times.partition_point(|&time| time < self.part.start);
+            let to = times.partition_point(|&time| time < self.part.start + 2.0 * half * rate.swings);
+            let times = &times[from..to.max(from + 2).min(times.len())];
+            let in_half = times.len() as f64 * half / (times[times.len() - 1] - times[0]);
             if in_half < LEAST_RATE {
                 return Err(format!("expected at least {LEAST_RATE} samples in each half period of {half:.3} s, found {in_half:.1}: record more samples a second"));
             }
-            let gap = times[..seen]
-                .windows(2)
-                .map(|pair| (pair[1] - pair[0], pair[0]))
-                .max_by(|one, other| one.0.total_cmp(&other.0));
-            if let Some((gap, at)) = gap.filter(|(gap, _)| *gap > half) {
-                let at = self.part.start + at;
+            let gaps = times.windows(2).map(|pair| (pair[1] - pair[0], pair[0]));
+            if let Some((gap, at)) = gaps.max_by(|one, other| one.0.total_cmp(&other.0)).filter(|(gap, _)| *gap > half)
+            {
                 return Err(format!(
                     "expected samples in every half period of {half:.3} s, found none for {gap:.3} s from {at:.3} s on: record without gaps"
                 ));

@@ -110,6 +110,12 @@ impl Fit {
         (self.left / free as f64).sqrt()
     }
 
+    /// How much of what is left of a sample is seen in the next, from −1 to 1; about 0 for noise.
+    pub fn follows(&self, samples: &Samples) -> f64 {
+        let rest = self.rest(samples);
+        rest.windows(2).map(|pair| pair[0] * pair[1]).sum::<f64>() / self.left.max(f64::MIN_POSITIVE)
+    }
+
     /// How many numbers are fitted.
     pub fn unknowns(&self) -> usize {
         DRIFT + 4 * self.swings.len()

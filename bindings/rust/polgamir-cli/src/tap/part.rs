@@ -4,6 +4,9 @@ use super::fit::Samples;
 use super::record::Record;
 use super::spectrum::strongest;
 
+/// How far the first sample is from the middle of its swing, by the one that is furthest.
+const NEARLY: f64 = 0.9;
+
 /// The part of a record that is fitted.
 #[derive(Debug, Clone)]
 pub struct Part {
@@ -28,7 +31,8 @@ pub fn used(record: &Record) -> Option<Part> {
     Some(Part { start, samples: Samples { times, values }, clipped })
 }
 
-/// The sample furthest from the mean of the period around it, which has no drift.
+/// The first sample that is nearly as far from the mean of the period around it as any is. That mean follows the drift, and in a clipped swing many
+/// samples are furthest.
 fn strongest_sample(record: &Record, period: f64) -> Option<usize> {
     let Record { times, values, .. } = record;
     let last = times.len() - 1;
@@ -45,8 +49,7 @@ fn strongest_sample(record: &Record, period: f64) -> Option<usize> {
     };
     let distances: Vec<f64> = (0..=last).map(away).collect();
     let most = distances.iter().copied().fold(0.0, f64::max);
-    // A clipped swing has many samples that are furthest: the first of them counts.
-    distances.iter().position(|&distance| distance >= most).filter(|_| most > 0.0)
+    distances.iter().position(|&distance| distance >= NEARLY * most).filter(|_| most > 0.0)
 }
 
 /// Whether each sample stands at the recorder's limit: the greatest or the least value, met at least six times, three of them in a row. A

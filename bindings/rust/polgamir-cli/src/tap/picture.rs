@@ -11,8 +11,8 @@ const LEFT: f64 = 84.0;
 const RIGHT: f64 = 840.0;
 
 /// The upper end and the height of the plot of the record, and of that of what is left.
-const RECORD: (f64, f64) = (98.0, 300.0);
-const REST: (f64, f64) = (442.0, 110.0);
+const RECORD: (f64, f64) = (124.0, 300.0);
+const REST: (f64, f64) = (468.0, 110.0);
 
 /// The record: its samples.
 const SAMPLES: Stroke = Stroke { colour: colour::FAINT_INK, width: 1.0, dashes: "" };
@@ -26,14 +26,17 @@ const DRIFT: Stroke = Stroke { colour: colour::TARGET, width: 1.2, dashes: "6 3"
 /// Draws a record with its fit.
 pub fn drawn(title: &str, tap: &Tap) -> String {
     let mut drawing = Drawing::new("tap-");
-    let (said, caption) = (rates_told(tap), caption(tap));
+    let (said, spreads) = (rates_told(tap), spreads_told(tap));
     drawing.text(LEFT, 26.0, Anchor::Start, Type::TITLE, &format!("{title}: {said}"));
-    drawing.text(LEFT, 48.0, Anchor::Start, Type::BODY, &caption);
-    legend(&mut drawing, 70.0);
+    for (line, spread) in spreads.iter().enumerate() {
+        drawing.text(LEFT, 47.0 + 17.0 * line as f64, Anchor::Start, Type::BODY, spread);
+    }
+    legend(&mut drawing, 88.0);
     let times = &tap.record.times;
     let across = Scale { least: 0.0, greatest: times[times.len() - 1], from: LEFT, to: RIGHT };
     let values: Vec<f64> = tap.record.values.clone();
     draw_plot(&mut drawing, &across, RECORD, "deflection", range(&values), |drawing, upward| {
+        draw_unused(drawing, tap, &across);
         let point = |(&time, &value): (&f64, &f64)| (across.at(time), upward.at(value));
         drawing.line(&times.iter().zip(&values).map(point).collect::<Vec<_>>(), SAMPLES);
         let fine: Vec<f64> = (0..=1600).map(|step| tap.end_of_part() * f64::from(step) / 1600.0).collect();
@@ -49,9 +52,8 @@ pub fn drawn(title: &str, tap: &Tap) -> String {
         let point = |(&time, &value): (&f64, &f64)| (across.at(tap.part.start + time), upward.at(value));
         drawing.line(&tap.part.samples.times.iter().zip(&rest).map(point).collect::<Vec<_>>(), SAMPLES);
     });
-    draw_unused(&mut drawing, tap, &across);
     drawing.text(RIGHT, REST.0 + REST.1 + 34.0, Anchor::End, Type::BODY, "seconds");
-    drawing.finish(WIDTH, REST.0 + REST.1 + 48.0, &format!("{title}: {said}"), &caption)
+    drawing.finish(WIDTH, REST.0 + REST.1 + 48.0, &format!("{title}: {said}"), &spreads.join("; "))
 }
 
 /// The rates in words.
@@ -63,8 +65,8 @@ fn rates_told(tap: &Tap) -> String {
     }
 }
 
-/// The spreads in words.
-fn caption(tap: &Tap) -> String {
+/// The spreads in words, a line for each rate.
+fn spreads_told(tap: &Tap) -> Vec<String> {
     let told = tap.rates.iter().map(|rate| {
         let ((_, low, high), (ratio, least, most)) = (shown(&rate.half_period), shown(&rate.ratio));
         format!(
@@ -72,7 +74,7 @@ fn caption(tap: &Tap) -> String {
             rate.swings
         )
     });
-    told.collect::<Vec<_>>().join("; ")
+    told.collect()
 }
 
 /// Says which line is which.
@@ -105,7 +107,7 @@ fn draw_plot(
     inside: impl FnOnce(&mut Drawing, &Scale),
 ) {
     let upward = Scale { least, greatest, from: top + height, to: top };
-    for (value, text) in labelled(&upward, height / 40.0) {
+    for (value, text) in labelled(&upward, (height / 40.0).max(4.0)) {
         let y = upward.at(value);
         drawing.line(&[(LEFT, y), (RIGHT, y)], stroke::GRID);
         drawing.text(LEFT - 6.0, y + 3.7, Anchor::End, Type::LABEL, &text);
@@ -120,11 +122,11 @@ fn draw_plot(
     drawing.text(LEFT, top - 8.0, Anchor::Start, Type::BODY, name);
 }
 
-/// Shades what was left out, in a strip below the record.
+/// Shades what was left out.
 fn draw_unused(drawing: &mut Drawing, tap: &Tap, across: &Scale) {
     let mut strip = |from: f64, to: f64| {
         let (x, end) = (across.at(from), across.at(to));
-        drawing.area(x, RECORD.0 + RECORD.1 - 8.0, (end - x).max(0.6), 8.0, colour::WINDOW);
+        drawing.area(x, RECORD.0, (end - x).max(0.6), RECORD.1, colour::WINDOW);
     };
     let last = across.greatest;
     strip(0.0, tap.part.start);

@@ -28,7 +28,7 @@ fn entry(name: &str, spread: &Spread, unit: &str, remark: &str) -> String {
 /// ratio is not above 1 there.
 pub fn shown(spread: &Spread) -> (String, String, String) {
     let Spread { value, within } = *spread;
-    let decimals = (2.0 - within.max(1e-9).log10().floor()).clamp(2.0, 10.0) as i32;
+    let decimals = (1.0 - within.max(1e-9).log10().floor()).clamp(2.0, 10.0) as i32;
     let tens = 10_f64.powi(decimals);
     let text = |number: f64| format!("{number:.*}", decimals as usize);
     let low = ((value - within) * tens).floor() / tens;
@@ -108,9 +108,9 @@ mod tests {
             let (value, low, high) = shown(&Spread { value, within });
             [value, low, high]
         };
-        assert_eq!(strings(0.421_234, 0.000_4), ["0.421234", "0.420834", "0.421634"]);
-        assert_eq!(strings(0.5, 0.021), ["0.5000", "0.4790", "0.5210"]);
-        assert_eq!(strings(0.01, 0.5), ["0.010", "0.000", "0.510"]);
+        assert_eq!(strings(0.421_234, 0.000_4), ["0.42123", "0.42083", "0.42164"]);
+        assert_eq!(strings(0.5, 0.021), ["0.500", "0.479", "0.521"]);
+        assert_eq!(strings(0.01, 0.5), ["0.01", "0.00", "0.51"]);
         assert_eq!(
             (digits(8.0), digits(0.021_234), digits(123_456.0)),
             ("8".into(), "0.02123".into(), "123456".into())
