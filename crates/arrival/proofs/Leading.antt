@@ -1,5 +1,5 @@
 -- The search for the least common arrival: each turn of an axis leads on to a candidate before which every one is missed by some axis.
-use Prim.Native.Nat.{ℕ, zero, suc, _+_, _/_, _%_, _≤_, _<_}
+use Prim.Native.Nat.{ℕ, zero, suc, _+_, _-_, _/_, _%_, _≤_, _<_}
 use mathlib.Core.Path.{_≡_, refl, sym, ap, subst, _∙_}
 use mathlib.Core.Bool.{Bool, true, false, cond, not}
 use mathlib.Core.List.{List}
@@ -74,6 +74,16 @@ pub bits-later : (m i bits : ℕ) → bits ≡ bitsFrom m i → bits / 2 ≡ bit
 unfolding bitsFrom
 bits-later m i bits e = ap (λ (k : ℕ). k / 2) e ∙ ap (bitsFrom m) (next-one i)
 
+-- where no bit is left none comes
+pub bits-none : (m i d : ℕ) → bitsFrom m i ≡ 0 → bitsFrom m (i + d) ≡ 0
+unfolding bitsFrom
+bits-none m i zero e =
+    let k : i + 0 ≡ i = omega arith in
+    ap (bitsFrom m) k ∙ e
+bits-none m i (suc d) e =
+    let k : i + suc d ≡ suc (i + d) = omega arith in
+    ap (bitsFrom m) k ∙ ap (λ (n : ℕ). n / 2) (bits-none m i d e)
+
 module _ (m : ℕ) (six : List Axis) where
   -- the axis of number i is not named, or reaches n
   pub reach : ℕ → ℕ → Bool
@@ -137,6 +147,14 @@ module _ (m : ℕ) (six : List Axis) where
   unfolding reach
   reach-yes i bits n e h = ap (λ (k : ℕ). not (missedBy k (axisAt six i) n)) (sym e) ∙ ap not h
 
+  pub reach-unnamed : (i n : ℕ) → bitsFrom m i ≡ 0 → reach i n ≡ true
+  unfolding reach
+  reach-unnamed i n e =
+      next-unnamed (bitsFrom m i) (axisAt six i) n n (λ h. none (subst (λ (k : ℕ). k % 2 ≡ 1) e h)) (omega arith) .passed (omega arith)
+    where
+      none : 0 % 2 ≡ 1 → ⊥
+      none h = omega arith
+
   -- an axis that reaches two candidates reaches every one between them
   pub reach-between : AllPassed (setAxes 0 m six) → (i : ℕ) → i < length six → (j n k : ℕ) → j ≤ n → n ≤ k → reach i j ≡ true → reach i k ≡ true
       → reach i n ≡ true
@@ -190,6 +208,26 @@ module _ (test : ℕ → Bool) (reaches : ℕ → ℕ → Bool) (first last numb
           go (inl u) = ap (reaches j) e ∙ s .upper j (omega arith) u (omega arith)
           go (inr u) = here j (omega arith) h
       upper (inr (e, f)) j p q h = here j (omega arith) h
+
+-- where no other axis is named, every axis had its turn
+pub led-rest : (test : ℕ → Bool) (reaches : ℕ → ℕ → Bool) (first last i again n : ℕ) → Led test reaches first last i again n → i ≤ 6
+    → ((j k : ℕ) → i ≤ j → reaches j k ≡ true) → Led test reaches first last 6 again n
+led-rest test reaches first last i again n s h rest =
+    record { low = s .low; high = s .high; missed = s .missed; held = held; few = omega (arith, s .few); upper = upper }
+  where
+    held : (j : ℕ) → j < 6 → (k : ℕ) → n ≤ k → k ≤ last → reaches j k ≡ true → reaches j n ≡ true
+    held j p k a b e = go (lt-or-le j i)
+      where
+        go : (j < i) ⊎ (i ≤ j) → reaches j n ≡ true
+        go (inl u) = s .held j u k a b e
+        go (inr u) = rest j n u
+
+    upper : (j : ℕ) → again ≤ j → j < 6 → n ≤ last → reaches j n ≡ true
+    upper j a p b = go (lt-or-le j i)
+      where
+        go : (j < i) ⊎ (i ≤ j) → reaches j n ≡ true
+        go (inl u) = s .upper j a u b
+        go (inr u) = rest j n u
 
 -- ---- what they lead to: it is reached by all, or no candidate is
 

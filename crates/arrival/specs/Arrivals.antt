@@ -1,5 +1,5 @@
 -- What the search for an arrival gives back, from the definitions of `Outcome`.
-use Prim.Native.Nat.{ℕ, zero, suc, _-_, _%_, _≤_, _<_}
+use Prim.Native.Nat.{ℕ, zero, suc, _+_, _-_, _%_, _≤_, _<_}
 use mathlib.Core.Path.{_≡_}
 use mathlib.Core.Bool.{Bool, true, false, cond, not, _&&_}
 use mathlib.Core.Option.{Option, none, some}
@@ -88,3 +88,7 @@ reachedBy m x n = not (missedBy m x n)
 -- r axes are asked again after a turn of axis `number`: as many as before where it left n, else those before it
 abbrev pub Again : ℕ → ℕ → ℕ → ℕ → ℕ → Type 0
 Again again number n next r = ((next ≡ n) × (r ≡ again)) ⊎ ((next ≡ n → ⊥) × (r ≡ number))
+
+-- the number of the next axis, or 6 where no bit is left
+abbrev pub After : ℕ → ℕ → ℕ → Type 0
+After bits number r = ((bits ≡ 0) × (r ≡ 6)) ⊎ ((bits ≡ 0 → ⊥) × (r ≡ number + 1))

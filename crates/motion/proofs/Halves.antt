@@ -20,7 +20,7 @@ use Rattle.model.specs.Threshold.{Slow}
 use Rattle.model.proofs.Threshold.{arrival-later, slow-ahead, reached-slow, reached-later, missed-before}
 use Rattle.running.specs.Running.{Next}
 use Rattle.motion.specs.declared.Span.{Span}
-use Rattle.motion.specs.Halving.{roomToward, TicksWithin, LastPassing, Skips, Narrower}
+use Rattle.motion.specs.Halving.{roomToward, TicksWithin, LastPassing, Narrower}
 use Rattle.motion.proofs.Steady.{reach-after}
 
 -- ---- a velocity that changes by the same number each tick
@@ -168,32 +168,39 @@ missed-joined test n m r f g k p q = go (lt-or-le k m)
     go (inr l) = g k l q
 
 -- none before the first that is after the delay
-pub skips-first : (x : Axis) (n last f r : ℕ) → f ≡ max n (suc (delay x)) → r ≤ suc last → Skips (reachable x) f last r → Skips (reachable x) n last r
-skips-first x n last f r e h w =
+pub next-first : (x : Axis) (n last f r : ℕ) → f ≡ max n (suc (delay x)) → Next (reachable x) f last r → Next (reachable x) n last r
+next-first x n last f r e w =
     record {
       low = omega (arith, w .low);
-      high = h;
+      high = w .high;
       missed = missed-joined (reachable x) n f r (λ k p l. reach-after x k (omega arith)) (w .missed);
+      passed = w .passed;
     }
 
 module _ (test : ℕ → Bool) where
+  clash : (k : ℕ) → test k ≡ true → test k ≡ false → ⊥
+  clash k y e = subst T (sym y ∙ e) tt
+
   -- where the last that can pass does not, none does
-  pub skips-all : (n last r : ℕ) → n ≤ last → LastPassing test n last r → test r ≡ false → Skips test n last (last + 1)
-  skips-all n last r h w e =
+  pub next-none : (n last r : ℕ) → n ≤ last → LastPassing test n last r → test r ≡ false → Next test n last (last + 1)
+  next-none n last r h w e =
       record {
         low = omega arith;
         high = omega arith;
-        missed = λ k p q. T-false (test k) (λ t. clash (w .later k p (omega arith) (T-true (test k) t)));
+        missed = λ k p q. T-false (test k) (λ t. clash r (w .later k p (omega arith) (T-true (test k) t)) e);
+        passed = λ q. absurd (omega arith);
       }
+
+  -- and where it does, the first that passes is not after it
+  pub next-within : (n last high r : ℕ) → LastPassing test n last high → test high ≡ true → Next test n high r → Next test n last r
+  next-within n last high r l e w = go (lt-or-le high r)
     where
-      clash : test r ≡ true → ⊥
-      clash y = subst T (sym y ∙ e) tt
+      go : (high < r) ⊎ (r ≤ high) → Next test n last r
+      go (inl p) = absurd (clash high e (w .missed high (l .low) p))
+      go (inr p) = record { low = w .low; high = omega (arith, l .high); missed = w .missed; passed = λ _. w .passed p }
 
-  pub skips-within : (n high last r : ℕ) → high ≤ last → Skips test n high r → Skips test n last r
-  skips-within n high last r h w = record { low = w .low; high = omega (arith, w .high); missed = w .missed }
-
-  pub skips-one : (n last r : ℕ) → test n ≡ false → Skips test (n + 1) last r → Skips test n last r
-  skips-one n last r e w = record { low = omega (arith, w .low); high = w .high; missed = missed }
+  pub next-one : (n last r : ℕ) → test n ≡ false → Next test (n + 1) last r → Next test n last r
+  next-one n last r e w = record { low = omega (arith, w .low); high = w .high; missed = missed; passed = w .passed }
     where
       missed : (k : ℕ) → n ≤ k → k < r → test k ≡ false
       missed k p q = go (lt-or-le n k)
@@ -201,21 +208,3 @@ module _ (test : ℕ → Bool) where
           go : (n < k) ⊎ (k ≤ n) → test k ≡ false
           go (inl l) = w .missed k (omega arith) q
           go (inr l) = ap test {x = k} {y = n} (omega arith) ∙ e
-
-  -- after what was skipped
-  pub next-skipped : (n last m r : ℕ) → Skips test n last m → Next test m last r → Next test n last r
-  next-skipped n last m r w v =
-      record { low = omega (arith, w .low, v .low); high = v .high; missed = missed-joined test n m r (w .missed) (v .missed); passed = v .passed }
-
-  -- what is found among the first ones
-  pub next-near : (n near last r : ℕ) → near ≤ last → r ≤ near → Next test n near r → Next test n last r
-  next-near n near last r h l v = record { low = v .low; high = omega arith; missed = v .missed; passed = λ _. v .passed l }
-
-  pub next-after : (n near last r m : ℕ) → Next test n near r → Next test r last m → Next test n last m
-  next-after n near last r m v w =
-      record {
-        low = omega (arith, v .low, w .low);
-        high = w .high;
-        missed = missed-joined test n r m (v .missed) (w .missed);
-        passed = w .passed;
-      }

@@ -24,9 +24,12 @@ use Rattle.model.specs.Quantities.{fineSteps, speedLimit, halfPeriod, secondWei
 use Rattle.model.specs.Leg.{twiceRequired, sumIsWhole, feasible}
 use Rattle.model.specs.Motion.{shift, startPosition, startVelocity, landingVelocity, landingTick, arrivalVelocity, leg, displacement, requiredSum, reachable}
 use Rattle.model.specs.Refusals.{positionAllowed, velocityAllowed, restAllowed, motionAllowed, targetAllowed, Passed}
+use Rattle.model.specs.Threshold.{Slow}
+use Rattle.model.proofs.Threshold.{reached-later}
 use Rattle.model.proofs.WholeSum.{sum-is-whole}
 use Rattle.profile.specs.Profiles.{endsAllowed, sumBetween}
 use Rattle.running.specs.Running.{withTicks, betweenAt, Next}
+use Rattle.running.specs.Skips.{Lasting}
 use Rattle.profile.proofs.FeasibleParts.{feasible-parts}
 use Rattle.motion.specs.Motions.{speedOf, driftOf, drift}
 
@@ -191,6 +194,19 @@ module _ (x : Axis) where
           (and-yes (leb (natAbs (landingVelocity x k)) (speedSteps x)) _ (leb-yes (landing-slow k))
           (and-yes (leb (natAbs (arrivalVelocity x k)) (speedSteps x)) _
           (leb-yes (subst (λ (z : ℤ). natAbs z ≤ speedSteps x) (sym (arrival-is k)) (landing-slow k))) moves))
+
+    always-slow : (n : ℕ) → Slow x n
+    always-slow n = record { landed = landing-slow n; arrived = subst (λ (z : ℤ). natAbs z ≤ speedSteps x) (sym (arrival-is n)) (landing-slow n) }
+
+    -- what is reached stays reached
+    pub lasts : (n : ℕ) → h < n → Lasting (betweenAt (leg x n) (requiredSum x n) (drift x)) (n - h)
+    lasts n after j k p q e =
+        let here : j + h - h ≡ j = omega arith in
+        let there : k + h - h ≡ k = omega arith in
+        let reached = sym (reach-later n (j + h) after (omega arith)) ∙ ap (betweenAt (leg x n) (requiredSum x n) (drift x)) here ∙ e in
+        sym (ap (betweenAt (leg x n) (requiredSum x n) (drift x)) there)
+        ∙ reach-later n (k + h) after (omega arith)
+        ∙ reached-later x passed (j + h) (k + h) (k + h) (omega arith) (omega arith) (always-slow (k + h)) reached
 
   -- no arrival is reached that is not after the delay
   pub reach-after : (k : ℕ) → k ≤ h → reachable x k ≡ false

@@ -25,12 +25,6 @@ pub record LastPassing (test : ℕ → Bool) (first last r : ℕ) : Type 0 where
   pub high : r ≤ last
   pub later : (k : ℕ) → first ≤ k → k ≤ last → test k ≡ true → test r ≡ true
 
--- none from first on and before r passes
-pub record Skips (test : ℕ → Bool) (first last r : ℕ) : Type 0 where
-  pub low : first ≤ r
-  pub high : r ≤ suc last
-  pub missed : (k : ℕ) → first ≤ k → k < r → test k ≡ false
-
 -- a span of candidates whose last one passes, and a narrower one of which the same holds, none left out before it
 pub record Narrower (test : ℕ → Bool) (s r : Span) : Type 0 where
   pub low : s .low ≤ r .low

@@ -1,3 +1,4 @@
 pub mod RunningSums
 pub mod NextTicks
 pub mod RoundedUp
+pub mod Skipping

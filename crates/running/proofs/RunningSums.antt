@@ -200,7 +200,7 @@ sum-neg f h (suc n) e = ap₂ (λ (a b : ℤ). a +ℤ b) (sum-neg f h n e) (e (s
     both : (x y : ℤ) → negℤ x +ℤ negℤ y ≡ negℤ (x +ℤ y)
     both x y = same (x ∷ y ∷ []) (search pol depth 20 fits 9000) tt
 
-lower-mirror : (g : Leg) (n : ℕ) → sumTo (lower g) n ≡ negℤ (sumTo (upper (mirrored g)) n)
+pub lower-mirror : (g : Leg) (n : ℕ) → sumTo (lower g) n ≡ negℤ (sumTo (upper (mirrored g)) n)
 lower-mirror g n =
     sum-neg (upper (mirrored g)) (lower g) n
     (λ k. law (g .speedLimit) (g .accelerationLimit * k) (g .accelerationLimit * (g .ticks - k)) (g .start) (g .end))

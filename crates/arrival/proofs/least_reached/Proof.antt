@@ -1,14 +1,17 @@
-use Prim.Native.Nat.{ℕ, _+_, _-_, _≤_, _<_}
+use Prim.Native.Nat.{ℕ, _+_, _-_, _/_, _≤_, _<_}
 use native.Mathlib.Omega.{arith}
 use mathlib.Core.Path.{_≡_, sym, ap, subst, _∙_}
 use mathlib.Core.Bool.{Bool, true}
+use mathlib.Core.List.{List}
 use mathlib.Core.Logic.{_⊎_, inl, inr}
 use lib.ListN.{length}
 use Rattle.whole.proofs.Tests.{lt-or-le}
 use Rattle.model.specs.Outcome.{allReach}
+use Rattle.model.specs.declared.Axis.{Axis}
 use Rattle.model.specs.Job.{setAxes}
+use Rattle.arrival.specs.Arrivals.{After}
 use Rattle.arrival.proofs.Leading.{bitsFrom, bits-first, bits-later, reach, passed-at, reach-of, axis-misses, every-axis, reach-between, reach-not, reach-yes}
-use Rattle.arrival.proofs.Leading.{Led, turn-done, led-past, led-all, led-nowhere}
+use Rattle.arrival.proofs.Leading.{Led, turn-done, led-rest, bits-none, reach-unnamed, led-all, led-nowhere}
 use Rattle.arrival.proofs.least_reached.Statement.{statement}
 use Rattle.arrival.proofs.least_reached.Tie as tie
 
@@ -18,6 +21,7 @@ Inv-loop mask first last axes n₀ bits₀ number₀ again₀ n bits number agai
       few : number ≤ 6;
       six : length axes ≡ 6;
       bits : bits ≡ bitsFrom mask number;
+      inside : 0 < number → n ≤ last;
       led : Led (allReach (setAxes 0 mask axes)) (reach mask axes) first last number again n;
     }
 
@@ -45,12 +49,31 @@ one-more f n e h j p = go (lt-or-le j n)
     go (inl l) = e j l
     go (inr l) = ap f {x = j} {y = n} (omega arith) ∙ h
 
+-- after the turn of an axis: the next one, or all where no bit is left
+gone : (mask : ℕ) (axes : List Axis) (first last number again n bits : ℕ) → bits ≡ bitsFrom mask (number + 1) → number < 6
+    → Led (allReach (setAxes 0 mask axes)) (reach mask axes) first last (number + 1) again n → (r : ℕ) → After bits number r
+    → (bits ≡ bitsFrom mask r) × Led (allReach (setAxes 0 mask axes)) (reach mask axes) first last r again n
+gone mask axes first last number again n bits e h s r (inl (z, f)) = (
+  z ∙ sym (subst (λ (i : ℕ). bitsFrom mask i ≡ 0) (sym f) (zero-on 6 (omega arith))),
+  subst (λ (i : ℕ). Led (allReach (setAxes 0 mask axes)) (reach mask axes) first last i again n) (sym f)
+      (led-rest (allReach (setAxes 0 mask axes)) (reach mask axes) first last (number + 1) again n s (omega arith)
+      (λ j k p. reach-unnamed mask axes j k (zero-on j p))),
+)
+  where
+    zero-on : (j : ℕ) → number + 1 ≤ j → bitsFrom mask j ≡ 0
+    zero-on j p =
+        let k : number + 1 + (j - (number + 1)) ≡ j = omega arith in
+        subst (λ (i : ℕ). bitsFrom mask i ≡ 0) k (bits-none mask (number + 1) (j - (number + 1)) (sym e ∙ z))
+gone mask axes first last number again n bits e h s r (inr (z, f)) =
+    (e ∙ ap (bitsFrom mask) (sym f), subst (λ (i : ℕ). Led (allReach (setAxes 0 mask axes)) (reach mask axes) first last i again n) (sym f) s)
+
 loop-holds : tie.Need-loop-holds Inv-loop μ-loop Inv-loop2 μ-loop2
 loop-holds c =
     record {
       few = omega arith;
       six = c .good .1 .0 .1 .0 .1;
       bits = bits-first (c .args .mask);
+      inside = λ h. absurd (omega arith);
       led =
           record {
             low = omega arith;
@@ -79,53 +102,67 @@ next-for-requires c κs =
 again-after-requires : tie.Need-again-after-requires Inv-loop μ-loop Inv-loop2 μ-loop2
 again-after-requires c κs = tt
 
-add-number : tie.Need-add-number Inv-loop μ-loop Inv-loop2 μ-loop2
-add-number c = omega arith
+-- the turn of an axis
+abbrev start : tie.After-again-after Inv-loop μ-loop Inv-loop2 μ-loop2 → tie.Start Inv-loop μ-loop Inv-loop2 μ-loop2
+start c = c .before .before .before .before .before
 
-loop-less : tie.Need-loop-less Inv-loop μ-loop Inv-loop2 μ-loop2
-loop-less c = omega arith
-
-loop-again : tie.Need-loop-again Inv-loop μ-loop Inv-loop2 μ-loop2
-loop-again c =
+turn : (c : tie.After-again-after Inv-loop μ-loop Inv-loop2 μ-loop2)
+    → Led (allReach (setAxes 0 (start c .args .mask) (start c .args .t2))) (reach (start c .args .mask) (start c .args .t2)) (start c .args .first)
+    (start c .args .last) (c .before .before .before .before .loop .number + 1) (c .again-after .result) (c .before .next-for .result)
+turn c =
     let l = c .before .before .before .before .loop in
-    let a = c .before .before .before .before .before in
+    let a = start c in
     let mask = a .args .mask in
     let axes = a .args .t2 in
     let here = c .before .before .before .loop-test .taken in
     let next = reach-of mask axes (l .number) (l .bits) (l .n) (a .args .last) _ (l .inv .bits) (c .before .next-for .ensures) in
     let one = axis-misses mask axes (l .number) (omega (arith, here, l .inv .six)) in
-    record {
-      few = omega arith;
-      six = l .inv .six;
-      bits = bits-later mask (l .number) (l .bits) (l .inv .bits);
-      led =
-          turn-done (allReach (setAxes 0 mask axes)) (reach mask axes) (a .args .first) (a .args .last) (l .number) (l .again) (l .n) (l .inv .led) _ next one
-          (λ i h. reach-between mask axes (a .pre .0) i (omega (arith, here, l .inv .six))) _ (c .again-after .ensures);
-    }
+    turn-done (allReach (setAxes 0 mask axes)) (reach mask axes) (a .args .first) (a .args .last) (l .number) (l .again) (l .n) (l .inv .led) _ next one
+    (λ i h. reach-between mask axes (a .pre .0) i (omega (arith, here, l .inv .six))) _ (c .again-after .ensures)
 
+-- past the last
 returns : tie.Need-returns Inv-loop μ-loop Inv-loop2 μ-loop2
 returns c =
-    let l = c .before .before .loop in
-    let a = c .before .before .before .args in
-    let six = l .inv .six in
-    let done : l .number ≡ 6 = omega (arith, l .inv .few, c .before .loop-test .left) in
-    let test = allReach (setAxes 0 (a .mask) (a .t2)) in
-    led-past test (reach (a .mask) (a .t2)) (a .first) (a .last) (l .again) (l .n)
-    (subst (λ (i : ℕ). Led test (reach (a .mask) (a .t2)) (a .first) (a .last) i (l .again) (l .n)) done (l .inv .led))
-    (λ i h. axis-misses (a .mask) (a .t2) i (omega (arith, h, six))) (λ k e. every-axis (a .mask) (a .t2) k (λ j h. e j (omega (arith, h, six))))
-    (c .if1 .taken)
+    let t = turn (c .before) in
+    record { low = t .low; high = t .high; missed = t .missed; passed = λ h. absurd (omega (arith, c .if1 .taken)) }
+
+number-after-requires : tie.Need-number-after-requires Inv-loop μ-loop Inv-loop2 μ-loop2
+number-after-requires c κs = c .before .before .before .before .loop-test .taken
+
+more : (bits number r : ℕ) → After bits number r → number < 6 → (number < r) × (r ≤ 6)
+more bits number r (inl (e, f)) h = (omega arith, omega arith)
+more bits number r (inr (e, f)) h = (omega arith, omega arith)
+
+loop-less : tie.Need-loop-less Inv-loop μ-loop Inv-loop2 μ-loop2
+loop-less c =
+    let b = c .before .before in
+    let m = more _ _ _ (c .number-after .ensures) (b .before .before .before .loop-test .taken) in
+    omega (arith, m .0, m .1)
+
+loop-again : tie.Need-loop-again Inv-loop μ-loop Inv-loop2 μ-loop2
+loop-again c =
+    let b = c .before .before in
+    let l = b .before .before .before .before .loop in
+    let a = start b in
+    let mask = a .args .mask in
+    let axes = a .args .t2 in
+    let later = bits-later mask (l .number) (l .bits) (l .inv .bits) in
+    let m = more _ _ _ (c .number-after .ensures) (b .before .before .before .loop-test .taken) in
+    let w = gone mask axes (a .args .first) (a .args .last) (l .number) (b .again-after .result) (b .before .next-for .result) (l .bits / 2) later
+    (b .before .before .before .loop-test .taken) (turn b) _ (c .number-after .ensures) in
+    record { few = m .1; six = l .inv .six; bits = w .0; inside = λ h. c .before .if1 .left; led = w .1 }
 
 loop2-holds : tie.Need-loop2-holds Inv-loop μ-loop Inv-loop2 μ-loop2
 loop2-holds c =
-    let l = c .before .before .loop in
-    let a = c .before .before .before .args in
-    let done : l .number ≡ 6 = omega (arith, l .inv .few, c .before .loop-test .left) in
+    let l = c .before .loop in
+    let a = c .before .before .args in
+    let done : l .number ≡ 6 = omega (arith, l .inv .few, c .loop-test .left) in
     let test = allReach (setAxes 0 (a .mask) (a .t2)) in
     record {
       six = l .inv .six;
       few = omega arith;
       bits = bits-first (a .mask);
-      inside = c .if1 .left;
+      inside = l .inv .inside (omega arith);
       led = subst (λ (i : ℕ). Led test (reach (a .mask) (a .t2)) (a .first) (a .last) i (l .again) (l .n)) done (l .inv .led);
       lower = λ j h. absurd (omega arith);
     }
@@ -139,20 +176,20 @@ array-copy-out-axis-2 c = omega (arith, c .loop2-test .taken, c .before .loop2 .
 misses-requires : tie.Need-misses-requires Inv-loop μ-loop Inv-loop2 μ-loop2
 misses-requires c κs =
     let l = c .before .before .loop2 in
-    let a = c .before .before .before .before .before .before in
+    let a = c .before .before .before .before .before in
     let few = c .before .loop2-test .taken in (
       passed-at (a .args .mask) (a .args .t2) (a .pre .0) (l .asked) (l .left) (l .inv .bits) (omega (arith, few, l .inv .led .few, l .inv .six)),
       omega (arith, l .inv .inside, a .pre .1 .1),
     )
 
 add-result : tie.Need-add-result Inv-loop μ-loop Inv-loop2 μ-loop2
-add-result c = omega (arith, c .before .before .before .before .before .before .before .before .pre .1 .1)
+add-result c = omega (arith, c .before .before .before .before .before .before .before .pre .1 .1)
 
 returns-2 : tie.Need-returns-2 Inv-loop μ-loop Inv-loop2 μ-loop2
 returns-2 c =
     let l = c .before .before .before .before .loop2 in
-    let f = c .before .before .before .before .before .before .before .loop in
-    let a = c .before .before .before .before .before .before .before .before .args in
+    let f = c .before .before .before .before .before .before .loop in
+    let a = c .before .before .before .before .before .before .before .args in
     let six = l .inv .six in
     let few : l .asked < 6 = omega (arith, c .before .before .before .loop2-test .taken, l .inv .led .few) in
     led-nowhere (allReach (setAxes 0 (a .mask) (a .t2))) (reach (a .mask) (a .t2)) (a .first) (a .last) (f .again) (f .n) (l .inv .led)
@@ -168,8 +205,8 @@ loop2-less c = omega (arith, c .before .before .before .loop2-test .taken)
 loop2-again : tie.Need-loop2-again Inv-loop μ-loop Inv-loop2 μ-loop2
 loop2-again c =
     let l = c .before .before .before .before .loop2 in
-    let f = c .before .before .before .before .before .before .before .loop in
-    let a = c .before .before .before .before .before .before .before .before .args in
+    let f = c .before .before .before .before .before .before .loop in
+    let a = c .before .before .before .before .before .before .before .args in
     let here = reach-yes (a .mask) (a .t2) (l .asked) (l .left) (f .n) (l .inv .bits) (sym (c .before .misses .ensures) ∙ c .if2 .left) in
     record {
       six = l .inv .six;
@@ -183,8 +220,8 @@ loop2-again c =
 returns-3 : tie.Need-returns-3 Inv-loop μ-loop Inv-loop2 μ-loop2
 returns-3 c =
     let l = c .before .loop2 in
-    let f = c .before .before .before .before .loop in
-    let a = c .before .before .before .before .before .args in
+    let f = c .before .before .before .loop in
+    let a = c .before .before .before .before .args in
     let six = l .inv .six in
     led-all (allReach (setAxes 0 (a .mask) (a .t2))) (reach (a .mask) (a .t2)) (a .first) (a .last) (f .again) (f .n) (l .inv .led)
     (λ i h. axis-misses (a .mask) (a .t2) i (omega (arith, h, six))) (λ k e. every-axis (a .mask) (a .t2) k (λ j h. e j (omega (arith, h, six))))
@@ -203,10 +240,10 @@ least-reached-spec =
     array-copy-out-axis
     next-for-requires
     again-after-requires
-    add-number
+    returns
+    number-after-requires
     loop-less
     loop-again
-    returns
     loop2-holds
     mul-axis-2
     array-copy-out-axis-2

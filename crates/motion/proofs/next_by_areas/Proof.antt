@@ -1,7 +1,7 @@
-use mathlib.Core.Path.{sym, _∙_}
+use mathlib.Core.Path.{sym, ap, _∙_}
 use native.Mathlib.Omega.{arith}
 use Rattle.model.specs.Motion.{reachable}
-use Rattle.motion.proofs.Halves.{skips-one, next-skipped}
+use Rattle.motion.proofs.Halves.{next-one}
 use borrow.Author.Needs.{needs}
 use Rattle.motion.proofs.next_by_areas.Statement.{statement}
 use Rattle.motion.proofs.next_by_areas.Tie as tie
@@ -27,23 +27,37 @@ returns-2 c =
       passed = λ h. sym (c .before .reaches .ensures) ∙ c .if2 .taken;
     }
 
-add-skip-missed : tie.Need-add-skip-missed
-add-skip-missed c = search needs
+add-result : tie.Need-add-result
+add-result c = search needs
 
-skip-missed-requires : tie.Need-skip-missed-requires
-skip-missed-requires c κs = search needs
-
-next-by-each-requires : tie.Need-next-by-each-requires
-next-by-each-requires c κs = search needs
-
+-- one candidate, which is not reached
 returns-3 : tie.Need-returns-3
 returns-3 c =
     let s = c .before in
-    let r = s .before .before in
+    let r = s .before in
     let a = r .before .before .args in
     let test = reachable (a .x) in
-    next-skipped test (a .n) (a .last) _ _ (skips-one test (a .n) (a .last) _ (sym (r .reaches .ensures) ∙ s .before .if2 .left) (s .skip-missed .ensures))
-    (c .next-by-each .ensures)
+    next-one test (a .n) (a .last) _ (sym (r .reaches .ensures) ∙ s .if2 .left)
+    (record {
+      low = omega arith;
+      high = omega (arith, c .if3 .taken);
+      missed = λ k h l. absurd (omega arith);
+      passed = λ h. absurd (omega (arith, c .if3 .taken));
+    })
+
+add-next-by-halving : tie.Need-add-next-by-halving
+add-next-by-halving c = search needs
+
+next-by-halving-requires : tie.Need-next-by-halving-requires
+next-by-halving-requires c κs = search needs
+
+returns-4 : tie.Need-returns-4
+returns-4 c =
+    let s = c .before .before in
+    let r = s .before in
+    let a = r .before .before .args in
+    let test = reachable (a .x) in
+    next-one test (a .n) (a .last) _ (sym (r .reaches .ensures) ∙ s .if2 .left) (c .next-by-halving .ensures)
 
 pub next-by-areas-spec : {M : Type 1} → statement M
 next-by-areas-spec =
@@ -52,7 +66,8 @@ next-by-areas-spec =
     returns
     reaches-requires
     returns-2
-    add-skip-missed
-    skip-missed-requires
-    next-by-each-requires
-    returns-3)
+    add-result
+    returns-3
+    add-next-by-halving
+    next-by-halving-requires
+    returns-4)

@@ -12,8 +12,8 @@ next-by-areas-requires c κs = search needs
 returns : tie.Need-returns
 returns c = search needs
 
-next-by-sums-requires : tie.Need-next-by-sums-requires
-next-by-sums-requires c κs =
+next-steady-requires : tie.Need-next-steady-requires
+next-steady-requires c κs =
     let a = c .before .before .pre in
     (a .0, (sym (c .before .accelerates .ensures) ∙ c .if1 .left, (a .1 .0, a .1 .1)))
 
@@ -23,4 +23,4 @@ returns-2 c = search needs
 pub next-reached-spec : {M : Type 1} → statement M
 next-reached-spec =
     tie.close
-    (tie.spec accelerates-requires next-by-areas-requires returns next-by-sums-requires returns-2)
+    (tie.spec accelerates-requires next-by-areas-requires returns next-steady-requires returns-2)

@@ -1,5 +1,5 @@
 use Prim.Native.Nat.{ℕ, suc, _+_, _-_, _≤_, _<_, max}
-use mathlib.Core.Path.{_≡_, sym, ap, subst, _∙_}
+use mathlib.Core.Path.{_≡_, sym, ap, subst, subst₂, _∙_}
 use mathlib.Core.Bool.{Bool}
 use native.Mathlib.Omega.{arith}
 use lib.IntN.{ℤ, natAbs, _-ℤ_}
@@ -7,14 +7,15 @@ use mir.Syntax.{w64}
 use mir.Val.{toZ, ofZ}
 use Rattle.whole.proofs.Bounds.{within, exactly, computed}
 use Rattle.model.specs.Leg.{required}
-use Rattle.model.specs.Motion.{startPosition, requiredSum, reachable}
+use Rattle.model.specs.Motion.{startPosition, leg, requiredSum, reachable}
 use Rattle.model.specs.Quantities.{delay}
 use Rattle.profile.specs.declared.Profile.{Profile}
 use Rattle.profile.specs.Profiles.{legOf}
 use Rattle.running.specs.Running.{Next, betweenAt}
+use Rattle.running.specs.Skips.{Lasting}
 use Rattle.motion.specs.Motions.{drift}
 use Rattle.motion.proofs.PassedRanges.{ranges-of}
-use Rattle.motion.proofs.Steady.{start-slow, landing-slow, speed-slow, none-after, next-arrival}
+use Rattle.motion.proofs.Steady.{start-slow, landing-slow, speed-slow, lasts, none-after, next-arrival}
 use borrow.Author.Needs.{needs}
 use Rattle.motion.proofs.next_steady.Statement.{statement}
 use Rattle.motion.proofs.next_steady.Tie as tie
@@ -88,6 +89,40 @@ sub-next-feasible c = search needs
 cast-next-feasible : tie.Need-cast-next-feasible
 cast-next-feasible c = search needs
 
+-- the profile, the required sum and its change, as the code has them
+abbrev first : tie.After-drift → tie.Else1
+first c = c .before .before .before .before .before
+
+abbrev at : tie.After-drift → ℕ
+at c = first c .before .first-after .result
+
+abbrev sumThere : tie.After-drift → ℤ
+sumThere c = toZ w64 (ofZ w64 (c .before .required .result))
+
+sum-is : (c : tie.After-drift) → sumThere c ≡ requiredSum (start (first c) .args .x) (at c)
+sum-is c =
+    let f = c .before .before .before .profile-of in
+    let l = c .before .before .before .before .landing-at in
+    let x = start (first c) .args .x in
+    let far : toZ w64 (ofZ w64 (c .before .before .displacement .result)) ≡ l .result .position -ℤ startPosition x =
+    exactly (search computed depth 9) tt in
+    let way = far ∙ ap (λ (z : ℤ). z -ℤ startPosition x) (l .ensures .position .is) in
+    exactly (search computed depth 9) tt ∙ (λ i. required (legOf (f .ensures .is i)) (way i))
+
+change-is : (c : tie.After-drift) → toZ w64 (ofZ w64 (c .drift .result)) ≡ drift (start (first c) .args .x)
+change-is c = exactly (search computed depth 9) tt
+
+lasting : (c : tie.After-drift)
+    → Lasting (betweenAt (legOf (c .before .before .before .profile-of .result)) (sumThere c) (toZ w64 (ofZ w64 (c .drift .result))))
+    (c .before .before .before .profile-of .result .ticks)
+lasting c =
+    let a = start (first c) in
+    let x = a .args .x in
+    subst (λ (p : Profile). Lasting (betweenAt (legOf p) (sumThere c) (toZ w64 (ofZ w64 (c .drift .result)))) (p .ticks))
+    (sym (c .before .before .before .profile-of .ensures .is))
+    (subst₂ (λ (s d : ℤ). Lasting (betweenAt (leg x (at c)) s d) (at c - delay x)) (sym (sum-is c)) (sym (change-is c))
+    (lasts x (a .pre .0) (a .pre .1 .0) (at c) (first-after (first c))))
+
 next-feasible-requires : tie.Need-next-feasible-requires
 next-feasible-requires c κs =
     let f = c .before .before .before .profile-of in
@@ -109,7 +144,7 @@ next-feasible-requires c κs =
               slow .1,
               (
                 within (search computed depth 9) tt,
-                (within (search computed depth 9) tt, (omega (arith, ticks, b .if1 .left, late), omega (arith, a .pre .1 .1 .1))),
+                (within (search computed depth 9) tt, (omega (arith, ticks, b .if1 .left, late), (omega (arith, a .pre .1 .1 .1), lasting c))),
               ),
             ),
           ),
@@ -127,20 +162,12 @@ add-result-2 c =
 
 returns-2 : tie.Need-returns-2
 returns-2 c =
-    let d = c .before .before in
     let f = c .before .before .before .before .profile-of in
-    let l = c .before .before .before .before .before .landing-at in
     let b = c .before .before .before .before .before .before in
     let a = start b in
     let x = a .args .x in
     let late = b .before .before .delay-of in
     let n = b .before .first-after .result in
-    let far : toZ w64 (ofZ w64 (c .before .before .before .displacement .result)) ≡ l .result .position -ℤ startPosition x =
-    exactly (search computed depth 9) tt in
-    let way = far ∙ ap (λ (z : ℤ). z -ℤ startPosition x) (l .ensures .position .is) in
-    let sum : toZ w64 (ofZ w64 (d .required .result)) ≡ requiredSum x n =
-    exactly (search computed depth 9) tt ∙ (λ i. required (legOf (f .ensures .is i)) (way i)) in
-    let change : toZ w64 (ofZ w64 (c .before .drift .result)) ≡ drift x = exactly (search computed depth 9) tt in
     let from = b .before .first-after .ensures ∙ ap (λ (d : ℕ). max (a .args .n) (suc d)) (late .ensures) in
     let t = c .next-feasible .result in
     let last = a .args .last in
@@ -150,7 +177,7 @@ returns-2 c =
     (subst (λ (p : Profile). Next (betweenAt (legOf p) (requiredSum x n) (drift x)) (p .ticks) (last - delay x) t) (f .ensures .is)
     (subst (λ (d : ℕ). Next (betweenAt (legOf (f .result)) (requiredSum x n) (drift x)) (f .result .ticks) (last - d) t) (late .ensures)
     (subst (λ (g : ℕ → Bool). Next g (f .result .ticks) (last - late .result) t)
-    (λ i. betweenAt (legOf (f .result)) (sum i) (change i)) (c .next-feasible .ensures)))))
+    (λ i. betweenAt (legOf (f .result)) (sum-is (c .before) i) (change-is (c .before) i)) (c .next-feasible .ensures)))))
 
 pub next-steady-spec : {M : Type 1} → statement M
 next-steady-spec =

@@ -53,40 +53,63 @@ given a r =
 running-sums-requires : tie.Need-running-sums-requires Inv-loop μ-loop
 running-sums-requires c κs = c .pre .0
 
+within-sums-requires : tie.Need-within-sums-requires Inv-loop μ-loop
+within-sums-requires c κs = tt
+
+-- the first candidate
+returns : tie.Need-returns Inv-loop μ-loop
+returns c =
+    let r = c .before .before in
+    let a = r .before in
+    let g = legOf (a .args .p) in
+    let T = a .args .p .ticks in
+    given a T
+    (record {
+      low = omega arith;
+      high = omega (arith, a .pre .1 .1 .1 .0);
+      missed = λ k h l. absurd (omega arith);
+      passed =
+          λ h.
+          sym (between-is g (sum a) (change a) T (joined a T (omega arith)) (r .running-sums .result) (r .running-sums .ensures) _ (wanted-first (sum a) (change a) T))
+          ∙ sym (c .before .within-sums .ensures)
+          ∙ c .if1 .taken;
+    })
+
 loop-holds : tie.Need-loop-holds Inv-loop μ-loop
 loop-holds c =
-    let a = c .before in
+    let r = c .before .before in
+    let a = r .before in
     let w : Within (2 ^ 62) (sum a) = within (search exact depth 9) tt in
     record {
       low = omega arith;
       high = omega (arith, a .pre .1 .1 .1 .0);
-      are = c .running-sums .ensures;
+      are = r .running-sums .ensures;
       is = wanted-first (sum a) (change a) (a .args .p .ticks);
       small = omega (arith, w .within);
       missed = λ k h l. absurd (omega arith);
     }
 
-within-sums-requires : tie.Need-within-sums-requires Inv-loop μ-loop
-within-sums-requires c κs = tt
+within-sums-requires-2 : tie.Need-within-sums-requires-2 Inv-loop μ-loop
+within-sums-requires-2 c κs = tt
 
 -- the test of a candidate
-abbrev start : tie.After-within-sums Inv-loop μ-loop → tie.Start Inv-loop μ-loop
-start c = c .before .before .before .before
+abbrev start : tie.After-within-sums2 Inv-loop μ-loop → tie.Start Inv-loop μ-loop
+start c = c .before .before .before .before .before .before
 
-tested : (c : tie.After-within-sums Inv-loop μ-loop)
-    → c .within-sums .result ≡ betweenAt (legOf (start c .args .p)) (sum (start c)) (change (start c)) (c .before .before .loop .t)
+tested : (c : tie.After-within-sums2 Inv-loop μ-loop)
+    → c .within-sums2 .result ≡ betweenAt (legOf (start c .args .p)) (sum (start c)) (change (start c)) (c .before .before .loop .t)
 tested c =
     let a = start c in
     let l = c .before .before .loop in
-    c .within-sums .ensures
+    c .within-sums2 .ensures
     ∙ between-is (legOf (a .args .p)) (sum a) (change a) (l .t) (joined a (l .t) (l .inv .low)) (l .sums) (l .inv .are) _ (l .inv .is)
 
-returns : tie.Need-returns Inv-loop μ-loop
-returns c =
+returns-2 : tie.Need-returns-2 Inv-loop μ-loop
+returns-2 c =
     let b = c .before in
     let l = b .before .before .loop in
     given (start b) (l .t)
-    (record { low = l .inv .low; high = omega (arith, l .inv .high); missed = l .inv .missed; passed = λ h. sym (tested b) ∙ c .if1 .taken })
+    (record { low = l .inv .low; high = omega (arith, l .inv .high); missed = l .inv .missed; passed = λ h. sym (tested b) ∙ c .if2 .taken })
 
 signed-requires : tie.Need-signed-requires Inv-loop μ-loop
 signed-requires c κs = omega (arith, start (c .before) .pre .0 .ranged .«speed_limit»)
@@ -155,13 +178,13 @@ loop-again c =
       small =
           subst (λ (z : ℤ). natAbs z ≤ 2 ^ 62 + (l .t + 1) * 2 ^ 37) (sym back)
           (omega (arith, natAbs-+ (toZ w64 (l .wanted)) (change a), l .inv .small, w .within));
-      missed = missed-next (betweenAt g (sum a) (change a)) T (l .t) (l .inv .missed) (sym (tested b) ∙ c .before .before .before .if1 .left);
+      missed = missed-next (betweenAt g (sum a) (change a)) T (l .t) (l .inv .missed) (sym (tested b) ∙ c .before .before .before .if2 .left);
     }
 
-returns-2 : tie.Need-returns-2 Inv-loop μ-loop
-returns-2 c =
+returns-3 : tie.Need-returns-3 Inv-loop μ-loop
+returns-3 c =
     let l = c .before .loop in
-    given (c .before .before .before) (l .t)
+    given (c .before .before .before .before .before) (l .t)
     (record { low = l .inv .low; high = omega (arith, l .inv .high); missed = l .inv .missed; passed = λ h. absurd (omega (arith, c .loop-test .left)) })
 
 pub next-between-spec : {M : Type 1} → statement M
@@ -171,9 +194,11 @@ next-between-spec =
     Inv-loop
     μ-loop
     running-sums-requires
-    loop-holds
     within-sums-requires
     returns
+    loop-holds
+    within-sums-requires-2
+    returns-2
     signed-requires
     signed-requires-2
     step-requires
@@ -181,4 +206,4 @@ next-between-spec =
     add-t
     loop-less
     loop-again
-    returns-2)
+    returns-3)

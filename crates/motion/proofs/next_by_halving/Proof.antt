@@ -5,10 +5,10 @@ use Rattle.model.specs.Quantities.{delay}
 use Rattle.model.specs.Motion.{reachable}
 use Rattle.motion.proofs.PassedRanges.{ranges-of}
 use Rattle.motion.proofs.Steady.{none-after}
-use Rattle.motion.proofs.Halves.{skips-first, skips-all, skips-within}
+use Rattle.motion.proofs.Halves.{next-first, next-none, next-within}
 use borrow.Author.Needs.{needs}
-use Rattle.motion.proofs.skip_missed.Statement.{statement}
-use Rattle.motion.proofs.skip_missed.Tie as tie
+use Rattle.motion.proofs.next_by_halving.Statement.{statement}
+use Rattle.motion.proofs.next_by_halving.Tie as tie
 
 delay-of-requires : tie.Need-delay-of-requires
 delay-of-requires c κs = ranges-of (c .pre .0)
@@ -25,8 +25,7 @@ returns : tie.Need-returns
 returns c =
     let d = c .before .before in
     let a = d .before in
-    let w = none-after (a .args .x) (a .args .n) (a .args .last) (a .pre .1 .0) (omega (arith, d .delay-of .ensures, c .before .first-after .ensures, c .if1 .taken)) in
-    record { low = w .low; high = w .high; missed = w .missed }
+    none-after (a .args .x) (a .args .n) (a .args .last) (a .pre .1 .0) (omega (arith, d .delay-of .ensures, c .before .first-after .ensures, c .if1 .taken))
 
 last-slow-requires : tie.Need-last-slow-requires
 last-slow-requires c κs = search needs
@@ -39,8 +38,8 @@ first-is : (c : tie.Else1)
     → c .before .first-after .result ≡ max (c .before .before .before .args .n) (suc (delay (c .before .before .before .args .x)))
 first-is c = c .before .first-after .ensures ∙ ap (λ (d : ℕ). max (c .before .before .before .args .n) (suc d)) (c .before .before .delay-of .ensures)
 
-narrowed-requires : tie.Need-narrowed-requires
-narrowed-requires c κs =
+first-in-requires : tie.Need-first-in-requires
+first-in-requires c κs =
     let b = c .before .before in
     let l = b .last-slow .ensures in
     let a = b .before .before .before .before in
@@ -52,8 +51,8 @@ returns-2 c =
     let l = b .last-slow .ensures in
     let d = b .before in
     let a = d .before .before .before .args in
-    let w = c .narrowed .ensures in
-    skips-first (a .x) (a .n) (a .last) _ _ (first-is d) (omega (arith, l .high, w .high)) (skips-within (reachable (a .x)) _ _ (a .last) _ (l .high) w)
+    next-first (a .x) (a .n) (a .last) _ _ (first-is d)
+    (next-within (reachable (a .x)) _ (a .last) _ _ l (sym (c .before .before .reaches .ensures) ∙ c .before .if2 .taken) (c .first-in .ensures))
 
 add-result-2 : tie.Need-add-result-2
 add-result-2 c = search needs
@@ -63,11 +62,11 @@ returns-3 c =
     let b = c .before .before in
     let d = b .before in
     let a = d .before .before .before .args in
-    skips-first (a .x) (a .n) (a .last) _ _ (first-is d) (omega arith)
-    (skips-all (reachable (a .x)) _ (a .last) _ (d .if1 .left) (b .last-slow .ensures) (sym (c .before .reaches .ensures) ∙ c .if2 .left))
+    next-first (a .x) (a .n) (a .last) _ _ (first-is d)
+    (next-none (reachable (a .x)) _ (a .last) _ (d .if1 .left) (b .last-slow .ensures) (sym (c .before .reaches .ensures) ∙ c .if2 .left))
 
-pub skip-missed-spec : {M : Type 1} → statement M
-skip-missed-spec =
+pub next-by-halving-spec : {M : Type 1} → statement M
+next-by-halving-spec =
     tie.close
     (tie.spec
     delay-of-requires
@@ -76,7 +75,7 @@ skip-missed-spec =
     returns
     last-slow-requires
     reaches-requires
-    narrowed-requires
+    first-in-requires
     returns-2
     add-result-2
     returns-3)

@@ -1,16 +1,14 @@
 use Prim.Native.Nat.{ℕ, _-_, _≤_, _<_}
-use mathlib.Core.Path.{_≡_, sym, _∙_}
+use mathlib.Core.Path.{_≡_, ap, _∙_}
 use mathlib.Core.Bool.{true, false}
 use native.Mathlib.Omega.{arith}
-use lib.Dec.{ltb→lt}
-use Rattle.whole.proofs.Tests.{true-T}
 use Rattle.model.specs.Motion.{reachable}
 use Rattle.motion.proofs.Halves.{missed-joined}
-use Rattle.motion.proofs.narrowed.Statement.{statement}
-use Rattle.motion.proofs.narrowed.Tie as tie
+use Rattle.motion.proofs.first_in.Statement.{statement}
+use Rattle.motion.proofs.first_in.Tie as tie
 
 abbrev Inv-loop : tie.InvT-loop
-Inv-loop x width span₀ step₀ span step =
+Inv-loop x span₀ step₀ span step =
     record {
       low : span₀ .low ≤ span .low;
       ordered : span .low ≤ span .high;
@@ -21,22 +19,17 @@ Inv-loop x width span₀ step₀ span step =
     }
 
 abbrev μ-loop : tie.MeasureT-loop
-μ-loop x width span₀ step₀ span step = span .high - span .low
+μ-loop x span₀ step₀ span step = span .high - span .low
 
 loop-holds : tie.Need-loop-holds Inv-loop μ-loop
 loop-holds c =
     record { low = omega arith; ordered = c .pre .1 .0; high = omega arith; missed = λ k h l. absurd (omega arith); passed = c .pre .1 .1 .1; most = omega arith }
 
-wider-requires : tie.Need-wider-requires Inv-loop μ-loop
-wider-requires c κs = c .loop .inv .ordered
-
 parted-requires : tie.Need-parted-requires Inv-loop μ-loop
 parted-requires c κs =
     let l = c .before .before .loop .inv in
     let a = c .before .before .before .pre in
-    let s = c .before .before .loop .span in
-    let w = ltb→lt (c .before .before .before .args .width) (s .high - s .low) (true-T (sym (c .before .wider .ensures) ∙ c .if1 .taken)) in
-    (a .0, (omega (arith, w), (omega (arith, l .high, a .1 .1 .0), l .passed)))
+    (a .0, (c .if1 .taken, (omega (arith, l .high, a .1 .1 .0), l .passed)))
 
 mul-lesser : tie.Need-mul-lesser Inv-loop μ-loop
 mul-lesser c = omega (arith, c .before .before .before .loop .inv .most)
@@ -63,16 +56,22 @@ loop-again c =
 returns : tie.Need-returns Inv-loop μ-loop
 returns c =
     let l = c .before .before .loop .inv in
-    record { low = l .low; high = omega (arith, l .high, l .ordered); missed = l .missed }
+    let s = c .before .before .loop .span in
+    let x = c .before .before .before .args .x in
+    record {
+      low = l .low;
+      high = omega (arith, l .high, l .ordered);
+      missed = l .missed;
+      passed = λ _. ap (reachable x) {x = s .low} {y = s .high} (omega (arith, l .ordered, c .if1 .left)) ∙ l .passed;
+    }
 
-pub narrowed-spec : {M : Type 1} → statement M
-narrowed-spec =
+pub first-in-spec : {M : Type 1} → statement M
+first-in-spec =
     tie.close
     (tie.spec
     Inv-loop
     μ-loop
     loop-holds
-    wider-requires
     parted-requires
     mul-lesser
     lesser-requires
