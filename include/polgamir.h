@@ -20,9 +20,9 @@
  * it at the same time, each with a table of its own.
  *
  * Stack and time. A call takes up to 12,000 bytes of stack, its job among them, and a tour up to 20,000.
- * The longest search, over six axes to refusal 9, takes 50 microseconds of a 2.5 GHz core, 1 ms where targets accelerate, and a tour
- * has one search a leg; with an arrival asked for the longest call takes 0.2 ms. Where a controller has less time than that in a
- * turn, polgamir_search_job looks for the arrival over as many turns as it takes, with a budget of candidates in each.
+ * The longest search, over six axes to refusal 9, takes 2 microseconds of a 2.5 GHz core, 10 where targets accelerate, and a tour
+ * has one search a leg; the longest call, with a table of 4,097 rows of six axes, takes 0.2 ms. Where a controller has less time than
+ * that in a turn, polgamir_search_job looks for the arrival, with a budget of candidates, and polgamir_plan_job_part writes some rows.
  */
 #ifndef POLGAMIR_H
 #define POLGAMIR_H

@@ -81,16 +81,17 @@ fn deeper<T>(frames: usize, call: &mut dyn FnMut() -> T) -> T {
 /// disturbance does not fall on one of them alone.
 fn rounds<const N: usize>(calls: [(&Job, usize); N]) -> Vec<Round<N>> {
     let mut table = vec![0; 3 * 6 * 4_097];
-    let counts = calls.map(|(job, cells)| (1e7 / once(job, &mut table[..cells])).ceil() as usize);
-    let count = if counts.contains(&1) { 15 } else { 41 };
+    let counts = calls.map(|(job, cells)| once(job, &mut table[..cells]).map(|took| (1e7 / took).ceil() as usize));
+    let count = if counts.as_flattened().contains(&1) { 15 } else { 41 };
     let mut round = || {
         std::array::from_fn(|i| {
             let (job, cells) = calls[i];
             let lent = &mut table[..cells];
             let laid_out = laid_out(job, 0);
-            let proved = batch(counts[i], || library::plan_c_job(laid_out, black_box(&mut *lent)).arrival);
-            let plain = batch(counts[i], || call::plan(laid_out, black_box(&mut *lent)).arrival);
-            let lending = batch(counts[i], || plain::plan(job, Engine::Areas, black_box(&mut *lent)).arrival);
+            let [own, other] = counts[i];
+            let proved = batch(own, || library::plan_c_job(laid_out, black_box(&mut *lent)).arrival);
+            let plain = batch(other, || call::plan(laid_out, black_box(&mut *lent)).arrival);
+            let lending = batch(other, || plain::plan(job, Engine::Areas, black_box(&mut *lent)).arrival);
             [proved, plain, lending]
         })
     };
@@ -110,18 +111,22 @@ fn fastest<const N: usize>(rounds: impl Iterator<Item = [f64; N]>) -> [f64; N] {
     rounds.min_by(|a, b| a.iter().sum::<f64>().total_cmp(&b.iter().sum())).expect("there are rounds")
 }
 
-/// The time of one call of the library, after which both sides must have given the same answer and the same cells.
-fn once(job: &Job, lent: &mut [i64]) -> f64 {
+/// The times of one call of the library and of one of plain Rust, after which both must have given the same answer and the same cells: each side's
+/// batches are sized by its own.
+fn once(job: &Job, lent: &mut [i64]) -> [f64; 2] {
     let start = now();
     let answer = library::plan_typed(job, lent);
     let took = now() - start;
     let written = lent.to_vec();
     lent.fill(0);
-    let plain = call::plan(laid_out(job, 0), lent);
+    let laid_out = laid_out(job, 0);
+    let start = now();
+    let plain = call::plan(laid_out, lent);
+    let other = now() - start;
     assert_eq!(plain, answer);
     let cells = if answer.number == 0 { cells_of(job, answer.arrival) } else { 0 };
     assert!(lent[..cells] == written[..cells], "the two sides write different cells");
-    took
+    [took, other]
 }
 
 fn batch(calls: usize, mut call: impl FnMut() -> u32) -> f64 {
@@ -273,6 +278,8 @@ fn search_table(short: &Job, long: &Job, wide: &Job, never: &Job) {
     search("six axes out of reach, 32 windows", &searches::in_windows(searches::out_of_reach()));
     search("one target that accelerates, out of reach", &searches::accelerating(1));
     search("six targets that accelerate, out of reach", &searches::accelerating(6));
+    search("longest found at random, no target accelerating", &searches::longest_steady());
+    search("longest found at random, targets that accelerate", &searches::longest_accelerating());
     println!();
 }
 

@@ -1,10 +1,11 @@
 //! The planner in plain Rust, with the library's formulas and loops and none of its proofs: reach of an arrival from the
-//! areas under the envelopes, the least common arrival by axes that lead on from candidate to candidate, with sums that
-//! are carried from one to the next, cruise by halving steps over areas, rows by stepping a track an axis, blended once or,
+//! areas under the envelopes, the least common arrival by axes that lead on from candidate to candidate, past those that
+//! surely fall short and then with sums that are carried from one to the next, or by halving where the target accelerates,
+//! cruise by halving steps over areas, rows by stepping a track an axis, blended once or,
 //! on a pole with a second sway, twice, by a change of velocity that is worked out once for all ticks around in which it is
 //! the same. Beside it the engine by ticks: every candidate is tried, and every sum is taken tick by tick.
 
-use std::ops::{Range, RangeInclusive};
+use std::ops::Range;
 
 use outside::reference::{Answer, Axis, Damping, Job, Target, Window, RAIL};
 
@@ -212,6 +213,45 @@ impl Leg {
         }
     }
 
+    /// An area that is no smaller than the upper envelope's, by a split of the ticks that needs no division.
+    fn split_area(&self, ticks: i64, room: [i64; 2], lean: i64) -> i64 {
+        let inner = ticks - 1;
+        let rising = room[0].min(((ticks + lean) / 2).max(0)).min(inner);
+        let falling = room[1].min(inner - rising);
+        let ramp = |from: i64, ticks: i64| ticks * from + ticks * (ticks + 1) / 2 * self.slope;
+        ramp(self.first, rising) + (inner - rising - falling) * self.limit + ramp(self.last, falling)
+    }
+
+    /// A number of ticks, from those of the leg on, before which none has a list: leaps over those whose split area falls short.
+    fn skipped(&self, drift: i64, latest: i64) -> i64 {
+        if latest < self.ticks + 64 {
+            return self.ticks;
+        }
+        if (self.ticks - 1) * (self.first + self.last) > 2 * self.sum {
+            let turned = Leg { first: -self.first, last: -self.last, sum: -self.sum, ..*self };
+            return turned.skip_short(-drift, latest);
+        }
+        self.skip_short(drift, latest)
+    }
+
+    fn skip_short(&self, drift: i64, latest: i64) -> i64 {
+        let room = [self.first, self.last].map(|from| quotient(self.limit - from, self.slope));
+        let lean = if self.first == self.last { 0 } else { (self.last - self.first) / self.slope };
+        let short = |t: i64| self.split_area(t, room, lean) < self.sum + (t - self.ticks) * drift;
+        let mut t = self.ticks + 64;
+        if !short(t) {
+            return self.ticks;
+        }
+        let mut step = 2_048;
+        while step >= 8 {
+            if t + step <= latest && short(t + step) {
+                t += step;
+            }
+            step /= 2;
+        }
+        t + 1
+    }
+
     /// The least number of ticks, from those of the leg to the latest, at which there is a list for a sum that changes by
     /// `drift` a tick; or one past the latest.
     fn next_with_list(&self, drift: i64, latest: i64) -> i64 {
@@ -219,9 +259,11 @@ impl Leg {
         if near > latest {
             return latest + 1;
         }
-        let mut sum = self.sum + (near - self.ticks) * drift;
-        let mut sums = Leg { ticks: near, ..*self }.running_sums();
-        for ticks in near..=latest {
+        let sum = self.sum + (near - self.ticks) * drift;
+        let far = Leg { ticks: near, sum, ..*self }.skipped(drift, latest);
+        let mut sum = sum + (far - near) * drift;
+        let mut sums = Leg { ticks: far, ..*self }.running_sums();
+        for ticks in far..=latest {
             if sums.lowest <= sum && sum <= sums.highest {
                 return ticks;
             }
@@ -241,10 +283,51 @@ pub fn reaches(engine: Engine, axis: &Axis, arrival: u32) -> bool {
     (leg.last + change_after * i64::from(delay)).abs() <= leg.limit && leg.has_list(engine)
 }
 
+/// The last tick from n to the last at which a target that accelerates is not too fast, if it is at one of them.
+fn last_slow(axis: &Axis, n: u32, last: u32) -> u32 {
+    let Ends { change_after, leg, .. } = ends(axis, n);
+    let arrived = leg.last + change_after * i64::from(delay_of(axis));
+    let room = if change_after < 0 { leg.limit + arrived } else { leg.limit - arrived };
+    if room < 0 {
+        return n;
+    }
+    n + quotient(room, change_after.abs()).min(i64::from(last - n)) as u32
+}
+
+/// The least arrival from n to the last that an axis whose target accelerates reaches, or one past the last, by halving.
+fn next_by_halving(axis: &Axis, n: u32, last: u32) -> u32 {
+    let reach = |k: u32| reaches(Engine::Areas, axis, k);
+    if last < n {
+        return n;
+    }
+    if reach(n) {
+        return n;
+    }
+    let mut low = (n + 1).max(delay_of(axis) + 1);
+    if last < low {
+        return last + 1;
+    }
+    let mut high = last_slow(axis, low, last);
+    if !reach(high) {
+        return last + 1;
+    }
+    let mut step = 128;
+    while low < high {
+        let middle = low + step.min((high - low) / 2);
+        if reach(middle) {
+            high = middle;
+        } else {
+            low = middle + 1;
+        }
+        step *= 2;
+    }
+    low
+}
+
 /// The least arrival from n to the last that the axis reaches, or one past the last.
 fn next_reached(axis: &Axis, n: u32, last: u32) -> u32 {
     if axis.target.acceleration() != 0 {
-        return (n..=last).find(|&k| reaches(Engine::Areas, axis, k)).unwrap_or(last + 1);
+        return next_by_halving(axis, n, last);
     }
     let delay = delay_of(axis);
     let first = n.max(delay + 1);
@@ -259,39 +342,34 @@ fn next_reached(axis: &Axis, n: u32, last: u32) -> u32 {
     ends(axis, first).leg.next_with_list(drift, latest) as u32 + delay
 }
 
-/// The least common arrival in the ticks of a span: the axes lead on one after the other, each to the next candidate that it
-/// reaches, until as many in a row as there are have left one. The axis that led to it is the first of these.
-fn least_in(job: &Job, span: RangeInclusive<u32>) -> Option<u32> {
-    let last = *span.end();
-    let mut n = *span.start();
-    if last < n {
-        return None;
-    }
-    let axes = job.set().count();
-    let mut left = 0;
-    loop {
-        for (_, axis) in job.set() {
-            let next = next_reached(axis, n, last);
-            if last < next {
-                return None;
-            }
-            left = if next == n { left + 1 } else { 1 };
-            n = next;
-            if left == axes {
-                return Some(n);
-            }
+/// The least common arrival from 1 on: the axes lead on one after the other, each to the next candidate that it reaches; those before the
+/// one that led on last are asked again.
+fn least_reached(job: &Job) -> Option<u32> {
+    let (mut n, mut again) = (1, 0);
+    for (number, axis) in job.set() {
+        let next = next_reached(axis, n, LATEST);
+        if LATEST < next {
+            return None;
         }
+        if next != n {
+            again = number;
+        }
+        n = next;
     }
+    job.set().take_while(|&(number, _)| number < again).all(|(_, axis)| reaches(Engine::Areas, axis, n)).then_some(n)
 }
 
-/// The least common arrival; of a job with windows, window by window.
+/// The least common arrival; of a job with windows the first tick from there that fits one, where every axis reaches it.
 fn least_arrival(job: &Job) -> Option<u32> {
-    let Some(windows) = &job.windows else {
-        return least_in(job, 1..=LATEST);
-    };
+    let n = least_reached(job)?;
+    let Some(windows) = &job.windows else { return Some(n) };
     let room = windows.dwell.max(1);
-    let ticks = |window: &Window| window.opening.max(1)..=window.closing.saturating_sub(room).min(LATEST);
-    windows.list[..windows.count as usize].iter().find_map(|window| least_in(job, ticks(window)))
+    let first = |window: &Window| {
+        let tick = window.opening.max(n);
+        (tick <= window.closing.saturating_sub(room).min(LATEST)).then_some(tick)
+    };
+    let tick = windows.list[..windows.count as usize].iter().find_map(first)?;
+    job.set().all(|(_, axis)| reaches(Engine::Areas, axis, tick)).then_some(tick)
 }
 
 /// The same by ticks: every candidate is tried, with sums of its own.
