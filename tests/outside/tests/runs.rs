@@ -1,13 +1,15 @@
-//! Reach goes on: what the theorem says of every axis and every job, held to every tick by brute force. An axis that reaches an arrival reaches the next
-//! one, unless its target is too fast by then; the arrivals at which it is slow enough are one run of ticks; what an axis reaches is one run, and so is what
-//! all axes of a job reach.
+//! Reach goes on: what the theorem says of every axis and every job, held to every tick by brute force.
+//! An axis that reaches an arrival reaches the next one, unless its target is too fast by then; the
+//! arrivals at which it is slow enough are one run of ticks; what an axis reaches is one run, and so is
+//! what all axes of a job reach.
 
 use outside::jobs::{self, Reach};
 use outside::library;
 use outside::random::Random;
 use outside::reference::{Axis, Damping, Job, Target, UNSET};
 
-/// Whether each tick from 0 to the last is reached by the axes of a mask. No cell is lent: a reached arrival is refused by 10.
+/// Whether each tick from 0 to the last is reached by the axes of a mask. No cell is lent: a reached
+/// arrival is refused by 10.
 fn reached(job: &Job, mask: u32, last: u32) -> Vec<bool> {
     let mut asking = Job { mask, windows: None, ..*job };
     (0..=last)
@@ -18,7 +20,8 @@ fn reached(job: &Job, mask: u32, last: u32) -> Vec<bool> {
         .collect()
 }
 
-/// Rule 4's condition on speed, in 1/256 of a unit and with no grid: V(T) and V(N) are the planned velocities at the landing and at the arrival.
+/// Rule 4's condition on speed, in 1/256 of a unit and with no grid: the planned velocities at the landing
+/// and at the arrival.
 fn slow(axis: &Axis, tick: u32) -> bool {
     let (h, second) = (i128::from(axis.half_period), i128::from(axis.second.unwrap_or(0)));
     let (v, a, t) = match axis.target {
@@ -40,7 +43,8 @@ fn runs(marks: &[bool]) -> usize {
     marks.iter().zip(before).filter(|(&now, &before)| now && !before).count()
 }
 
-/// Holds an axis of a job to the theorem. Answers the number of its runs and whether the run ended before the last tick because the target is too fast.
+/// Holds an axis of a job to the theorem. Answers the number of its runs, and whether the run ended before
+/// the last tick.
 fn hold_axis(job: &Job, number: usize, last: u32) -> (usize, bool) {
     let axis = &job.axes[number];
     let ticks = reached(job, 1 << number, last);
@@ -81,7 +85,8 @@ fn a_run_that_ends_is_found() {
     let target = Target::Moving { position: 8, velocity: -1, acceleration: 1, tick: 0 };
     let axis = Axis { speed_limit: 10, acceleration_limit: 1, damping: Damping::Weight(128), target, ..UNSET };
     let job = Job { mask: 1, asked: 0, axes: [axis; 6], windows: None };
-    let ticks: Vec<u32> = (1..=4_096).filter(|&n| library::plan_typed(&Job { asked: n, ..job }, &mut []).number == 10).collect();
+    let ticks: Vec<u32> =
+        (1..=4_096).filter(|&n| library::plan_typed(&Job { asked: n, ..job }, &mut []).number == 10).collect();
     assert_eq!(ticks, [9, 10, 11]);
     assert_eq!(library::plan_typed(&job, &mut []).arrival, 9);
 }
