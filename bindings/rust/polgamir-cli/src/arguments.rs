@@ -8,6 +8,7 @@ use polgamir::{LATEST_ARRIVAL, MOST_CELLS};
 
 use crate::command::export::{Export, Quantity};
 use crate::help::Page;
+use crate::row_range::RowRange;
 use crate::tap::Tapped;
 use crate::verify::Standing;
 
@@ -28,7 +29,7 @@ pub enum Task {
     /// Print the version.
     Version,
     /// Plan a job and print its table.
-    Plan { job: PathBuf, form: PlanForm, cells: Option<usize> },
+    Plan { job: PathBuf, form: PlanForm, cells: Option<usize>, rows: Option<RowRange> },
     /// Write the words of a job.
     Words { job: PathBuf, bytes: bool },
     /// Write the words of an old job with moving targets in place of flying ones.
@@ -179,6 +180,7 @@ struct Rest {
     output: Option<OsString>,
     cells: Option<OsString>,
     first: Option<OsString>,
+    rows: Option<OsString>,
     files: Vec<OsString>,
 }
 
@@ -190,7 +192,9 @@ impl Rest {
         while let Some(argument) = arguments.next() {
             match argument.to_str() {
                 Some("--") => rest.files.extend(arguments.by_ref().cloned()),
-                Some(option @ ("-o" | "--cells" | "--first")) => rest.take_value(option, arguments.next())?,
+                Some(option @ ("-o" | "--cells" | "--first" | "--rows")) => {
+                    rest.take_value(option, arguments.next())?
+                }
                 Some(flag) if flag.starts_with('-') && flag != "-" => rest.flags.push(flag.into()),
                 _ => rest.files.push(argument.clone()),
             }
@@ -206,6 +210,7 @@ impl Rest {
         let place = match option {
             "-o" => &mut self.output,
             "--first" => &mut self.first,
+            "--rows" => &mut self.rows,
             _ => &mut self.cells,
         };
         match place.replace(value.clone()) {
@@ -252,6 +257,30 @@ impl Rest {
         })
     }
 
+    /// Takes which rows are to be printed. They bring the cells for them, and a C array has all rows.
+    fn rows(&mut self, form: PlanForm) -> Result<Option<RowRange>, Usage> {
+        let Some(given) = self.rows.take() else {
+            return Ok(None);
+        };
+        if self.cells.is_some() {
+            return Err(Usage::of("expected no `--cells` beside `--rows`, which lends cells for its rows"));
+        }
+        match form {
+            PlanForm::Export(Export::CArray) => {
+                return Err(Usage::of("expected no `--rows` beside `--c-array`, which has all rows"));
+            }
+            PlanForm::Table { all: true, .. } => return Err(Usage::of("expected only one of `--all` and `--rows`")),
+            _ => {}
+        }
+        let found = given.to_string_lossy();
+        RowRange::of(&found).map(Some).ok_or_else(|| {
+            Usage::of(format!(
+                "expected two ticks from 0 to {LATEST_ARRIVAL}, the first not above the second, as `40..55`, after `--rows`, \
+                 found `{found}`"
+            ))
+        })
+    }
+
     /// Takes how a table is to be printed.
     fn form(&mut self) -> Result<TableForm, Usage> {
         Ok(match self.one_of("--plain", "--units")? {
@@ -284,8 +313,9 @@ impl Rest {
             Some(export) => PlanForm::Export(export),
             None => PlanForm::Table { all: self.flag("--all"), form: self.form()? },
         };
+        let rows = self.rows(form)?;
         let cells = self.cells()?;
-        Ok(Task::Plan { job: self.file("sheet")?, form, cells })
+        Ok(Task::Plan { job: self.file("sheet")?, form, cells, rows })
     }
 
     fn words(&mut self) -> Result<Task, Usage> {
@@ -353,11 +383,11 @@ impl Rest {
 
     /// Whether every argument has been taken.
     fn is_spent(&self) -> Result<(), Usage> {
-        match (self.flags.first(), &self.cells, &self.first) {
-            (Some(flag), ..) => Err(Usage::of(format!("`{flag}` is no option of this command"))),
-            (_, Some(_), _) => Err(Usage::of("`--cells` is no option of this command")),
-            (.., Some(_)) => Err(Usage::of("`--first` is no option of this command")),
-            _ => Ok(()),
+        let options = [("--cells", &self.cells), ("--first", &self.first), ("--rows", &self.rows)];
+        let left = options.iter().find(|(_, value)| value.is_some()).map(|(name, _)| *name);
+        match self.flags.first().map(String::as_str).or(left) {
+            Some(option) => Err(Usage::of(format!("`{option}` is no option of this command"))),
+            None => Ok(()),
         }
     }
 }

@@ -4,6 +4,7 @@ pub mod content;
 pub mod export;
 pub mod files;
 pub mod refusal;
+pub mod shown;
 pub mod summary;
 pub mod table;
 mod tour;
@@ -13,14 +14,16 @@ use std::fmt;
 use std::path::Path;
 
 use polgamir::sheet::{Rounded, Setup, Sheet};
-use polgamir::{Job, NoWords};
+use polgamir::{Job, NoWords, Refusal};
 
 use crate::arguments::{PlanForm, Request, TableForm, Task, Usage};
+use crate::row_range::RowRange;
 use crate::tap::{self, Tap, Tapped};
 use crate::{picture, report, verify};
 use export::Source;
 use files::{about, FileError};
 use refusal::Told;
+use shown::Shown;
 
 /// What a command gives, and its exit status: 0, or 1 for a refusal.
 pub struct Done {
@@ -132,12 +135,15 @@ fn done(task: &Task) -> Result<Done, FileError> {
     match task {
         Task::Help(page) => Ok(Done::well(page.text())),
         Task::Version => Ok(Done::well(concat!("polgamir ", env!("CARGO_PKG_VERSION"), "\n"))),
-        Task::Plan { job, form, cells } => {
-            let sheet = read_job(job)?;
-            let done = plan(&Source::of(job), &sheet, *form, *cells);
-            // The summary says what was rounded.
-            let summed_up =
-                done.status == 0 && matches!(form, PlanForm::Table { form, .. } if *form != TableForm::Plain);
+        Task::Plan { job, form, cells, rows } => {
+            let (sheet, source) = (read_job(job)?, Source::of(job));
+            let done = match rows {
+                None => plan(&source, &sheet, *form, *cells),
+                Some(rows) => plan_part(&source, &sheet, *form, *rows).map_err(|cause| about(job, cause))?,
+            };
+            // The summary, which a part has not, says what was rounded.
+            let for_a_reader = matches!(form, PlanForm::Table { form, .. } if *form != TableForm::Plain);
+            let summed_up = done.status == 0 && rows.is_none() && for_a_reader;
             Ok(done.noting(if summed_up { &[] } else { sheet.rounded() }))
         }
         Task::Words { job, bytes } => words_of(job, *bytes),
@@ -166,15 +172,38 @@ fn plan(source: &Source, sheet: &Sheet, form: PlanForm, cells: Option<usize>) ->
     let mut cells = vec![0; cells.unwrap_or(sheet.job.enough_cells())];
     match (polgamir::plan(&sheet.job, &mut cells), form) {
         (Ok(accepted), PlanForm::Table { form, all }) => Done::well(table::print(sheet, &accepted, form, all)),
-        (Ok(accepted), PlanForm::Export(export)) => Done::well(export::written(source, sheet, &accepted, export)),
-        (Err(refusal), form) => {
-            let told = refusal::told(sheet, &refusal);
-            match form {
-                PlanForm::Table { form: TableForm::Plain, .. } => Done::plainly_refused(&told),
-                PlanForm::Table { .. } => Done::refused_in_words(&told),
-                PlanForm::Export(export) => Done::refused(&told, export::refused_job(source, sheet, &refusal, export)),
-            }
+        (Ok(accepted), PlanForm::Export(export)) => {
+            Done::well(export::written(source, sheet, &Shown::whole(&accepted), export))
         }
+        (Err(refusal), form) => refused(source, sheet, &refusal, form),
+    }
+}
+
+/// Plans a job and prints some of its rows or its refusal. Rows past the arrival are not there; a first one past it is an error.
+fn plan_part(source: &Source, sheet: &Sheet, form: PlanForm, rows: RowRange) -> Result<Done, String> {
+    let mut cells = vec![0; 3 * sheet.job.entered().count() * rows.count()];
+    let part = match polgamir::plan_part(&sheet.job, rows.first, &mut cells) {
+        Ok(part) => part,
+        Err(refusal) => return Ok(refused(source, sheet, &refusal, form)),
+    };
+    let arrival = part.arrival();
+    if arrival < rows.first {
+        return Err(format!("expected a first row from 0 to {arrival}, the arrival, after `--rows`, found `{rows}`"));
+    }
+    let shown = Shown::part(&part);
+    Ok(Done::well(match form {
+        PlanForm::Table { form, .. } => table::print_part(sheet, &shown, form),
+        PlanForm::Export(export) => export::written(source, sheet, &shown, export),
+    }))
+}
+
+/// The refusal of a job in the form that was asked for.
+fn refused(source: &Source, sheet: &Sheet, refusal: &Refusal, form: PlanForm) -> Done {
+    let told = refusal::told(sheet, refusal);
+    match form {
+        PlanForm::Table { form: TableForm::Plain, .. } => Done::plainly_refused(&told),
+        PlanForm::Table { .. } => Done::refused_in_words(&told),
+        PlanForm::Export(export) => Done::refused(&told, export::refused_job(source, sheet, refusal, export)),
     }
 }
 

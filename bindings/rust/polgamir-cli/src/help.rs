@@ -119,23 +119,23 @@ const PLAN: &str = "\
 Plans a job: the arrival, how far each axis goes, how near it comes to its
 limits, and the first and last rows of the table.
 
-Usage: polgamir plan [--all] [--units | --plain] [--cells COUNT] [-o FILE] JOB
-       polgamir plan --csv | --json [--units] [-o FILE] JOB
+Usage: polgamir plan [--all | --rows A..B] [--units | --plain] [-o FILE] JOB
+       polgamir plan --csv | --json [--units] [--rows A..B] [-o FILE] JOB
        polgamir plan --c-array [-o FILE] JOB
 
 A row has for each axis position, velocity and acceleration, in fine steps of
 1/256 unit.
 
   --all          print every row
+  --rows A..B    print the rows of ticks A to B, planned as a part: none before
+                 them is worked out, and rows past the arrival are left out
   --units        print units; where the sheet says what a unit or a tick stands
                  for, print that
   --plain        print as the table program does: cells, or the refusal's line
   --csv          write a line for each tick, with commas between the numbers
   --json         write an object: the arrival, and each axis's numbers as lists
-  --c-array      write the source of a C array that lies in memory as the
-                 library writes its table
-  --cells COUNT  lend a table of so many cells, up to 73746 (the table program
-                 has 8192); else it is large enough
+  --c-array      write the source of a C array that is the library's table
+  --cells COUNT  lend so many cells, up to 73746; else there are enough
   -o FILE        write to a file
 
 Jerk and end stops are not limited: compare the least and greatest positions.

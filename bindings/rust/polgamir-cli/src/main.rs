@@ -12,6 +12,7 @@ mod help;
 mod measure;
 mod picture;
 mod report;
+mod row_range;
 mod standard_output;
 mod tap;
 mod verify;

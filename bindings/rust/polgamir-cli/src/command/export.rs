@@ -9,9 +9,10 @@ mod refused;
 use std::path::Path;
 
 use polgamir::sheet::{Sheet, TourSheet};
-use polgamir::{Accepted, Motion, Plan, Schedule, TourRefusal};
+use polgamir::{Motion, Plan, Schedule, TourRefusal};
 
 use super::files;
+use super::shown::Shown;
 use crate::measure::Measure;
 
 pub use refused::{refused_job, refused_tour};
@@ -67,8 +68,8 @@ impl Source {
     }
 }
 
-/// An accepted job in the form of an export.
-pub fn written(source: &Source, sheet: &Sheet, accepted: &Accepted, export: Export) -> String {
+/// An accepted job, or a part of its rows, in the form of an export.
+pub fn written(source: &Source, sheet: &Sheet, accepted: &Shown, export: Export) -> String {
     match export {
         Export::Csv(quantity) => csv::of_job(source, sheet, accepted, quantity),
         Export::Json(quantity) => json::of_job(source, sheet, accepted, quantity),

@@ -5,6 +5,7 @@ use std::fmt::Write;
 use polgamir::sheet::Sheet;
 use polgamir::{Accepted, Motion};
 
+use super::shown::Shown;
 use super::summary;
 use crate::arguments::TableForm;
 use crate::measure::{in_seconds, rounded, Measure};
@@ -21,16 +22,34 @@ const SHORT: usize = 12;
 /// The arrival and a summary, then the table: every row, or the first and the last ones.
 pub fn print(sheet: &Sheet, accepted: &Accepted, form: TableForm, all: bool) -> String {
     match form {
-        TableForm::Plain => format!("arrival {}\n", accepted.arrival()) + &plain_rows(accepted),
+        TableForm::Plain => plain(&Shown::whole(accepted)),
         form => {
-            let arrival = format!("{}{}", accepted.arrival(), in_seconds(accepted.arrival(), sheet.tick_seconds()));
-            format!("arrival {arrival}\n\n{}\n{}", summary::of(sheet, accepted), rows(sheet, accepted, form, all))
+            let (arrival, rows) = (arrival(sheet, accepted.arrival()), rows(sheet, &Shown::whole(accepted), form, all));
+            format!("{arrival}\n\n{}\n{rows}", summary::of(sheet, accepted))
         }
     }
 }
 
+/// The arrival, then the rows of a part.
+pub fn print_part(sheet: &Sheet, part: &Shown, form: TableForm) -> String {
+    match form {
+        TableForm::Plain => plain(part),
+        form => format!("{}\n\n{}", arrival(sheet, part.arrival()), rows(sheet, part, form, true)),
+    }
+}
+
+/// The arrival's line.
+fn arrival(sheet: &Sheet, tick: u32) -> String {
+    format!("arrival {tick}{}", in_seconds(tick, sheet.tick_seconds()))
+}
+
+/// The arrival and the rows as the table program prints them.
+fn plain(shown: &Shown) -> String {
+    format!("arrival {}\n", shown.arrival()) + &plain_rows(shown)
+}
+
 /// The rows in columns below what they are in.
-pub fn rows(sheet: &Sheet, accepted: &Accepted, form: TableForm, all: bool) -> String {
+pub fn rows(sheet: &Sheet, accepted: &Shown, form: TableForm, all: bool) -> String {
     match form {
         TableForm::Plain => plain_rows(accepted),
         TableForm::FineSteps => {
@@ -56,7 +75,7 @@ fn in_measure(measure: &Measure, motion: Motion) -> [String; 3] {
 }
 
 /// In what the positions are, velocities and accelerations by the tick or the second: of all axes, or of each.
-fn measures(sheet: &Sheet, accepted: &Accepted) -> String {
+fn measures(sheet: &Sheet, accepted: &Shown) -> String {
     let names: Vec<(usize, [String; 3])> =
         accepted.axes().axes().map(|axis| (axis, Measure::of(sheet, axis).names())).collect();
     let in_words = |[position, velocity, acceleration]: &[String; 3]| match position.as_str() {
@@ -73,7 +92,7 @@ fn measures(sheet: &Sheet, accepted: &Accepted) -> String {
 }
 
 /// The rows as the table program prints them: the tick and the cells with one space between them.
-fn plain_rows(accepted: &Accepted) -> String {
+fn plain_rows(accepted: &Shown) -> String {
     let mut text = String::new();
     for row in accepted.rows() {
         let cells: String = row.cells().iter().map(|cell| format!(" {cell}")).collect();
@@ -84,7 +103,7 @@ fn plain_rows(accepted: &Accepted) -> String {
 
 /// The rows in columns of even width, below the axes' titles and the columns' names; of a long table the first and the last ones,
 /// unless all are asked for.
-fn aligned(sheet: &Sheet, accepted: &Accepted, all: bool, format: impl Fn(usize, Motion) -> [String; 3]) -> String {
+fn aligned(sheet: &Sheet, accepted: &Shown, all: bool, format: impl Fn(usize, Motion) -> [String; 3]) -> String {
     let count = accepted.rows().len();
     let hidden = if all || count <= SHORT { 0..0 } else { SHOWN..count - SHOWN };
     let shown = accepted.rows().filter(|row| !hidden.contains(&(row.tick() as usize)));
@@ -112,7 +131,7 @@ fn aligned(sheet: &Sheet, accepted: &Accepted, all: bool, format: impl Fn(usize,
 }
 
 /// The line of the axes' titles, each above its columns.
-fn titles(sheet: &Sheet, accepted: &Accepted, widths: &[usize]) -> String {
+fn titles(sheet: &Sheet, accepted: &Shown, widths: &[usize]) -> String {
     let mut line = " ".repeat(widths[0]);
     for (axis, widths) in accepted.axes().axes().zip(widths[1..].chunks_exact(3)) {
         let width = widths.iter().sum::<usize>() + 4;

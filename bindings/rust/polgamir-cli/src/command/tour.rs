@@ -6,6 +6,7 @@ use polgamir::sheet::TourSheet;
 use polgamir::{Schedule, TourRefusal};
 
 use super::export::{self, Source};
+use super::shown::Shown;
 use super::{refusal, table, Done};
 use crate::arguments::{TableForm, TourForm};
 use crate::measure::{in_seconds, rounded, Measure};
@@ -90,7 +91,7 @@ fn leg(sheet: &TourSheet, schedule: &Schedule, stop: usize, form: TableForm) -> 
     };
     let leg = sheet.leg(stop).unwrap_or_default();
     let plan = leg.job.plan().map_err(|refusal| TourRefusal::Leg { stop, refusal })?;
-    let table = table::rows(&leg, &plan.accepted(), form, true);
+    let table = table::rows(&leg, &Shown::whole(&plan.accepted()), form, true);
     let arrival = plan.arrival();
     Ok(match form {
         TableForm::Plain => format!("arrival {arrival}\n{table}"),

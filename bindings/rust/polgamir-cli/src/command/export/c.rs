@@ -3,12 +3,13 @@
 use std::fmt::Write;
 
 use polgamir::sheet::Sheet;
-use polgamir::{Accepted, Motion};
+use polgamir::Motion;
 
 use super::{PlannedTour, Source};
+use crate::command::shown::Shown;
 
 /// A job: its table, and the numbers that a program needs beside it.
-pub fn of_job(source: &Source, sheet: &Sheet, accepted: &Accepted) -> String {
+pub fn of_job(source: &Source, sheet: &Sheet, accepted: &Shown) -> String {
     let name = name(&source.title);
     let capitals = name.to_ascii_uppercase();
     let (arrival, mask) = (accepted.arrival(), accepted.axes());
@@ -55,7 +56,7 @@ pub fn of_tour(source: &Source, tour: &PlannedTour) -> String {
         let _ = write!(
             text,
             "\nstatic const int64_t {name}_leg{stop}[{last} + 1][{capitals}_AXES][3] = {{\n{}}};\n",
-            rows(&leg.plan.accepted())
+            rows(&Shown::whole(&leg.plan.accepted()))
         );
         let _ = writeln!(list, "    {{{}, {}, {}, {last}, {name}_leg{stop}}},", leg.departure, leg.arrival, leg.dwell);
     }
@@ -67,7 +68,7 @@ pub fn of_tour(source: &Source, tour: &PlannedTour) -> String {
 }
 
 /// The rows of a table, each on a line.
-fn rows(accepted: &Accepted) -> String {
+fn rows(accepted: &Shown) -> String {
     let mut text = String::new();
     for row in accepted.rows() {
         let motions = row.axes().map(|(_, Motion { position, velocity, acceleration })| {

@@ -3,18 +3,21 @@
 use std::fmt::Write;
 
 use polgamir::sheet::Sheet;
-use polgamir::{Accepted, Row};
+use polgamir::Row;
 
 use super::{numbers, PlannedTour, Quantity, Source};
+use crate::command::shown::Shown;
 use crate::command::table::COLUMNS;
 use crate::measure::Measure;
 
 /// A job: a line for each tick. Where a tick's seconds are said, a column has the time.
-pub fn of_job(source: &Source, sheet: &Sheet, accepted: &Accepted, quantity: Quantity) -> String {
+pub fn of_job(source: &Source, sheet: &Sheet, accepted: &Shown, quantity: Quantity) -> String {
     let time = sheet.tick_seconds().filter(|_| quantity == Quantity::Units);
     let axes = accepted.axes().axes().map(|axis| (sheet.axis_title(axis), Measure::of(sheet, axis)));
     let axes: Vec<(String, Measure)> = axes.collect();
-    let mut text = format!("# {}: arrival {}, {}\n", source.made(), accepted.arrival(), in_what(quantity));
+    let ticks = accepted.ticks_of_part().map(|ticks| format!("rows {} to {}, ", ticks.start(), ticks.end()));
+    let (arrival, ticks) = (accepted.arrival(), ticks.unwrap_or_default());
+    let mut text = format!("# {}: arrival {arrival}, {ticks}{}\n", source.made(), in_what(quantity));
     text += &heading(&["tick"], time, &axes, quantity);
     for row in accepted.rows() {
         push_line(&mut text, &[row.tick()], time.map(|tick| (row.tick(), tick)), &row, &axes, quantity);

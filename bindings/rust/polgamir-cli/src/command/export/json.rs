@@ -3,15 +3,20 @@
 use std::fmt::Write;
 
 use polgamir::sheet::Sheet;
-use polgamir::{in_units, Accepted, FINE_STEPS};
+use polgamir::{in_units, FINE_STEPS};
 
 use super::{numbers, Leg, PlannedTour, Quantity, Source, VERSION};
+use crate::command::shown::Shown;
 use crate::command::table::COLUMNS;
 use crate::measure::Measure;
 
-/// A job: the arrival, what the numbers are in, and for each axis its numbers from tick 0 to arrival.
-pub fn of_job(source: &Source, sheet: &Sheet, accepted: &Accepted, quantity: Quantity) -> String {
+/// A job: the arrival, the first row of a part, what the numbers are in, and for each axis its numbers from tick 0 to arrival, or
+/// those of the part.
+pub fn of_job(source: &Source, sheet: &Sheet, accepted: &Shown, quantity: Quantity) -> String {
     let mut text = begun(source) + &format!("  \"arrival\": {},\n", accepted.arrival());
+    if let Some(ticks) = accepted.ticks_of_part() {
+        text += &format!("  \"first_row\": {},\n", ticks.start());
+    }
     text += &in_what(quantity, sheet.tick_seconds());
     let axes: Vec<String> = accepted
         .axes()
@@ -43,11 +48,10 @@ pub fn of_tour(source: &Source, tour: &PlannedTour, quantity: Quantity) -> Strin
 /// A leg of a tour.
 fn of_leg(tour: &PlannedTour, leg: &Leg, quantity: Quantity) -> String {
     let Leg { stop, departure, arrival, dwell, plan } = leg;
+    let shown = Shown::whole(&plan.accepted());
     let axes: Vec<String> = tour
         .axes()
-        .map(|axis| {
-            of_axis("        ", &[format!("\"axis\": {axis}")], &plan.accepted(), axis, &tour.measure(axis), quantity)
-        })
+        .map(|axis| of_axis("        ", &[format!("\"axis\": {axis}")], &shown, axis, &tour.measure(axis), quantity))
         .collect();
     format!(
         "    {{\n      \"stop\": {stop},\n      \"departure\": {departure},\n      \"arrival\": {arrival},\n      \
@@ -80,11 +84,11 @@ fn axis_head(axis: usize, name: Option<&str>, measure: &Measure, quantity: Quant
     head
 }
 
-/// An axis of a table: what it begins with, its least and greatest position, and its numbers as lists.
+/// An axis of a table: what it begins with, its least and greatest position where all rows are shown, and its numbers as lists.
 fn of_axis(
     indent: &str,
     head: &[String],
-    accepted: &Accepted,
+    accepted: &Shown,
     axis: usize,
     measure: &Measure,
     quantity: Quantity,
