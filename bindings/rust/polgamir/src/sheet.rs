@@ -83,6 +83,11 @@ impl Sheet {
         self.notes.line_of(axis, entry)
     }
 
+    /// An entry of an axis, or with `None` the arrival, as it stands on the sheet, where it has a crew's unit: `swings 10 in 8.4 s`.
+    pub fn as_entered(&self, axis: Option<usize>, entry: WordKind) -> Option<&str> {
+        self.notes.as_entered(axis, entry)
+    }
+
     /// The line, from 1, that a window stands on.
     pub fn line_of_window(&self, index: usize) -> Option<usize> {
         self.notes.windows.get(index).copied()

@@ -14,12 +14,25 @@ pub struct Notes {
     pub scales: Scales,
     /// The entries that were rounded, in the order of their lines.
     pub rounded: Vec<Rounded>,
+    /// The entries that have a crew's unit.
+    pub entered: Vec<Entered>,
     /// The lines of the entries.
     pub lines: Vec<EntryLine>,
     /// The lines of the windows.
     pub windows: Vec<usize>,
     /// The line of the dwell in them.
     pub dwell: Option<usize>,
+}
+
+/// An entry as it stands on the sheet.
+#[derive(Debug, Clone, PartialEq, Eq)]
+pub struct Entered {
+    /// The axis, or `None` for an entry of the whole job.
+    pub axis: Option<usize>,
+    /// What stands there.
+    pub entry: WordKind,
+    /// Its name and its value: `swings 10 in 8.4 s`.
+    pub text: String,
 }
 
 /// The line of an entry.
@@ -42,6 +55,14 @@ impl Notes {
     /// The line of an entry.
     pub fn line_of(&self, axis: Option<usize>, entry: WordKind) -> Option<usize> {
         self.lines.iter().find(|line| line.axis == axis && line.entry == entry).map(|line| line.line)
+    }
+
+    /// An entry as it stands on the sheet, where it has a crew's unit.
+    pub fn as_entered(&self, axis: Option<usize>, entry: WordKind) -> Option<&str> {
+        self.entered
+            .iter()
+            .find(|entered| entered.axis == axis && entered.entry == entry)
+            .map(|entered| entered.text.as_str())
     }
 
     /// What to call an axis: `axis 0`, or `axis 0 pan` where it has a name.

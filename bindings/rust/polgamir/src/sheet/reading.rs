@@ -220,7 +220,8 @@ impl Reading {
             return Err(SheetErrors::new(self.errors));
         }
         self.worked.rounded.sort_by_key(|rounded| rounded.line);
-        Ok(Notes { scales: self.worked.scales, rounded: self.worked.rounded, ..self.notes })
+        let Worked { scales, rounded, entered, .. } = self.worked;
+        Ok(Notes { scales, rounded, entered, ..self.notes })
     }
 
     /// The sheet of a job.

@@ -2,6 +2,7 @@
 
 use super::amount::Amount;
 use super::fraction::{Fraction, Rounding};
+use super::notes::Entered;
 use super::quantity::{Place, Quantity, Rule, Share};
 use super::rounded::Rounded;
 use super::scales::{Scale, Scales};
@@ -34,6 +35,8 @@ pub struct Worked {
     pub scales: Scales,
     /// The entries that were rounded.
     pub rounded: Vec<Rounded>,
+    /// The numbers of axes, and the arrival, that have a crew's unit or follow from something else.
+    pub entered: Vec<Entered>,
     /// Whether it has been told that the tick is lacking.
     lacks_tick: bool,
     /// Whether it has been told that the unit of an axis is lacking.
@@ -78,6 +81,8 @@ impl Worked {
             return self.comes_to_nothing(place, &measured);
         }
         self.rounded.extend(Rounded::new(place, &measured, number));
+        let text = format!("{} {}", place.name, place.entered);
+        self.entered.extend(place.entry.map(|entry| Entered { axis: place.axis, entry, text }));
         Ok(Some(number))
     }
 

@@ -1,7 +1,7 @@
 //! The entries that a refusal is about, each with its line of the sheet.
 
 use polgamir::sheet::Sheet;
-use polgamir::{Damping, Refusal, Window, Windows, WordKind, LONGEST_DWELL, MOST_WINDOWS};
+use polgamir::{Damping, OutOfRange, Refusal, Window, Windows, WordKind, LONGEST_DWELL, MOST_WINDOWS};
 
 use super::called;
 
@@ -67,10 +67,26 @@ fn guilty_lines(sheet: &Sheet, number: usize, refusal: u32) -> Vec<String> {
     let faults = faults.filter(|fault| fault.refusal_number() == refusal);
     let told = faults.map(|fault| {
         let (place, title) = (place(sheet, Some(number), fault.entry), called(sheet, number));
+        let entered = as_entered(sheet, number, &fault);
         let (least, greatest) = fault.range.into_inner();
-        format!("{place}{title}: {} {}, expected {least} to {greatest}", fault.entry.name(), fault.value)
+        format!("{place}{title}: {} {}{entered}, expected {least} to {greatest}", fault.entry.name(), fault.value)
     });
     told.collect()
+}
+
+/// How a number that is out of range was entered, where it has a crew's unit, and what would bring it in.
+fn as_entered(sheet: &Sheet, number: usize, fault: &OutOfRange) -> String {
+    let Some(entered) = sheet.as_entered(Some(number), fault.entry) else {
+        return String::new();
+    };
+    let remedy = match fault.entry {
+        _ if fault.value < *fault.range.end() => "",
+        WordKind::HalfPeriod | WordKind::SecondHalfPeriod | WordKind::TargetTick => "; a longer `tick` would do",
+        WordKind::SpeedLimit | WordKind::AccelerationLimit => "; a coarser `unit` or a shorter `tick` would do",
+        WordKind::StartPosition | WordKind::TargetPosition => "; a coarser `unit` would do",
+        _ => "",
+    };
+    format!(" (entered as `{entered}`{remedy})")
 }
 
 /// The damping of an axis, where the planner refuses it as measured.
