@@ -32,15 +32,21 @@ class Library {
     this.stops = this.words + 4096;
     this.lent = this.stops + 16384;
     this.made = new Set();
+    this.stack = new Map();
   }
   u32(at, value) { this.memory.setUint32(at, value, true); }
   i64(at, value) { this.memory.setBigInt64(at, BigInt.asIntN(64, value), true); }
   clear(at, bytes) { new Uint8Array(this.memory.buffer, at, bytes).fill(0); }
 
-  // Makes a call of the header; the place of the answer comes first where it is a struct.
+  // Makes a call of the header; the place of the answer comes first where it is a struct. The stack, at the start of the memory, is painted before it:
+  // how far down the paint is gone says what the call took.
   call(name, ...values) {
+    const stack = new Uint8Array(this.memory.buffer, 0, 65536).fill(0xA5);
+    const given = this.calls[name](...values);
+    const used = stack.length - stack.findIndex((byte, i) => byte !== 0xA5 || i === stack.length - 1);
+    this.stack.set(name, Math.max(used, this.stack.get(name) ?? 0));
     this.made.add(name);
-    return this.calls[name](...values);
+    return given;
   }
 
   lend(count, untouched) {

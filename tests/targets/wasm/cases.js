@@ -132,7 +132,7 @@ function runJob(library, name, bytes, text) {
   return printed(library) === text ? null : `${name}: the stored text is another one`;
 }
 
-// All of it: vectors as texts, jobs as [name, bytes, text]. Gives back how many cases there were and the failures.
+// All of it: vectors as texts, jobs as [name, bytes, text]. Gives back the failures, and the lines to print.
 async function runAll(wasm, version, vectors, jobs) {
   const { instance } = await WebAssembly.instantiate(wasm, {});
   const library = new Library(instance);
@@ -142,5 +142,6 @@ async function runAll(wasm, version, vectors, jobs) {
   for (const name of Object.keys(instance.exports)) {
     if (name.startsWith('polgamir_') && !library.made.has(name)) failures.push(`${name} was not called`);
   }
-  return { cases: lines.length + jobs.length, failures };
+  const stack = [...library.stack].map(([name, bytes]) => `stack ${bytes} ${name}`);
+  return { failures, said: [...failures, ...stack, `${lines.length + jobs.length} cases, ${failures.length} failed`] };
 }

@@ -21,11 +21,11 @@ if (page) {
   process.stdout.write(`<!doctype html><meta charset="utf-8"><title>Stored vectors</title><pre>not run</pre><script>
 ${source}
 const say = (text) => { document.querySelector('pre').textContent = text; };
-runAll(${bytes}, ${data}).then((done) => say([...done.failures, \`\${done.cases} cases, \${done.failures.length} failed\`].join('\\n')), say);
+runAll(${bytes}, ${data}).then((done) => say(done.said.join('\\n')), say);
 </script>\n`);
 } else {
   const runAll = vm.runInThisContext(`${source}\nrunAll`);
   const done = await runAll(wasm, Number(version), vectors, jobs);
-  console.log([...done.failures, `${done.cases} cases, ${done.failures.length} failed`].join('\n'));
+  console.log(done.said.join('\n'));
   process.exitCode = done.failures.length === 0 ? 0 : 1;
 }
