@@ -40,8 +40,8 @@ pub enum Task {
     Tour { sheet: PathBuf, form: TourForm },
     /// Draw the plan of a job or a tour.
     Plot { setup: PathBuf },
-    /// Write the report of a job or of a tour.
-    Report { setup: PathBuf },
+    /// Write the report of a job or of a tour, with recorded taps of its poles.
+    Report { setup: PathBuf, taps: Vec<TapOf> },
     /// Hold tables to a job.
     Verify { job: PathBuf, tables: Vec<PathBuf>, standing: Standing },
     /// Hold a certificate to its own job.
@@ -50,6 +50,15 @@ pub enum Task {
     Certify { job: PathBuf },
     /// Fit a recorded tap and print the lines of a sheet.
     Tap(Tapped),
+}
+
+/// A recorded tap that a report is given.
+#[derive(Debug, PartialEq, Eq)]
+pub struct TapOf {
+    /// The axis that it was recorded for, by number or name; `None` for every axis with a half period.
+    pub axis: Option<String>,
+    /// The record.
+    pub tapped: Tapped,
 }
 
 /// How a table is printed.
@@ -181,6 +190,9 @@ struct Rest {
     cells: Option<OsString>,
     first: Option<OsString>,
     rows: Option<OsString>,
+    /// Recorded taps, and the options that say how they are read.
+    taps: Vec<OsString>,
+    reading: Vec<OsString>,
     files: Vec<OsString>,
 }
 
@@ -192,7 +204,7 @@ impl Rest {
         while let Some(argument) = arguments.next() {
             match argument.to_str() {
                 Some("--") => rest.files.extend(arguments.by_ref().cloned()),
-                Some(option @ ("-o" | "--cells" | "--first" | "--rows")) => {
+                Some(option @ ("-o" | "--cells" | "--first" | "--rows" | "--tap" | "--rate" | "--column")) => {
                     rest.take_value(option, arguments.next())?
                 }
                 Some(flag) if flag.starts_with('-') && flag != "-" => rest.flags.push(flag.into()),
@@ -208,6 +220,14 @@ impl Rest {
             return Err(Usage::of(format!("expected a value after `{option}`")));
         };
         let place = match option {
+            "--tap" => {
+                self.taps.push(value.clone());
+                return Ok(());
+            }
+            "--rate" | "--column" => {
+                self.reading.extend([option.into(), value.clone()]);
+                return Ok(());
+            }
             "-o" => &mut self.output,
             "--first" => &mut self.first,
             "--rows" => &mut self.rows,
@@ -352,9 +372,29 @@ impl Rest {
         }
     }
 
+    /// Takes the recorded taps, each as `RECORD` or `AXIS=RECORD`.
+    fn taps(&mut self) -> Result<Vec<TapOf>, Usage> {
+        let reading = std::mem::take(&mut self.reading);
+        let taken = std::mem::take(&mut self.taps);
+        if taken.is_empty() && !reading.is_empty() {
+            return Err(Usage::of(format!("expected `--tap` beside `{}`", reading[0].to_string_lossy())));
+        }
+        let tap = |given: OsString| {
+            let text = given.to_string_lossy();
+            // An axis has no dot and no slash in its name here, so that a path with `=` is still a path.
+            let (axis, record) = match text.split_once('=').filter(|(axis, _)| !axis.contains(['/', '.'])) {
+                Some((axis, record)) => (Some(axis.trim().to_string()), OsString::from(record)),
+                None => (None, given.clone()),
+            };
+            let arguments = [reading.clone(), vec!["--".into(), record]].concat();
+            Ok(TapOf { axis, tapped: Tapped::read(&arguments).map_err(Usage::of)? })
+        };
+        taken.into_iter().map(tap).collect()
+    }
+
     fn report(&mut self) -> Result<Task, Usage> {
         match self.output {
-            Some(_) => Ok(Task::Report { setup: self.file("sheet")? }),
+            Some(_) => Ok(Task::Report { taps: self.taps()?, setup: self.file("sheet")? }),
             None => Err(Usage::of("expected `-o FILE.html` for the report, or `-o -` for standard output")),
         }
     }
@@ -384,8 +424,10 @@ impl Rest {
     /// Whether every argument has been taken.
     fn is_spent(&self) -> Result<(), Usage> {
         let options = [("--cells", &self.cells), ("--first", &self.first), ("--rows", &self.rows)];
-        let left = options.iter().find(|(_, value)| value.is_some()).map(|(name, _)| *name);
-        match self.flags.first().map(String::as_str).or(left) {
+        let left = options.iter().find(|(_, value)| value.is_some()).map(|(name, _)| (*name).to_owned());
+        let taps = self.taps.iter().map(|_| "--tap".into());
+        let reading = self.reading.iter().map(|option| option.to_string_lossy().into_owned());
+        match self.flags.iter().cloned().chain(left).chain(taps).chain(reading).next() {
             Some(option) => Err(Usage::of(format!("`{option}` is no option of this command"))),
             None => Ok(()),
         }

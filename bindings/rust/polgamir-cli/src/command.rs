@@ -4,6 +4,7 @@ pub mod content;
 pub mod export;
 pub mod files;
 pub mod refusal;
+mod report;
 pub mod shown;
 pub mod summary;
 pub mod table;
@@ -19,7 +20,7 @@ use polgamir::{Job, NoWords, Refusal};
 use crate::arguments::{PlanForm, Request, TableForm, Task, Usage};
 use crate::row_range::RowRange;
 use crate::tap::{self, Tap, Tapped};
-use crate::{picture, report, verify};
+use crate::{picture, verify};
 use export::Source;
 use files::{about, FileError};
 use refusal::Told;
@@ -154,7 +155,7 @@ fn done(task: &Task) -> Result<Done, FileError> {
             Ok(tour::planned(&Source::of(file), &sheet, *form).noting(sheet.rounded()))
         }
         Task::Plot { setup } => plot(setup),
-        Task::Report { setup } => report(setup),
+        Task::Report { setup, taps } => report::written(setup, taps),
         Task::Verify { job, tables, standing } => verify::verified(job, tables, *standing),
         Task::VerifyCertificate { file } => verify::verified_certificate(file),
         Task::Certify { job } => verify::certified(job),
@@ -277,25 +278,6 @@ fn show(file: &Path, bytes: Option<bool>) -> Result<Done, FileError> {
     let job_words = content::words_of(&files::read(file)?, bytes).map_err(|cause| about(file, cause))?;
     let job = Job::from_words(&job_words).map_err(|error| about(file, error))?;
     Ok(Done::well(Sheet::from(job).to_string()))
-}
-
-/// Writes the report of a job or of a tour; that of a refusal is a page too.
-fn report(file: &Path) -> Result<Done, FileError> {
-    let content = files::read(file)?;
-    let setup = content::setup_of(&content).map_err(|cause| about(file, cause))?;
-    let (title, entered) = (Source::of(file).title, content::sheet_text(&content, &setup));
-    let page = match &setup {
-        Setup::Job(sheet) => report::written(&title, &entered, sheet).map_err(|refusal| refusal::told(sheet, &refusal)),
-        Setup::Tour(sheet) => {
-            let page = report::written_of_tour(&title, &entered, sheet);
-            page.map_err(|refusal| refusal::told_of_tour(sheet, &refusal))
-        }
-    };
-    let done = match page {
-        Ok(page) => Done::well(page),
-        Err(told) => Done::refused(&told, report::refused(&title, &entered, rounded_of(&setup), &told)),
-    };
-    Ok(done.noting(rounded_of(&setup)))
 }
 
 /// Fits a recorded tap.

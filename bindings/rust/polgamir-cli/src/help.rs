@@ -166,7 +166,7 @@ const REPORT: &str = "\
 Writes one HTML page about a job or a tour. It opens in any browser without a
 network, reads on a phone and prints on A4.
 
-Usage: polgamir report -o FILE.html JOB | TOUR
+Usage: polgamir report [--tap [AXIS=]RECORD.csv].. -o FILE.html JOB | TOUR
 
 The page has the answer, the pictures, and
   - how much sway is left on the pole as entered, and where half period or
@@ -179,7 +179,10 @@ The page has the answer, the pictures, and
 Of a tour it tells the same of all legs together. Of a refused job or tour the
 page says the refusal.
 
-  -o FILE  write to a file; `-o -` is standard output
+  --tap [AXIS=]RECORD  say what a recorded tap makes of the plan: its misfit and
+                       the sway that it leaves at most; of one axis, by number
+                       or name, or of all. --rate and --column as for `tap`
+  -o FILE              write to a file; `-o -` is standard output
 ";
 
 const PLOT: &str = "\

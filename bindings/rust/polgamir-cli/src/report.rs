@@ -11,6 +11,7 @@ mod html;
 mod refused;
 pub mod rows;
 mod set_by;
+mod tap;
 mod told;
 mod tour;
 mod wrong_axis;
@@ -31,10 +32,11 @@ use told::{
 use wrong_pole::WrongPole;
 
 pub use refused::refused;
+pub use tap::Record;
 pub use tour::written as written_of_tour;
 
 /// The report of a sheet whose text is as entered; job words have the sheet that stands for them.
-pub fn written(title: &str, entered: &str, sheet: &Sheet) -> Result<String, Refusal> {
+pub fn written(title: &str, entered: &str, sheet: &Sheet, records: &[Record]) -> Result<String, Refusal> {
     let report = Report::of(sheet)?;
     let poles: Vec<(&Entry, Vec<WrongPole>)> = report.axes.iter().map(|entry| (entry, entry.wrong_poles())).collect();
     let body = [
@@ -44,6 +46,7 @@ pub fn written(title: &str, entered: &str, sheet: &Sheet) -> Result<String, Refu
         rounded_entries(sheet.rounded()),
         html::section("The answer", &report.answer()),
         html::section("If the pole is as entered", &as_entered::section(&poles)),
+        tap::section(&poles, records),
         html::long_section("Axis by axis, and if the pole was measured wrongly", &report.axis_blocks(title, &poles)?),
         html::section("What the blend costs", &report.cost()),
         html::section("What sets the arrival, and one tick earlier", &report.arrivals()),

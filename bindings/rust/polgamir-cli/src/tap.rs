@@ -13,13 +13,11 @@ mod tests;
 mod text;
 
 use fit::{Fit, Samples};
-#[allow(unused_imports)]
-pub use misfit::Misfit;
 use part::Part;
 pub use picture::drawn;
 use record::Record;
 pub use request::Tapped;
-pub use text::lines;
+pub use text::{lines, shown};
 
 /// How many standard deviations a spread goes to either side: more than 95 of 100 truths lie within.
 const WITHIN: f64 = 2.5;

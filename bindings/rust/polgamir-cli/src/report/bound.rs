@@ -34,7 +34,7 @@ impl<'a> Bound<'a> {
 
     /// On a pole with a half period and a swing ratio, as rounded: the greatest of the bounds for the errors on either side of its own,
     /// of those that have one. `None` where there is none.
-    fn at(&self, half_period: f64, ratio: f64) -> Option<f64> {
+    pub fn at(&self, half_period: f64, ratio: f64) -> Option<f64> {
         let half_periods = around(half_period - f64::from(self.swing.half_period));
         let ratios = self.ratio_errors(ratio);
         let bounds = half_periods.iter().flat_map(|&half_period| {

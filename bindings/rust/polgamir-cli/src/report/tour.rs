@@ -12,14 +12,14 @@ use super::told::{
     at_tick, cost_of, cost_told, earlier_told, fine_steps, halves, left_card, limit_row, planned_by, rounded_entries,
 };
 use super::wrong_pole::WrongPole;
-use super::{as_entered, wrong_axis, Report};
+use super::{as_entered, tap, wrong_axis, Record, Report};
 use crate::command::summary::NOT_LIMITED;
 use crate::measure::{in_seconds, rounded};
 use crate::picture::svg::escaped;
 use crate::picture::{self, Sample, PANEL_WIDTH, TOUR_LEGEND};
 
 /// The report of a tour whose text is as entered.
-pub fn written(title: &str, entered: &str, sheet: &TourSheet) -> Result<String, TourRefusal> {
+pub fn written(title: &str, entered: &str, sheet: &TourSheet, records: &[Record]) -> Result<String, TourRefusal> {
     let schedule = sheet.tour.schedule(&sheet.stops)?;
     let jobs: Vec<Sheet> = (0..).map_while(|stop| sheet.leg(stop)).collect();
     let of_leg = |(stop, job)| Report::of(job).map_err(|refusal| TourRefusal::Leg { stop, refusal });
@@ -34,6 +34,7 @@ pub fn written(title: &str, entered: &str, sheet: &TourSheet) -> Result<String, 
         rounded_entries(sheet.rounded()),
         html::section("The answer", &(report.answer() + &report.ranges())),
         html::section("If the pole is as entered", &as_entered::section(&poles)),
+        tap::section(&poles, records),
         html::long_section("Axis by axis, and if the pole was measured wrongly", &report.axis_blocks(&poles)?),
         html::section("What the blend costs", &report.cost()),
         html::section("What sets each arrival, and one tick earlier", &report.arrivals()),

@@ -122,6 +122,11 @@ impl<'a> WrongPole<'a> {
             .then(|| self.left_on(Pole::new(self.swing.entered_half_period, ratio.min(1.0))))
     }
 
+    /// What the table leaves on a pole with a half period and a swing ratio.
+    pub fn left_where(&self, half_period: f64, ratio: f64) -> f64 {
+        most(Pole::new(half_period, ratio), &self.plan)
+    }
+
     fn left_on(&self, pole: Pole) -> Left {
         Left { plan: most(pole, &self.plan), unblended: self.unblended.as_ref().map(|tables| most(pole, tables)) }
     }

@@ -1,7 +1,5 @@
 //! What a record says of a plan: its misfits on the pole as entered, and the sway that they can leave.
 
-#![cfg_attr(not(test), allow(dead_code))]
-
 use polgamir::Axis;
 
 use super::Tap;
