@@ -132,7 +132,7 @@ fn wrong_records_and_wrong_usage_end_with_2() {
         (&["tap", "-", "--column", "x"], "", "expected a column, from 1, after `--column`, found `x`"),
         (&["tap", "-", "--units"], "", "`--units` is no option of this command"),
         (&["tap", "-", "-"], "", "expected one record, found also `-`"),
-        (&["tap", "-"], "", "standard input: expected at least 16 lines of numbers, found 0"),
+        (&["tap", "-"], "", "standard input: expected at least 16 samples, found 0"),
         (
             &["tap", "-"],
             &column,

@@ -19,8 +19,9 @@ const LEAST_SAMPLES: usize = 16;
 pub fn read(text: &str, rate: Option<f64>, column: Option<usize>) -> Result<Record, String> {
     let (heading, rows) = rows(text)?;
     let columns = rows.first().map_or(0, Vec::len);
+    let rows = without_repeats(rows, columns > 1);
     if rows.len() < LEAST_SAMPLES {
-        return Err(format!("expected at least {LEAST_SAMPLES} lines of numbers, found {}", rows.len()));
+        return Err(format!("expected at least {LEAST_SAMPLES} samples, found {}", rows.len()));
     }
     let times =
         match (columns, rate) {
@@ -104,6 +105,14 @@ fn time_unit(heading: Option<&String>) -> f64 {
     }
 }
 
+/// The rows without those whose time is that of the row before, as logs with coarse clocks have them.
+fn without_repeats(mut rows: Vec<Vec<f64>>, has_times: bool) -> Vec<Vec<f64>> {
+    if has_times {
+        rows.dedup_by(|later, earlier| later[0] == earlier[0]);
+    }
+    rows
+}
+
 /// Times from 0 on, each above the one before.
 fn in_order(times: Vec<f64>) -> Result<Vec<f64>, String> {
     match times.windows(2).position(|pair| pair[1] <= pair[0]) {
@@ -168,10 +177,12 @@ mod tests {
     #[test]
     fn what_is_wrong_is_said() {
         let told = |text: &str, rate| read(text, rate, None).expect_err("no record");
-        assert_eq!(told("1,2\n", None), "expected at least 16 lines of numbers, found 1");
+        assert_eq!(told("1,2\n", None), "expected at least 16 samples, found 1");
         assert!(told(&lines(|index| index.to_string()), None).contains("`--rate`"));
         assert_eq!(told(&lines(|_| "1 2".into()), Some(5.0)), "expected one column beside `--rate`, found 2");
-        assert_eq!(told(&lines(|_| "1 2".into()), None), "expected times that rise, found 1 after 1 in sample 2");
+        let back = lines(|index| format!("{} 2", if index == 9 { 4 } else { index }));
+        assert_eq!(told(&back, None), "expected times that rise, found 4 after 8 in sample 10");
+        assert_eq!(told(&lines(|_| "1 2".into()), None), "expected at least 16 samples, found 1");
         let broken = lines(|index| if index == 3 { "3 x".into() } else { format!("{index} 2") });
         assert_eq!(told(&broken, None), "line 4: expected 2 numbers, found `3 x`");
         let short = lines(|index| if index == 3 { "3".into() } else { format!("{index} 2") });
