@@ -4,10 +4,11 @@
  * From a job (starts, targets, limits, the pole's half periods and damping) a call writes a table of position, velocity and
  * acceleration for each tick that lands exactly on the targets with the sway cancelled, or refuses with a number.
  *
- * Link with libpolgamir. In the repository `tools/library` writes target/lib/libpolgamir.a for x86-64 Linux, and `tools/library
- * --target NAME` target/lib/NAME/libpolgamir.a for ARM and RISC-V, with Linux or without an operating system, and for WebAssembly;
- * `tools/install PREFIX` installs it, with files for pkg-config and CMake. All that it takes from other libraries is memcpy and memset,
- * and from the compiler's own what the processor lacks: 64-bit division, floats.
+ * Link with libpolgamir. In the repository `tools/library` writes target/lib/libpolgamir.a for x86-64 Linux, and
+ * `tools/library --target NAME` target/lib/NAME/libpolgamir.a for ARM and RISC-V, with Linux or without an operating
+ * system, and for WebAssembly; `tools/install PREFIX` installs it, with files for pkg-config and CMake. All that it
+ * takes from other libraries is memcpy and memset, and from the compiler's own what the processor lacks: 64-bit
+ * division, floats.
  *
  * Units. Time is a whole number of ticks. Inputs are whole units, units per tick and units per tick squared. A cell is in fine
  * steps, 1/256 unit, per tick and per tick squared for velocities and accelerations.
@@ -20,11 +21,13 @@
  * Threads. The library has no state, takes no lock, allocates no memory and makes no system call. Any number of threads may call
  * it at the same time, each with a table of its own.
  *
- * Floats. Damping as measured is worked out in single precision, and nothing else is. The thread has to round to nearest and to keep
- * subnormal numbers, as a program does when it starts, but for one that is linked with gcc's -ffast-math: that flushes them to zero for
- * the whole program. In another environment a measured weight may be another one, or 12 come in its place.
+ * Floats. Damping as measured is worked out in single precision, and nothing else is. The thread has to round to
+ * nearest and to keep subnormal numbers, as a program does when it starts, but for one that is linked with gcc's
+ * -ffast-math: that flushes them to zero for the whole program. In another environment a measured weight may be another
+ * one, or 12 come in its place.
  *
- * Stack. A call takes up to 12,000 bytes of stack, its job among them, and a tour up to 20,000. By target, measured, and rounded up:
+ * Stack. A call takes up to 12,000 bytes of stack, its job among them, and a tour up to 20,000. By target, measured,
+ * and rounded up:
  *
  *     bytes of stack   x86-64  aarch64  armv7  cortex-m4f  cortex-m0plus  riscv64  riscv32  wasm32
  *     a plan            6,500    8,000  7,500       8,500          8,500    9,000    8,500   6,000
@@ -34,9 +37,10 @@
  *     a conversion      4,500    4,500  4,500       5,000          5,500    5,500    5,500   4,000
  *     a tour           17,500   18,000 17,500      19,500         19,800   19,900   19,500  16,000
  *
- * Time. The longest search, over six axes to refusal 9, takes 2 microseconds of a 2.5 GHz core, 10 where targets accelerate, and a tour
- * has one search a leg; the longest call, with a table of 4,097 rows of six axes, takes 0.2 ms. Where a controller has less time than
- * that in a turn, polgamir_search_job looks for the arrival, with a budget of candidates, and polgamir_plan_job_part writes some rows.
+ * Time. The longest search, over six axes to refusal 9, takes 2 microseconds of a 2.5 GHz core, 10 where targets
+ * accelerate, and a tour has one search a leg; the longest call, with a table of 4,097 rows of six axes, takes 0.2 ms.
+ * Where a controller has less time than that in a turn, polgamir_search_job looks for the arrival, with a budget of
+ * candidates, and polgamir_plan_job_part writes some rows.
  */
 #ifndef POLGAMIR_H
 #define POLGAMIR_H
