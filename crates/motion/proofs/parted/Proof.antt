@@ -1,15 +1,10 @@
-use Prim.Native.Nat.{ℕ, _+_, _-_, _/_, _<_, min}
-use mathlib.Core.Path.{_≡_, sym, _∙_}
+use Prim.Native.Nat.{_+_}
+use mathlib.Core.Path.{sym, _∙_}
 use native.Mathlib.Omega.{arith}
-use Rattle.motion.specs.declared.Span.{Span}
 use Rattle.motion.proofs.Halves.{lower-half, upper-half}
 use borrow.Author.Needs.{needs}
 use Rattle.motion.proofs.parted.Statement.{statement}
 use Rattle.motion.proofs.parted.Tie as tie
-
--- the end of the first part
-before-end : (s : Span) (step part : ℕ) → s .low < s .high → part ≡ min step ((s .high - s .low) / 2) → s .low + part < s .high
-before-end s step part h e = omega arith
 
 sub-lesser : tie.Need-sub-lesser
 sub-lesser c = search needs
@@ -28,7 +23,7 @@ returns c =
     let l = c .before .before .before .lesser in
     let a = c .before .before .before .before .before in
     let s = a .args .s in
-    lower-half (a .args .x) (a .pre .0) s (s .low + l .result) (omega arith) (before-end s (a .args .step) (l .result) (a .pre .1 .0) (l .ensures))
+    lower-half (a .args .x) (a .pre .0) s (s .low + l .result) (omega arith) (omega (arith, l .ensures, a .pre .1 .0))
     (sym (c .before .reaches .ensures) ∙ c .if1 .taken)
 
 add-t6 : tie.Need-add-t6
@@ -39,7 +34,7 @@ returns-2 c =
     let l = c .before .before .before .lesser in
     let a = c .before .before .before .before .before in
     let s = a .args .s in
-    upper-half (a .args .x) (a .pre .0) s (s .low + l .result) (omega arith) (before-end s (a .args .step) (l .result) (a .pre .1 .0) (l .ensures))
+    upper-half (a .args .x) (a .pre .0) s (s .low + l .result) (omega arith) (omega (arith, l .ensures, a .pre .1 .0))
     (a .pre .1 .1 .1) (sym (c .before .reaches .ensures) ∙ c .if1 .left)
 
 pub parted-spec : {M : Type 1} → statement M
