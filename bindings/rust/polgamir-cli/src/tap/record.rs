@@ -179,7 +179,10 @@ mod tests {
         let told = |text: &str, rate| read(text, rate, None).expect_err("no record");
         assert_eq!(told("1,2\n", None), "expected at least 16 samples, found 1");
         assert!(told(&lines(|index| index.to_string()), None).contains("`--rate`"));
-        assert_eq!(told(&lines(|_| "1 2".into()), Some(5.0)), "expected one column beside `--rate`, found 2");
+        assert_eq!(
+            told(&lines(|index| format!("{index} 2")), Some(5.0)),
+            "expected one column beside `--rate`, found 2"
+        );
         let back = lines(|index| format!("{} 2", if index == 9 { 4 } else { index }));
         assert_eq!(told(&back, None), "expected times that rise, found 4 after 8 in sample 10");
         assert_eq!(told(&lines(|_| "1 2".into()), None), "expected at least 16 samples, found 1");
