@@ -12,7 +12,7 @@ mod spectrum;
 mod tests;
 mod text;
 
-use fit::{Fit, Samples};
+use fit::{Fit, Samples, Swing};
 use part::Part;
 pub use picture::drawn;
 use record::Record;
@@ -21,6 +21,9 @@ pub use text::{lines, shown};
 
 /// How many standard deviations a spread goes to either side: more than 95 of 100 truths lie within.
 const WITHIN: f64 = 2.5;
+
+/// The least spread, by its number: clocks and poles are no better than that.
+const LEAST_SPREAD: f64 = 1e-4;
 
 /// How much of what is left of one sample may be seen in the next where nothing but noise is left.
 const MOST_FOLLOWING: f64 = 0.25;
@@ -86,30 +89,35 @@ pub fn read(text: &str, rate: Option<f64>, column: Option<usize>) -> Result<Tap,
 fn fitted(samples: &Samples) -> Result<Fit, String> {
     let told = "expected a swing, found nothing that stands out of the noise";
     let still = Fit::of_drift(samples).ok_or(told)?;
-    let one = still.with_one_more(samples).filter(|one| shows(&still, one, samples)).ok_or(told)?;
-    let two = one.with_one_more(samples).filter(|two| shows(&one, two, samples) && are_apart(two));
-    Ok(two.unwrap_or(one))
+    let one = still.with_one_more(samples).ok_or(told)?;
+    let two = one.with_one_more(samples).filter(|two| shows(&one, two, samples) && are_apart(two, samples));
+    let best = two.unwrap_or(one);
+    if shows(&still, &best, samples) {
+        Ok(best)
+    } else {
+        Err(told.into())
+    }
 }
 
-/// Whether a further swing takes so much away that noise cannot account for it: by the Bayesian information criterion, with a margin.
+/// Whether a further swing takes so much away that noise cannot account for it: by the Bayesian information criterion, with a margin. Noise that
+/// goes on from sample to sample makes fewer of them count.
 fn shows(without: &Fit, with: &Fit, samples: &Samples) -> bool {
-    let count = samples.times.len() as f64;
+    let follow = with.follows(samples).clamp(0.0, 0.99);
+    let count = samples.times.len() as f64 * (1.0 - follow) / (1.0 + follow);
     // A record without any noise leaves nothing but the rounding of its floats.
     let least = samples.values.iter().map(|value| value * value).sum::<f64>() * 1e-20;
     let gained = count * ((without.left + least) / (with.left + least)).ln();
-    gained > 4.0 * count.ln() + 10.0
+    gained > 4.0 * count.max(1.0).ln() + 10.0
 }
 
 /// Whether two swings are of two rates, both seen well, and none a small part of the other.
-fn are_apart(fit: &Fit) -> bool {
+fn are_apart(fit: &Fit, samples: &Samples) -> bool {
     let [one, other] = fit.swings[..] else { return false };
     let ratio = one.frequency / other.frequency;
-    let lasts = |decay: f64, frequency: f64| decay < frequency / 4.0;
+    let noise = fit.noise(samples);
+    let is_seen = |swing: &Swing| swing.swings_above(noise, samples.length()) >= LEAST_SWINGS;
     let sizes = one.size().min(other.size()) / one.size().max(other.size());
-    !(0.93..1.07).contains(&ratio)
-        && sizes > 0.02
-        && lasts(one.decay, one.frequency)
-        && lasts(other.decay, other.frequency)
+    !(0.93..1.07).contains(&ratio) && sizes > 0.02 && is_seen(&one) && is_seen(&other)
 }
 
 /// The samples before another push, with their fit.
@@ -214,11 +222,12 @@ fn rate(fit: &Fit, index: usize, covariance: &solve::Matrix, deviation: f64, noi
             + 2.0 * by_decay * by_frequency * covariance[decay][frequency];
         WITHIN * deviation * variance.max(0.0).sqrt()
     };
-    let half_period = Spread { value: half, within: spread(0.0, half / swing.frequency) };
-    let of_ratio = spread(-half * ratio, swing.decay * half * ratio / swing.frequency);
-    let lasts = match swing.decay > 0.0 {
-        true => ((swing.size() / noise.max(f64::MIN_POSITIVE)).ln() / swing.decay).clamp(0.0, length),
-        false => length,
-    };
-    Rate { half_period, ratio: Spread { value: ratio.min(1.0), within: of_ratio }, swings: lasts / (2.0 * half) }
+    let of_half = spread(0.0, half / swing.frequency).max(LEAST_SPREAD * half);
+    let half_period = Spread { value: half, within: of_half };
+    let of_ratio = spread(-half * ratio, swing.decay * half * ratio / swing.frequency).max(LEAST_SPREAD * ratio);
+    Rate {
+        half_period,
+        ratio: Spread { value: ratio.min(1.0), within: of_ratio },
+        swings: swing.swings_above(noise, length),
+    }
 }

@@ -32,6 +32,15 @@ impl Swing {
         self.cosine.hypot(self.sine)
     }
 
+    /// How many swings there and back stand above a noise, in a record of a length.
+    pub fn swings_above(&self, noise: f64, length: f64) -> f64 {
+        let lasts = match self.decay > 0.0 {
+            true => ((self.size() / noise.max(f64::MIN_POSITIVE)).ln() / self.decay).clamp(0.0, length),
+            false => length,
+        };
+        lasts / (2.0 * self.half_period())
+    }
+
     /// The deflection at a time, and how it moves with each of the four numbers.
     fn at(&self, time: f64) -> (f64, [f64; 4]) {
         let shrunk = (-self.decay * time).exp();

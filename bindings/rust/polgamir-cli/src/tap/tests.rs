@@ -47,8 +47,9 @@ impl Rate {
 #[derive(Debug, Clone)]
 struct Made {
     rates: Vec<Rate>,
-    /// The size of the noise.
+    /// The size of the noise, and how much of it goes on from sample to sample.
     noise: f64,
+    follows: f64,
     /// Seconds before the tap that are on the record; below 0 for a record that starts after it.
     before: f64,
     /// The recorder's limit.
@@ -67,6 +68,7 @@ impl Made {
         Made {
             rates: vec![Rate { half, ratio: random.within(0.65, 0.99), size: random.within(1.0, 9.0) }],
             noise: random.within(0.005, 0.05),
+            follows: 0.0,
             before: 0.0,
             limit: f64::MAX,
             samples: (random.within(10.0, 20.0) * half * rate) as usize,
@@ -82,14 +84,15 @@ impl Made {
         let strongest = if self.limit < f64::MAX { 0.005 } else { 0.1 };
         let (offset, drift) = (random.within(-50.0, 50.0), random.within(-strongest, strongest) * self.rates[0].size);
         let (phase, scale) = (random.within(0.0, 2.0 * PI), self.rates[0].size);
-        let mut text = String::from("time;deflection\n");
+        let (mut text, mut noise) = (String::from("time;deflection\n"), 0.0);
         for index in 0..self.samples {
             let time = (index as f64 + self.uneven * random.next()) / self.rate;
             let after = time - self.before;
             let phases = [if self.before > 0.0 { 0.0 } else { phase }, 0.3];
             let swing = |(rate, phase): (&Rate, f64)| if after < 0.0 { 0.0 } else { rate.at(after, phase) };
             let swing: f64 = self.rates.iter().zip(phases).map(swing).sum();
-            let value = sign * swing + drift * time + self.noise * scale * random.normal();
+            noise = self.follows * noise + (1.0 - self.follows.powi(2)).sqrt() * random.normal();
+            let value = sign * swing + drift * time + self.noise * scale * noise;
             let _ = writeln!(text, "{:.6};{:.6}", time + 7.0, offset + value.clamp(-self.limit, self.limit));
         }
         text
@@ -132,6 +135,12 @@ fn assert_found(seed: u64, make: impl Fn(&mut Random) -> Made) {
 #[test]
 fn a_pole_with_noise_is_found() {
     assert_found(0x5EED_0001, Made::drawn);
+}
+
+/// Noise that goes on from sample to sample, as behind a filter, neither narrows the spread nor passes for a second rate.
+#[test]
+fn a_pole_with_noise_that_goes_on_is_found() {
+    assert_found(0x5EED_0008, |random| Made { follows: random.within(0.3, 0.8), ..Made::drawn(random) });
 }
 
 #[test]
@@ -218,6 +227,7 @@ fn another_push_is_left_out() {
     let good = Made {
         rates: vec![Rate { half: 0.42, ratio: 0.9, size: 1.0 }],
         noise: 0.02,
+        follows: 0.0,
         before: 0.0,
         limit: f64::MAX,
         samples: 1200,
