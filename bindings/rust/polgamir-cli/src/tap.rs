@@ -142,7 +142,7 @@ fn before_a_push(all: &Fit, samples: &Samples) -> Option<Before> {
     if all.noise(samples) <= 2.0 * least {
         return None;
     }
-    let mut longest = begun.into_iter().filter(|before| noise(before) <= 1.5 * least).next_back()?;
+    let mut longest = begun.into_iter().rfind(|before| noise(before) <= 1.5 * least)?;
     // On by a quarter of a half period each time, as long as the end is left as small as the rest.
     while let Some(further) = beginning(longest.samples.length() + slowest / 4.0) {
         let rest = further.fit.rest(&further.samples);

@@ -87,8 +87,13 @@ mod tests {
     /// Quiet up to 2 s, then a swing of a period of 1 s on a slope: its strongest sample is one of the first two peaks, at 2.25 and 2.75 s.
     #[test]
     fn a_swing_starts_at_its_strongest_sample() {
-        let swing =
-            |time: f64| if time < 2.0 { 0.0 } else { (-(time - 2.0) * 0.3).exp() * (6.283 * (time - 2.0)).sin() };
+        let swing = |time: f64| {
+            if time < 2.0 {
+                0.0
+            } else {
+                (-(time - 2.0) * 0.3).exp() * (std::f64::consts::TAU * (time - 2.0)).sin()
+            }
+        };
         let part = used(&record(|time| 5.0 + 0.5 * time - swing(time))).expect("a part");
         assert!((part.start - 2.5).abs() < 0.3, "{}", part.start);
         assert_eq!((part.clipped, part.samples.times[0]), (0, 0.0));
@@ -97,7 +102,8 @@ mod tests {
     #[test]
     fn samples_at_the_limit_are_left_out() {
         let part =
-            used(&record(|time| (2.0 * (-time * 0.5).exp() * (6.283 * time).cos()).clamp(-1.0, 1.0))).expect("a part");
+            used(&record(|time| (2.0 * (-time * 0.5).exp() * (std::f64::consts::TAU * time).cos()).clamp(-1.0, 1.0)))
+                .expect("a part");
         assert!(part.clipped > 30, "{}", part.clipped);
         assert!(part.samples.values.iter().all(|value| value.abs() < 1.0));
         assert!(used(&record(|_| 4.0)).is_none());

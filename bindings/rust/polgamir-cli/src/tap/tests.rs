@@ -215,7 +215,7 @@ fn records_that_show_too_little_are_told() {
         .collect();
     let told = read(&gapped, None, None).expect_err("a gap");
     assert!(told.starts_with("expected samples in every half period of 0.5"), "{told}");
-    assert!(read(&"1 5\n2 5\n3 5\n4 5\n".repeat(1), None, None).expect_err("short").contains("at least 16"));
+    assert!(read("1 5\n2 5\n3 5\n4 5\n", None, None).expect_err("short").contains("at least 16"));
     let flat: String = (0..40).map(|index| format!("{index} 5\n")).collect();
     assert_eq!(read(&flat, None, None).expect_err("flat"), "expected a swing, found samples that are all the same");
 }
