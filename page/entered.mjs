@@ -5,6 +5,7 @@ import { amountsOf, onlyAmount, partsOfSecond, readUnit, splitNumber } from './a
 import { NUMBER_LINES, after, measureOf, ruleOf, sameWord } from './entries.mjs';
 import { targetHas } from './assembling.mjs';
 import { linesOf, wordsOf } from './reading.mjs';
+import { SheetError } from './worked.mjs';
 
 const TARGET_ENTRIES = ['target position', 'target velocity', 'target acceleration', 'target tick'];
 
@@ -224,6 +225,16 @@ function pushStops(entered, push, lines) {
     const positions = entered.axes.map((axis, place) => said(stop.positions[place] ?? field(), 'position', axis.unit.trim() || entered.unit.trim()));
     const text = `stop  ${positions.join('  ')}  dwell ${said(stop.dwell, 'time')}`;
     push(text, `stop.${index}`, { stop: { above: stop.marks.stop?.above, comment: stop.note.trim() } }, 'stop');
+  });
+}
+
+// What a sheet would take otherwise than the form means it: words in the place of a unit's size, which would be a part of its name.
+export function formErrors(entered, lines) {
+  const units = [['unit', entered], ...entered.axes.map((axis, index) => [`axis.${index}.unit`, axis])];
+  const isSize = size => readUnit([size, 'unit'])?.name === 'unit';
+  return units.filter(([, { size }]) => size.trim() && !isSize(size.trim())).map(([id, { size }]) => {
+    const line = lines.findIndex(line => line.id === id) + 1;
+    return new SheetError(line, 'a number above 0, or none for 1, before the name of a unit', `\`${size.trim()}\``);
   });
 }
 

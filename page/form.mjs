@@ -281,10 +281,11 @@ export class Form {
       const id = `stop.${index}`;
       const positions = entered.axes.map((axis, place) => {
         const name = axis.name.trim() || `axis ${axis.number}`, holder = stop.positions[place] ??= field('', 'unit');
-        return this.number(place === 0 ? id : `${id}.${place}`, `${name} of stop ${index}`, holder, 'position', axis.unit.trim() || entered.unit.trim(), true);
+        return this.number(`${id}.${place}`, `${name} of stop ${index}`, holder, 'position', axis.unit.trim() || entered.unit.trim(), true);
       });
       const remove = element('button', { type: 'button', class: 'quiet', onclick: () => this.rebuild(() => { entered.stops.splice(index, 1); }) }, `Remove stop ${index}`);
-      return element('fieldset', { class: 'stop' }, element('legend', {}, `Stop ${index}`), ...positions,
+      const message = element('p', { class: 'message', id: idOf(id, 'message') });
+      return element('fieldset', { class: 'stop' }, element('legend', {}, `Stop ${index}`), message, ...positions,
         this.number(id + '.dwell', `Stay at stop ${index}`, stop.dwell, 'time', ''), this.field(id + '.note', 'Note', this.text(id + '.note', stop, 'note', { placeholder: 'oak, breast height' })), remove);
     });
     const add = entered.stops.length <= MOST_STOPS && element('button', { type: 'button', id: 'add-stop', onclick: () => this.rebuild(() => this.pushStop()) }, 'Add a stop');

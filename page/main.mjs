@@ -3,7 +3,7 @@
 import { openLibrary } from './calls.mjs';
 import { errorsTold, jobTold, refusalTold, tourTold, withCode } from './answer.mjs';
 import { addressOf, csvOf, hexadecimalOf, sheetInAddress, wordsOfJob } from './carry.mjs';
-import { emptyEntered, enteredOf, field, linesEntered } from './entered.mjs';
+import { emptyEntered, enteredOf, field, formErrors, linesEntered } from './entered.mjs';
 import { Form, element, idOf } from './form.mjs';
 import { drawPanel, panelsOfJob, panelsOfTour, escaped } from './pictures.mjs';
 import { planOf } from './plan.mjs';
@@ -52,20 +52,24 @@ class Page {
     const marks = index === undefined ? this.form.entered.marks : this.form.entered.axes[index]?.marks;
     const name = index === undefined ? id : rest[0].replace(/\.(how|count|second|name)$/, '');
     if (marks?.[name]) marks[name].comment = '';
-    if (this.isDue) return;
+    if (!this.isDue) requestAnimationFrame(() => this.settle());
     this.isDue = true;
-    requestAnimationFrame(() => {
-      this.isDue = false;
-      this.say('');
-      this.update();
-    });
+  }
+
+  // Shows what has changed, if anything has.
+  settle() {
+    if (!this.isDue) return;
+    this.isDue = false;
+    this.say('');
+    this.update();
   }
 
   // Writes, reads, plans and shows.
   update() {
     const began = performance.now(), lines = linesEntered(this.form.entered);
     this.sheet = lines.map(({ text }) => text).join('\n') + '\n';
-    const { setup, errors } = readSheet(this.sheet);
+    const read = readSheet(this.sheet), wrong = [...formErrors(this.form.entered, lines), ...read.errors ?? []];
+    const errors = wrong.length ? wrong : null, setup = errors ? null : read.setup;
     Object.assign(this, { setup, plan: setup ? planOf(this.library, setup) : null, lines });
     this.showMessages(errors ?? []);
     const told = errors ? errorsTold(errors.map(error => ({ error, id: lines[error.line - 1]?.id })), id => this.nameOf(id)) : this.showPlan();
@@ -112,7 +116,12 @@ class Page {
     if (!message) return;
     message.innerHTML += (message.innerHTML && ' ') + html;
     message.classList.add(kind);
-    if (kind !== 'rounded') byId(idOf(id))?.setAttribute('aria-invalid', 'true');
+    if (kind === 'rounded') return;
+    // A stop is one line of several fields: those that begin with no number are the ones.
+    const numbers = [...message.closest('fieldset')?.querySelectorAll('[inputmode=decimal]') ?? []];
+    const wrong = byId(idOf(id)) ? [byId(idOf(id))] : numbers.filter(input => !/^\s*[+\-−–]?[0-9.]/.test(input.value));
+    for (const input of wrong) input.setAttribute('aria-invalid', 'true');
+    message.closest('details')?.setAttribute('open', '');
   }
 
   // At the axis or the stop that a refusal names, that it is the one.
@@ -240,7 +249,7 @@ class Page {
   // A button of the answer: to a field, or an arrival that would do.
   pressed(target) {
     const { go, arrival } = target.dataset ?? {};
-    if (go) (byId(idOf(go)) ?? byId(idOf(go, 'how')))?.focus();
+    if (go) (byId(idOf(go)) ?? byId(idOf(go, '0')) ?? byId(idOf(go, 'how')))?.focus();
     if (!arrival) return;
     const earliest = arrival === 'earliest';
     Object.assign(this.form.entered.arrival, earliest ? { how: 'earliest' } : { how: 'at', ...field(arrival, '') });

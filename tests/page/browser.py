@@ -41,6 +41,7 @@ class Browser:
         self.session = self.send('Target.attachToTarget', targetId=target['targetId'], flatten=True)['sessionId']
         for domain in ('Page', 'Runtime', 'Network', 'Log'):
             self.send(domain + '.enable')
+        self.send('Emulation.setFocusEmulationEnabled', enabled=True)
 
     def close(self):
         try:
