@@ -21,25 +21,65 @@ function pixel(value) {
   return Math.round(value * 10) / 10;
 }
 
-// The path of a curve: points (x of a place, y of a value). Many points in one column of pixels become its first, least and greatest.
-export function pathOf(ticks, values, x, y, isStepped = false) {
-  const count = values.length, tickAt = place => ticks ? ticks[place] : place;
-  if (count > 2 * (x.to - x.from)) return thinPath(ticks, values, x, y);
-  let path = '';
-  for (let place = 0; place < count; place++) {
-    const at = pixel(x(tickAt(place))), value = pixel(y(values[place]));
-    path += place === 0 ? `M${at} ${value}` : isStepped ? `H${at}V${value}` : `L${at} ${value}`;
+// How far a drawn line may be from the curve, in pixels.
+const OFF = 0.25;
+
+// A path of straight lines that is put together point by point: a point that stays within OFF of a line drawn past it is left out.
+class Line {
+  constructor(x, y) {
+    this.path = `M${pixel(x)} ${pixel(y)}`;
+    this.begin(x, y);
   }
-  return path;
+
+  begin(x, y) {
+    Object.assign(this, { fromX: x, fromY: y, x, y, least: -Infinity, greatest: Infinity });
+  }
+
+  to(x, y) {
+    const across = x - this.fromX, slope = (y - this.fromY) / across;
+    if (this.x !== this.fromX && (across <= 0 || slope < this.least || slope > this.greatest)) {
+      this.path += ` ${pixel(this.x)} ${pixel(this.y)}`;
+      this.begin(this.x, this.y);
+      return this.to(x, y);
+    }
+    if (across <= 0) {
+      this.path += ` ${pixel(x)} ${pixel(y)}`;
+      return this.begin(x, y);
+    }
+    this.least = Math.max(this.least, (y - OFF - this.fromY) / across);
+    this.greatest = Math.min(this.greatest, (y + OFF - this.fromY) / across);
+    this.x = x;
+    this.y = y;
+  }
+
+  end() {
+    return this.x === this.fromX ? this.path : `${this.path} ${pixel(this.x)} ${pixel(this.y)}`;
+  }
 }
 
-function thinPath(ticks, values, x, y) {
-  const parts = [];
+// The path of a curve: points (x of a place, y of a value). Of many points in one column of pixels, its extreme and its last are drawn.
+export function pathOf(ticks, values, x, y, isStepped = false) {
+  const count = values.length, isThin = count > 2 * (x.to - x.from), line = new Line(x(ticks ? ticks[0] : 0), y(values[0]));
+  if (isThin) return thinPath(line, ticks, values, x, y);
+  for (let place = 1; place < count; place++) {
+    const at = x(ticks ? ticks[place] : place);
+    if (isStepped && values[place] !== values[place - 1]) line.to(at, y(values[place - 1]));
+    line.to(at, y(values[place]));
+  }
+  return line.end();
+}
+
+function thinPath(line, ticks, values, x, y) {
   let column = -1, least = 0, greatest = 0, last = 0;
+  const draw = () => {
+    const far = greatest - last > last - least ? greatest : least;
+    if (far !== last) line.to(column, y(far));
+    line.to(column + (far === last ? 0 : 0.5), y(last));
+  };
   for (let place = 0; place < values.length; place++) {
     const value = values[place], here = x(ticks ? ticks[place] : place) | 0;
     if (here !== column) {
-      if (column >= 0) parts.push(columnPath(column, least, greatest, last, y));
+      if (column >= 0) draw();
       column = here;
       least = greatest = value;
     } else if (value < least) {
@@ -49,15 +89,8 @@ function thinPath(ticks, values, x, y) {
     }
     last = value;
   }
-  parts.push(columnPath(column, least, greatest, last, y));
-  return 'M' + parts.join('L');
-}
-
-// The points of a column: its end comes last, so that the curve goes on from there.
-function columnPath(column, least, greatest, last, y) {
-  if (least === greatest) return `${column} ${pixel(y(last))}`;
-  const far = greatest - last > last - least ? greatest : least;
-  return `${column} ${pixel(y(far))}L${column} ${pixel(y(last))}`;
+  draw();
+  return line.end();
 }
 
 // The least and the greatest of lists of numbers.

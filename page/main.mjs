@@ -79,9 +79,14 @@ class Page {
     byId('plan').hidden = !this.plan?.ok;
     for (const id of ['save-csv', 'save-words']) byId(id).disabled = !this.plan?.ok || id === 'save-words' && this.setup.kind === 'tour';
     byId('text').value = this.sheet;
-    byId('paper').textContent = this.sheet;
     this.took = performance.now() - began;
     this.keepAddress();
+  }
+
+  // What is printed beside the answer and the pictures: the sheet, and the first and last rows.
+  fillPaper() {
+    byId('paper').textContent = this.sheet;
+    byId('paper-rows').innerHTML = this.plan?.ok ? `<thead>${headingOf(this.table)}</thead><tbody>${rowsOnPaper(this.table)}</tbody>` : '';
   }
 
   keepAddress() {
@@ -165,7 +170,7 @@ class Page {
   }
 
   draw() {
-    const place = byId('pictures'), room = byId('results').clientWidth || 358;
+    const place = byId('pictures'), room = this.room ??= byId('results').clientWidth || 358;
     const columns = room >= 620 ? 2 : 1, width = Math.max(280, Math.floor(room / columns) - 16), time = this.timeOf();
     place.className = columns === 2 ? 'two' : 'one';
     place.innerHTML = this.panels.map(({ title, panels }) =>
@@ -183,7 +188,6 @@ class Page {
     byId('tick').max = this.table.count - 1;
     byId('rows').setAttribute('aria-rowcount', this.table.count + 2);
     byId('rows').tHead.innerHTML = headingOf(this.table);
-    byId('paper-rows').innerHTML = `<thead>${headingOf(this.table)}</thead><tbody>${rowsOnPaper(this.table)}</tbody>`;
     this.showRow(this.tick, false);
   }
 
@@ -197,15 +201,19 @@ class Page {
       const { left, right, top } = svg.dataset, x = +left + (right - left) * at / this.plan.last;
       svg.querySelector('.cursor').setAttribute('d', `M${x.toFixed(1)} ${top}v104`);
     }
-    const scroller = byId('scroller');
-    if (brings) scroller.scrollTop = Math.max(0, this.tick * ROW_HEIGHT - scroller.clientHeight / 2);
+    this.brings ||= brings;
     this.showRows();
   }
 
+  // Makes the rows in sight; a table that is out of sight has them made when it comes into it.
   showRows() {
-    const scroller = byId('scroller'), body = byId('rows').tBodies[0];
-    body.innerHTML = rowsInSight(this.table, scroller.scrollTop, scroller.clientHeight || 320, this.tick);
+    if (!this.seesTable) return;
+    const scroller = byId('scroller'), body = byId('rows').tBodies[0], height = scroller.clientHeight || 320;
+    const top = this.brings ? Math.max(0, this.tick * ROW_HEIGHT - height / 2) : scroller.scrollTop;
+    body.innerHTML = rowsInSight(this.table, top, height, this.tick);
     for (const filler of body.querySelectorAll('.filler')) filler.style.height = `${filler.dataset.rows * ROW_HEIGHT}px`;
+    if (this.brings) scroller.scrollTop = top;
+    this.brings = false;
   }
 
   // The tick of a place on a picture.
@@ -242,8 +250,17 @@ class Page {
     on('print', 'click', () => print());
     on('new', 'click', () => this.form.show(emptyEntered()));
     on('use-text', 'click', () => this.take(byId('text').value, 'The text'));
+    addEventListener('beforeprint', () => this.fillPaper());
+    new IntersectionObserver(([{ isIntersecting }]) => {
+      this.seesTable = isIntersecting;
+      if (this.plan?.ok) this.showRows();
+    }).observe(byId('scroller'));
     addEventListener('hashchange', () => this.address());
-    addEventListener('resize', () => { if (this.plan?.ok) { this.draw(); this.showRow(this.tick, false); } });
+    addEventListener('resize', () => {
+      this.room = null;
+      if (this.plan?.ok) this.draw();
+      if (this.plan?.ok) this.showRow(this.tick, false);
+    });
   }
 
   // A button of the answer: to a field, or an arrival that would do.

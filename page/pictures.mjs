@@ -17,7 +17,9 @@ export function escaped(text) {
 
 // A list times a factor.
 function scaled(list, by) {
-  return Float64Array.from(list, value => value * by);
+  const made = new Float64Array(list.length);
+  for (let place = 0; place < list.length; place++) made[place] = list[place] * by;
+  return made;
 }
 
 // The panels of each axis of a job: { title, panels, sways }.
@@ -33,9 +35,9 @@ export function panelsOfJob(setup, plan) {
       limit: at === 0 ? null : Number(axis[at === 1 ? 'speed limit' : 'acceleration limit']) * measures.sizes[at],
     }));
     const poles = polesOf(axis, enteredPeriods(setup.notes, number, axis)), sways = [];
-    const pushes = source => scaled(source[number].acceleration, measures.sizes[0] / FINE_STEPS);
+    const [pushes, bare] = [rows, unblended?.rows].map(source => source && scaled(source[number].acceleration, measures.sizes[0] / FINE_STEPS));
     for (const pole of poles) {
-      const sway = swayOf(pole, pushes(rows), last), without = unblended?.rows ? swayOf(pole, pushes(unblended.rows), last) : null;
+      const sway = swayOf(pole, pushes, last), without = bare ? swayOf(pole, bare, last) : null;
       sways.push({ name: pole.name, left: sway.left, without: without?.left ?? null, measure: measures.name });
       panels.push(swayPanel(pole, sway, without, measures, unblended));
     }

@@ -207,7 +207,7 @@ def run_all(chromium, page, texts, polgamir, scratch, keep):
     import looks
     tried = Tried(chromium, page, texts, polgamir, scratch)
     try:
-        for check in (first_sight, every_refusal, other_arrivals, a_tour, sheets_saved_and_opened, addresses,
+        for check in (first_sight, every_field, every_refusal, other_arrivals, a_tour, sheets_saved_and_opened, addresses,
                       looks.on_a_phone, looks.by_keyboard, looks.for_a_screen_reader, looks.dark_and_light, looks.numbers_past_every_range,
                       looks.on_paper, looks.speed, looks.nothing_leaves):
             began = time.monotonic()

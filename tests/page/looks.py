@@ -30,6 +30,8 @@ def on_a_phone(t):
     t.settle()
     tick = int(re.search(r'tick (\d+)', t.text('row')).group(1))
     assert 50 < tick < 100, t.text('row')
+    t.browser.evaluate("document.getElementById('scroller').scrollIntoView()")
+    t.browser.wait("Boolean(document.querySelector('#rows .marked'))")
     marked = t.browser.evaluate("document.querySelector('#rows .marked th').innerText")
     assert marked == str(tick), f'row {marked} is marked at tick {tick}'
     assert f'Row at tick {tick}' in t.text('row')
@@ -150,17 +152,29 @@ def on_paper(t):
         data = path.read_bytes()
         pages = len(re.findall(rb'/Type\s*/Page\b', data))
         assert 1 <= pages <= most, f'{pages} pages'
+        assert t.browser.evaluate("document.getElementById('paper-rows').rows.length > 10 && document.getElementById('paper').textContent === polgamirPage.sheet")
 
 
 def speed(t):
-    """Six axes to 4,096 rows, planned and drawn at each letter. The bound is far off, for the machine may be busy."""
+    """Six axes to 4,096 rows, written, read, planned, drawn and laid out as at each letter: the processor's time, which a busy machine
+    stretches less than a clock's. The bound is far off all the same."""
     t.open()
     t.take(SIX_AXES)
-    times = t.browser.evaluate('''(async () => { const times = [];
-        for (let i = 0; i < 25; i++) { polgamirPage.update(); times.push(polgamirPage.took); await new Promise(requestAnimationFrame); }
-        return times; })()''')
-    times = sorted(times[5:])
-    print(f'page: six axes to 4,096 rows: {times[0]:.0f} ms at best, {times[len(times) // 2]:.0f} ms in the middle (50 is the aim)')
+    t.browser.send('Performance.enable', timeDomain='threadTicks')
+
+    def spent():
+        return {one['name']: one['value'] for one in t.browser.send('Performance.getMetrics')['metrics']}['TaskDuration']
+
+    letter = "polgamirPage.changed('f-axis-0-start-position'), new Promise(done => requestAnimationFrame(() => setTimeout(() => done(polgamirPage.took))))"
+    times, clocks = [], []
+    for _ in range(20):
+        before = spent()
+        clocks.append(t.browser.evaluate(letter))
+        times.append(1000 * (spent() - before))
+    t.browser.send('Performance.disable')
+    times, clocks = sorted(times[5:]), sorted(clocks[5:])
+    middle = len(times) // 2
+    print(f'page: six axes to 4,096 rows take {times[middle]:.0f} ms of the processor, {times[0]:.0f} at best ({clocks[middle]:.0f} and {clocks[0]:.0f} by the clock; 50 is the aim)')
     assert times[0] < 250, times
 
 
