@@ -85,6 +85,7 @@ class Page {
 
   // What is printed beside the answer and the pictures: the sheet, and the first and last rows.
   fillPaper() {
+    byId('answer').querySelector('details.notes')?.setAttribute('open', '');
     byId('paper').textContent = this.sheet;
     byId('paper-rows').innerHTML = this.plan?.ok ? `<thead>${headingOf(this.table)}</thead><tbody>${rowsOnPaper(this.table)}</tbody>` : '';
   }
