@@ -1,4 +1,5 @@
-// Numbers as they are written on a sheet, each with the measure that stands after it, and what a tick and a unit stand for.
+// Numbers as they are written on a sheet, each with the measure that stands after it, and what a tick and a unit
+// stand for.
 
 import { Fraction } from './fraction.mjs';
 
@@ -28,7 +29,8 @@ function withHyphens(text) {
   return text.replace(new RegExp(`[${MINUS}]`, 'g'), '-');
 }
 
-// The amounts that words say, one after the other: { text, digits, measure }; null where they do not begin with a number.
+// The amounts that words say, one after the other: { text, digits, measure }; null where they do not begin with a
+// number.
 export function amountsOf(words) {
   const found = [];
   for (const word of words) {
@@ -37,7 +39,8 @@ export function amountsOf(words) {
       found.push({ text: word, digits: number.digits, measure: number.rest.toLowerCase() });
     } else if (last) {
       last.text += ' ' + word;
-      last.measure = ((last.measure && last.measure + ' ') + word.toLowerCase()).replaceAll(' /', '/').replaceAll('/ ', '/');
+      last.measure = ((last.measure && last.measure + ' ') + word.toLowerCase()).replaceAll(' /', '/').replaceAll('/ ',
+        '/');
     } else {
       return null;
     }
@@ -76,7 +79,8 @@ function singular(name) {
 
 // Whether an amount is in a unit, with one of the endings of its quantity.
 export function isInUnit(amount, name, endings) {
-  return endings.some(ending => amount.measure.endsWith(ending) && isName(amount.measure.slice(0, amount.measure.length - ending.length), name));
+  return endings.some(ending => amount.measure.endsWith(ending) &&
+    isName(amount.measure.slice(0, amount.measure.length - ending.length), name));
 }
 
 // A whole number of 32 bits from 0 up, as a BigInt, or null.

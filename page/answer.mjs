@@ -18,32 +18,38 @@ export function withCode(text) {
 // The big line: seconds where they are known, and ticks.
 function bigTime(setup, ticks) {
   const tick = setup.worked.tick?.exact;
-  return tick ? `<strong>${Fraction.whole(ticks).times(tick).shown(9)} s</strong> <span>tick ${ticks}</span>` : `<strong>tick ${ticks}</strong>`;
+  return tick ? `<strong>${Fraction.whole(ticks).times(tick).shown(9)} s</strong> <span>tick ${ticks}</span>`
+    : `<strong>tick ${ticks}</strong>`;
 }
 
 // The answer of entries that cannot be read.
 export function errorsTold(errors, nameOf) {
   const first = errors.slice(0, 6).map(({ error, id }) => {
     const what = `expected ${error.expected}, found ${error.found}`;
-    return `<li><button type="button" class="link" data-go="${escaped(id ?? '')}">${escaped(nameOf(id))}</button>: ${withCode(what)}</li>`;
+    const button = `<button type="button" class="link" data-go="${escaped(id ?? '')}">${escaped(nameOf(id))}</button>`;
+    return `<li>${button}: ${withCode(what)}</li>`;
   });
   const more = errors.length > 6 ? `<li>and ${errors.length - 6} more</li>` : '';
-  const count = errors.length === 1 ? 'One entry is missing or cannot be read' : `${errors.length} entries are missing or cannot be read`;
+  const count = errors.length === 1 ? 'One entry is missing or cannot be read'
+    : `${errors.length} entries are missing or cannot be read`;
   return { verdict: '<strong>Not planned yet</strong>', rest: `<p>${count}:</p><ul>${first.join('')}${more}</ul>` };
 }
 
 // The answer of a refused job or tour. `text` is the header's of the number.
 export function refusalTold(setup, told, text) {
   const buttons = [];
-  if (told.number === 8 && told.next !== null && told.least < Number(setup.job?.asked ?? 0)) buttons.push(arrivalButton(setup, told.next));
+  if (told.number === 8 && told.next !== null &&
+    told.least < Number(setup.job?.asked ?? 0)) buttons.push(arrivalButton(setup, told.next));
   if (told.number === 8 && told.least !== null) buttons.push(arrivalButton(setup, told.least));
   if ((told.number === 8 && told.least !== null || told.number === 3) && setup.kind === 'job') {
     buttons.push('<button type="button" data-arrival="earliest">Arrive as early as possible</button>');
   }
   const raises = told.raises.length && setup.kind === 'job'
-    ? `<p>Or, to keep ${tickTold(setup, Number(setup.job.asked))}, raise as far as the motors allow:</p><ul>${told.raises.map(raise => `<li>${escaped(raise)}</li>`).join('')}</ul>` : '';
+    ? `<p>Or, to keep ${tickTold(setup, Number(setup.job.asked))}, raise as far as the motors allow:</p>${listOf(told.raises)}`
+    : '';
   const verdict = `<strong>${escaped(told.sentence.replace(/^(No plan[^:]*): .*/s, '$1'))}</strong>`;
-  return { verdict, rest: `<p class="cause">${escaped(capital(told.sentence.replace(/^No plan[^:]*: /, '')))}</p><p>${escaped(told.remedy)}</p>` +
+  const cause = escaped(capital(told.sentence.replace(/^No plan[^:]*: /, '')));
+  return { verdict, rest: `<p class="cause">${cause}</p><p>${escaped(told.remedy)}</p>` +
     `<div class="buttons">${buttons.join('')}</div>${raises}` +
     `<p class="number">Refusal ${told.number}: ${escaped(text)}.</p>` };
 }
@@ -58,39 +64,52 @@ function capital(text) {
 
 // The answer of an accepted job.
 export function jobTold(setup, plan, panels) {
-  const why = setup.job.asked === 0n ? (setup.job.windows ? 'the earliest that fits a window' : 'the earliest') : 'as asked';
-  const without = plan.unblended?.arrival !== undefined ? ` Without the blend it would be ${tickTold(setup, plan.unblended.arrival)}.` : '';
+  const why = setup.job.asked === 0n ? (setup.job.windows ? 'the earliest that fits a window' : 'the earliest')
+    : 'as asked';
+  const without = plan.unblended?.arrival !== undefined
+    ? ` Without the blend it would be ${tickTold(setup, plan.unblended.arrival)}.` : '';
   const axes = panels.map(({ number, sways }) => axisTold(setup, number, rangeOf(plan.rows[number]), sways));
   const verdict = `<em>Arrives at</em> ${bigTime(setup, plan.arrival)} <span>${why}</span>`;
-  return { verdict, rest: `<ul class="facts">${axes.join('')}</ul><p class="small">${SWAY} ${NOT_LIMITED}${without}</p>${notesTold(setup)}` };
+  const small = `<p class="small">${SWAY} ${NOT_LIMITED}${without}</p>`;
+  return { verdict, rest: `<ul class="facts">${axes.join('')}</ul>${small}${notesTold(setup)}` };
 }
 
 // What an axis does: how far it goes, and what is left of its sway.
 function axisTold(setup, number, { least, greatest }, sways) {
   const { fine, name } = measuresOf(setup, number), shown = cell => shownFloat(cell * fine[0], 9);
   const told = sways.map(({ name: sway, left, without }) =>
-    `${sway} left ${swayTold(left)} ${escaped(name)}${without === null ? '' : ` (without the blend ${swayTold(without)})`}`);
-  return `<li><b>${escaped(called(setup, number))}</b> from ${shown(least)} to ${shown(greatest)} ${escaped(name)}${told.length ? '; ' + told.join('; ') : ''}</li>`;
+    `${sway} left ${swayTold(left)} ${escaped(name)}` + (without === null ? '' : ` (without the blend ${swayTold(without)})`));
+  const range = `from ${shown(least)} to ${shown(greatest)} ${escaped(name)}`;
+  return `<li><b>${escaped(called(setup, number))}</b> ${[range, ...told].join('; ')}</li>`;
 }
 
 // The answer of an accepted tour.
 export function tourTold(setup, plan, panels) {
   const axes = panels.map(({ number, sways }) => {
     const ranges = plan.legs.map(leg => rangeOf(leg.rows[number]));
-    const range = { least: Math.min(...ranges.map(range => range.least)), greatest: Math.max(...ranges.map(range => range.greatest)) };
+    const range = { least: Math.min(...ranges.map(range => range.least)),
+      greatest: Math.max(...ranges.map(range => range.greatest)) };
     return axisTold(setup, number, range, sways);
   });
-  const rows = plan.legs.map(leg => `<tr><th scope="row">${leg.index}</th><td>${leg.arrival}${secondsTold(setup, leg.arrival)}</td>` +
-    `<td>${leg.dwell}${secondsTold(setup, leg.dwell)}</td><td>${leg.arrival + leg.dwell}${secondsTold(setup, leg.arrival + leg.dwell)}</td></tr>`);
+  const cell = ticks => `<td>${ticks}${secondsTold(setup, ticks)}</td>`;
+  const rows = plan.legs.map(({ index, arrival, dwell }) =>
+    `<tr><th scope="row">${index}</th>${cell(arrival)}${cell(dwell)}${cell(arrival + dwell)}</tr>`);
+  const heading = ['stop', 'arrival', 'dwell', 'departure'].map(name => `<th scope="col">${name}</th>`).join('');
   const stops = `${plan.legs.length} ${plan.legs.length === 1 ? 'stop' : 'stops'}`;
   const verdict = `<em>The tour takes</em> ${bigTime(setup, plan.total)} <span>${stops}</span>`;
-  return { verdict, rest: `<div class="scroll"><table class="stops"><thead><tr><th scope="col">stop</th><th scope="col">arrival</th><th scope="col">dwell</th><th scope="col">departure</th></tr></thead>` +
-    `<tbody>${rows.join('')}</tbody></table></div><ul class="facts">${axes.join('')}</ul><p class="small">${SWAY} ${NOT_LIMITED}</p>${notesTold(setup)}` };
+  return { verdict, rest: `<div class="scroll"><table class="stops"><thead><tr>${heading}</tr></thead>` +
+    `<tbody>${rows.join('')}</tbody></table></div><ul class="facts">${axes.join('')}</ul>` +
+    `<p class="small">${SWAY} ${NOT_LIMITED}</p>${notesTold(setup)}` };
 }
 
 // What was rounded on entry.
 function notesTold(setup) {
   if (!setup.notes.length) return '';
   const count = setup.notes.length === 1 ? '1 entry was rounded' : `${setup.notes.length} entries were rounded`;
-  return `<details class="notes"><summary>${count}</summary><ul>${setup.notes.map(note => `<li>${escaped(capital(noteTold(note)))}.</li>`).join('')}</ul></details>`;
+  const sentences = setup.notes.map(note => `${capital(noteTold(note))}.`);
+  return `<details class="notes"><summary>${count}</summary>${listOf(sentences)}</details>`;
+}
+
+function listOf(texts) {
+  return `<ul>${texts.map(text => `<li>${escaped(text)}</li>`).join('')}</ul>`;
 }

@@ -1,4 +1,5 @@
-// Putting a setup together from what was read of a sheet: the job or the tour, and what is lacking or does not belong to it.
+// Putting a setup together from what was read of a sheet: the job or the tour, and what is lacking or does not belong
+// to it.
 
 import { SheetError } from './worked.mjs';
 import { DAMPING, TOUR_ENTRIES, STOP } from './entries.mjs';
@@ -24,7 +25,8 @@ export function jobOf(reading) {
     job.axes[draft.number] = jobAxis(reading, draft);
     reading.worked.weigh(draft.number, job.axes[draft.number]);
   }
-  if (reading.arrival === null) reading.endsWithout('`arrival earliest`, `arrival` with a tick, or the `stop` of a tour');
+  const lacking = '`arrival earliest`, `arrival` with a tick, or the `stop` of a tour';
+  if (reading.arrival === null) reading.endsWithout(lacking);
   else job.asked = reading.arrival;
   if (!reading.dwellLine && reading.windowLines.length) {
     reading.fault(reading.windowLines[0], '`dwell` beside `window`', 'none on the sheet');
@@ -45,12 +47,14 @@ function limitsOf(reading, draft) {
   const axis = { 'half period': numberOf(reading, draft, 'half period'), damping: draft.damping ?? NO_DAMPING };
   if (!draft.damping) reading.fault(draft.line, `${DAMPING} for axis ${draft.number}`, NONE);
   if (draft.lines['second half period']) axis['second half period'] = draft.entries['second half period'];
-  for (const name of ['speed limit', 'acceleration limit', 'start position']) axis[name] = numberOf(reading, draft, name);
+  for (const name of ['speed limit', 'acceleration limit', 'start position']) axis[name] = numberOf(reading, draft,
+    name);
   return axis;
 }
 
 function jobAxis(reading, draft) {
-  const axis = { ...limitsOf(reading, draft), 'start velocity': numberOf(reading, draft, 'start velocity'), target: 'still' };
+  const axis = { ...limitsOf(reading, draft), 'start velocity': numberOf(reading, draft, 'start velocity'),
+    target: 'still' };
   if (!draft.target) reading.fault(draft.line, `\`target still\` or \`target moving\` for axis ${draft.number}`, NONE);
   if (!draft.target || !draft.target.kind) return { ...axis, 'target position': 0n };
   const { kind, line } = draft.target;
@@ -97,7 +101,8 @@ function positionsOf(reading, stop, index, axes) {
   }
   entered.forEach((number, place) => {
     const amount = stop.positions[place], whose = `stop ${index}, ${titleOf(reading.names, number)}`;
-    const at = { line: stop.line, axis: number, entry: 'start position', whose, name: 'position', entered: amount.text, expected: STOP };
+    const at = { line: stop.line, axis: number, entry: 'start position', whose, name: 'position', entered: amount.text,
+      expected: STOP };
     positions[number] = reading.worked.whole(at, amount) ?? 0n;
   });
   return positions;

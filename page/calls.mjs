@@ -1,4 +1,5 @@
-// The calls of the proved library, which planned everything that the page shows. bindings/c/layout.h has every field's place.
+// The calls of the proved library, which planned everything that the page shows. bindings/c/layout.h has every
+// field's place.
 
 export const AXES = 6;
 export const FINE_STEPS = 256;
@@ -135,7 +136,8 @@ class Library {
 
   writeAxis(at, axis) {
     const view = this.view;
-    const numbers = ['start position', 'start velocity', 'target position', 'target velocity', 'target acceleration', 'target tick'];
+    const numbers = ['start position', 'start velocity', 'target position', 'target velocity', 'target acceleration',
+      'target tick'];
     numbers.forEach((name, place) => view.setBigInt64(at + 8 * place, axis[name] ?? 0n, true));
     view.setUint32(at + 48, axis.target === 'moving' ? 1 : 0, true);
     this.writeLimits(at + 52, axis);

@@ -20,18 +20,22 @@ export function csvOf(setup, plan, version, name) {
   const made = `# polgamir ${version} from ${name.replace(/[\u0000-\u001f\u007f-\u009f]/g, '')}: `;
   const told = isJob ? `arrival ${plan.arrival}` : `${plan.legs.length} stops, total ${plan.total}`;
   const heading = isJob ? ['tick'] : ['stop', 'row', 'tick'];
-  for (const number of numbers) heading.push(...COLUMNS.map(column => csvField(`${titleOf(setup.names, number)} ${column}`)));
+  for (const number of numbers) heading.push(...COLUMNS.map(column =>
+    csvField(`${titleOf(setup.names, number)} ${column}`)));
   const lines = [`${made}${told}, in fine steps of 1/256 unit`, heading.join(',')];
-  const push = (places, rows, tick) => lines.push([...places, ...numbers.flatMap(number => COLUMNS.map(column => rows[number][column][tick]))].join(','));
+  const push = (places, rows, tick) => lines.push([...places,
+    ...numbers.flatMap(number => COLUMNS.map(column => rows[number][column][tick]))].join(','));
   if (isJob) for (let tick = 0; tick <= plan.arrival; tick++) push([tick], plan.rows, tick);
-  else for (const leg of plan.legs) for (let row = 0; row <= leg.ticks; row++) push([leg.index, row, leg.departure + row], leg.rows, row);
+  else for (const leg of plan.legs) for (let row = 0; row <= leg.ticks; row++) push([leg.index, row,
+    leg.departure + row], leg.rows, row);
   return lines.join('\n') + '\n';
 }
 
 const PAYLOAD = 2n ** 28n - 1n, ONE_WORD = 2n ** 27n;
 
-// The words of a job, or { error } where words cannot say it. A measured damping has the weight that the planner works out from it; the
-// page asks the library for the plan of the words and hands them out where it is that of the job.
+// The words of a job, or { error } where words cannot say it. A measured damping has the weight that the planner
+// works out from it; the page asks the library for the plan of the words and hands them out where it is that of the
+// job.
 export function wordsOfJob(job) {
   if (job.windows) return { error: 'The job has windows, and job words have none.' };
   const words = [], error = axisNumbers(job.axes).find(number => weightOf(job.axes[number].damping) === null);
@@ -76,14 +80,16 @@ const ADDRESS = '#sheet=';
 // A sheet as the last part of an address.
 export function addressOf(sheet) {
   const lines = sheet.split('\n').map(line => line.trim().replace(/ +/g, ' ')).filter(line => line);
-  const bytes = new TextEncoder().encode(lines.join('\n') + '\n'), signs = Array.from(bytes, byte => String.fromCharCode(byte)).join('');
+  const bytes = new TextEncoder().encode(lines.join('\n') + '\n'),
+    signs = Array.from(bytes, byte => String.fromCharCode(byte)).join('');
   return ADDRESS + btoa(signs).replaceAll('+', '-').replaceAll('/', '_').replace(/=+$/, '');
 }
 
 // The sheet in the last part of an address: null where there is none, { error } where it is no text.
 export function sheetInAddress(hash) {
   if (!hash || hash === '#') return null;
-  if (!hash.startsWith(ADDRESS)) return { error: `The address has \`${hash.slice(0, 40)}\` at its end, which is no job.` };
+  const error = `The address has \`${hash.slice(0, 40)}\` at its end, which is no job.`;
+  if (!hash.startsWith(ADDRESS)) return { error };
   try {
     const signs = atob(hash.slice(ADDRESS.length).replaceAll('-', '+').replaceAll('_', '/'));
     const bytes = Uint8Array.from(signs, sign => sign.charCodeAt(0));

@@ -11,7 +11,8 @@ export function roundValues(scale, count, smallest = 0) {
   const wanted = (scale.greatest - scale.least) / count, power = 10 ** Math.floor(Math.log10(wanted));
   const step = Math.max([1, 2, 5, 10].map(by => by * power).find(step => step >= wanted * 0.999) ?? power, smallest);
   const values = [];
-  for (let at = Math.ceil(scale.least / step - 1e-9); at * step <= scale.greatest + step * 1e-9 && values.length < 50; at++) values.push(at * step);
+  for (let at = Math.ceil(scale.least / step - 1e-9); at * step <= scale.greatest + step * 1e-9 &&
+    values.length < 50; at++) values.push(at * step);
   const decimals = Math.max(0, Math.min(12, -Math.floor(Math.log10(step) + 1e-9)));
   return { values, label: value => (Math.abs(value) < step / 1e6 ? 0 : value).toFixed(decimals) };
 }
@@ -24,7 +25,8 @@ function pixel(value) {
 // How far a drawn line may be from the curve, in pixels.
 const OFF = 0.25;
 
-// A path of straight lines that is put together point by point: a point that stays within OFF of a line drawn past it is left out.
+// A path of straight lines that is put together point by point: a point that stays within OFF of a line drawn past it
+// is left out.
 class Line {
   constructor(x, y) {
     this.path = `M${pixel(x)} ${pixel(y)}`;
@@ -57,9 +59,11 @@ class Line {
   }
 }
 
-// The path of a curve: points (x of a place, y of a value). Of many points in one column of pixels, its extreme and its last are drawn.
+// The path of a curve: points (x of a place, y of a value). Of many points in one column of pixels, its extreme and
+// its last are drawn.
 export function pathOf(ticks, values, x, y, isStepped = false) {
-  const count = values.length, isThin = count > 2 * (x.to - x.from), line = new Line(x(ticks ? ticks[0] : 0), y(values[0]));
+  const count = values.length, isThin = count > 2 * (x.to - x.from),
+    line = new Line(x(ticks ? ticks[0] : 0), y(values[0]));
   if (isThin) return thinPath(line, ticks, values, x, y);
   for (let place = 1; place < count; place++) {
     const at = x(ticks ? ticks[place] : place);

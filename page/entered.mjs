@@ -1,5 +1,5 @@
-// What is entered in the form, and the sheet that says it: every entry of a sheet has its field, and every line of the sheet that is
-// written belongs to one.
+// What is entered in the form, and the sheet that says it: every entry of a sheet has its field, and every line of
+// the sheet that is written belongs to one.
 
 import { amountsOf, onlyAmount, partsOfSecond, readUnit, splitNumber } from './amount.mjs';
 import { NUMBER_LINES, after, measureOf, ruleOf, sameWord } from './entries.mjs';
@@ -21,7 +21,8 @@ export function emptyAxis(number, name = '') {
     number, name, size: '', unit: '', pole: time(), damping: { how: 'shrinks', one: '', first: '', second: '' },
     hasSecond: false, second: time(), target: 'still', 'target tick': field('', 's'), marks: {},
   };
-  for (const name of ['speed limit', 'acceleration limit', 'start position', 'target position', 'target acceleration']) {
+  for (const name of ['speed limit', 'acceleration limit', 'start position', 'target position',
+    'target acceleration']) {
     axis[name] = field('', 'unit');
   }
   return { ...axis, 'start velocity': field('0', ''), 'target velocity': field('', 'unit') };
@@ -30,7 +31,8 @@ export function emptyAxis(number, name = '') {
 // A sheet with nothing entered.
 export function emptyEntered() {
   return {
-    kind: 'job', note: '', tick: field('20', 'ms'), size: '0.01', unit: 'degree', arrival: { how: 'earliest', ...field('', 's') },
+    kind: 'job', note: '', tick: field('20', 'ms'), size: '0.01', unit: 'degree',
+      arrival: { how: 'earliest', ...field('', 's') },
     hasWindows: false, dwell: field('', 's'), windows: [], axes: [emptyAxis(0, 'pan')], stops: [], marks: {},
   };
 }
@@ -101,13 +103,15 @@ function takeWhole(entered, name, words) {
 
 // The measure of a tick: what stands after its size.
 function splitTick(words) {
-  const number = splitNumber(words[0]), divisor = number.rest.startsWith('/') ? splitNumber(number.rest.slice(1)) : null;
+  const number = splitNumber(words[0]), divisor = number.rest.startsWith('/') ? splitNumber(number.rest.slice(1))
+    : null;
   const attached = divisor ? divisor.rest : number.rest, measure = (attached + words.slice(1).join(' ')).toLowerCase();
   return { attached, measure: measure === '' ? 's' : partsOfSecond(measure) === 1000 ? 'ms' : 's' };
 }
 
 function takeWindow(reading, words, comment) {
-  const [opening, closing] = amountsOf(words).map(amount => fieldOf(amount, 'time')), window = { opening, closing, marks: {} };
+  const [opening, closing] = amountsOf(words).map(amount => fieldOf(amount, 'time')),
+    window = { opening, closing, marks: {} };
   reading.entered.hasWindows = true;
   reading.entered.windows.push(window);
   mark(reading, window.marks, 'window', comment);
@@ -177,11 +181,13 @@ export function linesEntered(entered) {
     for (const remark of above) lines.push({ text: `# ${remark}`.trim(), id });
     lines.push({ text: comment ? `${text.padEnd(38)} # ${comment}` : text.trimEnd(), id });
   };
-  for (const remark of entered.note.trim() ? entered.note.trim().split('\n') : []) lines.push({ text: `# ${remark}`.trim(), id: 'note' });
+  for (const remark of entered.note.trim() ? entered.note.trim().split('\n')
+    : []) lines.push({ text: `# ${remark}`.trim(), id: 'note' });
   if (lines.length) lines.push({ text: '', id: 'note' });
   const { marks } = entered;
   if (entered.tick.text.trim()) push(`tick ${said(entered.tick, 'time')}`, 'tick', marks, 'tick');
-  if (entered.unit.trim() || entered.size.trim()) push(`unit ${entered.size} ${entered.unit}`.replace(/ +/g, ' '), 'unit', marks, 'unit');
+  if (entered.unit.trim() || entered.size.trim()) push(`unit ${entered.size} ${entered.unit}`.replace(/ +/g, ' '),
+    'unit', marks, 'unit');
   if (entered.kind === 'job') pushArrival(entered, push);
   entered.axes.forEach((axis, index) => {
     if (lines.length && lines[lines.length - 1].text) lines.push({ text: '', id: 'note' });
@@ -198,7 +204,8 @@ function pushArrival(entered, push) {
   if (!entered.hasWindows) return;
   push(`dwell ${said(entered.dwell, 'time')}`, 'dwell', marks, 'dwell');
   entered.windows.forEach((window, index) => {
-    push(`window ${said(window.opening, 'time')} ${said(window.closing, 'time')}`, `window.${index}`, window.marks, 'window');
+    push(`window ${said(window.opening, 'time')} ${said(window.closing, 'time')}`, `window.${index}`, window.marks,
+      'window');
   });
 }
 
@@ -222,13 +229,15 @@ function pushAxis(entered, axis, id, push) {
 function pushStops(entered, push, lines) {
   lines.push({ text: '', id: 'note' });
   entered.stops.forEach((stop, index) => {
-    const positions = entered.axes.map((axis, place) => said(stop.positions[place] ?? field(), 'position', axis.unit.trim() || entered.unit.trim()));
+    const positions = entered.axes.map((axis, place) =>
+      said(stop.positions[place] ?? field(), 'position', axis.unit.trim() || entered.unit.trim()));
     const text = `stop  ${positions.join('  ')}  dwell ${said(stop.dwell, 'time')}`;
     push(text, `stop.${index}`, { stop: { above: stop.marks.stop?.above, comment: stop.note.trim() } }, 'stop');
   });
 }
 
-// What a sheet would take otherwise than the form means it: words in the place of a unit's size, which would be a part of its name.
+// What a sheet would take otherwise than the form means it: words in the place of a unit's size, which would be a
+// part of its name.
 export function formErrors(entered, lines) {
   const units = [['unit', entered], ...entered.axes.map((axis, index) => [`axis.${index}.unit`, axis])];
   const isSize = size => readUnit([size, 'unit'])?.name === 'unit';

@@ -1,23 +1,29 @@
-// The entries of a set-up sheet: their names, what is expected after each, and how each is rounded. docs/SHEET.md is the format's page.
+// The entries of a set-up sheet: their names, what is expected after each, and how each is rounded. docs/SHEET.md is
+// the format's page.
 
 import { Fraction } from './fraction.mjs';
 import { amountsOf, onlyAmount, readFloat, readUnsigned } from './amount.mjs';
 
 // The names that begin a line, in the order in which a misspelt one is held against them.
 const NAMES = [
-  'arrival', 'window', 'dwell', 'tick', 'unit', 'axis', 'stop', 'half period', 'period', 'frequency', 'swings', 'weight', 'shrinks',
-  'peaks', 'second half period', 'second period', 'second frequency', 'second swings', 'speed limit', 'acceleration limit',
-  'start position', 'start velocity', 'target position', 'target velocity', 'target acceleration', 'target tick', 'target still',
+  'arrival', 'window', 'dwell', 'tick', 'unit', 'axis', 'stop', 'half period', 'period', 'frequency', 'swings',
+    'weight', 'shrinks',
+  'peaks', 'second half period', 'second period', 'second frequency', 'second swings', 'speed limit',
+    'acceleration limit',
+  'start position', 'start velocity', 'target position', 'target velocity', 'target acceleration', 'target tick',
+    'target still',
   'target moving', 'target flying',
 ];
 export const TARGETS = ['still', 'flying', 'moving'];
 
 // The numbers of an axis, in the order in which a sheet is written; the damping stands after the half period.
 export const ENTRIES = [
-  'half period', 'weight', 'second half period', 'speed limit', 'acceleration limit', 'start position', 'start velocity',
+  'half period', 'weight', 'second half period', 'speed limit', 'acceleration limit', 'start position',
+    'start velocity',
   'target position', 'target velocity', 'target acceleration', 'target tick',
 ];
-export const TOUR_ENTRIES = ['half period', 'second half period', 'speed limit', 'acceleration limit', 'start position'];
+export const TOUR_ENTRIES = ['half period', 'second half period', 'speed limit', 'acceleration limit',
+  'start position'];
 
 // The lines of an axis that are numbers, in the order in which they are tried, each with the entry that it says.
 export const NUMBER_LINES = [
@@ -61,7 +67,8 @@ export function measureOf(quantity, unit) {
   return quantity === 'time' ? 's' : unit + QUANTITIES[quantity].endings[0];
 }
 
-// How an entry is rounded: what it measures, which way, whether it may be below 0, and whether it is kept from coming to 0.
+// How an entry is rounded: what it measures, which way, whether it may be below 0, and whether it is kept from coming
+// to 0.
 const RULES = {
   'speed limit': ['velocity', 'down', false, true],
   'acceleration limit': ['acceleration', 'down', false, true],
@@ -84,7 +91,8 @@ export function ruleOf(entry) {
   return { quantity, rounding, isSigned, isKept };
 }
 
-// What stands after the name of a number's line: the amount, and how the entry follows from it: a part of it, or as a frequency.
+// What stands after the name of a number's line: the amount, and how the entry follows from it: a part of it, or as a
+// frequency.
 export function readNumberLine(name, words) {
   const plain = name.replace(/^second (?!half)/, '');
   if (plain === 'swings') {
@@ -93,7 +101,8 @@ export function readNumberLine(name, words) {
     return amount && { amount, part: new Fraction(1n, 2n * count) };
   }
   const amount = onlyAmount(words);
-  return amount && { amount, part: plain === 'period' ? new Fraction(1n, 2n) : null, isFrequency: plain === 'frequency' };
+  return amount && { amount, part: plain === 'period' ? new Fraction(1n, 2n) : null,
+    isFrequency: plain === 'frequency' };
 }
 
 // What is expected after the name of a number's line, on an axis whose unit has a name.

@@ -50,7 +50,8 @@ export class Fraction {
   // The whole number that stands for it: `down`, `up`, or `nearest`, of two the one further from 0.
   rounded(how) {
     const whole = sizeOf(this.top) / this.bottom, left = sizeOf(this.top) % this.bottom;
-    const further = { down: this.isNegative && left > 0n, up: !this.isNegative && left > 0n, nearest: 2n * left >= this.bottom };
+    const further = { down: this.isNegative && left > 0n, up: !this.isNegative && left > 0n,
+      nearest: 2n * left >= this.bottom };
     const size = whole + (further[how] ? 1n : 0n);
     return this.isNegative ? -size : size;
   }

@@ -4,20 +4,21 @@ import { openLibrary } from './calls.mjs';
 import { errorsTold, jobTold, refusalTold, tourTold, withCode } from './answer.mjs';
 import { addressOf, csvOf, hexadecimalOf, sheetInAddress, wordsOfJob } from './carry.mjs';
 import { emptyEntered, enteredOf, field, formErrors, linesEntered } from './entered.mjs';
-import { Form, element, idOf } from './form.mjs';
-import { drawPanel, panelsOfJob, panelsOfTour, escaped } from './pictures.mjs';
+import { element, idOf } from './fields.mjs';
+import { Form } from './form.mjs';
+import { escaped, panelsOfJob, panelsOfTour } from './pictures.mjs';
 import { planOf } from './plan.mjs';
 import { readSheet } from './reading.mjs';
-import { called } from './refusal.mjs';
-import { ROW_HEIGHT, headingOf, rowTold, rowsInSight, rowsOnPaper, tableOf } from './table.mjs';
+import { View, byId } from './view.mjs';
 import { noteTold } from './worked.mjs';
 
-const byId = id => document.getElementById(id);
 const dataOf = id => byId(id).textContent;
 
-class Page {
+class Page extends View {
   constructor(library) {
-    Object.assign(this, { library, texts: JSON.parse(dataOf('texts')), name: 'polgamir.sheet', tick: 0, leg: 0, how: 'measures' });
+    super();
+    Object.assign(this, { library, texts: JSON.parse(dataOf('texts')), name: 'polgamir.sheet', tick: 0, leg: 0,
+      how: 'measures' });
     byId('version').textContent = library.version();
     const first = this.sheetAtFirst();
     this.form = new Form(byId('form'), enteredOf(first), id => this.changed(id));
@@ -72,22 +73,17 @@ class Page {
     const errors = wrong.length ? wrong : null, setup = errors ? null : read.setup;
     Object.assign(this, { setup, plan: setup ? planOf(this.library, setup) : null, lines });
     this.showMessages(errors ?? []);
-    const told = errors ? errorsTold(errors.map(error => ({ error, id: lines[error.line - 1]?.id })), id => this.nameOf(id)) : this.showPlan();
+    const told = errors ? errorsTold(errors.map(error => ({ error, id: lines[error.line - 1]?.id })),
+      id => this.nameOf(id)) : this.showPlan();
     byId('verdict').innerHTML = told.verdict;
     byId('bar').className = !errors && this.plan.ok ? 'bar good' : errors ? 'bar wait' : 'bar bad';
     byId('answer').innerHTML = told.rest;
     byId('plan').hidden = !this.plan?.ok;
-    for (const id of ['save-csv', 'save-words']) byId(id).disabled = !this.plan?.ok || id === 'save-words' && this.setup.kind === 'tour';
+    for (const id of ['save-csv', 'save-words']) byId(id).disabled = !this.plan?.ok || id === 'save-words' &&
+      this.setup.kind === 'tour';
     byId('text').value = this.sheet;
     this.took = performance.now() - began;
     this.keepAddress();
-  }
-
-  // What is printed beside the answer and the pictures: the sheet, and the first and last rows.
-  fillPaper() {
-    byId('answer').querySelector('details.notes')?.setAttribute('open', '');
-    byId('paper').textContent = this.sheet;
-    byId('paper-rows').innerHTML = this.plan?.ok ? `<thead>${headingOf(this.table)}</thead><tbody>${rowsOnPaper(this.table)}</tbody>` : '';
   }
 
   keepAddress() {
@@ -110,10 +106,12 @@ class Page {
     for (const input of byId('form').querySelectorAll('[aria-invalid]')) input.removeAttribute('aria-invalid');
     for (const error of errors) {
       const isEmpty = error.found === 'the end of the line';
-      const text = isEmpty ? `To be entered: ${error.expected.replace(/,? after `[^`]*`$/, '')}.` : `Expected ${error.expected}, found ${error.found}.`;
+      const text = isEmpty ? `To be entered: ${error.expected.replace(/,? after `[^`]*`$/, '')}.`
+        : `Expected ${error.expected}, found ${error.found}.`;
       this.showMessage(this.lines[error.line - 1]?.id, withCode(text), isEmpty ? 'lacks' : 'wrong');
     }
-    for (const note of this.setup?.notes ?? []) this.showMessage(this.lines[note.line - 1]?.id, escaped(`${noteTold(note, false)}.`), 'rounded');
+    for (const note of this.setup?.notes ?? []) this.showMessage(this.lines[note.line - 1]?.id,
+      escaped(`${noteTold(note, false)}.`), 'rounded');
     if (this.plan && !this.plan.ok) this.showRefused();
   }
 
@@ -157,85 +155,11 @@ class Page {
     return plan.kind === 'job' ? jobTold(setup, plan, this.panels) : tourTold(setup, plan, this.panels);
   }
 
-  // The arrival, the time after it and the windows, on every picture.
-  timeOf() {
-    const { plan, setup } = this, tick = setup.worked.tick?.exact?.toNumber() ?? null;
-    if (plan.kind === 'tour') {
-      return {
-        last: plan.last, tick, marks: plan.legs.map(leg => ({ at: leg.arrival, kind: 'arrival' })),
-        areas: plan.legs.filter(leg => leg.dwell).map(leg => ({ from: leg.arrival, to: leg.arrival + leg.dwell, kind: 'after' })),
-      };
-    }
-    const windows = (setup.job.windows?.list ?? []).map(({ opening, closing }) => ({ from: Number(opening), to: Number(closing), kind: 'window' }));
-    return { last: plan.last, tick, marks: [{ at: plan.arrival, kind: 'arrival' }], areas: [{ from: plan.arrival, to: plan.last, kind: 'after' }, ...windows] };
-  }
-
-  draw() {
-    const place = byId('pictures'), room = this.room ??= byId('results').clientWidth || 358;
-    const columns = room >= 620 ? 2 : 1, width = Math.max(280, Math.floor(room / columns) - 16), time = this.timeOf();
-    place.className = columns === 2 ? 'two' : 'one';
-    place.innerHTML = this.panels.map(({ title, panels }) =>
-      `<section class="axis-pictures"><h3>${escaped(title)}</h3><div class="panels">${panels.map(panel => drawPanel(panel, title, width, time)).join('')}</div></section>`).join('');
-    byId('legend').classList.toggle('has-windows', Boolean(this.setup.job?.windows));
-  }
-
-  showTable() {
-    const { plan } = this, legs = byId('leg');
-    this.leg = Math.min(this.leg, (plan.legs?.length ?? 1) - 1);
-    byId('leg-field').hidden = plan.kind === 'job';
-    legs.replaceChildren(...(plan.legs ?? []).map(leg => element('option', { value: String(leg.index), selected: leg.index === this.leg }, `to stop ${leg.index}`)));
-    this.table = tableOf(this.setup, plan, this.leg, this.how);
-    this.tick = Math.min(this.tick, this.table.count - 1);
-    byId('tick').max = this.table.count - 1;
-    byId('rows').setAttribute('aria-rowcount', this.table.count + 2);
-    byId('rows').tHead.innerHTML = headingOf(this.table);
-    this.showRow(this.tick, false);
-  }
-
-  // Shows the row of a tick, marks it in the pictures, and brings it into sight in the table.
-  showRow(tick, brings = true) {
-    this.tick = Math.max(0, Math.min(tick, this.table.count - 1));
-    byId('tick').value = this.tick;
-    byId('row').innerHTML = rowTold(this.table, this.tick);
-    const at = this.plan.kind === 'job' ? this.tick : this.plan.legs[this.leg].departure + this.tick;
-    for (const svg of byId('pictures').querySelectorAll('svg.panel')) {
-      const { left, right, top } = svg.dataset, x = +left + (right - left) * at / this.plan.last;
-      svg.querySelector('.cursor').setAttribute('d', `M${x.toFixed(1)} ${top}v104`);
-    }
-    this.brings ||= brings;
-    this.showRows();
-  }
-
-  // Makes the rows in sight; a table that is out of sight has them made when it comes into it.
-  showRows() {
-    if (!this.seesTable) return;
-    const scroller = byId('scroller'), body = byId('rows').tBodies[0], height = scroller.clientHeight || 320;
-    const top = this.brings ? Math.max(0, this.tick * ROW_HEIGHT - height / 2) : scroller.scrollTop;
-    body.innerHTML = rowsInSight(this.table, top, height, this.tick);
-    for (const filler of body.querySelectorAll('.filler')) filler.style.height = `${filler.dataset.rows * ROW_HEIGHT}px`;
-    if (this.brings) scroller.scrollTop = top;
-    this.brings = false;
-  }
-
-  // The tick of a place on a picture.
-  pointed(event) {
-    const svg = event.target.closest?.('svg.panel');
-    if (!svg || !this.plan?.ok) return;
-    const box = svg.getBoundingClientRect(), { left, right, width } = svg.dataset;
-    const x = (event.clientX - box.left) / box.width * width, at = Math.round((x - left) / (right - left) * this.plan.last);
-    if (this.plan.kind === 'job') return this.showRow(at);
-    const leg = this.plan.legs.find(leg => at <= leg.arrival + leg.dwell) ?? this.plan.legs[this.plan.legs.length - 1];
-    if (leg.index !== this.leg) {
-      this.leg = leg.index;
-      this.showTable();
-    }
-    this.showRow(at - leg.departure);
-  }
-
   listen() {
     const pictures = byId('pictures'), on = (id, kind, act) => byId(id).addEventListener(kind, act);
     for (const kind of ['pointerdown', 'pointermove']) {
-      pictures.addEventListener(kind, event => (event.pointerType === 'mouse' || event.buttons || kind === 'pointerdown') && this.pointed(event));
+      pictures.addEventListener(kind, event => (event.pointerType === 'mouse' || event.buttons ||
+        kind === 'pointerdown') && this.pointed(event));
     }
     on('tick', 'input', () => this.showRow(Number(byId('tick').value)));
     on('scroller', 'scroll', () => this.showRows());
@@ -245,7 +169,8 @@ class Page {
     on('bar', 'click', event => byId(event.target.dataset?.jump)?.scrollIntoView());
     on('open', 'change', () => this.open(byId('open').files[0]));
     on('save-sheet', 'click', () => this.save(this.sheet, this.name, 'text/plain'));
-    on('save-csv', 'click', () => this.save(csvOf(this.setup, this.plan, this.library.version(), this.name), this.name.replace(/(\.sheet|\.txt)?$/, '.csv'), 'text/csv'));
+    on('save-csv', 'click', () => this.save(csvOf(this.setup, this.plan, this.library.version(), this.name),
+      this.name.replace(/(\.sheet|\.txt)?$/, '.csv'), 'text/csv'));
     on('save-words', 'click', () => this.saveWords());
     on('copy-link', 'click', () => this.copyLink());
     on('print', 'click', () => print());
@@ -294,7 +219,8 @@ class Page {
       this.say('');
       return true;
     }
-    byId('said').innerHTML = `<p>${escaped(name)} is no set-up sheet. What was entered is still here.</p><ul>${errors.slice(0, 12).map(error => `<li>${withCode(error.message)}</li>`).join('')}</ul>`;
+    const told = errors.slice(0, 12).map(error => `<li>${withCode(error.message)}</li>`).join('');
+    byId('said').innerHTML = `<p>${escaped(name)} is no set-up sheet. What was entered is still here.</p><ul>${told}</ul>`;
     if (errors.length > 12) byId('said').innerHTML += `<p>And ${errors.length - 12} more.</p>`;
     byId('said').scrollIntoView({ block: 'nearest' });
     return false;
@@ -319,7 +245,8 @@ class Page {
     const { words, error } = wordsOfJob(this.setup.job);
     if (error) return this.say(error);
     const planned = this.library.planWords(words), { answer } = this.plan;
-    const isSame = planned.number === 0 && planned.arrival === answer.arrival && planned.table.every((cell, at) => cell === answer.table[at]);
+    const isSame = planned.number === 0 && planned.arrival === answer.arrival &&
+      planned.table.every((cell, at) => cell === answer.table[at]);
     if (!isSame) return this.say('The words of this job are planned otherwise than the job: they are not written.');
     this.save(hexadecimalOf(words), this.name.replace(/(\.sheet|\.txt)?$/, '.words.txt'), 'text/plain');
   }
@@ -330,7 +257,8 @@ class Page {
       await navigator.clipboard.writeText(link);
       this.say('The link is copied. Whoever opens it with this page sees this job.');
     } catch {
-      byId('said').replaceChildren(element('label', {}, 'The link with this job: ', element('input', { readonly: true, value: link, id: 'link' })));
+      byId('said').replaceChildren(element('label', {}, 'The link with this job: ',
+        element('input', { readonly: true, value: link, id: 'link' })));
       byId('link').select();
     }
   }
@@ -344,4 +272,6 @@ async function libraryBytes() {
 
 libraryBytes().then(openLibrary).then(
   library => { globalThis.polgamirPage = new Page(library); },
-  error => { byId('verdict').textContent = `This browser cannot run the planner; one of 2023 or later can. (${error.message})`; });
+  error => {
+    byId('verdict').textContent = `This browser cannot run the planner; one of 2023 or later can. (${error.message})`;
+  });

@@ -1,5 +1,5 @@
-// The pictures of a plan: for each axis position, velocity and acceleration with their limits, and the sway beside the one that the same
-// job would leave without the blend.
+// The pictures of a plan: for each axis position, velocity and acceleration with their limits, and the sway beside
+// the one that the same job would leave without the blend.
 
 import { FINE_STEPS } from './calls.mjs';
 import { titleOf } from './assembling.mjs';
@@ -28,14 +28,17 @@ export function panelsOfJob(setup, plan) {
   return job.axes.map((axis, number) => {
     if (!axis) return null;
     const measures = measuresOf(setup, number), { fine } = measures;
-    const columns = [rows[number].position, rows[number].velocity, rows[number].acceleration].map((list, at) => scaled(list, fine[at]));
+    const columns = [rows[number].position, rows[number].velocity,
+      rows[number].acceleration].map((list, at) => scaled(list, fine[at]));
     const after = afterOf(columns, measures, arrival, last), target = targetOf(axis, measures, last);
     const panels = ['position', 'velocity', 'acceleration'].map((name, at) => panelOf({
-      name: `${name}, ${measures.names[at]}`, isStepped: at === 2, plan: columns[at], after: after[at], target: target[at],
+      name: `${name}, ${measures.names[at]}`, isStepped: at === 2, plan: columns[at], after: after[at],
+        target: target[at],
       limit: at === 0 ? null : Number(axis[at === 1 ? 'speed limit' : 'acceleration limit']) * measures.sizes[at],
     }));
     const poles = polesOf(axis, enteredPeriods(setup.notes, number, axis)), sways = [];
-    const [pushes, bare] = [rows, unblended?.rows].map(source => source && scaled(source[number].acceleration, measures.sizes[0] / FINE_STEPS));
+    const [pushes, bare] = [rows, unblended?.rows].map(source => source &&
+      scaled(source[number].acceleration, measures.sizes[0] / FINE_STEPS));
     for (const pole of poles) {
       const sway = swayOf(pole, pushes, last), without = bare ? swayOf(pole, bare, last) : null;
       sways.push({ name: pole.name, left: sway.left, without: without?.left ?? null, measure: measures.name });
@@ -95,7 +98,8 @@ function swayPanel(pole, sway, without, measures, unblended) {
   if (without) curves.unshift({ kind: 'unblended', ...without });
   const remark = `left ${swayTold(sway.left)}${without ? `; without the blend ${swayTold(without.left)}` : ''}`;
   const marks = without ? [unblended.arrival] : [];
-  return { name: `${pole.name} in proportion, ${measures.name}`, remark, curves, limits: [], marks, range: extremesOf(curves.map(curve => curve.values)) };
+  return { name: `${pole.name} in proportion, ${measures.name}`, remark, curves, limits: [], marks,
+    range: extremesOf(curves.map(curve => curve.values)) };
 }
 
 // The panels of each axis of a tour: position, velocity and sway from its start to its end.
@@ -106,10 +110,12 @@ export function panelsOfTour(setup, plan) {
     const [position, velocity] = ['position', 'velocity'].map((name, at) => legCurve(plan, number, name, fine[at]));
     const panels = [
       panelOf({ name: `position, ${measures.names[0]}`, plan: position.values, ticks: position.ticks, limit: null }),
-      panelOf({ name: `velocity, ${measures.names[1]}`, plan: velocity.values, ticks: velocity.ticks, limit: Number(axis['speed limit']) * measures.sizes[1] }),
+      panelOf({ name: `velocity, ${measures.names[1]}`, plan: velocity.values, ticks: velocity.ticks,
+        limit: Number(axis['speed limit']) * measures.sizes[1] }),
     ];
     const sways = polesOf(axis, enteredPeriods(setup.notes, number, axis)).map(pole => {
-      const sway = swayOf(pole, tourPushes(plan, number, measures.sizes[0] / FINE_STEPS), plan.last), left = leftAtStops(plan, sway);
+      const sway = swayOf(pole, tourPushes(plan, number, measures.sizes[0] / FINE_STEPS), plan.last),
+        left = leftAtStops(plan, sway);
       panels.push(swayPanel(pole, { ...sway, left }, null, measures, null));
       return { name: pole.name, left, without: null, measure: measures.name };
     });
@@ -119,7 +125,8 @@ export function panelsOfTour(setup, plan) {
 
 // A quantity of an axis over a tour: the rows of its legs, one after the other.
 function legCurve(plan, number, name, fine) {
-  const count = plan.legs.reduce((sum, leg) => sum + leg.ticks + 2, 0), ticks = new Float64Array(count), values = new Float64Array(count);
+  const count = plan.legs.reduce((sum, leg) => sum + leg.ticks + 2, 0), ticks = new Float64Array(count),
+    values = new Float64Array(count);
   let at = 0;
   for (const leg of plan.legs) {
     const list = leg.rows[number][name];
@@ -149,34 +156,45 @@ function leftAtStops(plan, { ticks, values }) {
   return left;
 }
 
-// Draws a panel of a width, as SVG. `time` is { last, tick, marks, areas }: areas are { from, to, kind }, marks { at, kind }.
+// Draws a panel of a width, as SVG. `time` is { last, tick, marks, areas }: areas are { from, to, kind }, marks { at,
+// kind }.
 export function drawPanel(panel, title, width, time) {
-  const above = ABOVE + (6.6 * panel.name.length + 5.8 * panel.remark.length > width - 12 ? LINE : 0), bottom = above + PLOT;
+  const above = ABOVE + (6.6 * panel.name.length + 5.8 * panel.remark.length > width - 12 ? LINE : 0),
+    bottom = above + PLOT;
   const [least, greatest] = panel.range, room = (greatest - least || Math.abs(greatest) || 1) * 0.06;
   const y = scaleOf(least - room, greatest + room, bottom, above), across = roundValues(y, 5);
   const labels = across.values.map(across.label), longest = Math.max(0, ...labels.map(label => label.length));
   const left = Math.min(10 + 6.6 * longest, width / 3), right = width - RIGHT, x = scaleOf(0, time.last, left, right);
   const upright = (at, kind) => `<path class="${kind}" d="M${x(at).toFixed(1)} ${above}V${bottom}"/>`;
   const level = (value, kind) => `<path class="${kind}" d="M${left} ${y(value).toFixed(1)}H${right}"/>`;
-  const label = (value, at) => `<text class="end" x="${left - 5}" y="${(y(value) + 4).toFixed(1)}">${labels[at]}</text>`;
-  const marks = [...panel.marks.map(at => ({ at, kind: 'unblended' })), ...time.marks].filter(({ at }) => at <= time.last);
+  const label = (value, at) => textAt('end', left - 5, y(value) + 4, labels[at]);
+  const marks = [...panel.marks.map(at => ({ at, kind: 'unblended' })),
+    ...time.marks].filter(({ at }) => at <= time.last);
   const parts = [
-    ...time.areas.map(area => areaOf(area, x, above)), ...across.values.map((value, at) => level(value, 'grid') + label(value, at)),
-    ...timeLabels(x, time, width, above), ...panel.limits.map(limit => level(limit, 'limit')), ...marks.map(({ at, kind }) => upright(at, kind)),
+    ...time.areas.map(area => areaOf(area, x, above)),
+      ...across.values.map((value, at) => level(value, 'grid') + label(value, at)),
+    ...timeLabels(x, time, width, above), ...panel.limits.map(limit => level(limit, 'limit')),
+      ...marks.map(({ at, kind }) => upright(at, kind)),
   ];
-  const curves = panel.curves.map(({ kind, ticks, values, isStepped }) => `<path class="${kind}" d="${pathOf(ticks, values, x, y, isStepped)}"/>`);
-  const box = `${left} ${above} ${right - left} ${PLOT}`, [across0, up0, wide, high] = box.split(' ');
-  const plot = `<svg x="${across0}" y="${up0}" width="${wide}" height="${high}" viewBox="${box}">${curves.join('')}</svg>`;
+  const curves = panel.curves.map(({ kind, ticks, values, isStepped }) =>
+    `<path class="${kind}" d="${pathOf(ticks, values, x, y, isStepped)}"/>`);
+  const size = `width="${right - left}" height="${PLOT}"`, box = `${left} ${above} ${right - left} ${PLOT}`;
+  const plot = `<svg x="${left}" y="${above}" ${size} viewBox="${box}">${curves.join('')}</svg>`;
   const name = escaped(`${title}: ${panel.name}: ${panel.remark}`), isBelow = above > ABOVE;
-  return `<svg class="panel" role="img" aria-label="${name}" viewBox="0 0 ${width} ${bottom + BELOW}" data-left="${left}" data-right="${right}"` +
-    ` data-width="${width}" data-top="${above}"><text class="name" x="2" y="14">${escaped(panel.name)}</text>` +
-    `<text class="${isBelow ? '' : 'end '}remark" x="${isBelow ? 2 : width - 2}" y="${isBelow ? 14 + LINE : 14}">${escaped(panel.remark)}</text>` +
-    `${parts.join('')}${plot}<path class="cursor" d=""/></svg>`;
+  const remark = isBelow ? textAt('remark', 2, 14 + LINE, panel.remark) : textAt('end remark', width - 2, 14, panel.remark);
+  const data = `data-left="${left}" data-right="${right}" data-width="${width}" data-top="${above}"`;
+  return `<svg class="panel" role="img" aria-label="${name}" viewBox="0 0 ${width} ${bottom + BELOW}" ${data}>` +
+    `${textAt('name', 2, 14, panel.name)}${remark}${parts.join('')}${plot}<path class="cursor" d=""/></svg>`;
+}
+
+function textAt(kind, x, y, text) {
+  return `<text class="${kind}" x="${x.toFixed(1)}" y="${y.toFixed(1)}">${escaped(text)}</text>`;
 }
 
 function areaOf({ from, to, kind }, x, above) {
   const [start, end] = [x(from), Math.min(x(to), x.to)];
-  return end > start ? `<rect class="${kind}" x="${start.toFixed(1)}" y="${above}" width="${(end - start).toFixed(1)}" height="${PLOT}"/>` : '';
+  const size = `width="${(end - start).toFixed(1)}" height="${PLOT}"`;
+  return end > start ? `<rect class="${kind}" x="${start.toFixed(1)}" y="${above}" ${size}/>` : '';
 }
 
 // The ticks, or the seconds where they are known, below a panel.
@@ -184,5 +202,5 @@ function timeLabels(x, { last, tick }, width, above) {
   const scale = scaleOf(0, last * (tick ?? 1), x.from, x.to), count = Math.max(2, Math.floor((width - x.from) / 62));
   const { values, label } = roundValues(scale, count, tick ? 0 : 1), bottom = above + PLOT;
   return values.map((value, at) => `<path class="grid" d="M${scale(value).toFixed(1)} ${above}V${bottom}"/>` +
-    `<text class="middle" x="${scale(value).toFixed(1)}" y="${bottom + 15}">${label(value)}${tick && at === values.length - 1 ? ' s' : ''}</text>`);
+    textAt('middle', scale(value), bottom + 15, label(value) + (tick && at === values.length - 1 ? ' s' : '')));
 }

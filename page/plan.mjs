@@ -1,4 +1,5 @@
-// Planning: everything here is asked of the library's calls. What is drawn and told is put together from its answers and cells.
+// Planning: everything here is asked of the library's calls. What is drawn and told is put together from its answers
+// and cells.
 
 import { axesOf } from './calls.mjs';
 import { legOf } from './assembling.mjs';
@@ -14,10 +15,12 @@ function planOfJob(library, setup) {
   const { job } = setup, answer = library.planJob(job);
   if (answer.number) return { kind: 'job', ok: false, answer, told: refusalOfJob(library, setup, job, answer) };
   const rows = rowsOf(answer), unblended = unblendedOf(library, job);
-  return { kind: 'job', ok: true, answer, arrival: answer.arrival, rows, unblended, job, last: lastTick(job, answer.arrival) };
+  return { kind: 'job', ok: true, answer, arrival: answer.arrival, rows, unblended, job,
+    last: lastTick(job, answer.arrival) };
 }
 
-// The rows of an accepted answer by axis: position, velocity and acceleration in fine steps, from tick 0 to the arrival.
+// The rows of an accepted answer by axis: position, velocity and acceleration in fine steps, from tick 0 to the
+// arrival.
 function rowsOf({ mask, arrival, table }) {
   const numbers = axesOf(mask), rows = [];
   numbers.forEach((number, place) => {
@@ -30,7 +33,8 @@ function rowsOf({ mask, arrival, table }) {
   return rows;
 }
 
-// The same job with half period 0 on every axis and no second one: { arrival, rows }, { refused } or null where no axis has a blend.
+// The same job with half period 0 on every axis and no second one: { arrival, rows }, { refused } or null where no
+// axis has a blend.
 function unblendedOf(library, job) {
   if (!job.axes.some(axis => axis && polesOf(axis).length)) return null;
   const without = axis => axis && { ...axis, 'half period': 0n, 'second half period': undefined };
@@ -54,7 +58,8 @@ function planOfTour(library, setup) {
   let departure = 0;
   const legs = stops.map((stop, index) => {
     const job = legOf(tour, stops, index), planned = library.planJob(job), arrival = answer.arrivals[index];
-    const leg = { index, departure, arrival, dwell: Number(stop.dwell), job, ticks: planned.arrival, rows: rowsOf(planned) };
+    const leg = { index, departure, arrival, dwell: Number(stop.dwell), job, ticks: planned.arrival,
+      rows: rowsOf(planned) };
     departure = arrival + leg.dwell;
     return leg;
   });

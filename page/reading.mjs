@@ -23,8 +23,9 @@ export function wordsOf(line) {
   return line.split('#')[0].split(SEPARATORS).filter(word => word);
 }
 
-// What a text asks for: { setup } or { errors }, all of them in the order of their lines. A setup is { kind, job } or { kind, tour,
-// stops }, with names, worked (the scales and what was rounded), notes in the order of lines, and lastLine.
+// What a text asks for: { setup } or { errors }, all of them in the order of their lines. A setup is { kind, job } or
+// { kind, tour, stops }, with names, worked (the scales and what was rounded), notes in the order of lines, and
+// lastLine.
 export function readSheet(text) {
   return new Reading(linesOf(text)).read();
 }
@@ -140,7 +141,8 @@ class Reading {
   }
 
   takeArrival(line, words) {
-    if (this.arrivalLine) throw new SheetError(line, 'one `arrival`', `another beside that of line ${this.arrivalLine}`);
+    if (this.arrivalLine) throw new SheetError(line, 'one `arrival`',
+      `another beside that of line ${this.arrivalLine}`);
     Object.assign(this, { arrivalLine: line, arrival: 0n });
     if (words.length === 1 && sameWord(words[0], 'earliest')) return;
     const tick = this.wholeOf({ line, entry: 'arrival', name: 'arrival', expected: ARRIVAL }, words);
@@ -158,7 +160,8 @@ class Reading {
   takeWindow(line, words) {
     this.windowLines.push(line);
     const ends = amountsOf(words);
-    if (!ends || ends.length !== 2 || !ends[0].measure !== !ends[1].measure) throw new SheetError(line, WINDOW, quoted(words));
+    if (!ends || ends.length !== 2 || !ends[0].measure !== !ends[1].measure) throw new SheetError(line, WINDOW,
+      quoted(words));
     const [opening, closing] = ['window opening', 'window closing'].map((name, end) =>
       this.worked.whole({ line, entry: name, name, whose: '', entered: ends[end].text, expected: WINDOW }, ends[end]));
     if (opening === null || closing === null) return;
@@ -205,15 +208,18 @@ class Reading {
 
   takeDamping(draft, line, kind, numbers, expected, value) {
     if (draft.damping) {
-      throw new SheetError(line, `one of ${DAMPING} for axis ${draft.number}`, `another beside that of line ${draft.damping.line}`);
+      throw new SheetError(line, `one of ${DAMPING} for axis ${draft.number}`,
+        `another beside that of line ${draft.damping.line}`);
     }
-    draft.damping = numbers ? { kind, numbers, line, text: value.join(' ') } : { kind: 'weight', numbers: [128n], line };
+    draft.damping = numbers ? { kind, numbers, line, text: value.join(' ') }
+      : { kind: 'weight', numbers: [128n], line };
     if (!numbers) throw new SheetError(line, expected, quoted(value));
   }
 
   takeNumber(draft, line, name, entry, value) {
     const expectedOnce = `one \`${entry}\` for axis ${draft.number}`;
-    if (draft.lines[entry]) throw new SheetError(line, expectedOnce, `another beside that of line ${draft.lines[entry]}`);
+    if (draft.lines[entry]) throw new SheetError(line, expectedOnce,
+      `another beside that of line ${draft.lines[entry]}`);
     draft.lines[entry] = line;
     draft.entries[entry] = 0n;
     const unit = draft.number < AXES ? this.worked.unitOf(draft.number) : null;
@@ -225,7 +231,8 @@ class Reading {
 
   takeTarget(draft, line, value) {
     if (draft.target) {
-      throw new SheetError(line, `one \`target\` for axis ${draft.number}`, `another beside that of line ${draft.target.line}`);
+      throw new SheetError(line, `one \`target\` for axis ${draft.number}`,
+        `another beside that of line ${draft.target.line}`);
     }
     const kind = value.length === 1 ? TARGETS.find(kind => sameWord(value[0], kind)) : undefined;
     draft.target = { kind, line };

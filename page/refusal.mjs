@@ -1,5 +1,5 @@
-// A refusal in words: what is wrong, what to do, and what it is about. The words are those of the command; the text of each number is the
-// header's, and the arrivals and raises that would do are asked of the library.
+// A refusal in words: what is wrong, what to do, and what it is about. The words are those of the command; the text
+// of each number is the header's, and the arrivals and raises that would do are asked of the library.
 
 import { AXES, LATEST_ARRIVAL, LONGEST_DWELL, MOST_STOPS, MOST_WINDOWS, axesOf } from './calls.mjs';
 import { legOf, titleOf } from './assembling.mjs';
@@ -73,7 +73,7 @@ function causeOf(setup, job, { number, mask, place }, told) {
       ? `every axis can arrive at ${asked}, but it fits no window. ${thoseThatDo(setup, job, told, latest)}`
       : `${names} cannot arrive at ${asked}. ${thoseThatDo(setup, job, told, latest)}`;
     case 9: return mask === 0
-      ? `each axis can arrive, but no tick from 1 to ${latest} suits all of them${job.windows ? ' and fits a window' : ''}.`
+      ? `each axis can arrive, but no tick from 1 to ${latest} suits all of them` + (job.windows ? ' and fits a window.' : '.')
       : `${names} can arrive at no tick from 1 to ${latest}.`;
     case 3: return `the asked arrival, ${asked}, is after the latest one, ${latest}.`;
     case 1: return 'the job has no axis.';
@@ -100,23 +100,29 @@ function thoseThatDo(setup, job, { least, next }, latest) {
 
 const NEARER = 'Bring start and target nearer, change a moving target, or raise limits as far as the motors allow.';
 const WINDOWS = 'Look whether the site permits other windows or a shorter dwell does, or change limits or targets.';
+const NO_ACCELERATION =
+  'Enter a target without acceleration, or leave the second half period out and let the pole sway at that rate.';
+const IN_ORDER =
+  `Enter 1 to ${MOST_WINDOWS} windows in the order of their ticks, and a dwell from 0 to ${LONGEST_DWELL}.`;
 const TAP_AGAIN = 'Tap again and enter what the pole does.';
 
-// What to do. In place of the command's advice which line to write, the page has buttons for the arrivals that would do.
+// What to do. In place of the command's advice which line to write, the page has buttons for the arrivals that would
+// do.
 function remedyOf(job, { number, mask }, { least }) {
   const isWindowed = job.windows && mask === 0;
   switch (number) {
     case 8: return least === null ? (isWindowed ? WINDOWS : NEARER)
-      : isWindowed ? 'Take another arrival, or look whether the site permits other windows or a shorter dwell does.' : 'Take another arrival.';
+      : isWindowed ? 'Take another arrival, or look whether the site permits other windows or a shorter dwell does.'
+        : 'Take another arrival.';
     case 9: return isWindowed ? WINDOWS : NEARER;
     case 3: return `Enter a tick from 1 to ${LATEST_ARRIVAL}, or the earliest arrival.`;
     case 1: return `Enter at least one of the axes 0 to ${AXES - 1}.`;
     case 4: return 'Enter what the motor allows, within the range.';
     case 12: case 5: case 15: return TAP_AGAIN;
     case 6: return 'Enter where the axis is and goes, within what its limits allow.';
-    case 16: return 'Enter a target without acceleration, or leave the second half period out and let the pole sway at that rate.';
+    case 16: return NO_ACCELERATION;
     case 17: return 'Make it a moving target with the same position and velocity, and say at which tick it is there.';
-    case 13: return `Enter 1 to ${MOST_WINDOWS} windows in the order of their ticks, and a dwell from 0 to ${LONGEST_DWELL}.`;
+    case 13: return IN_ORDER;
     default: return 'Nothing was planned.';
   }
 }
@@ -128,13 +134,15 @@ function raisesTold(raises, setup, job, { mask }) {
     return told.length ? `${called(setup, number)}: the ${told.join(', or the ')}`
       : `${called(setup, number)}: no speed limit and no acceleration limit alone would let it arrive then`;
   });
-  if (mask && job.windows && !fitsWindow(job.windows, job.asked)) lines.push(`${tickTold(setup, Number(job.asked))} fits no window either`);
+  if (mask && job.windows && !fitsWindow(job.windows,
+    job.asked)) lines.push(`${tickTold(setup, Number(job.asked))} fits no window either`);
   return lines;
 }
 
 function raiseTold(setup, number, limit, by, from) {
   const { isPlain, names } = measuresOf(setup, number), to = from + BigInt(by), isSpeed = limit === 'speed limit';
-  const unit = setup.worked.unitOf(number)?.exact ?? Fraction.whole(1), tick = setup.worked.tick?.exact ?? Fraction.whole(1);
+  const unit = setup.worked.unitOf(number)?.exact ?? Fraction.whole(1),
+    tick = setup.worked.tick?.exact ?? Fraction.whole(1);
   const size = isSpeed ? unit.over(tick) : unit.over(tick.times(tick));
   const measured = isPlain ? '' : ` (${new Fraction(to).times(size).shown(9)} ${names[isSpeed ? 1 : 2]})`;
   return `${limit} by ${by} to ${to}${measured}`;

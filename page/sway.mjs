@@ -1,5 +1,6 @@
-// The sway of a pole under the accelerations of a table: an oscillator that swings over in its half period and whose swing shrinks to its
-// ratio in that time, both as entered. It is for pictures alone, and a real pole's sway is in proportion to it.
+// The sway of a pole under the accelerations of a table: an oscillator that swings over in its half period and whose
+// swing shrinks to its ratio in that time, both as entered. It is for pictures alone, and a real pole's sway is in
+// proportion to it.
 
 import { ratioOf, weightOf } from './bound.mjs';
 
@@ -9,7 +10,8 @@ export function polesOf(axis, entered = {}) {
   if (first > 0 && weightOf(axis.damping) !== null) {
     poles.push({ name: 'sway', halfPeriod: entered['half period'] ?? first, ratio: ratioOf(axis.damping) });
   }
-  if (second > 0n) poles.push({ name: 'second sway', halfPeriod: entered['second half period'] ?? Number(second), ratio: 1 });
+  if (second > 0n) poles.push({ name: 'second sway', halfPeriod: entered['second half period'] ?? Number(second),
+    ratio: 1 });
   return poles;
 }
 
@@ -24,8 +26,10 @@ export function enteredPeriods(notes, number, axis) {
 
 // What a time under a constant acceleration does to a swing, by the oscillator's own solution.
 function stepOf({ swing, decay, stiffness }, time) {
-  const remains = Math.exp(-decay * time), turned = remains * Math.sin(swing * time) / swing, cosine = remains * Math.cos(swing * time);
-  return { kept: cosine + decay * turned, gained: turned, slowed: -stiffness * turned, carried: cosine - decay * turned };
+  const remains = Math.exp(-decay * time), turned = remains * Math.sin(swing * time) / swing,
+    cosine = remains * Math.cos(swing * time);
+  return { kept: cosine + decay * turned, gained: turned, slowed: -stiffness * turned,
+    carried: cosine - decay * turned };
 }
 
 function oscillatorOf({ halfPeriod, ratio }) {
@@ -33,8 +37,8 @@ function oscillatorOf({ halfPeriod, ratio }) {
   return { swing, decay, stiffness: swing * swing + decay * decay };
 }
 
-// The sway from tick 0 to a last tick: points of (tick, value) one after the other, and what is left of it from a tick on. Each row's
-// acceleration holds to the next, the last one's from then on.
+// The sway from tick 0 to a last tick: points of (tick, value) one after the other, and what is left of it from a
+// tick on. Each row's acceleration holds to the next, the last one's from then on.
 export function swayOf(pole, accelerations, last, arrival = accelerations.length - 1) {
   const oscillator = oscillatorOf(pole), parts = Math.ceil(16 / pole.halfPeriod), step = stepOf(oscillator, 1 / parts);
   const count = last * parts + 1, ticks = new Float64Array(count), values = new Float64Array(count);
@@ -51,7 +55,8 @@ export function swayOf(pole, accelerations, last, arrival = accelerations.length
       values[at] = x;
     }
   }
-  if (arrival >= last) left = greatestOf(oscillator, x + accelerations[accelerations.length - 1] / oscillator.stiffness, v);
+  if (arrival >= last) left = greatestOf(oscillator,
+    x + accelerations[accelerations.length - 1] / oscillator.stiffness, v);
   return { ticks, values, left };
 }
 

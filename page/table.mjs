@@ -26,16 +26,20 @@ function exactUnits(cell) {
 // What the table has, leg by leg: { rows, count, first }, the first tick in the tour's count.
 export function tableOf(setup, plan, leg, how) {
   const axes = setup.kind === 'job' ? setup.job.axes : setup.tour.axes;
-  const source = plan.kind === 'job' ? { rows: plan.rows, count: plan.arrival + 1 } : { rows: plan.legs[leg].rows, count: plan.legs[leg].ticks + 1 };
+  const source = plan.kind === 'job' ? { rows: plan.rows, count: plan.arrival + 1 }
+    : { rows: plan.legs[leg].rows, count: plan.legs[leg].ticks + 1 };
   const numbers = axes.map((axis, number) => axis ? number : -1).filter(number => number >= 0);
-  return { ...source, tick: measuresOf(setup, numbers[0]).tick, columns: numbers.map(number => ({ number, title: titleOf(setup.names, number), ...showing(setup, number, how) })) };
+  return { ...source, tick: measuresOf(setup, numbers[0]).tick,
+    columns: numbers.map(number => ({ number, title: titleOf(setup.names, number), ...showing(setup, number, how) })) };
 }
 
 // The heading of the table: two lines.
 export function headingOf({ columns, tick }) {
   const first = columns.map(({ title }) => `<th scope="colgroup" colspan="3">${escaped(title)}</th>`).join('');
-  const second = columns.map(({ names }) => names.map((name, at) => `<th scope="col"><abbr title="${ROW_COLUMNS[at]}">${SHORT[ROW_COLUMNS[at]]}</abbr> <small>${escaped(name)}</small></th>`).join('')).join('');
-  return `<tr><th scope="col" rowspan="2">tick</th>${tick ? '<th scope="col" rowspan="2">s</th>' : ''}${first}</tr><tr>${second}</tr>`;
+  const named = (name, at) => `<th scope="col"><abbr title="${ROW_COLUMNS[at]}">${SHORT[ROW_COLUMNS[at]]}</abbr> ` +
+    `<small>${escaped(name)}</small></th>`;
+  const second = columns.map(({ names }) => names.map(named).join('')).join(''), tall = 'scope="col" rowspan="2"';
+  return `<tr><th ${tall}>tick</th>${tick ? `<th ${tall}>s</th>` : ''}${first}</tr><tr>${second}</tr>`;
 }
 
 // The seconds of a tick, in short.
@@ -44,14 +48,17 @@ export function secondsOfTick(tick, at) {
 }
 
 function rowOf(table, at, marked) {
-  const cells = table.columns.map(({ number, show }) => ROW_COLUMNS.map((name, column) => `<td>${show(table.rows[number][name][at], column)}</td>`).join('')).join('');
+  const cells = table.columns.map(({ number, show }) =>
+    ROW_COLUMNS.map((name, column) => `<td>${show(table.rows[number][name][at], column)}</td>`).join('')).join('');
   const seconds = table.tick ? `<td>${secondsOfTick(table.tick, at)}</td>` : '';
-  return `<tr aria-rowindex="${at + 3}"${at === marked ? ' class="marked" aria-current="true"' : ''}><th scope="row">${at}</th>${seconds}${cells}</tr>`;
+  const mark = at === marked ? ' class="marked" aria-current="true"' : '';
+  return `<tr aria-rowindex="${at + 3}"${mark}><th scope="row">${at}</th>${seconds}${cells}</tr>`;
 }
 
 // The rows in sight of a scrolled table, between two rows as high as those above and below.
 export function rowsInSight(table, top, height, marked) {
-  const from = Math.max(0, Math.min(table.count - 1, Math.floor(top / ROW_HEIGHT) - 5)), to = Math.min(table.count, from + Math.ceil(height / ROW_HEIGHT) + 10);
+  const from = Math.max(0, Math.min(table.count - 1, Math.floor(top / ROW_HEIGHT) - 5)),
+    to = Math.min(table.count, from + Math.ceil(height / ROW_HEIGHT) + 10);
   const filler = count => count > 0 ? `<tr class="filler" aria-hidden="true" data-rows="${count}"><td></td></tr>` : '';
   let body = filler(from);
   for (let at = from; at < to; at++) body += rowOf(table, at, marked);

@@ -72,7 +72,8 @@ export class Worked {
     if (unit === UNTOLD) return UNTOLD;
     const name = measureOf(quantity, unit.name);
     if (!isInUnit(amount, unit.name, QUANTITIES[quantity].endings)) {
-      throw new SheetError(place.line, `a whole number, or one of \`${name}\`, after \`${place.name}\``, `\`${place.entered}\``);
+      throw new SheetError(place.line, `a whole number, or one of \`${name}\`, after \`${place.name}\``,
+        `\`${place.entered}\``);
     }
     if (quantity === 'position') return this.scaled(value, unit.exact, name, quantity, false);
     const tick = this.tickFor(place);
@@ -86,7 +87,8 @@ export class Worked {
     if (this.tick) return this.tick.exact ?? UNTOLD;
     if (this.lacksTick) return UNTOLD;
     this.lacksTick = true;
-    throw new SheetError(place.line, '`tick` with its seconds on the sheet', `none for \`${place.name} ${place.entered}\``);
+    throw new SheetError(place.line, '`tick` with its seconds on the sheet',
+      `none for \`${place.name} ${place.entered}\``);
   }
 
   // The unit of an entry's axis. That it is lacking is told once for an axis; one whose own line is wrong has number 6.
@@ -120,7 +122,8 @@ export class Worked {
 
   // Works out what the half periods of an axis that are off leave of a sway.
   weigh(number, axis) {
-    const unit = this.unitOf(number), { exact, name } = unit && unit.exact ? unit : { exact: Fraction.whole(1), name: 'units' };
+    const unit = this.unitOf(number), { exact, name } = unit &&
+      unit.exact ? unit : { exact: Fraction.whole(1), name: 'units' };
     for (const note of this.rounded.filter(note => note.axis === number && note.entry.endsWith('half period'))) {
       const size = note.stepsOff.size().times(Fraction.whole(10000)).rounded('up');
       if (size >= 2n ** 31n) continue;
@@ -160,6 +163,7 @@ function roundedNote(place, measured, number) {
 export function noteTold(note, withWhose = true) {
   const whose = withWhose && note.whose ? note.whose + ': ' : '';
   const sway = note.sway
-    ? `; a pole that swings as entered keeps a sway of at most ${note.sway} (a real pole's is in proportion to it)` : '';
+    ? `; a pole that swings as entered keeps a sway of at most ${note.sway} (a real pole's is in proportion to it)`
+      : '';
   return `${whose}${note.entered}${note.comesTo} is planned as ${note.planned}, ${note.off}${sway}`;
 }

@@ -13,7 +13,8 @@ import time
 def find():
     """The browser of this machine, or None."""
     named = os.environ.get('CHROMIUM')
-    return named or next((path for path in map(shutil.which, ('chromium', 'chromium-browser', 'google-chrome')) if path), None)
+    return named or next((path for path in map(shutil.which,
+        ('chromium', 'chromium-browser', 'google-chrome')) if path), None)
 
 
 class Browser:
@@ -23,7 +24,8 @@ class Browser:
         self.home = tempfile.TemporaryDirectory()
         to_browser, self.out = os.pipe()
         self.into, from_browser = os.pipe()
-        words = [path, '--headless=new', '--no-sandbox', '--disable-gpu', '--disable-dev-shm-usage', '--no-first-run', '--disable-extensions',
+        words = [path, '--headless=new', '--no-sandbox', '--disable-gpu', '--disable-dev-shm-usage', '--no-first-run',
+            '--disable-extensions',
                  '--disable-background-networking', '--disable-component-update', '--disable-default-apps', '--disable-sync',
                  '--disable-features=Translate,OptimizationHints', '--remote-debugging-pipe', f'--user-data-dir={self.home.name}', 'about:blank']
 
@@ -33,7 +35,8 @@ class Browser:
             os.dup2(high[0], 3)
             os.dup2(high[1], 4)
 
-        self.process = subprocess.Popen(words, preexec_fn=lend, close_fds=False, stdin=subprocess.DEVNULL, stdout=subprocess.DEVNULL, stderr=subprocess.DEVNULL)
+        self.process = subprocess.Popen(words, preexec_fn=lend, close_fds=False, stdin=subprocess.DEVNULL,
+            stdout=subprocess.DEVNULL, stderr=subprocess.DEVNULL)
         os.close(to_browser)
         os.close(from_browser)
         self.number, self.text, self.answers, self.events, self.session = 0, b'', {}, [], None
@@ -84,7 +87,8 @@ class Browser:
 
     def evaluate(self, code, gesture=False):
         """The value of a JavaScript expression, awaited."""
-        answer = self.send('Runtime.evaluate', expression=code, returnByValue=True, awaitPromise=True, userGesture=gesture)
+        answer = self.send('Runtime.evaluate', expression=code, returnByValue=True, awaitPromise=True,
+            userGesture=gesture)
         if 'exceptionDetails' in answer:
             raise AssertionError(f'{code[:200]}: {answer["exceptionDetails"].get("exception", {}).get("description", answer["exceptionDetails"]["text"])}')
         return answer['result'].get('value')
@@ -112,7 +116,8 @@ class Browser:
     def key(self, key, code=0, text=None, modifiers=0):
         for kind in ('keyDown', 'keyUp'):
             more = {'text': text} if text and kind == 'keyDown' else {}
-            self.send('Input.dispatchKeyEvent', type=kind, key=key, code=key, windowsVirtualKeyCode=code, modifiers=modifiers, **more)
+            self.send('Input.dispatchKeyEvent', type=kind, key=key, code=key, windowsVirtualKeyCode=code,
+                modifiers=modifiers, **more)
 
     def type(self, text):
         self.send('Input.insertText', text=text)
@@ -129,10 +134,12 @@ class Browser:
         clip = {}
         if whole:
             size = self.send('Page.getLayoutMetrics')['cssContentSize']
-            clip = {'captureBeyondViewport': True, 'clip': {'x': 0, 'y': 0, 'width': size['width'], 'height': min(size['height'], most), 'scale': 1}}
+            clip = {'captureBeyondViewport': True,
+                'clip': {'x': 0, 'y': 0, 'width': size['width'], 'height': min(size['height'], most), 'scale': 1}}
         with open(path, 'wb') as file:
             file.write(base64.b64decode(self.send('Page.captureScreenshot', **clip)['data']))
 
     def paper(self, path):
         with open(path, 'wb') as file:
-            file.write(base64.b64decode(self.send('Page.printToPDF', preferCSSPageSize=True, printBackground=True)['data']))
+            file.write(base64.b64decode(self.send('Page.printToPDF', preferCSSPageSize=True,
+                printBackground=True)['data']))

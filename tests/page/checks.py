@@ -63,7 +63,8 @@ class Tried:
         return path
 
     def command(self, *words):
-        return subprocess.run([self.polgamir, *words], text=True, stdout=subprocess.PIPE, stderr=subprocess.PIPE, cwd=ROOT)
+        return subprocess.run([self.polgamir, *words], text=True, stdout=subprocess.PIPE, stderr=subprocess.PIPE,
+            cwd=ROOT)
 
 
 def first_sight(t):
@@ -71,7 +72,8 @@ def first_sight(t):
     verdict = t.text('verdict')
     assert '2.2 s' in verdict and 'tick 110' in verdict, verdict
     answer = t.text('answer')
-    for words in ('in proportion to the real pole', 'Jerk and end stops are not limited', 'from -3.5 to 20.5 degree', '3 entries were rounded'):
+    for words in ('in proportion to the real pole', 'Jerk and end stops are not limited', 'from -3.5 to 20.5 degree',
+        '3 entries were rounded'):
         assert words in answer, answer
     assert t.text('version') == (ROOT / 'VERSION').read_text().strip()
 
@@ -165,13 +167,15 @@ def sheets_saved_and_opened(t):
     assert f'tick {arrival}' in t.text('verdict') and '21.5 degree' in path.read_text()
     csv = t.saved('save-csv', 'polgamir.csv').read_text()
     lines = [line for line in csv.splitlines() if not line.startswith('#')]
-    assert lines == [line for line in t.command('plan', '--csv', str(path)).stdout.splitlines() if not line.startswith('#')]
+    assert lines == [line for line in t.command('plan', '--csv',
+        str(path)).stdout.splitlines() if not line.startswith('#')]
     assert t.saved('save-words', 'polgamir.words.txt').read_text() == t.command('words', str(path)).stdout
     t.open()
     choose(t, path)
     assert f'tick {arrival}' in t.text('verdict') and 'counted swings' in t.sheet()
     before = t.sheet()
-    for name, content, told in (('picture.png', b'\x89PNG\r\n\x1a\n\0\xff', 'not text'), ('letter.txt', b'Dear crew,\nthe pole is long.\n', 'line 1'),
+    for name, content, told in (('picture.png', b'\x89PNG\r\n\x1a\n\0\xff', 'not text'),
+        ('letter.txt', b'Dear crew,\nthe pole is long.\n', 'line 1'),
                                 ('empty.sheet', b'', 'axis 0')):
         wrong = t.scratch / name
         wrong.write_bytes(content)
@@ -196,7 +200,8 @@ def addresses(t):
     assert hash.startswith('#sheet='), hash
     t.open(hash)
     assert t.text('verdict') == verdict and t.sheet() == sheet, t.text('verdict')
-    for wrong, told in (('#nonsense', 'which is no job'), ('#sheet=%%%', 'cannot be read'), ('#sheet=aGVsbG8', 'no set-up sheet')):
+    for wrong, told in (('#nonsense', 'which is no job'), ('#sheet=%%%', 'cannot be read'),
+        ('#sheet=aGVsbG8', 'no set-up sheet')):
         t.open(wrong)
         assert told in t.text('said') and '2.2 s' in t.text('verdict'), t.text('said')
     t.browser.evaluate(f'location.hash = {json.dumps(hash)}')
@@ -207,7 +212,8 @@ def run_all(chromium, page, texts, polgamir, scratch, keep):
     import looks
     tried = Tried(chromium, page, texts, polgamir, scratch)
     try:
-        for check in (first_sight, every_field, every_refusal, other_arrivals, a_tour, sheets_saved_and_opened, addresses,
+        for check in (first_sight, every_field, every_refusal, other_arrivals, a_tour, sheets_saved_and_opened,
+            addresses,
                       looks.on_a_phone, looks.by_keyboard, looks.for_a_screen_reader, looks.dark_and_light, looks.numbers_past_every_range,
                       looks.on_paper, looks.speed, looks.nothing_leaves):
             began = time.monotonic()

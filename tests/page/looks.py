@@ -13,7 +13,8 @@ SHOWN = "[...document.querySelectorAll('button, input, select, textarea, summary
 def on_a_phone(t):
     """390 pixels: nothing to scroll sideways, everything large enough for a finger, and a row under the finger."""
     t.browser.size(390, 800, touch=True)
-    for sheet in (FULL_JOB, (ROOT / 'sheets/plot-of-stems.sheet').read_text(), (ROOT / 'sheets/too-soon.sheet').read_text(), SIX_AXES):
+    for sheet in (FULL_JOB, (ROOT / 'sheets/plot-of-stems.sheet').read_text(),
+        (ROOT / 'sheets/too-soon.sheet').read_text(), SIX_AXES):
         t.open()
         t.take(sheet)
         width = t.browser.evaluate('document.documentElement.scrollWidth')
@@ -73,7 +74,8 @@ def by_keyboard(t):
 
 def for_a_screen_reader(t):
     """Everything that can be used or seen has a role and a name; what is said of a field belongs to it; the answer is announced."""
-    roles = {'textbox', 'combobox', 'button', 'checkbox', 'radio', 'slider', 'image', 'img', 'radiogroup', 'group', 'region', 'table'}
+    roles = {'textbox', 'combobox', 'button', 'checkbox', 'radio', 'slider', 'image', 'img', 'radiogroup', 'group',
+        'region', 'table'}
     for sheet in (FULL_JOB, (ROOT / 'sheets/plot-of-stems.sheet').read_text()):
         t.open()
         t.take(sheet)
@@ -129,7 +131,8 @@ def dark_and_light(t):
 def numbers_past_every_range(t):
     """Numbers of any size and sign end in a sentence or a refusal, never in silence."""
     t.open()
-    for id in ('f-axis-0-speed-limit', 'f-axis-0-start-position', 'f-tick', 'f-unit', 'f-axis-0-damping', 'f-axis-0-half-period', 'f-axis-0-half-period-count'):
+    for id in ('f-axis-0-speed-limit', 'f-axis-0-start-position', 'f-tick', 'f-unit', 'f-axis-0-damping',
+        'f-axis-0-half-period', 'f-axis-0-half-period-count'):
         value = t.browser.evaluate(f'document.getElementById({json.dumps(id)}).value')
         for number in ('9' * 40, '9' * 60, '-' + '9' * 30, '1e99', '1e-99', '0', '-0', '', '1/0', '٣', '1e999'):
             t.set(id, number)
@@ -185,7 +188,8 @@ def nothing_leaves(t):
         await fetch('http://127.0.0.1:9/').catch(() => 0); new Image().src = 'http://127.0.0.1:9/x.png'; await new Promise(done => setTimeout(done, 200)); return told; })()''')
     assert 'connect-src' in blocked and 'img-src' in blocked, blocked
     urls = [event['params']['request']['url'] for event in t.browser.events if event['method'] == 'Network.requestWillBeSent']
-    others = {url.split('#')[0] for url in urls} - {t.address, 'about:blank', 'http://127.0.0.1:9/', 'http://127.0.0.1:9/x.png'}
+    others = {url.split('#')[0] for url in urls} - {t.address, 'about:blank', 'http://127.0.0.1:9/',
+        'http://127.0.0.1:9/x.png'}
     assert not [url for url in others if not url.startswith(('blob:', 'data:'))], others
     errors = [event for event in t.browser.events if event['method'] == 'Runtime.exceptionThrown']
     assert not errors, json.dumps(errors[0])[:600]
@@ -196,8 +200,10 @@ def nothing_leaves(t):
 def pictures(t, keep):
     """Pictures of the page, to look at."""
     keep.mkdir(parents=True, exist_ok=True)
-    for name, width, scheme, sheet in (('wide', 1366, 'light', None), ('wide-dark', 1366, 'dark', None), ('phone', 390, 'light', None), ('phone-dark', 390, 'dark', None),
-                                       ('phone-refused', 390, 'light', (ROOT / 'sheets/too-soon.sheet').read_text()), ('wide-tour', 1366, 'light', (ROOT / 'sheets/plot-of-stems.sheet').read_text()),
+    for name, width, scheme, sheet in (('wide', 1366, 'light', None), ('wide-dark', 1366, 'dark', None),
+        ('phone', 390, 'light', None), ('phone-dark', 390, 'dark', None),
+                                       ('phone-refused', 390, 'light',
+                                           (ROOT / 'sheets/too-soon.sheet').read_text()), ('wide-tour', 1366, 'light', (ROOT / 'sheets/plot-of-stems.sheet').read_text()),
                                        ('wide-six', 1366, 'light', SIX_AXES), ('phone-six', 390, 'light', SIX_AXES)):
         t.browser.size(width, 900, width < 600)
         t.browser.scheme(scheme)

@@ -1,5 +1,5 @@
-// The page's modules against the command and against what the reference has worked out: every sheet of sheets/ and tests/sheets, its answer,
-// its table, what was rounded, its errors, its CSV and its words.
+// The page's modules against the command and against what the reference has worked out: every sheet of sheets/ and
+// tests/sheets, its answer, its table, what was rounded, its errors, its CSV and its words.
 //
 //     node tests/page/modules.mjs ROOT COMMAND
 
@@ -23,7 +23,8 @@ const { weightOf } = await load('bound.mjs');
 
 const library = await openLibrary(readFileSync(join(root, 'target/lib/wasm32/polgamir.wasm')));
 const text = path => readFileSync(join(root, path), 'utf8');
-const files = (folder, ending) => readdirSync(join(root, folder)).filter(name => name.endsWith(ending)).sort().map(name => `${folder}/${name}`);
+const files = (folder, ending) => readdirSync(join(root, folder)).filter(name =>
+  name.endsWith(ending)).sort().map(name => `${folder}/${name}`);
 const run = (words, input) => spawnSync(command, words, { input, cwd: root, encoding: 'utf8', maxBuffer: 1 << 28 });
 const withoutRemarks = csv => csv.split('\n').filter(line => !line.startsWith('#')).join('\n');
 let count = 0;
@@ -58,12 +59,14 @@ function compareJob(path, setup) {
   if (told.refused) {
     const { number, place, mask, arrival } = plan.answer;
     assert.deepEqual([number, place, mask, arrival], [told.refused, told.place, told.axes, told.arrival], path);
-    if (told.text.startsWith('No plan')) assert.ok(told.text.startsWith(plan.told.sentence), `${path}: ${told.text}\n${plan.told.sentence}`);
+    if (told.text.startsWith('No plan')) assert.ok(told.text.startsWith(plan.told.sentence),
+      `${path}: ${told.text}\n${plan.told.sentence}`);
     return;
   }
   assert.ok(plan.ok, `${path}: refused with ${plan.answer.number}`);
   sameTable(plan, done, path);
-  assert.equal(withoutRemarks(csvOf(setup, plan, 'x', 'y')), withoutRemarks(run(['plan', '--csv', path]).stdout), `${path}: CSV`);
+  assert.equal(withoutRemarks(csvOf(setup, plan, 'x', 'y')), withoutRemarks(run(['plan', '--csv', path]).stdout),
+    `${path}: CSV`);
   const words = run(['words', path]), own = wordsOfJob(setup.job);
   if (words.status === 0) assert.equal(hexadecimalOf(own.words), words.stdout, `${path}: words`);
   else assert.ok(own.error, path);
@@ -84,11 +87,13 @@ function compareTour(path, setup) {
   const done = run(['tour', path]), plan = planOf(library, setup);
   assert.deepEqual(said(done).filter(line => line.startsWith('line ')), notesOf(setup), `${path}: what was rounded`);
   assert.equal(Number(/^total (\d+)/m.exec(done.stdout)[1]), plan.total, path);
-  const rows = [...done.stdout.matchAll(/^ *(\d+) +(\d+)/gm)].map(([, stop, arrival]) => [Number(stop), Number(arrival)]).filter(([stop]) => stop < plan.legs.length);
+  const rows = [...done.stdout.matchAll(/^ *(\d+) +(\d+)/gm)].map(([, stop, arrival]) =>
+    [Number(stop), Number(arrival)]).filter(([stop]) => stop < plan.legs.length);
   assert.deepEqual(rows.slice(0, plan.legs.length), plan.legs.map(leg => [leg.index, leg.arrival]), path);
   for (const leg of plan.legs) {
     const found = { arrival: leg.ticks, rows: leg.rows };
-    sameTable(found, run(['plan', '--json', '-'], sheetOfJob(legOf(setup.tour, setup.stops, leg.index))), `${path}: leg ${leg.index}`);
+    sameTable(found, run(['plan', '--json', '-'], sheetOfJob(legOf(setup.tour, setup.stops, leg.index))),
+      `${path}: leg ${leg.index}`);
   }
 }
 
@@ -105,11 +110,13 @@ for (const path of [...files('sheets', '.sheet'), ...files('tests/sheets/good', 
 function planned(setup) {
   const { axes } = setup.job ?? setup.tour, lines = [];
   if (setup.job) lines.push(`arrival ${setup.job.asked || 'earliest'}`);
-  if (setup.job?.windows) lines.push(`dwell ${setup.job.windows.dwell}`, ...setup.job.windows.list.map(({ opening, closing }) => `window ${opening} ${closing}`));
+  if (setup.job?.windows) lines.push(`dwell ${setup.job.windows.dwell}`,
+    ...setup.job.windows.list.map(({ opening, closing }) => `window ${opening} ${closing}`));
   axes.forEach((axis, number) => {
     if (!axis) return;
     const { damping, ...entries } = axis, words = damping.text.toLowerCase();
-    entries[damping.kind] = damping.kind === 'peaks' ? words.replace(/[^0-9. ]+/g, '').replace(/ +/g, ' ').trim() : words;
+    entries[damping.kind] = damping.kind === 'peaks' ? words.replace(/[^0-9. ]+/g, '').replace(/ +/g, ' ').trim()
+      : words;
     lines.push(`axis ${number}`, ...Object.keys(entries).sort().map(name => `${name} ${entries[name]}`));
   });
   for (const { positions, dwell } of setup.stops ?? []) lines.push(`stop ${axes.flatMap((axis, number) => axis ? [positions[number]] : []).join(' ')} dwell ${dwell}`);
@@ -133,7 +140,8 @@ for (const path of files('tests/sheets/bad', '.sheet')) {
 }
 
 // Single entries, drawn by the reference.
-const OTHERS = ['half period', 'speed limit', 'acceleration limit', 'start position', 'start velocity', 'target position', 'target velocity',
+const OTHERS = ['half period', 'speed limit', 'acceleration limit', 'start position', 'start velocity',
+  'target position', 'target velocity',
   'target acceleration', 'target tick'];
 for (const line of text('tests/sheets/drawn.txt').split('\n').filter(line => line && !line.startsWith('#'))) {
   const [tick, unit, name, value, number, sentence] = line.split(' | ');
@@ -141,7 +149,8 @@ for (const line of text('tests/sheets/drawn.txt').split('\n').filter(line => lin
   const others = OTHERS.filter(other => other !== entry).map(other => `${other} 1\n`).join('');
   const { setup } = readSheet(`tick ${tick}\nunit ${unit}\naxis 0\n${name} ${value}\narrival earliest\ntarget moving\nweight 128\n${others}`);
   assert.equal(String(setup.job.axes[0][entry]), number, line);
-  assert.deepEqual(notesOf(setup).map(note => note.split('; ')[0]), sentence === '-' ? [] : [`line 4: axis 0: ${sentence}`], line);
+  assert.deepEqual(notesOf(setup).map(note => note.split('; ')[0]),
+    sentence === '-' ? [] : [`line 4: axis 0: ${sentence}`], line);
   count += 1;
 }
 
@@ -168,10 +177,13 @@ for (const word of ['inf', 'nan', '1e99', '', '.', '1,5', '0x10']) assert.equal(
 assert.equal(library.planJob({ asked: 0n, axes: new Array(6).fill(null), windows: null }).number, 1);
 assert.equal(library.arrivalOf(readSheet(text('sheets/case-c.sheet')).setup.job).number, 10);
 
-// A push one way for T ticks and the other way for T leaves 4a/w² sin²(wT/2) on an undamped pole; a blended one leaves nothing.
+// A push one way for T ticks and the other way for T leaves 4a/w² sin²(wT/2) on an undamped pole; a blended one
+// leaves nothing.
 for (const [halfPeriod, ticks] of [[10, 7], [6.25, 20], [8, 16], [33, 5]]) {
-  const rows = Float64Array.from({ length: 2 * ticks + 1 }, (_, row) => row < ticks ? 3 : row < 2 * ticks ? -3 : 0), w = Math.PI / halfPeriod;
-  const { left } = swayOf({ halfPeriod, ratio: 1 }, rows, 2 * ticks + 40), expected = 12 / (w * w) * Math.sin(w * ticks / 2) ** 2;
+  const rows = Float64Array.from({ length: 2 * ticks + 1 }, (_, row) => row < ticks ? 3 : row < 2 * ticks ? -3 : 0),
+    w = Math.PI / halfPeriod;
+  const { left } = swayOf({ halfPeriod, ratio: 1 }, rows, 2 * ticks + 40),
+    expected = 12 / (w * w) * Math.sin(w * ticks / 2) ** 2;
   assert.ok(Math.abs(left - expected) < 1e-9 * (1 + halfPeriod * halfPeriod), `${halfPeriod} ${left} ${expected}`);
 }
 const blended = new Float64Array(16);
