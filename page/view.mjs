@@ -36,6 +36,7 @@ export class View {
       `<section class="axis-pictures"><h3>${escaped(title)}</h3><div class="panels">` +
       `${panels.map(panel => drawPanel(panel, title, width, time)).join('')}</div></section>`).join('');
     byId('legend').classList.toggle('has-windows', Boolean(this.setup.job?.windows));
+    byId('legend').classList.toggle('of-tour', this.plan.kind === 'tour');
   }
 
   showTable() {

@@ -19,6 +19,7 @@ const { csvOf, wordsOfJob, hexadecimalOf, addressOf, sheetInAddress } = await lo
 const { enteredOf, sheetOf } = await load('entered.mjs');
 const { readFloat } = await load('amount.mjs');
 const { swayOf } = await load('sway.mjs');
+const { panelsOfJob, panelsOfTour } = await load('pictures.mjs');
 const { weightOf } = await load('bound.mjs');
 
 const library = await openLibrary(readFileSync(join(root, 'target/lib/wasm32/polgamir.wasm')));
@@ -192,5 +193,22 @@ for (const [tick, push] of [[0, 1], [1, 0.5], [3, -1.5]]) {
   blended[tick + 5] += push * 100;
 }
 assert.ok(swayOf({ halfPeriod: 5, ratio: 100 / 156 }, blended, 60).left < 1e-9);
+
+// The sways beside the command's: what is left of each, and what would be without the blend, in the digits that its
+// pictures have.
+const LEFT = /left (?:&lt;)?([0-9.,]+)(?:; without (?:the )?blend (?:&lt;)?([0-9.,]+))?</g;
+for (const path of [...files('sheets', '.sheet'), ...files('tests/sheets/good', '.sheet')]) {
+  const { setup } = readSheet(text(path)), plan = planOf(library, setup);
+  if (!plan.ok) continue;
+  const panels = plan.kind === 'job' ? panelsOfJob(setup, plan) : panelsOfTour(setup, plan);
+  const own = panels.flatMap(({ sways }) => sways.map(({ left, without }) => [left, without]));
+  const told = [...run(['plot', path, '-o', '-']).stdout.matchAll(LEFT)];
+  assert.equal(told.length, own.length, `${path}: sways`);
+  told.forEach(([, ...numbers], place) => numbers.forEach((number, at) => {
+    if (number === undefined) return assert.equal(own[place][at], null, path);
+    const expected = Number(number.replaceAll(',', ''));
+    assert.ok(Math.abs(own[place][at] - expected) <= 0.006 * expected + 0.001, `${path}: ${own[place][at]} for ${expected}`);
+  }));
+}
 
 console.log(`${count} sheets and entries are as the command and the reference have them`);
