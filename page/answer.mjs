@@ -22,17 +22,18 @@ function bigTime(setup, ticks) {
     : `<strong>tick ${ticks}</strong>`;
 }
 
-// The answer of entries that cannot be read.
+const AT_MOST = 6;
+
+// The answer of entries that are missing or cannot be read: names of the first, sentences for the others.
 export function errorsTold(errors, nameOf) {
-  const first = errors.slice(0, 6).map(({ error, id }) => {
-    const what = `expected ${error.expected}, found ${error.found}`;
-    const button = `<button type="button" class="link" data-go="${escaped(id ?? '')}">${escaped(nameOf(id))}</button>`;
-    return `<li>${button}: ${withCode(what)}</li>`;
-  });
-  const more = errors.length > 6 ? `<li>and ${errors.length - 6} more</li>` : '';
-  const count = errors.length === 1 ? 'One entry is missing or cannot be read'
-    : `${errors.length} entries are missing or cannot be read`;
-  return { verdict: '<strong>Not planned yet</strong>', rest: `<p>${count}:</p><ul>${first.join('')}${more}</ul>` };
+  const button = id => `<button type="button" class="link" data-go="${escaped(id ?? '')}">${escaped(nameOf(id))}</button>`;
+  const missing = errors.filter(({ error }) => error.found === 'the end of the line');
+  const wrong = errors.filter(one => !missing.includes(one));
+  const told = wrong.slice(0, AT_MOST).map(({ error, id }) =>
+    `<li>${button(id)}: ${withCode(`expected ${error.expected}, found ${error.found}`)}</li>`);
+  if (wrong.length > AT_MOST) told.push(`<li>and ${wrong.length - AT_MOST} more</li>`);
+  const lacking = missing.length ? `<p>To be entered: ${missing.map(({ id }) => button(id)).join(' · ')}</p>` : '';
+  return { verdict: '<strong>Not planned yet</strong>', rest: lacking + (told.length ? `<ul>${told.join('')}</ul>` : '') };
 }
 
 // The answer of a refused job or tour. `text` is the header's of the number.
@@ -45,8 +46,8 @@ export function refusalTold(setup, told, text) {
     buttons.push('<button type="button" data-arrival="earliest">Arrive as early as possible</button>');
   }
   const raises = told.raises.length && setup.kind === 'job'
-    ? `<p>Or, to keep ${tickTold(setup, Number(setup.job.asked))}, raise as far as the motors allow:</p>${listOf(told.raises)}`
-    : '';
+    ? `<p>Or, to keep ${tickTold(setup, Number(setup.job.asked))}, raise as far as the motors allow:</p>` +
+      listOf(told.raises) : '';
   const verdict = `<strong>${escaped(told.sentence.replace(/^(No plan[^:]*): .*/s, '$1'))}</strong>`;
   const cause = escaped(capital(told.sentence.replace(/^No plan[^:]*: /, '')));
   return { verdict, rest: `<p class="cause">${cause}</p><p>${escaped(told.remedy)}</p>` +
@@ -78,7 +79,8 @@ export function jobTold(setup, plan, panels) {
 function axisTold(setup, number, { least, greatest }, sways) {
   const { fine, name } = measuresOf(setup, number), shown = cell => shownFloat(cell * fine[0], 9);
   const told = sways.map(({ name: sway, left, without }) =>
-    `${sway} left ${swayTold(left)} ${escaped(name)}` + (without === null ? '' : ` (without the blend ${swayTold(without)})`));
+    `${sway} left ${swayTold(left)} ${escaped(name)}` +
+    (without === null ? '' : ` (without the blend ${swayTold(without)})`));
   const range = `from ${shown(least)} to ${shown(greatest)} ${escaped(name)}`;
   return `<li><b>${escaped(called(setup, number))}</b> ${[range, ...told].join('; ')}</li>`;
 }

@@ -220,7 +220,8 @@ class Page extends View {
       return true;
     }
     const told = errors.slice(0, 12).map(error => `<li>${withCode(error.message)}</li>`).join('');
-    byId('said').innerHTML = `<p>${escaped(name)} is no set-up sheet. What was entered is still here.</p><ul>${told}</ul>`;
+    const first = `${name} is no set-up sheet. What was entered is still here.`;
+    byId('said').innerHTML = `<p>${escaped(first)}</p><ul>${told}</ul>`;
     if (errors.length > 12) byId('said').innerHTML += `<p>And ${errors.length - 12} more.</p>`;
     byId('said').scrollIntoView({ block: 'nearest' });
     return false;

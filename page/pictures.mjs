@@ -181,7 +181,8 @@ export function drawPanel(panel, title, width, time) {
   const size = `width="${right - left}" height="${PLOT}"`, box = `${left} ${above} ${right - left} ${PLOT}`;
   const plot = `<svg x="${left}" y="${above}" ${size} viewBox="${box}">${curves.join('')}</svg>`;
   const name = escaped(`${title}: ${panel.name}: ${panel.remark}`), isBelow = above > ABOVE;
-  const remark = isBelow ? textAt('remark', 2, 14 + LINE, panel.remark) : textAt('end remark', width - 2, 14, panel.remark);
+  const remark = isBelow ? textAt('remark', 2, 14 + LINE, panel.remark)
+    : textAt('end remark', width - 2, 14, panel.remark);
   const data = `data-left="${left}" data-right="${right}" data-width="${width}" data-top="${above}"`;
   return `<svg class="panel" role="img" aria-label="${name}" viewBox="0 0 ${width} ${bottom + BELOW}" ${data}>` +
     `${textAt('name', 2, 14, panel.name)}${remark}${parts.join('')}${plot}<path class="cursor" d=""/></svg>`;

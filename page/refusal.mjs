@@ -73,7 +73,7 @@ function causeOf(setup, job, { number, mask, place }, told) {
       ? `every axis can arrive at ${asked}, but it fits no window. ${thoseThatDo(setup, job, told, latest)}`
       : `${names} cannot arrive at ${asked}. ${thoseThatDo(setup, job, told, latest)}`;
     case 9: return mask === 0
-      ? `each axis can arrive, but no tick from 1 to ${latest} suits all of them` + (job.windows ? ' and fits a window.' : '.')
+      ? `each axis can arrive, but no tick from 1 to ${latest} suits all of them${job.windows ? AND_FITS : ''}.`
       : `${names} can arrive at no tick from 1 to ${latest}.`;
     case 3: return `the asked arrival, ${asked}, is after the latest one, ${latest}.`;
     case 1: return 'the job has no axis.';
@@ -104,6 +104,7 @@ const NO_ACCELERATION =
   'Enter a target without acceleration, or leave the second half period out and let the pole sway at that rate.';
 const IN_ORDER =
   `Enter 1 to ${MOST_WINDOWS} windows in the order of their ticks, and a dwell from 0 to ${LONGEST_DWELL}.`;
+const AND_FITS = ' and fits a window';
 const TAP_AGAIN = 'Tap again and enter what the pole does.';
 
 // What to do. In place of the command's advice which line to write, the page has buttons for the arrivals that would

@@ -4,6 +4,7 @@ import { FINE_STEPS } from './calls.mjs';
 import { titleOf } from './assembling.mjs';
 import { escaped } from './pictures.mjs';
 import { measuresOf } from './measures.mjs';
+import { called } from './refusal.mjs';
 
 export const ROW_HEIGHT = 32;
 const ROW_COLUMNS = ['position', 'velocity', 'acceleration'];
@@ -12,7 +13,7 @@ const SHORT = { position: 'pos', velocity: 'vel', acceleration: 'acc' };
 // How the cells of an axis are shown: in fine steps, in units, or in the crew's measures.
 export function showing(setup, number, how) {
   const { fine, names } = measuresOf(setup, number);
-  if (how === 'cells') return { names: ['1/256 unit', '1/256 unit/tick', '1/256 unit/tick²'], show: String };
+  if (how === 'cells') return { names: ['fine steps', 'fine steps/tick', 'fine steps/tick²'], show: String };
   if (how === 'units') return { names: ['units', 'units/tick', 'units/tick²'], show: cell => exactUnits(cell) };
   const decimals = fine.map(size => Math.min(12, Math.max(0, Math.ceil(2 - Math.log10(size)) - 2)));
   return { names, show: (cell, column) => (cell * fine[column]).toFixed(decimals[column]) };
@@ -30,7 +31,9 @@ export function tableOf(setup, plan, leg, how) {
     : { rows: plan.legs[leg].rows, count: plan.legs[leg].ticks + 1 };
   const numbers = axes.map((axis, number) => axis ? number : -1).filter(number => number >= 0);
   return { ...source, tick: measuresOf(setup, numbers[0]).tick,
-    columns: numbers.map(number => ({ number, title: titleOf(setup.names, number), ...showing(setup, number, how) })) };
+    columns: numbers.map(number => ({
+      number, name: called(setup, number), title: titleOf(setup.names, number), ...showing(setup, number, how),
+    })) };
 }
 
 // The heading of the table: two lines.
@@ -82,10 +85,10 @@ export function rowsOnPaper(table, most = 24) {
 // The row at a tick, by axis, in words and numbers.
 export function rowTold(table, at) {
   const seconds = table.tick ? ` · ${secondsOfTick(table.tick, at)} s` : '';
-  const axes = table.columns.map(({ number, title, names, show }) =>
-    `<tr><th scope="row">${escaped(title)} <small>${escaped(names.join(', '))}</small></th>` +
+  const axes = table.columns.map(({ number, name, names, show }) =>
+    `<tr><th scope="row">${escaped(name)} <small>${escaped(names[1].replace('/', ', '))}</small></th>` +
     ROW_COLUMNS.map((name, column) => `<td>${show(table.rows[number][name][at], column)}</td>`).join('') + '</tr>');
   const heading = ROW_COLUMNS.map(name => `<th scope="col">${name}</th>`).join('');
-  return `<h3>Row at tick ${at}${seconds}</h3><div class="row-axes"><table><thead><tr><td></td>${heading}</tr></thead>` +
-    `<tbody>${axes.join('')}</tbody></table></div>`;
+  return `<h3>Row at tick ${at}${seconds}</h3><div class="row-axes"><table>` +
+    `<thead><tr><td></td>${heading}</tr></thead><tbody>${axes.join('')}</tbody></table></div>`;
 }
