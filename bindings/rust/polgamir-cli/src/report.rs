@@ -46,8 +46,8 @@ pub fn written(title: &str, entered: &str, sheet: &Sheet, records: &[Record]) ->
         rounded_entries(sheet.rounded()),
         html::section("The answer", &report.answer()),
         html::section("If the pole is as entered", &as_entered::section(&poles)),
-        tap::section(&poles, records),
         html::long_section("Axis by axis, and if the pole was measured wrongly", &report.axis_blocks(title, &poles)?),
+        tap::section(&poles, records),
         html::section("What the blend costs", &report.cost()),
         html::section("What sets the arrival, and one tick earlier", &report.arrivals()),
         html::section("How near each axis is to its limits", &report.limits()),
@@ -207,6 +207,7 @@ impl<'s> Report<'s> {
         let entries: Vec<(picture::Sample, String)> =
             picture::key(self.sheet).into_iter().map(|(name, sample)| (sample, name.into())).collect();
         let mut text = html::paragraph(&self.plan_told()) + &html::key(&entries);
+        let swings = poles.iter().map(|(_, poles)| poles.len()).sum();
         if let Some(pole) = poles.iter().flat_map(|(_, poles)| poles).next() {
             let name = pole.tables_name();
             text += &(html::paragraph(&wrong_axis::told(name)) + &wrong_axis::key(name));
@@ -214,10 +215,9 @@ impl<'s> Report<'s> {
         for (pictures, (entry, poles)) in picture::pictures(title, self.sheet)?.iter().zip(poles) {
             let charts = poles.iter().enumerate().flat_map(|(index, pole)| wrong_axis::charts(entry, pole, index));
             let drawn = pictures.panels.concat() + &charts.collect::<String>();
-            let tables: String = poles.iter().map(|pole| wrong_axis::tables(entry, pole)).collect();
             let body = html::heading(&pictures.title, &pictures.pole)
                 + &html::block("pictures", &drawn)
-                + &html::block("tables", &tables);
+                + &wrong_axis::numbers(entry, poles, swings);
             text += &html::block("axis", &body);
         }
         Ok(text)

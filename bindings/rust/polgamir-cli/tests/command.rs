@@ -88,7 +88,7 @@ fn job_words_are_taken_for_a_sheet() {
 
     let refused = printed(&run(&["plan", folder("jobs").join("too-soon.job").to_str().expect("letters")]));
     assert!(refused.0.contains("\nWrite `arrival 4` or `arrival earliest`.\n"), "{}", refused.0);
-    assert!(refused.0.contains("\n  axis 0: the acceleration limit by 1 to 2\n"), "{}", refused.0);
+    assert!(refused.0.contains("\n    axis 0: the acceleration limit by 1 to 2\n"), "{}", refused.0);
     assert_eq!(
         told(&run_with(&["plan", "-"], b"10000001 30000000")),
         "polgamir: standard input: word 1: expected kind 2 (arrival), found kind 3 (30000000)\n"

@@ -26,7 +26,7 @@ fn refusals_begin_with_the_sentence_and_end_with_the_number() {
 No plan: axis 0 cannot arrive at tick 3. Earliest: tick 4.
 Write `arrival 4` or `arrival earliest` in line 3.
   Or, to keep tick 3, raise as far as the motors allow:
-  axis 0: the acceleration limit by 1 to 2 (line 9)
+    axis 0: the acceleration limit by 1 to 2 (line 9)
 On the set-up sheet look at \"read the arrival tick before the first sighting\". [refusal 8]
 ";
     assert_eq!(printed(&run(&["plan", &sheet("too-soon")])), (expected.into(), Some(1)));
@@ -68,7 +68,7 @@ fn a_refusal_speaks_the_crew_s_words() {
     assert_eq!(lines[0], "No plan: pan cannot arrive at tick 105 (2.1 s). Earliest: tick 110 (2.2 s).");
     assert_eq!(lines[1], "Write `arrival 110` or `arrival earliest` in line 8.");
     assert_eq!(lines[2], "  Or, to keep tick 105 (2.1 s), raise as far as the motors allow:");
-    assert!(lines[3].starts_with("  pan: the ") && lines[3].contains(" degree/s"), "{told}");
+    assert!(lines[3].starts_with("    pan: the ") && lines[3].contains(" degree/s"), "{told}");
     assert!(!told.contains("axis 0") && told.ends_with(" [refusal 8]\n"), "{told}");
     // Two axes of one name are told apart by their numbers.
     let twins = refused(&scaled("arrival 105").replace("axis 1 tilt", "axis 1 pan"));
@@ -183,20 +183,20 @@ fn refusal_8_says_the_least_arrival_that_would_do() {
 #[test]
 fn refusal_8_says_which_limit_to_raise() {
     let slow = changed_case_c("target position      1", "target position 9").replace("limit          10", "limit 2");
-    let told = "  axis 0: the acceleration limit by 1 to 2 (line 9), or the speed limit by 1 to 3 (line 8)";
+    let told = "    axis 0: the acceleration limit by 1 to 2 (line 9), or the speed limit by 1 to 3 (line 8)";
     assert_eq!(line(&slow.replace("arrival 4", "arrival 6"), 3), told);
 
     let moving = changed_case_c("target position      1", "target position 22").replace("limit          10", "limit 3");
     let moving = moving.replace("start velocity       0", "start velocity 2").replace("arrival 4", "arrival 8");
-    let told = "  axis 0: the speed limit by 1 to 4 (line 8), or the acceleration limit by 2 to 3 (line 9)";
+    let told = "    axis 0: the speed limit by 1 to 4 (line 8), or the acceleration limit by 2 to 3 (line 9)";
     assert_eq!(line(&moving, 3), told);
 
     let windowed = slow.replace("arrival 4", "arrival 6\nwindow 20 30\ndwell 4");
-    assert_eq!(line(&windowed, 4), "  tick 6 fits no window either");
+    assert_eq!(line(&windowed, 4), "    tick 6 fits no window either");
     let fitting = slow.replace("arrival 4", "arrival 6\nwindow 6 30\ndwell 4");
     assert!(!refused(&fitting).contains("fits no window"));
 
     let late = changed_case_c("half period          0", "half period 4");
     assert_eq!(line(&late, 2), "  To keep tick 4, no raise of one limit of each axis would do:");
-    assert_eq!(line(&late, 3), "  axis 0: no speed limit and no acceleration limit alone");
+    assert_eq!(line(&late, 3), "    axis 0: no speed limit and no acceleration limit alone");
 }

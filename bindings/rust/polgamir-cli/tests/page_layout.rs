@@ -44,7 +44,8 @@ fn many_stops() -> String {
 /// Six axes whose names are long, on poles with joints.
 fn jointed_axes() -> String {
     let text = text_of("six-axes").replace("target acceleration  1", "target acceleration  0");
-    let text = text.replace("weight               120", "peaks 41.5 36.2\n  second half period   7");
+    let text = text.replace("\n  speed limit", "\n  second half period   7\n  speed limit");
+    let text = text.replace("weight               120", "peaks 41.5 36.2");
     text.replace("axis 0 pan", "axis 0 pan of the northern mast, above the joint")
 }
 
@@ -94,8 +95,14 @@ fn nothing_is_wider_than_the_screen() {
 /// Two axes take at most four pages of A4, six at most eight.
 #[test]
 fn a_report_takes_few_pages() {
-    for (name, most) in [("pan-tilt-stem", 4), ("six-axes", 8), ("too-soon", 1)] {
-        let (page, printed) = (report(name, &text_of(name)), scratch(&format!("layout-{name}.pdf")));
+    for (name, text, most) in [
+        ("two", text_of("pan-tilt-stem"), 4),
+        ("degrees", text_of("stem-in-degrees"), 4),
+        ("six", text_of("six-axes"), 8),
+        ("jointed", jointed_axes(), 8),
+        ("refused", text_of("too-soon"), 1),
+    ] {
+        let (page, printed) = (report(&format!("paper-{name}"), &text), scratch(&format!("layout-{name}.pdf")));
         let _ = fs::remove_file(&printed);
         let file = format!("file://{page}");
         if browser("chromium-paper", &["--no-pdf-header-footer", &format!("--print-to-pdf={printed}"), &file]).is_none()

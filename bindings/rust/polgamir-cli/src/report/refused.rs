@@ -10,7 +10,7 @@ use crate::picture::svg::escaped;
 
 /// The page of a refusal.
 pub fn refused(title: &str, entered: &str, rounded: &[Rounded], told: &Told) -> String {
-    let details = if told.details.is_empty() { String::new() } else { html::list(&told.details) };
+    let details = details(&told.details);
     let body = [
         format!("<h1>{}</h1>\n<p class=\"sub\">refused; polgamir {VERSION}</p>\n", escaped(title)),
         format!(
@@ -30,4 +30,20 @@ pub fn refused(title: &str, entered: &str, rounded: &[Rounded], told: &Told) -> 
         ),
     ];
     html::page(&format!("{title}: refused"), &body.concat())
+}
+
+/// What a refusal is about: lists, each below the line that ends with a colon, where there is one.
+fn details(lines: &[String]) -> String {
+    let (mut html, mut list) = (String::new(), Vec::new());
+    let close = |list: &mut Vec<String>| match std::mem::take(list) {
+        items if items.is_empty() => String::new(),
+        items => html::list(&items),
+    };
+    for line in lines {
+        match line.ends_with(':') {
+            true => html += &(close(&mut list) + &html::paragraph(line)),
+            false => list.push(line.trim().into()),
+        }
+    }
+    html + &close(&mut list)
 }

@@ -34,8 +34,8 @@ pub fn written(title: &str, entered: &str, sheet: &TourSheet, records: &[Record]
         rounded_entries(sheet.rounded()),
         html::section("The answer", &(report.answer() + &report.ranges())),
         html::section("If the pole is as entered", &as_entered::section(&poles)),
-        tap::section(&poles, records),
         html::long_section("Axis by axis, and if the pole was measured wrongly", &report.axis_blocks(&poles)?),
+        tap::section(&poles, records),
         html::section("What the blend costs", &report.cost()),
         html::section("What sets each arrival, and one tick earlier", &report.arrivals()),
         html::section("How near each axis is to its limits", &report.limits()),
@@ -150,6 +150,7 @@ impl TourReport<'_> {
     fn axis_blocks(&self, poles: &[(&Entry, Vec<WrongPole>)]) -> Result<String, TourRefusal> {
         let entries: Vec<(Sample, String)> = TOUR_LEGEND.iter().map(|&(name, sample)| (sample, name.into())).collect();
         let mut text = html::paragraph(PLAN) + &html::key(&entries);
+        let swings = poles.iter().map(|(_, poles)| poles.len()).sum();
         if let Some(pole) = poles.iter().flat_map(|(_, poles)| poles).next() {
             let name = pole.tables_name();
             text += &(html::paragraph(&wrong_axis::told(name)) + &wrong_axis::key(name));
@@ -158,12 +159,11 @@ impl TourReport<'_> {
         let narrow = picture::tour_pictures(self.sheet, PANEL_WIDTH, "narrow")?;
         for ((wide, narrow), (entry, poles)) in wide.iter().zip(&narrow).zip(poles) {
             let charts = poles.iter().enumerate().flat_map(|(index, pole)| wrong_axis::charts(entry, pole, index));
-            let tables: String = poles.iter().map(|pole| wrong_axis::tables(entry, pole)).collect();
             let body = html::heading(&wide.title, &wide.pole)
                 + &html::block("timeline onscreen", &wide.panels.concat())
                 + &html::block("timeline onphone", &narrow.panels.concat())
                 + &html::block("pictures", &charts.collect::<String>())
-                + &html::block("tables", &tables);
+                + &wrong_axis::numbers(entry, poles, swings);
             text += &html::block("axis", &body);
         }
         Ok(text)

@@ -20,6 +20,13 @@ pub fn told(tables_name: &str) -> String {
     )
 }
 
+/// The block of the numbers of an axis. Of many swings a printer leaves the numbers out: their charts are enough to fill its pages.
+pub fn numbers(entry: &Entry, poles: &[WrongPole], swings: usize) -> String {
+    const MOST_PRINTED: usize = 6;
+    let tables: String = poles.iter().map(|pole| tables(entry, pole)).collect();
+    html::block(if swings > MOST_PRINTED { "tables crowded" } else { "tables" }, &tables)
+}
+
 /// The key of the charts' lines.
 pub fn key(tables_name: &str) -> String {
     html::key(&[
@@ -39,7 +46,7 @@ pub fn charts(entry: &Entry, pole: &WrongPole, index: usize) -> [String; 2] {
 }
 
 /// The numbers of a swing: a table over the errors of its half period, and one over those of its ratio.
-pub fn tables(entry: &Entry, pole: &WrongPole) -> String {
+fn tables(entry: &Entry, pole: &WrongPole) -> String {
     percents_table(entry, pole) + &ratios_table(entry, pole)
 }
 

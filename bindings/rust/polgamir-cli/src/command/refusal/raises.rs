@@ -40,7 +40,7 @@ pub fn lines(sheet: &Sheet, refusal: &Refusal) -> Vec<String> {
     }
     lines.extend(axes.iter().map(|(number, raises)| of_axis(sheet, *number, raises)));
     if !axes.is_empty() && sheet.job.windows.is_some_and(|windows| !windows.fit(asked)) {
-        lines.push(format!("{} fits no window either", tick(sheet, asked)));
+        lines.push(format!("  {} fits no window either", tick(sheet, asked)));
     }
     lines
 }
@@ -50,8 +50,8 @@ fn of_axis(sheet: &Sheet, number: usize, raises: &[RaiseOfAxis]) -> String {
     let name = called(sheet, number);
     let told: Vec<String> = raises.iter().map(|raise| in_words(sheet, number, raise)).collect();
     match told.is_empty() {
-        true => format!("{name}: no speed limit and no acceleration limit alone"),
-        false => format!("{name}: the {}", told.join(", or the ")),
+        true => format!("  {name}: no speed limit and no acceleration limit alone"),
+        false => format!("  {name}: the {}", told.join(", or the ")),
     }
 }
 
