@@ -15,6 +15,16 @@ pub fn accelerations(axis: &Axis, rows: &[Motion]) -> Option<Vec<f64>> {
     met.then(|| blended.into_iter().map(|exact| exact as f64 / (256 * divisor) as f64).collect())
 }
 
+/// A target as a moving one: a fixed one is read as not accelerating, at its position at the arrival.
+fn moving(target: Target, arrival: i64) -> State {
+    match target {
+        Target::Fixed(point) => {
+            State { position: point.position, velocity: point.velocity, acceleration: 0, tick: arrival }
+        }
+        Target::Moving(state) => state,
+    }
+}
+
 /// The quotient rounded to the nearest, halves away from zero.
 fn nearest(numerator: i64, divisor: i64) -> i64 {
     let size = (2 * numerator.abs() + divisor) / (2 * divisor);
@@ -45,12 +55,7 @@ impl Leg {
         let (weight, half_period) = (i64::from(axis.damping.weight()?), i64::from(axis.half_period));
         let second_half_period = axis.second_half_period.map(i64::from);
         let second = second_half_period.unwrap_or(0);
-        let target = match axis.target {
-            Target::Fixed(point) => {
-                State { position: point.position, velocity: point.velocity, acceleration: 0, tick: arrival }
-            }
-            Target::Moving(state) => state,
-        };
+        let target = moving(axis.target, arrival);
         let a = target.acceleration;
         let corrected = a != 0 && half_period != 0 && weight != 128;
         let finer = match second_half_period {
