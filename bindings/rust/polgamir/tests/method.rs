@@ -16,10 +16,10 @@ fn page() -> String {
 /// The printed tables of the page: each begins with an arrival line.
 fn tables(page: &str) -> Vec<String> {
     let block = |start: usize| {
-        let lines = page[start..].lines().take_while(|line| line.starts_with("    "));
-        lines.map(|line| line[4..].to_string() + "\n").collect()
+        let lines = page[start..].lines().skip(1).take_while(|line| !line.starts_with("```"));
+        lines.map(|line| line.to_string() + "\n").collect()
     };
-    page.match_indices("    arrival ").map(|(start, _)| block(start)).collect()
+    page.match_indices("\narrival ").map(|(start, _)| block(start)).collect()
 }
 
 /// The numbers after a name at the head of a line.
