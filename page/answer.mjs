@@ -26,14 +26,16 @@ const AT_MOST = 6;
 
 // The answer of entries that are missing or cannot be read: names of the first, sentences for the others.
 export function errorsTold(errors, nameOf) {
-  const button = id => `<button type="button" class="link" data-go="${escaped(id ?? '')}">${escaped(nameOf(id))}</button>`;
+  const button = id =>
+    `<button type="button" class="link" data-go="${escaped(id ?? '')}">${escaped(nameOf(id))}</button>`;
   const missing = errors.filter(({ error }) => error.found === 'the end of the line');
   const wrong = errors.filter(one => !missing.includes(one));
   const told = wrong.slice(0, AT_MOST).map(({ error, id }) =>
     `<li>${button(id)}: ${withCode(`expected ${error.expected}, found ${error.found}`)}</li>`);
   if (wrong.length > AT_MOST) told.push(`<li>and ${wrong.length - AT_MOST} more</li>`);
   const lacking = missing.length ? `<p>To be entered: ${missing.map(({ id }) => button(id)).join(' · ')}</p>` : '';
-  return { verdict: '<strong>Not planned yet</strong>', rest: lacking + (told.length ? `<ul>${told.join('')}</ul>` : '') };
+  const list = told.length ? `<ul>${told.join('')}</ul>` : '';
+  return { verdict: '<strong>Not planned yet</strong>', rest: lacking + list };
 }
 
 // The answer of a refused job or tour. `text` is the header's of the number.
