@@ -26,16 +26,7 @@
  * -ffast-math: that flushes them to zero for the whole program. In another environment a measured weight may be another
  * one, or 12 come in its place.
  *
- * Stack. A call takes up to 12,000 bytes of stack, its job among them, and a tour up to 20,000. By target, measured,
- * and rounded up:
- *
- *     bytes of stack   x86-64  aarch64  armv7  cortex-m4f  cortex-m0plus  riscv64  riscv32  wasm32
- *     a plan            6,500    8,000  7,500       8,500          8,500    9,000    8,500   6,000
- *     a part            8,500   10,000  9,500      11,000         11,500   11,500   11,000   7,500
- *     raises            8,000    9,500  9,000      11,500         11,900   10,500   11,800   7,000
- *     a search          6,000    7,000  7,000       7,500          8,000    8,500    8,000   5,000
- *     a conversion      4,500    4,500  4,500       5,000          5,500    5,500    5,500   4,000
- *     a tour           17,500   18,000 17,500      19,500         19,800   19,900   19,500  16,000
+ * Stack. A call takes up to 12,000 bytes, its job among them, and a tour up to 20,000: see POLGAMIR_STACK.
  *
  * Time. The longest search, over six axes to refusal 9, takes 2 microseconds of a 2.5 GHz core, 10 where targets
  * accelerate, and a tour has one search a leg; the longest call, with a table of 4,097 rows of six axes, takes 0.2 ms.
@@ -97,65 +88,80 @@ static inline int polgamir_library_fits(void)
 /* The cells that the largest table needs: 3 * 6 * (4096 + 1). A table of this size is never refused by number 10. */
 #define POLGAMIR_MOST_CELLS 73746
 
-/* Enough bytes of stack for every call but a tour, also where the loader binds memcpy during the first one. */
+/*
+ * Enough bytes of stack for every call but a tour, also where the loader binds memcpy during the first one. By target, measured, and
+ * rounded up:
+ *
+ *     bytes of stack   x86-64  aarch64  armv7  cortex-m4f  cortex-m0plus  riscv64  riscv32  wasm32
+ *     a plan            6,500    8,000  7,500       8,500          8,500    9,000    8,500   6,000
+ *     a part            8,500   10,000  9,500      11,000         11,500   11,500   11,000   7,500
+ *     raises            8,000    9,500  9,000      11,500         11,900   10,500   11,800   7,000
+ *     a search          6,000    7,000  7,000       7,500          8,000    8,500    8,000   5,000
+ *     a conversion      4,500    4,500  4,500       5,000          5,500    5,500    5,500   4,000
+ *     a tour           17,500   18,000 17,500      19,500         19,800   19,900   19,500  16,000
+ *
+ * A tour takes up to 20,000.
+ */
 #define POLGAMIR_STACK 16384
 
 /*
- * The numbers that a call returns.
+ * The numbers that a call returns, in checking order: each is checked over all axes, lowest first, before the next one.
  *
- * An accepted job returns number 0, place 0, its own mask and its arrival N. A refusal returns its number, a place, an axis mask
- * and an arrival; fields not named below are 0. The numbers, in checking order; each is checked over all axes, lowest first,
- * before the next number; word indices count from 0; a call with typed values checks its mask by 1 and then goes on at 3; 7 is not
- * used:
- *
- * 11  A tour has more than 64 stops (place 64), or then a dwell above 4,096 (the place is the first such stop); only a tour gets it,
- *     before its legs.
- *  1  The mask word is absent, not of kind 1, or its payload is 0 or above 63.
- *  2  A word is not of a kind allowed next, the end payload is not 0, or words are lacking or left over; the place is the first
- *     such word's index, or the word count where words are lacking.
- * 14  A kind 14 payload is outside -64 to 63, or its position fits a single word; the place is the first such word's index.
- *  3  The asked arrival is above 4,096; the place is 1.
- *  4  L or M is outside its range; the place is the axis.
- * 12  Of damping as measured, also when h is 0: the first peak is not above zero, or the ratio is not a number above 0 and at most
- *     1; the place is the axis.
- *  5  h or B is outside its range, B also when h is 0; the place is the axis.
- * 15  A second half period is outside its range; the place is the axis.
- *  6  Start or target velocity exceeds L in size, target acceleration exceeds M in size, target tick exceeds 4,096 in size, or a
- *     typed position is outside -17,179,869,184 to 17,179,869,183; the place is the axis.
- * 16  The target accelerates on an axis with a second half period; the place is the axis.
- * 17  A fixed target has a velocity that is not 0; of the converter, only where the least arrival is sought; the place is the axis.
- * 13  The window list is empty (place 0); there are more than 32 windows, or then the dwell is above 4,096 (place 32); then a
- *     window's closing is not above its opening, or it opens before the previous one closes (the place is the first such window).
- * 18  The first candidate of a search is 0 or above 4,097; only a search gets it, and 3, 8, 9 and 10 it does not.
- *  8  The asked arrival is not reachable for every axis, or fits no window; the mask names the axes for which it is not reachable,
- *     and is 0 where it is for all.
- *  9  No common arrival is asked for and none exists in 1 to 4,096, or none that fits a window; the mask, perhaps 0, names axes that
- *     alone reach none, whatever the windows.
- * 10  The lent table has fewer than 3 * axes * (N + 1) cells; the arrival is N. Of a tour, the lent list is shorter than the stops;
- *     the place is the number of stops. Of the converter, fewer words are lent than it needs; the place is the number needed.
+ * A refusal returns its number, a place, an axis mask and an arrival; fields that are not named beside the number are 0. Word indices
+ * count from 0. A call with typed values checks its mask by 1 and then goes on at 3. 7 is not used.
  *
  * L is the speed limit, 1 to 1,048,576; M the acceleration limit, 1 to 65,536; h the half period, 0 to 256 ticks, 0 meaning no
  * blend; B the second weight, 1 to 128; a second half period is 1 to 256 ticks, and none is no number. A place that is an axis is the
  * axis's number, 0 to 5.
  */
 enum polgamir_number {
+    /* The job is accepted; place 0, its own mask and its arrival N. */
     POLGAMIR_ACCEPTED = 0,
+    /* A tour has more than 64 stops (place 64), or then a dwell above 4,096 (the place is the first such stop); only
+     * a tour gets it, before its legs. */
     POLGAMIR_REFUSED_STOPS = 11,
+    /* The mask word is absent, not of kind 1, or its payload is 0 or above 63. */
     POLGAMIR_REFUSED_MASK = 1,
+    /* A word is not of a kind allowed next, the end payload is not 0, or words are lacking or left over; the place
+     * is the first such word's index, or the word count where words are lacking. */
     POLGAMIR_REFUSED_WORDS = 2,
+    /* A kind 14 payload is outside -64 to 63, or its position fits a single word; the place is the first such word's
+     * index. */
     POLGAMIR_REFUSED_LONG_POSITION = 14,
+    /* The asked arrival is above 4,096; the place is 1. */
     POLGAMIR_REFUSED_ASKED_ARRIVAL = 3,
+    /* L or M is outside its range; the place is the axis. */
     POLGAMIR_REFUSED_LIMITS = 4,
+    /* Of damping as measured, also when h is 0: the first peak is not above zero, or the ratio is not a number above
+     * 0 and at most 1; the place is the axis. */
     POLGAMIR_REFUSED_DAMPING = 12,
+    /* h or B is outside its range, B also when h is 0; the place is the axis. */
     POLGAMIR_REFUSED_BLEND = 5,
+    /* A second half period is outside its range; the place is the axis. */
     POLGAMIR_REFUSED_SECOND_HALF_PERIOD = 15,
+    /* Start or target velocity exceeds L in size, target acceleration exceeds M in size, target tick exceeds 4,096
+     * in size, or a typed position is outside -17,179,869,184 to 17,179,869,183; the place is the axis. */
     POLGAMIR_REFUSED_START_OR_TARGET = 6,
+    /* The target accelerates on an axis with a second half period; the place is the axis. */
     POLGAMIR_REFUSED_ACCELERATION = 16,
+    /* A fixed target has a velocity that is not 0; of the converter, only where the least arrival is sought; the
+     * place is the axis. */
     POLGAMIR_REFUSED_FLYING_TARGET = 17,
+    /* The window list is empty (place 0); there are more than 32 windows, or then the dwell is above 4,096 (place
+     * 32); then a window's closing is not above its opening, or it opens before the previous one closes (the place
+     * is the first such window). */
     POLGAMIR_REFUSED_WINDOWS = 13,
+    /* The first candidate of a search is 0 or above 4,097; only a search gets it, and 3, 8, 9 and 10 it does not. */
     POLGAMIR_REFUSED_FIRST_CANDIDATE = 18,
+    /* The asked arrival is not reachable for every axis, or fits no window; the mask names the axes for which it is
+     * not reachable, and is 0 where it is for all. */
     POLGAMIR_REFUSED_NOT_REACHABLE = 8,
+    /* No common arrival is asked for and none exists in 1 to 4,096, or none that fits a window; the mask, perhaps 0,
+     * names axes that alone reach none, whatever the windows. */
     POLGAMIR_REFUSED_NO_COMMON_ARRIVAL = 9,
+    /* The lent table has fewer than 3 * axes * (N + 1) cells; the arrival is N. Of a tour, the lent list is shorter
+     * than the stops; the place is the number of stops. Of the converter, fewer words are lent than it needs; the
+     * place is the number needed. */
     POLGAMIR_REFUSED_TABLE_TOO_SHORT = 10
 };
 
@@ -281,8 +287,8 @@ polgamir_answer polgamir_convert(const uint32_t *words, size_t word_count, uint3
  * at the target tick.
  */
 enum polgamir_target_kind {
-    POLGAMIR_FIXED = 0,
-    POLGAMIR_MOVING = 1
+    POLGAMIR_FIXED = 0, /* waits for the arrival; it is at rest */
+    POLGAMIR_MOVING = 1 /* moves by itself, whenever the head arrives */
 };
 
 /*
@@ -292,9 +298,9 @@ enum polgamir_target_kind {
  * none, and the table is that of the same job with this B. Ratio 1 gives 128, ratio 0.5 gives 85.
  */
 enum polgamir_damping_kind {
-    POLGAMIR_WEIGHT = 0,
-    POLGAMIR_RATIO = 1,
-    POLGAMIR_PEAKS = 2
+    POLGAMIR_WEIGHT = 0, /* B itself: second_weight */
+    POLGAMIR_RATIO = 1,  /* measured: swing_ratio */
+    POLGAMIR_PEAKS = 2   /* measured: first_peak and second_peak */
 };
 
 /*
@@ -386,9 +392,9 @@ polgamir_part_answer polgamir_plan_job_part(polgamir_job job, uint32_t first, in
 
 /* A limit of an axis, or none. */
 enum polgamir_limit {
-    POLGAMIR_NO_LIMIT = 0,
-    POLGAMIR_ACCELERATION_LIMIT = 1, /* M */
-    POLGAMIR_SPEED_LIMIT = 2         /* L */
+    POLGAMIR_NO_LIMIT = 0,           /* no raise */
+    POLGAMIR_ACCELERATION_LIMIT = 1, /* a raise of M */
+    POLGAMIR_SPEED_LIMIT = 2         /* a raise of L */
 };
 
 /* A raise of one limit, the other staying as it is; none has 0 in both fields. */
@@ -486,9 +492,9 @@ polgamir_tour_answer polgamir_plan_tour(polgamir_tour tour, const polgamir_stop 
  * is used up, and `next` is the candidate to go on with. NONE: there is none, and no candidate is left.
  */
 enum polgamir_report {
-    POLGAMIR_NONE = 0,
-    POLGAMIR_FOUND = 1,
-    POLGAMIR_SPENT = 2
+    POLGAMIR_NONE = 0,  /* no tick does, and no candidate is left */
+    POLGAMIR_FOUND = 1, /* `arrival` is the least tick that does */
+    POLGAMIR_SPENT = 2  /* none within the budget does: go on from `next` */
 };
 
 /*
