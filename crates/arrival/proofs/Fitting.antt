@@ -8,8 +8,8 @@ use mathlib.Core.Logic.{_⊎_, inl, inr}
 use mathlib.Core.Option.{none, some}
 use native.Mathlib.Omega.{arith}
 use Rattle.whole.proofs.Tests.{T-true, T-false, true-T, right, and-no, lt-or-le}
-use Rattle.model.specs.Outcome.{leastFrom}
-use Rattle.model.proofs.LeastTick.{Least, Result, result, least-is, none-is}
+use Rattle.model.specs.planning.Outcome.{leastFrom}
+use Rattle.model.proofs.jobs.LeastTick.{Least, Result, result, least-is, none-is}
 use Rattle.running.specs.Running.{Next}
 use Rattle.arrival.specs.Arrivals.{orZero}
 use Rattle.arrival.proofs.Search.{is-some, is-none}

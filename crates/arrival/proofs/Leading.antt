@@ -11,12 +11,12 @@ use borrow.Author.Tests.{eq-eqb, ne-eqb, not-true, not-false}
 use Rattle.whole.proofs.Tests.{true-T, either, lt-or-le}
 use Rattle.whole.proofs.Counting.{next-one}
 use Rattle.model.specs.declared.Axis.{Axis}
-use Rattle.model.specs.Motion.{reachable}
-use Rattle.model.specs.Outcome.{allReach}
+use Rattle.model.specs.planning.Motion.{reachable}
+use Rattle.model.specs.planning.Outcome.{allReach}
 use Rattle.running.specs.Running.{Next}
-use Rattle.model.specs.Job.{JobAxis, setAxes}
-use Rattle.model.specs.Refusals.{Passed, AllPassed}
-use Rattle.model.proofs.Threshold.{reached-slow, reached-later}
+use Rattle.model.specs.planning.Job.{JobAxis, setAxes}
+use Rattle.model.specs.planning.Refusals.{Passed, AllPassed}
+use Rattle.model.proofs.motions.Threshold.{reached-slow, reached-later}
 use Rattle.arrival.specs.Arrivals.{missedBy, reachedBy, Again}
 use Rattle.arrival.proofs.SetAxes.{from, axisAt, passed-from}
 use Rattle.arrival.proofs.Reaching.{missed, not-missed, no-more, later-missed}

@@ -5,8 +5,8 @@ use native.Mathlib.Omega.{arith}
 use mathlib.Core.Path.{_≡_, refl, sym, ap, _∙_}
 use mathlib.Core.Bool.{Bool, true, false}
 use mathlib.Core.Option.{Option, none, some}
-use Rattle.model.specs.Outcome.{leastFrom}
-use Rattle.model.proofs.LeastTick.{Result}
+use Rattle.model.specs.planning.Outcome.{leastFrom}
+use Rattle.model.proofs.jobs.LeastTick.{Result}
 use Rattle.arrival.specs.Arrivals.{orZero}
 
 -- ---- what a loop over the ticks before `after` has before it

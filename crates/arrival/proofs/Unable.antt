@@ -12,12 +12,12 @@ use borrow.Author.Tests.{eq-eqb, ne-eqb}
 use Rattle.whole.proofs.Tests.{lt-or-le}
 use Rattle.running.specs.Running.{Next}
 use Rattle.model.specs.declared.Axis.{Axis}
-use Rattle.model.specs.Motion.{reachable}
-use Rattle.model.specs.Job.{JobAxis, setAxes, maskWhere}
-use Rattle.model.specs.Outcome.{allReach, leastArrival}
+use Rattle.model.specs.planning.Motion.{reachable}
+use Rattle.model.specs.planning.Job.{JobAxis, setAxes, maskWhere}
+use Rattle.model.specs.planning.Outcome.{allReach, leastArrival}
 use Rattle.arrival.specs.Arrivals.{cannotArrive, bitOf}
 use Rattle.arrival.proofs.SetAxes.{pick, from, axisAt, from-more, from-none}
-use Rattle.model.proofs.LeastTick.{Result, result}
+use Rattle.model.proofs.jobs.LeastTick.{Result, result}
 
 -- ---- one axis
 

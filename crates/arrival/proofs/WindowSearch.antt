@@ -12,13 +12,13 @@ use lib.ListN.{length, getD, take, drop}
 use Rattle.whole.proofs.Elements.{none-some}
 use Rattle.model.specs.declared.Window.{Window}
 use Rattle.model.specs.declared.Windows.{Windows}
-use Rattle.model.specs.Windows.{brought, fitsWindow, fitsOne, inOrderAfter, firstWrong, windowsRefused, refused13, inWindows}
-use Rattle.model.specs.Outcome.{leastFrom}
-use Rattle.model.proofs.WindowsInWords.{none-wrong}
+use Rattle.model.specs.planning.Windows.{brought, fitsWindow, fitsOne, inOrderAfter, firstWrong, windowsRefused, refused13, inWindows}
+use Rattle.model.specs.planning.Outcome.{leastFrom}
+use Rattle.model.proofs.jobs.WindowsInWords.{none-wrong}
 use Rattle.windows.specs.Ticks.{firstTick, afterLast}
 use Rattle.windows.proofs.Ticks.{Fit, fit-is, fit-ticks, ticks-fit, first-above}
 use Rattle.windows.proofs.Listed.{noWindow, split}
-use Rattle.model.proofs.LeastTick.{Least, Result, result, one-result}
+use Rattle.model.proofs.jobs.LeastTick.{Least, Result, result, one-result}
 use Rattle.arrival.specs.Arrivals.{searched, orZero}
 use Rattle.arrival.proofs.Search.{is-some, is-none}
 

@@ -9,12 +9,12 @@ use lib.Dec.{eqb}
 use Rattle.model.specs.declared.Axis.{Axis}
 use Rattle.model.specs.declared.Window.{Window}
 use Rattle.model.specs.declared.Windows.{Windows}
-use Rattle.model.specs.Windows.{inWindows}
+use Rattle.model.specs.planning.Windows.{inWindows}
 use Rattle.windows.specs.Ticks.{firstTick, afterLast}
-use Rattle.model.specs.Motion.{reachable}
-use Rattle.model.specs.Job.{JobAxis, maskWhere}
-use Rattle.model.specs.Refusals.{lastTick}
-use Rattle.model.specs.Outcome.{allReach, leastFrom, reachesNone}
+use Rattle.model.specs.planning.Motion.{reachable}
+use Rattle.model.specs.planning.Job.{JobAxis, maskWhere}
+use Rattle.model.specs.planning.Refusals.{lastTick}
+use Rattle.model.specs.planning.Outcome.{allReach, leastFrom, reachesNone}
 use Rattle.arrival.specs.declared.Arrival.{Arrival}
 
 -- ---- the arrival

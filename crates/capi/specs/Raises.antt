@@ -1,7 +1,7 @@
 -- What the calls for raises promise.
 use mathlib.Core.Path.{_≡_}
-use Rattle.model.specs.Outcome.{Input, inputJob}
-use Rattle.model.specs.Raises.{raisesCall, RaisesHold, RaisesCallVerdict}
+use Rattle.model.specs.planning.Outcome.{Input, inputJob}
+use Rattle.model.specs.calls.Raises.{raisesCall, RaisesHold, RaisesCallVerdict}
 use Rattle.layout.specs.declared.limit_raises.PolgamirRaises.{PolgamirRaises}
 use Rattle.layout.specs.Raises.{raisesInC}
 

@@ -2,7 +2,7 @@
 use Prim.Native.Nat.{ℕ}
 use mathlib.Core.Path.{_≡_}
 use Rattle.model.specs.declared.SearchAnswer.{SearchAnswer}
-use Rattle.model.specs.Outcome.{Input}
+use Rattle.model.specs.planning.Outcome.{Input}
 use Rattle.search.specs.Promise.{SearchPromise}
 use Rattle.layout.specs.declared.searches.PolgamirSearchAnswer.{PolgamirSearchAnswer}
 use Rattle.layout.specs.Searches.{searchedOf}

@@ -11,7 +11,7 @@ use layout::job_of;
 use layout::returned;
 ghost use mathlib.Core.Path.{_≡_};
 ghost use Rattle.model.specs.declared.Order.the-variants.{Forwards, Backwards};
-ghost use Rattle.model.specs.Outcome as Input;
+ghost use Rattle.model.specs.planning.Outcome as Input;
 ghost use Rattle.planner.specs.Promise.{Promise};
 ghost use Rattle.converter.specs.Promise.{Converts};
 ghost use Rattle.layout.specs.Jobs.{jobOf, answerOf};

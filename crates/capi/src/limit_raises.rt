@@ -3,7 +3,7 @@ use layout::PolgamirJob;
 use layout::job_of;
 use layout::limit_raises::PolgamirRaises;
 use layout::limit_raises::raises_in_c;
-ghost use Rattle.model.specs.Outcome as Input;
+ghost use Rattle.model.specs.planning.Outcome as Input;
 ghost use Rattle.layout.specs.Jobs.{jobOf};
 ghost use Rattle.capi.specs.Raises.{RaisesReturned};
 

@@ -3,7 +3,7 @@ use layout::PolgamirJob;
 use layout::job_of;
 use layout::row_parts::PolgamirPartAnswer;
 use layout::row_parts::part_returned;
-ghost use Rattle.model.specs.Outcome as Input;
+ghost use Rattle.model.specs.planning.Outcome as Input;
 ghost use Rattle.parts.specs.Promise.{PartPromise};
 ghost use Rattle.layout.specs.Jobs.{jobOf};
 ghost use Rattle.layout.specs.Parts.{partOf};

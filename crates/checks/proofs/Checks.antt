@@ -10,12 +10,12 @@ use lib.Dec.{eqb, leb}
 use borrow.Author.Tests.{le-leb, lt-leb, leb-true, ne-eqb}
 use Rattle.model.specs.declared.Axis.{Axis}
 use Rattle.model.specs.declared.Windows.{Windows}
-use Rattle.model.specs.Windows.{refused13, windowsRefused}
-use Rattle.model.specs.Job.{Job, JobAxis}
-use Rattle.model.specs.Refusals.{AllPassed, lastTick, limitsRefused, dampingRefused}
-use Rattle.model.specs.Refusals.{blendRefused, swayRefused, valuesRefused, accelerationRefused, flyingRefused}
-use Rattle.model.specs.Outcome.{Outcome, refuse, firstAxis, Tests, axisRefusals, tested, arrived, jobOutcome}
-use Rattle.model.proofs.CheckingOrder.{Lacks, lacks}
+use Rattle.model.specs.planning.Windows.{refused13, windowsRefused}
+use Rattle.model.specs.planning.Job.{Job, JobAxis}
+use Rattle.model.specs.planning.Refusals.{AllPassed, lastTick, limitsRefused, dampingRefused}
+use Rattle.model.specs.planning.Refusals.{blendRefused, swayRefused, valuesRefused, accelerationRefused, flyingRefused}
+use Rattle.model.specs.planning.Outcome.{Outcome, refuse, firstAxis, Tests, axisRefusals, tested, arrived, jobOutcome}
+use Rattle.model.proofs.jobs.CheckingOrder.{Lacks, lacks}
 use Rattle.checks.specs.declared.Refusal.{Refusal}
 use Rattle.checks.specs.Checks.{windowRefusal, firstRefusal, checkedFor, Checked}
 

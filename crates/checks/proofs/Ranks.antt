@@ -12,8 +12,8 @@ use lib.Dec.{eqb, ltb, isEq}
 use borrow.Author.Tests.{lt-ltb, le-ltb, ne-eqb, eq-eqb}
 use Rattle.model.specs.declared.Axis.{Axis}
 use Rattle.model.specs.declared.Windows.{Windows}
-use Rattle.model.specs.Job.{JobAxis}
-use Rattle.model.specs.Outcome.{firstAxis, Tests}
+use Rattle.model.specs.planning.Job.{JobAxis}
+use Rattle.model.specs.planning.Outcome.{firstAxis, Tests}
 use Rattle.arrival.proofs.SetAxes.{pick, from, axisAt, from-more, from-none}
 use Rattle.checks.specs.declared.Refusal.{Refusal}
 use Rattle.checks.specs.Checks.{windowRefusal, testsFor, firstRefusal, firstMet, leastRank, lowestAxis, numberOf}

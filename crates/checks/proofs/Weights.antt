@@ -10,10 +10,10 @@ use lib.ListN.{length, getD, set, take, drop, drop-of-length-le}
 use lib.Seq.{take-length, drop-cons}
 use borrow.Author.Tests.{eq-eqb, ne-eqb}
 use Rattle.model.specs.declared.Axis.{Axis}
-use Rattle.model.specs.Job.{JobAxis, setAxes, byHand, axesByHand, unsetAxis}
-use Rattle.model.specs.Refusals.{AllPassed}
-use Rattle.model.specs.Outcome.{allReach}
-use Rattle.model.proofs.ByHand.{passed-by-hand, reach-by-hand}
+use Rattle.model.specs.planning.Job.{JobAxis, setAxes, byHand, axesByHand, unsetAxis}
+use Rattle.model.specs.planning.Refusals.{AllPassed}
+use Rattle.model.specs.planning.Outcome.{allReach}
+use Rattle.model.proofs.jobs.ByHand.{passed-by-hand, reach-by-hand}
 use Rattle.motion.specs.Motions.{measured}
 use Rattle.motion.proofs.WeightGiven.{given-is}
 use Rattle.arrival.proofs.SetAxes.{pick, from, axisAt, from-more, from-none}

@@ -12,19 +12,19 @@ use Rattle.whole.specs.Lists.{over}
 use Rattle.whole.proofs.Lists.{over-front}
 use Rattle.model.specs.declared.Answer.{Answer}
 use Rattle.model.specs.declared.Job as Typed
-use Rattle.model.specs.Windows.{noWindows}
-use Rattle.model.specs.Job.{JobAxis, setAxes, jobOf}
-use Rattle.model.specs.Words.{Decoded, noMask, badWord, badLong, job, decode}
-use Rattle.model.specs.Refusals.{lastTick}
-use Rattle.model.specs.Outcome.{firstAxis, Tests, outcomeOfWords}
-use Rattle.model.specs.Converter.{oldOutcome, converted, Conversion, unconverted, written, conversionRefusals, unlessRefused, jobConversion, conversion}
-use Rattle.model.specs.Converter.{ConversionVerdict}
-use Rattle.model.proofs.Conversion.{conversion-kept, conversion-plans, conversion-verdict}
+use Rattle.model.specs.planning.Windows.{noWindows}
+use Rattle.model.specs.planning.Job.{JobAxis, setAxes, jobOf}
+use Rattle.model.specs.planning.Words.{Decoded, noMask, badWord, badLong, job, decode}
+use Rattle.model.specs.planning.Refusals.{lastTick}
+use Rattle.model.specs.planning.Outcome.{firstAxis, Tests, outcomeOfWords}
+use Rattle.model.specs.calls.Converter.{oldOutcome, converted, Conversion, unconverted, written, conversionRefusals, unlessRefused, jobConversion, conversion}
+use Rattle.model.specs.calls.Converter.{ConversionVerdict}
+use Rattle.model.proofs.calls.Conversion.{conversion-kept, conversion-plans, conversion-verdict}
 use Rattle.words.specs.declared.DecodedJob.{DecodedJob}
 use Rattle.words.specs.Decoding.{decodedJob, Decodes}
 use Rattle.checks.specs.declared.Refusal.{Refusal}
 use Rattle.checks.specs.Checks.{testsFor, firstRefusal}
-use Rattle.model.proofs.CheckingOrder.{Lacks, lacks}
+use Rattle.model.proofs.jobs.CheckingOrder.{Lacks, lacks}
 use Rattle.converter.specs.Promise.{Converts, refusalOf, Gives}
 
 -- ---- refusals 1, 2 and 14

@@ -8,10 +8,10 @@ use lib.Dec.{eqb, leb}
 use lib.ListN.{take}
 use Rattle.model.specs.declared.Answer.{Answer}
 use Rattle.model.specs.declared.Job.{Job}
-use Rattle.model.specs.Job.{setAxes}
-use Rattle.model.specs.Refusals.{lastTick}
-use Rattle.model.specs.Outcome.{outcomeOfWords}
-use Rattle.model.specs.Converter.{oldOutcome, Conversion, conversion, ConversionVerdict}
+use Rattle.model.specs.planning.Job.{setAxes}
+use Rattle.model.specs.planning.Refusals.{lastTick}
+use Rattle.model.specs.planning.Outcome.{outcomeOfWords}
+use Rattle.model.specs.calls.Converter.{oldOutcome, Conversion, conversion, ConversionVerdict}
 use Rattle.checks.specs.declared.Refusal.{Refusal}
 use Rattle.checks.specs.Checks.{testsFor, firstRefusal}
 

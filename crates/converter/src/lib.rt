@@ -12,8 +12,8 @@ ghost use mathlib.Core.Path.{_≡_};
 ghost use Prim.Native.Nat.{_<_, _≤_};
 ghost use lib.ListN.{length};
 ghost use Rattle.whole.specs.Lists.{over, Room, Written};
-ghost use Rattle.model.specs.Refusals.{lastTick};
-ghost use Rattle.model.specs.Converter.{converted, written};
+ghost use Rattle.model.specs.planning.Refusals.{lastTick};
+ghost use Rattle.model.specs.calls.Converter.{converted, written};
 ghost use Rattle.converter.specs.Pieces.{flyingAt, pieceAt, neededFor};
 ghost use Rattle.converter.specs.Promise.{Converts, Gives, refusalOf};
 

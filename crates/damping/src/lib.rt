@@ -4,7 +4,7 @@ use model::Damping;
 use model::Weight;
 ghost use mathlib.Core.Path.{_≡_};
 ghost use Prim.Native.Nat.{_≤_};
-ghost use Rattle.model.specs.Damping.{ratioOf, meets, ratioWeight, weightOf, aboveZero, ratioAllowed, dampingAllowed, weightAllowed};
+ghost use Rattle.model.specs.planning.Damping.{ratioOf, meets, ratioWeight, weightOf, aboveZero, ratioAllowed, dampingAllowed, weightAllowed};
 
 // ---- the weight
 

@@ -17,8 +17,8 @@ use Rattle.model.specs.declared.Target.the-variants.{Fixed, Moving}
 use Rattle.model.specs.declared.Weight.{Weight}
 use Rattle.model.specs.declared.Weight.the-variants.{Given, Measured}
 use Rattle.model.specs.declared.Windows.{Windows}
-use Rattle.model.specs.Job.{unsetAxis}
-use Rattle.model.specs.Windows.{noWindows}
+use Rattle.model.specs.planning.Job.{unsetAxis}
+use Rattle.model.specs.planning.Windows.{noWindows}
 use Rattle.layout.specs.declared.PolgamirAnswer.{PolgamirAnswer}
 use Rattle.layout.specs.declared.PolgamirAxis.{PolgamirAxis}
 use Rattle.layout.specs.declared.PolgamirJob.{PolgamirJob}

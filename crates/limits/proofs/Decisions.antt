@@ -16,16 +16,16 @@ use Rattle.whole.proofs.Bounds.{add-holds, neg-holds, shr-holds}
 use Rattle.whole.proofs.Ring.{pol, same}
 use Rattle.whole.proofs.Tests.{both, and, and-yes, true-T, ltb-yes}
 use Rattle.model.specs.declared.Axis.{Axis}
-use Rattle.model.specs.Quantities.{fineSteps, delay, finer, speedLimit, accelerationLimit}
-use Rattle.model.specs.Leg.{Leg, upper, required, twiceRequired, sumIsWhole, tests, feasible}
-use Rattle.model.specs.Motion.{reachable, leg, displacement, startVelocity, landingVelocity, arrivalVelocity, landingTick}
-use Rattle.model.specs.Raises.{withLimits}
-use Rattle.model.specs.Refusals.{Passed, lastTick}
-use Rattle.model.proofs.Envelopes.{Joined}
-use Rattle.model.proofs.FeasibleTests.{every, feasible-joined, feasible-below}
-use Rattle.model.proofs.Grid.{finer-range, speed-range, acceleration-some}
-use Rattle.model.proofs.PassedAxis.{speed-limit, some-acceleration, acceleration-limit}
-use Rattle.model.proofs.WholeSum.{sum-is-whole}
+use Rattle.model.specs.planning.Quantities.{fineSteps, delay, finer, speedLimit, accelerationLimit}
+use Rattle.model.specs.planning.Leg.{Leg, upper, required, twiceRequired, sumIsWhole, tests, feasible}
+use Rattle.model.specs.planning.Motion.{reachable, leg, displacement, startVelocity, landingVelocity, arrivalVelocity, landingTick}
+use Rattle.model.specs.calls.Raises.{withLimits}
+use Rattle.model.specs.planning.Refusals.{Passed, lastTick}
+use Rattle.model.proofs.legs.Envelopes.{Joined}
+use Rattle.model.proofs.legs.FeasibleTests.{every, feasible-joined, feasible-below}
+use Rattle.model.proofs.motions.Grid.{finer-range, speed-range, acceleration-some}
+use Rattle.model.proofs.jobs.PassedAxis.{speed-limit, some-acceleration, acceleration-limit}
+use Rattle.model.proofs.legs.WholeSum.{sum-is-whole}
 use Rattle.running.proofs.RunningSums.{mirrored}
 use Rattle.limits.specs.Limits.{enough, TaskRanged}
 use Rattle.limits.specs.Tasks.{taskWith, fastestOf, TaskIs}

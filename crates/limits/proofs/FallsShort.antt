@@ -18,9 +18,9 @@ use Rattle.whole.proofs.Ring.{pol, same}
 use Rattle.whole.proofs.Tests.{and-yes, and-no, leb-yes, leb-no, true-T}
 use Rattle.model.specs.declared.Limit.{Limit}
 use Rattle.model.specs.declared.Limit.the-variants.{Acceleration, Speed}
-use Rattle.model.specs.Leg.{Leg, upper}
-use Rattle.model.specs.Raises.{highest}
-use Rattle.model.proofs.Envelopes.{Joined}
+use Rattle.model.specs.planning.Leg.{Leg, upper}
+use Rattle.model.specs.calls.Raises.{highest}
+use Rattle.model.proofs.legs.Envelopes.{Joined}
 use Rattle.profile.specs.declared.Parts.{Parts}
 use Rattle.profile.specs.Profiles.{legOf, Joinable}
 use Rattle.profile.specs.Areas.{triangle, rampArea, splitArea, upperParts}

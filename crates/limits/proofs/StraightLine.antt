@@ -13,8 +13,8 @@ use Rattle.whole.proofs.Laws.{+ℤ-mono}
 use Rattle.whole.proofs.Ring.{pol, same}
 use Rattle.whole.proofs.Rounding.{shr-floor}
 use Rattle.whole.proofs.Sums.{sum-first, sum-same}
-use Rattle.model.specs.Leg.{Leg, lower, required}
-use Rattle.model.proofs.Envelopes.{Joined, since, until, lowest, apart-at}
+use Rattle.model.specs.planning.Leg.{Leg, lower, required}
+use Rattle.model.proofs.legs.Envelopes.{Joined, since, until, lowest, apart-at}
 
 -- ---- sums
 

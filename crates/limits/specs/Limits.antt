@@ -9,8 +9,8 @@ use Rattle.whole.specs.Integers.{sumTo}
 use Rattle.whole.specs.Ranges.{Within}
 use Rattle.model.specs.declared.Limit.{Limit}
 use Rattle.model.specs.declared.Limit.the-variants.{Acceleration, Speed}
-use Rattle.model.specs.Leg.{upper}
-use Rattle.model.specs.Raises.{highest}
+use Rattle.model.specs.planning.Leg.{upper}
+use Rattle.model.specs.calls.Raises.{highest}
 use Rattle.profile.specs.declared.Parts.{Parts}
 use Rattle.profile.specs.declared.Profile.{Profile}
 use Rattle.profile.specs.Profiles.{legOf, Joinable}

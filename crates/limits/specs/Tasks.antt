@@ -4,9 +4,9 @@ use mathlib.Core.Path.{_≡_}
 use lib.IntN.{ℤ, natAbs, _-ℤ_}
 use lib.Signed.{shrZ}
 use Rattle.model.specs.declared.Axis.{Axis}
-use Rattle.model.specs.Quantities.{fineSteps, speedLimit, accelerationLimit, finer}
-use Rattle.model.specs.Motion.{reachable}
-use Rattle.model.specs.Raises.{withLimits}
+use Rattle.model.specs.planning.Quantities.{fineSteps, speedLimit, accelerationLimit, finer}
+use Rattle.model.specs.planning.Motion.{reachable}
+use Rattle.model.specs.calls.Raises.{withLimits}
 use Rattle.limits.specs.declared.Task.{Task}
 use Rattle.limits.specs.Limits.{enough, TaskRanged}
 

@@ -9,7 +9,7 @@ use profile::Profile;
 ghost use Prim.Native.Nat.{suc, _-_, _*_, _^_, _≤_, _<_};
 ghost use mathlib.Core.Path.{_≡_};
 ghost use lib.Dec.{leb};
-ghost use Rattle.model.specs.Raises.{highest};
+ghost use Rattle.model.specs.calls.Raises.{highest};
 ghost use Rattle.running.specs.Running.{Next};
 ghost use Rattle.profile.specs.Areas.{triangle};
 ghost use Rattle.limits.specs.Limits.{profileAt, other, limitIn, need, unit, gainOf, enoughWith};

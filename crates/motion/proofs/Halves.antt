@@ -13,11 +13,11 @@ use Rattle.whole.proofs.Differences.{whole, all₁}
 use Rattle.whole.proofs.Laws.{natAbs-zero}
 use Rattle.whole.proofs.Tests.{T-true, T-false, lt-or-le, ltb-no}
 use Rattle.model.specs.declared.Axis.{Axis}
-use Rattle.model.specs.Quantities.{delay, speedSteps}
-use Rattle.model.specs.Motion.{landingAcceleration, arrivalVelocity, reachable}
-use Rattle.model.specs.Refusals.{Passed}
-use Rattle.model.specs.Threshold.{Slow}
-use Rattle.model.proofs.Threshold.{arrival-later, slow-ahead, reached-slow, reached-later, missed-before}
+use Rattle.model.specs.planning.Quantities.{delay, speedSteps}
+use Rattle.model.specs.planning.Motion.{landingAcceleration, arrivalVelocity, reachable}
+use Rattle.model.specs.planning.Refusals.{Passed}
+use Rattle.model.specs.theorems.Threshold.{Slow}
+use Rattle.model.proofs.motions.Threshold.{arrival-later, slow-ahead, reached-slow, reached-later, missed-before}
 use Rattle.running.specs.Running.{Next}
 use Rattle.motion.specs.declared.Span.{Span}
 use Rattle.motion.specs.Halving.{roomToward, TicksWithin, LastPassing, Narrower}

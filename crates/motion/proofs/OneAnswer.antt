@@ -6,11 +6,11 @@ use lib.Dec.{leb, ltb}
 use lib.IntN.{natAbs}
 use Rattle.whole.proofs.Tests.{left, T-true, true-T}
 use Rattle.model.specs.declared.Axis.{Axis}
-use Rattle.model.specs.Quantities.{accelerationLimit, delay, speedSteps}
-use Rattle.model.specs.Leg.{required, sumIsWhole}
-use Rattle.model.specs.Motion.{leg, displacement, landingVelocity, arrivalVelocity, reachable, requiredSum}
-use Rattle.model.proofs.Grid.{acceleration-some}
-use Rattle.model.proofs.Reaches.{reach-feasible}
+use Rattle.model.specs.planning.Quantities.{accelerationLimit, delay, speedSteps}
+use Rattle.model.specs.planning.Leg.{required, sumIsWhole}
+use Rattle.model.specs.planning.Motion.{leg, displacement, landingVelocity, arrivalVelocity, reachable, requiredSum}
+use Rattle.model.proofs.motions.Grid.{acceleration-some}
+use Rattle.model.proofs.motions.Reaches.{reach-feasible}
 use Rattle.profile.specs.Profiles.{endsAllowed, sumBetween}
 use Rattle.profile.specs.Areas.{EnginesAgree}
 use Rattle.profile.proofs.FeasibleParts.{feasible-parts}

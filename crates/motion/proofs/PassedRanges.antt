@@ -13,9 +13,9 @@ use Rattle.model.specs.declared.RestPoint.{RestPoint}
 use Rattle.model.specs.declared.State.{State}
 use Rattle.model.specs.declared.Target.{Target}
 use Rattle.model.specs.declared.Target.the-variants.{Fixed, Moving}
-use Rattle.model.specs.Quantities.{speedLimit, accelerationLimit, asMoving}
-use Rattle.model.specs.Refusals.{lastTick, within, positionAllowed, velocityAllowed, restAllowed, motionAllowed, targetAllowed, Passed}
-use Rattle.model.proofs.PassedAxis.{speed-limit, half-period, second-weight, second-half-period}
+use Rattle.model.specs.planning.Quantities.{speedLimit, accelerationLimit, asMoving}
+use Rattle.model.specs.planning.Refusals.{lastTick, within, positionAllowed, velocityAllowed, restAllowed, motionAllowed, targetAllowed, Passed}
+use Rattle.model.proofs.jobs.PassedAxis.{speed-limit, half-period, second-weight, second-half-period}
 use Rattle.motion.specs.Motions.{StateRanges, Ranges}
 
 position-within : (p : ℤ) → T (positionAllowed p) → Within (2 ^ 34) p

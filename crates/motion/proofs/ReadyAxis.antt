@@ -10,13 +10,13 @@ use Rattle.whole.specs.Ranges.{Within}
 use Rattle.whole.proofs.Tests.{T-true, true-T}
 use Rattle.whole.proofs.Bounds.{exact, within, mul-holds}
 use Rattle.model.specs.declared.Axis.{Axis}
-use Rattle.model.specs.Leg.{feasible}
-use Rattle.model.specs.Quantities.{fineSteps, delay, asMoving, finer, speedSteps}
-use Rattle.model.specs.Motion.{reachable, shift, leg, displacement}
-use Rattle.model.specs.Motion.{startPosition, startVelocity, landingVelocity, landingAcceleration, arrivalVelocity}
-use Rattle.model.specs.Refusals.{Ready}
-use Rattle.model.proofs.Reaches.{reach-after, reach-lands, reach-arrives, reach-feasible}
-use Rattle.model.proofs.Grid.{finer-range, speed-range, acceleration-range}
+use Rattle.model.specs.planning.Leg.{feasible}
+use Rattle.model.specs.planning.Quantities.{fineSteps, delay, asMoving, finer, speedSteps}
+use Rattle.model.specs.planning.Motion.{reachable, shift, leg, displacement}
+use Rattle.model.specs.planning.Motion.{startPosition, startVelocity, landingVelocity, landingAcceleration, arrivalVelocity}
+use Rattle.model.specs.planning.Refusals.{Ready}
+use Rattle.model.proofs.motions.Reaches.{reach-after, reach-lands, reach-arrives, reach-feasible}
+use Rattle.model.proofs.motions.Grid.{finer-range, speed-range, acceleration-range}
 use Rattle.profile.specs.Profiles.{Ranged}
 use Rattle.motion.specs.Motions.{Ranges, profileFor}
 use Rattle.motion.proofs.PassedRanges.{ranges-of}

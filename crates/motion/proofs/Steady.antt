@@ -20,13 +20,13 @@ use Rattle.model.specs.declared.RestPoint.{RestPoint}
 use Rattle.model.specs.declared.State.{State}
 use Rattle.model.specs.declared.Target.{Target}
 use Rattle.model.specs.declared.Target.the-variants.{Fixed, Moving}
-use Rattle.model.specs.Quantities.{fineSteps, speedLimit, halfPeriod, secondWeight, delay, asMoving, velocityAt, accelerates, finer, onGrid, speedSteps}
-use Rattle.model.specs.Leg.{twiceRequired, sumIsWhole, feasible}
-use Rattle.model.specs.Motion.{shift, startPosition, startVelocity, landingVelocity, landingTick, arrivalVelocity, leg, displacement, requiredSum, reachable}
-use Rattle.model.specs.Refusals.{positionAllowed, velocityAllowed, restAllowed, motionAllowed, targetAllowed, Passed}
-use Rattle.model.specs.Threshold.{Slow}
-use Rattle.model.proofs.Threshold.{reached-later}
-use Rattle.model.proofs.WholeSum.{sum-is-whole}
+use Rattle.model.specs.planning.Quantities.{fineSteps, speedLimit, halfPeriod, secondWeight, delay, asMoving, velocityAt, accelerates, finer, onGrid, speedSteps}
+use Rattle.model.specs.planning.Leg.{twiceRequired, sumIsWhole, feasible}
+use Rattle.model.specs.planning.Motion.{shift, startPosition, startVelocity, landingVelocity, landingTick, arrivalVelocity, leg, displacement, requiredSum, reachable}
+use Rattle.model.specs.planning.Refusals.{positionAllowed, velocityAllowed, restAllowed, motionAllowed, targetAllowed, Passed}
+use Rattle.model.specs.theorems.Threshold.{Slow}
+use Rattle.model.proofs.motions.Threshold.{reached-later}
+use Rattle.model.proofs.legs.WholeSum.{sum-is-whole}
 use Rattle.profile.specs.Profiles.{endsAllowed, sumBetween}
 use Rattle.running.specs.Running.{withTicks, betweenAt, Next}
 use Rattle.running.specs.Skips.{Lasting}

@@ -4,8 +4,8 @@ use mathlib.Core.Bool.{false, false≢true}
 use Rattle.model.specs.declared.Axis.{Axis}
 use Rattle.model.specs.declared.Weight.{Weight}
 use Rattle.model.specs.declared.Weight.the-variants.{Given, Measured}
-use Rattle.model.specs.Damping.{weightOf}
-use Rattle.model.specs.Job.{byHand}
+use Rattle.model.specs.planning.Damping.{weightOf}
+use Rattle.model.specs.planning.Job.{byHand}
 use Rattle.motion.specs.Motions.{measuredBy, measured}
 
 given-weight : (w : Weight) → measuredBy w ≡ false → w ≡ Given (weightOf w)

@@ -6,9 +6,9 @@ use mathlib.Core.Bool.{Bool, true, _&&_}
 use lib.Dec.{leb, ltb}
 use lib.IntN.{natAbs}
 use Rattle.model.specs.declared.Axis.{Axis}
-use Rattle.model.specs.Quantities.{accelerationLimit, delay, speedSteps}
-use Rattle.model.specs.Leg.{cruise, remainder}
-use Rattle.model.specs.Motion.{leg, displacement, landingVelocity, arrivalVelocity, reachable, requiredSum}
+use Rattle.model.specs.planning.Quantities.{accelerationLimit, delay, speedSteps}
+use Rattle.model.specs.planning.Leg.{cruise, remainder}
+use Rattle.model.specs.planning.Motion.{leg, displacement, landingVelocity, arrivalVelocity, reachable, requiredSum}
 use Rattle.profile.specs.Areas.{feasibleByAreas, cruiseByAreas, remainderByAreas}
 
 -- `reachable`, with the areas under the envelopes in place of their sums

@@ -10,10 +10,10 @@ use Rattle.model.specs.declared.Target.{Target}
 use Rattle.model.specs.declared.Target.the-variants.{Fixed, Moving}
 use Rattle.model.specs.declared.Weight.{Weight}
 use Rattle.model.specs.declared.Weight.the-variants.{Given, Measured}
-use Rattle.model.specs.Quantities.{fineSteps, speedLimit, accelerationLimit, halfPeriod, secondWeight, secondHalfPeriod, asMoving, twicePositionAt, velocityAt}
-use Rattle.model.specs.Quantities.{onGrid, speedSteps, accelerationSteps}
-use Rattle.model.specs.Motion.{shift, startVelocity, landingTick, landingPosition, landingVelocity, landingAcceleration}
-use Rattle.model.specs.Refusals.{lastTick}
+use Rattle.model.specs.planning.Quantities.{fineSteps, speedLimit, accelerationLimit, halfPeriod, secondWeight, secondHalfPeriod, asMoving, twicePositionAt, velocityAt}
+use Rattle.model.specs.planning.Quantities.{onGrid, speedSteps, accelerationSteps}
+use Rattle.model.specs.planning.Motion.{shift, startVelocity, landingTick, landingPosition, landingVelocity, landingAcceleration}
+use Rattle.model.specs.planning.Refusals.{lastTick}
 use Rattle.profile.specs.declared.Profile.{Profile}
 use Rattle.profile.specs.Profiles.{Ranged}
 use Rattle.motion.specs.declared.Landing.{Landing}

@@ -6,9 +6,9 @@ use lib.IntN.{ℤ}
 use lib.ListN.{length}
 use Rattle.model.specs.declared.Answer.{Answer}
 use Rattle.model.specs.declared.PartAnswer.{PartAnswer}
-use Rattle.model.specs.Outcome.{Input, call, inputAxes, cellsNeeded, answerOf}
-use Rattle.model.specs.Parts.{PartOutcome, partCall, PartOf}
-use Rattle.model.proofs.Parts.{parts-hold}
+use Rattle.model.specs.planning.Outcome.{Input, call, inputAxes, cellsNeeded, answerOf}
+use Rattle.model.specs.calls.Parts.{PartOutcome, partCall, PartOf}
+use Rattle.model.proofs.calls.Parts.{parts-hold}
 use Rattle.planner.specs.Promise.{partOutcome}
 use Rattle.planner.proofs.Answers.{part-answer}
 use Rattle.parts.specs.Promise.{PartPromise}

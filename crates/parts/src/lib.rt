@@ -5,7 +5,7 @@
 use model::Job;
 use model::PartAnswer;
 use planner::Wanted;
-ghost use Rattle.model.specs.Outcome as Input;
+ghost use Rattle.model.specs.planning.Outcome as Input;
 ghost use Rattle.parts.specs.Promise.{PartPromise};
 
 // Plans the axes of a job that its mask names and writes their rows from a first one on into the table. Gives back the answer of `planner::answer_of` and how

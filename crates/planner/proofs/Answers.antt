@@ -10,15 +10,15 @@ use Rattle.model.specs.declared.Answer.{Answer}
 use Rattle.model.specs.declared.Job as Typed
 use Rattle.model.specs.declared.Order.the-variants.{Forwards}
 use Rattle.model.specs.declared.PartAnswer.{PartAnswer}
-use Rattle.model.specs.Job.{Job, jobOf, axesOf}
-use Rattle.model.specs.Words.{Decoded, noMask, badWord, badLong, job, decode}
-use Rattle.model.specs.Refusals.{lastTick}
-use Rattle.model.specs.Outcome.{Outcome, Input, call, inputAxes, ordered}
-use Rattle.model.specs.Outcome.{words, typed, jobRead, inputJob, beforeTen, answerOf}
-use Rattle.model.specs.Verdict.{Verdict, refused3, refused4, refused12, refused5, refused15, refused6, refused16, refused17, refused13, refused8, refused9, refused10}
-use Rattle.model.specs.Verdict.{accepted, CallVerdict, words1, words2, words14, wordsJob, typed1, typedJobs}
-use Rattle.model.specs.Parts.{PartOutcome, partAccepted, partRefused, partWith, partCall}
-use Rattle.model.proofs.CallVerdict.{call-verdict}
+use Rattle.model.specs.planning.Job.{Job, jobOf, axesOf}
+use Rattle.model.specs.planning.Words.{Decoded, noMask, badWord, badLong, job, decode}
+use Rattle.model.specs.planning.Refusals.{lastTick}
+use Rattle.model.specs.planning.Outcome.{Outcome, Input, call, inputAxes, ordered}
+use Rattle.model.specs.planning.Outcome.{words, typed, jobRead, inputJob, beforeTen, answerOf}
+use Rattle.model.specs.theorems.Verdict.{Verdict, refused3, refused4, refused12, refused5, refused15, refused6, refused16, refused17, refused13, refused8, refused9, refused10}
+use Rattle.model.specs.theorems.Verdict.{accepted, CallVerdict, words1, words2, words14, wordsJob, typed1, typedJobs}
+use Rattle.model.specs.calls.Parts.{PartOutcome, partAccepted, partRefused, partWith, partCall}
+use Rattle.model.proofs.calls.CallVerdict.{call-verdict}
 use Rattle.words.specs.declared.DecodedJob.{DecodedJob}
 use Rattle.words.specs.Decoding.{decodedJob, Decodes}
 use Rattle.planner.specs.declared.Wanted.{Wanted}

@@ -1,8 +1,8 @@
 -- The calls: what they promise follows from the outcome of their stages.
 use Prim.Native.Nat.{ℕ, _<_}
-use Rattle.model.proofs.Demand.{demand3, cell-limits, exact-start}
-use Rattle.model.proofs.VerdictIn.{verdict-in}
-use Rattle.model.proofs.BeforeTen.{same-answer}
+use Rattle.model.proofs.tables.Demand.{demand3, cell-limits, exact-start}
+use Rattle.model.proofs.jobs.VerdictIn.{verdict-in}
+use Rattle.model.proofs.jobs.BeforeTen.{same-answer}
 use native.Mathlib.Omega.{arith}
 use mathlib.Core.Path.{_≡_, refl, sym, ap, ap₂, subst, _∙_}
 use mathlib.Core.Bool.{Bool, true, false, _&&_, false≢true}
@@ -14,12 +14,12 @@ use Rattle.model.specs.declared.Job as Typed
 use Rattle.model.specs.declared.Answer.{Answer}
 use Rattle.model.specs.declared.Order.{Order}
 use Rattle.model.specs.declared.PartAnswer.{PartAnswer}
-use Rattle.model.specs.Job.{Job, jobOf, axesOf}
-use Rattle.model.specs.Words.{goodMask, Decoded, noMask, badWord, badLong, job, decode}
-use Rattle.model.specs.Outcome.{Outcome, Input, refuse, jobOutcome, outcomeOfJob, outcomeOfWords, call, callIn, inputJob, inputAxes}
-use Rattle.model.specs.Verdict.{CallVerdict}
-use Rattle.model.specs.Parts.{partWith, partCall}
-use Rattle.model.specs.Demand.{Demand3, CellLimits, ExactStart}
+use Rattle.model.specs.planning.Job.{Job, jobOf, axesOf}
+use Rattle.model.specs.planning.Words.{goodMask, Decoded, noMask, badWord, badLong, job, decode}
+use Rattle.model.specs.planning.Outcome.{Outcome, Input, refuse, jobOutcome, outcomeOfJob, outcomeOfWords, call, callIn, inputJob, inputAxes}
+use Rattle.model.specs.theorems.Verdict.{CallVerdict}
+use Rattle.model.specs.calls.Parts.{partWith, partCall}
+use Rattle.model.specs.planning.Demand.{Demand3, CellLimits, ExactStart}
 use Rattle.words.specs.declared.DecodedJob.{DecodedJob}
 use Rattle.words.specs.Decoding.{decodedJob, Decodes}
 use Rattle.planner.specs.Promise.{Promise, PromiseIn}

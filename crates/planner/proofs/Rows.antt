@@ -16,12 +16,12 @@ use Rattle.model.specs.declared.Axis.{Axis}
 use Rattle.model.specs.declared.Order.{Order}
 use Rattle.model.specs.declared.Order.the-variants.{Forwards, Backwards}
 use Rattle.model.specs.declared.PartAnswer.{PartAnswer}
-use Rattle.model.specs.Job.{Job, setFrom, setBits, setAxes, axesOf, typedJob}
-use Rattle.model.specs.Refusals.{lastTick}
-use Rattle.model.specs.Outcome.{Outcome, outcomeOf, refuse, accept, filled, ordered, cellsNeeded, partOver, tableOver}
-use Rattle.model.specs.Parts.{partRows, PartOutcome, partAccepted, partWith}
-use Rattle.model.proofs.BeforeTen.{before-filled}
-use Rattle.model.proofs.Ordered.{refusal-stays}
+use Rattle.model.specs.planning.Job.{Job, setFrom, setBits, setAxes, axesOf, typedJob}
+use Rattle.model.specs.planning.Refusals.{lastTick}
+use Rattle.model.specs.planning.Outcome.{Outcome, outcomeOf, refuse, accept, filled, ordered, cellsNeeded, partOver, tableOver}
+use Rattle.model.specs.calls.Parts.{partRows, PartOutcome, partAccepted, partWith}
+use Rattle.model.proofs.jobs.BeforeTen.{before-filled}
+use Rattle.model.proofs.jobs.Ordered.{refusal-stays}
 use Rattle.arrival.proofs.SetAxes.{six-axes-bits}
 use Rattle.planner.specs.declared.Choice.{Choice}
 use Rattle.planner.specs.declared.Wanted.{Wanted}

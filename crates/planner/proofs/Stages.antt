@@ -16,16 +16,16 @@ use Rattle.model.specs.declared.Answer.{Answer}
 use Rattle.model.specs.declared.Order.the-variants.{Forwards}
 use Rattle.model.specs.declared.PartAnswer.{PartAnswer}
 use Rattle.model.specs.declared.Windows.{Windows}
-use Rattle.model.specs.Job.{Job, JobAxis, setBits, axesOf, jobWith, jobByHand}
-use Rattle.model.specs.Windows.{refused13}
-use Rattle.model.specs.Refusals.{lastTick}
-use Rattle.model.specs.Outcome.{Outcome, Tests, axisRefusals, firstAxis, outcomeOf, refuse, leastFrom, arrives, partOver, filled, arrived, jobOutcome, ordered, beforeTen}
-use Rattle.model.specs.Parts.{PartOutcome, partRows, partAccepted, partRefused, partWith}
+use Rattle.model.specs.planning.Job.{Job, JobAxis, setBits, axesOf, jobWith, jobByHand}
+use Rattle.model.specs.planning.Windows.{refused13}
+use Rattle.model.specs.planning.Refusals.{lastTick}
+use Rattle.model.specs.planning.Outcome.{Outcome, Tests, axisRefusals, firstAxis, outcomeOf, refuse, leastFrom, arrives, partOver, filled, arrived, jobOutcome, ordered, beforeTen}
+use Rattle.model.specs.calls.Parts.{PartOutcome, partRows, partAccepted, partRefused, partWith}
 use Rattle.arrival.specs.declared.Arrival.{Arrival}
 use Rattle.arrival.specs.Arrivals.{leastOr, askedOr, arrivalFor}
 use Rattle.arrival.proofs.SetAxes.{six-bits}
-use Rattle.model.proofs.Ordered.{refusal-stays}
-use Rattle.model.proofs.ByHand.{ordered-by-hand, arrived-by-hand, part-by-hand}
+use Rattle.model.proofs.jobs.Ordered.{refusal-stays}
+use Rattle.model.proofs.jobs.ByHand.{ordered-by-hand, arrived-by-hand, part-by-hand}
 use Rattle.checks.specs.declared.Refusal.{Refusal}
 use Rattle.checks.specs.Checks.{firstRefusal, checkedFor, namedByHand}
 use Rattle.planner.specs.declared.Wanted.{Wanted}

@@ -9,12 +9,12 @@ use Rattle.model.specs.declared.Answer.{Answer}
 use Rattle.model.specs.declared.Job.{Job}
 use Rattle.model.specs.declared.Order.{Order}
 use Rattle.model.specs.declared.PartAnswer.{PartAnswer}
-use Rattle.model.specs.Job.{setBits}
-use Rattle.model.specs.Refusals.{lastTick}
-use Rattle.model.specs.Outcome.{Input, typed, outcomeOf, callIn, inputAxes, cellsNeeded, answerOf}
-use Rattle.model.specs.Verdict.{CallVerdict}
-use Rattle.model.specs.Demand.{Demand3, CellLimits, ExactStart}
-use Rattle.model.specs.Parts.{PartOutcome, partCall}
+use Rattle.model.specs.planning.Job.{setBits}
+use Rattle.model.specs.planning.Refusals.{lastTick}
+use Rattle.model.specs.planning.Outcome.{Input, typed, outcomeOf, callIn, inputAxes, cellsNeeded, answerOf}
+use Rattle.model.specs.theorems.Verdict.{CallVerdict}
+use Rattle.model.specs.planning.Demand.{Demand3, CellLimits, ExactStart}
+use Rattle.model.specs.calls.Parts.{PartOutcome, partCall}
 use Rattle.planner.specs.declared.Wanted.{Wanted}
 use Rattle.planner.specs.declared.Wanted.the-variants.{Whole, From}
 

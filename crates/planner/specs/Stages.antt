@@ -9,9 +9,9 @@ use Rattle.model.specs.declared.Answer.{Answer}
 use Rattle.model.specs.declared.Axis.{Axis}
 use Rattle.model.specs.declared.PartAnswer.{PartAnswer}
 use Rattle.model.specs.declared.Order.the-variants.{Forwards}
-use Rattle.model.specs.Job.{Job, axesOf}
-use Rattle.model.specs.Outcome.{Outcome, outcomeOf, cellsNeeded, ordered, beforeTen}
-use Rattle.model.specs.Parts.{partRows, partWith}
+use Rattle.model.specs.planning.Job.{Job, axesOf}
+use Rattle.model.specs.planning.Outcome.{Outcome, outcomeOf, cellsNeeded, ordered, beforeTen}
+use Rattle.model.specs.calls.Parts.{partRows, partWith}
 use Rattle.planner.specs.declared.Choice.{Choice}
 use Rattle.planner.specs.declared.Wanted.{Wanted}
 use Rattle.planner.specs.declared.Wanted.the-variants.{Whole, From}

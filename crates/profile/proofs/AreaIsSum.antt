@@ -11,8 +11,8 @@ use Rattle.whole.proofs.Laws.{≤ℤ-next}
 use Rattle.whole.proofs.Ring.{pol, same}
 use Rattle.whole.proofs.Sums.{sum-same}
 use Rattle.whole.proofs.Tests.{lt-or-le}
-use Rattle.model.specs.Leg.{Leg, clamped, sumAt}
-use Rattle.model.proofs.Envelopes.{Joined}
+use Rattle.model.specs.planning.Leg.{Leg, clamped, sumAt}
+use Rattle.model.proofs.legs.Envelopes.{Joined}
 use Rattle.profile.specs.declared.Regions.{Regions}
 use Rattle.profile.specs.Regions.{regionsOf, velocityIn}
 use Rattle.profile.specs.Areas.{rampArea, areaOf, areaAt, areaTo, fallArea, risingTicks, levelTicks, levelTo, fallingTo}

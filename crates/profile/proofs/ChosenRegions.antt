@@ -14,11 +14,11 @@ use Rattle.whole.proofs.Differences.{whole, all₁}
 use Rattle.whole.proofs.Laws.{≤ℤ-antisym, ≤ℤ-total, ≤ℤ-next, natAbs-iff}
 use Rattle.whole.proofs.Ring.{pol, same}
 use Rattle.whole.proofs.Tests.{left as fst, right, and, by-bool, choice-yes, choice-no, leb-yes, leb-no, lt-or-le}
-use Rattle.model.specs.Leg.{Leg, clamped, sumAt, raised, required, cruise, remainder, chosen, feasible}
-use Rattle.model.specs.Rows.{tabulate}
-use Rattle.model.proofs.Envelopes.{Joined, highest-sum}
-use Rattle.model.proofs.ChosenMeets.{chosen-meets}
-use Rattle.model.proofs.FeasibleTests.{feasible-joined, feasible-below, feasible-cruise}
+use Rattle.model.specs.planning.Leg.{Leg, clamped, sumAt, raised, required, cruise, remainder, chosen, feasible}
+use Rattle.model.specs.planning.Rows.{tabulate}
+use Rattle.model.proofs.legs.Envelopes.{Joined, highest-sum}
+use Rattle.model.proofs.legs.ChosenMeets.{chosen-meets}
+use Rattle.model.proofs.legs.FeasibleTests.{feasible-joined, feasible-below, feasible-cruise}
 use Rattle.profile.specs.declared.Regions.{Regions}
 use Rattle.profile.specs.Regions.{rise, fall, regionsOf, chosenRegions, velocityIn, RegionsRanged}
 use Rattle.profile.proofs.ThreeRegions.{on-start, on-end, on-level, on-level-raised, fall-late, change-within}

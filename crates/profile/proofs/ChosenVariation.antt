@@ -18,21 +18,21 @@ use Rattle.whole.proofs.Laws.{≤ℤ-next}
 use Rattle.whole.proofs.Ring.{pol, same}
 use Rattle.whole.proofs.Tests.{lt-or-le}
 use Rattle.model.specs.declared.Axis.{Axis}
-use Rattle.model.specs.Quantities.{accelerationSteps}
-use Rattle.model.specs.Leg.{Leg, Meets, clamped, required, cruise, chosen, feasible}
-use Rattle.model.specs.Motion.{Tick, leg, displacement, landingTick, landingAcceleration}
-use Rattle.model.specs.Rows.{track, tickAt}
-use Rattle.model.specs.Refusals.{Ready}
-use Rattle.model.specs.Demand.{CellTable}
-use Rattle.model.specs.Misfit.{variation, plannedVariation, SwayLeft}
-use Rattle.model.proofs.Envelopes.{Joined, clamped-end}
-use Rattle.model.proofs.ChosenMeets.{chosen-meets}
-use Rattle.model.proofs.FeasibleTests.{feasible-joined}
-use Rattle.model.proofs.PlannedTarget.{tick-landed}
-use Rattle.model.proofs.MeasuredMisfit.{measured-left}
-use Rattle.model.proofs.ReadyAxis.{after, weight-range, some-acceleration, speed-range, moves}
-use Rattle.model.proofs.CellLimits.{planned-change, now-acceleration}
-use Rattle.model.proofs.Demand.{ready-axes, sway-left}
+use Rattle.model.specs.planning.Quantities.{accelerationSteps}
+use Rattle.model.specs.planning.Leg.{Leg, Meets, clamped, required, cruise, chosen, feasible}
+use Rattle.model.specs.planning.Motion.{Tick, leg, displacement, landingTick, landingAcceleration}
+use Rattle.model.specs.planning.Rows.{track, tickAt}
+use Rattle.model.specs.planning.Refusals.{Ready}
+use Rattle.model.specs.planning.Demand.{CellTable}
+use Rattle.model.specs.theorems.Misfit.{variation, plannedVariation, SwayLeft}
+use Rattle.model.proofs.legs.Envelopes.{Joined, clamped-end}
+use Rattle.model.proofs.legs.ChosenMeets.{chosen-meets}
+use Rattle.model.proofs.legs.FeasibleTests.{feasible-joined}
+use Rattle.model.proofs.motions.PlannedTarget.{tick-landed}
+use Rattle.model.proofs.tables.MeasuredMisfit.{measured-left}
+use Rattle.model.proofs.jobs.ReadyAxis.{after, weight-range, some-acceleration, speed-range, moves}
+use Rattle.model.proofs.tables.CellLimits.{planned-change, now-acceleration}
+use Rattle.model.proofs.tables.Demand.{ready-axes, sway-left}
 use Rattle.profile.specs.declared.Regions.{Regions}
 use Rattle.profile.specs.Variation.{mostVariation, MostSwayHolds, MostMeasuredHolds}
 use Rattle.profile.specs.Regions.{rise, fall, chosenRegions, velocityIn}

@@ -9,7 +9,7 @@ use lib.Signed.{leZ, leZ-yes, _≤ℤ_}
 use Rattle.whole.proofs.Differences.{all₁, whole}
 use Rattle.whole.specs.Ranges.{Within}
 use Rattle.whole.proofs.Tests.{and-no, and-yes, by-bool, left}
-use Rattle.model.specs.Leg.{Leg, fitsAt, climbByBits, climbSteps, cruise}
+use Rattle.model.specs.planning.Leg.{Leg, fitsAt, climbByBits, climbSteps, cruise}
 use Rattle.profile.specs.Profiles.{climbStep}
 
 -- the climb from c with n steps to go: shut, so that a goal at 39 steps does not compute

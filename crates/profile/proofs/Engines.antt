@@ -9,8 +9,8 @@ use Rattle.whole.specs.Integers.{sumTo}
 use Rattle.whole.specs.Ranges.{Within}
 use Rattle.whole.proofs.Laws.{natAbs-negpos}
 use Rattle.whole.proofs.Tests.{by-bool, true-T}
-use Rattle.model.specs.Leg.{Leg, upper, lower, sumAt, fitsAt, required, sumIsWhole, climbByBits, climbSteps, cruise, feasible}
-use Rattle.model.proofs.Envelopes.{lowest-sum, highest-sum}
+use Rattle.model.specs.planning.Leg.{Leg, upper, lower, sumAt, fitsAt, required, sumIsWhole, climbByBits, climbSteps, cruise, feasible}
+use Rattle.model.proofs.legs.Envelopes.{lowest-sum, highest-sum}
 use Rattle.profile.specs.Profiles.{endsAllowed}
 use Rattle.profile.specs.Areas.{areaAt, lowestArea, highestArea, feasibleByAreas, climbByAreas, cruiseByAreas, EnginesAgree}
 use Rattle.profile.proofs.FeasibleParts.{feasible-parts, ends-joined}

@@ -7,8 +7,8 @@ use lib.IntN.{ℤ, natAbs, _-ℤ_}
 use lib.Signed.{leZ}
 use Rattle.whole.proofs.Tests.{left, right, true-T, and-yes, leb-yes}
 use Rattle.whole.specs.Integers.{sumTo}
-use Rattle.model.proofs.Envelopes.{Joined}
-use Rattle.model.specs.Leg.{Leg, lower, upper, required, sumIsWhole, feasible}
+use Rattle.model.proofs.legs.Envelopes.{Joined}
+use Rattle.model.specs.planning.Leg.{Leg, lower, upper, required, sumIsWhole, feasible}
 use Rattle.profile.specs.Profiles.{endsAllowed, sumBetween}
 
 grouped : (a b c w l h : Bool) → (a && (b && (c && (w && (l && (h && true)))))) ≡ ((a && (b && c)) && (w && (l && h)))

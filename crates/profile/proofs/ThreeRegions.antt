@@ -17,8 +17,8 @@ use Rattle.whole.proofs.Laws.{≤ℤ-trans, sub-nonneg, natAbs-negpos}
 use Rattle.whole.proofs.Ring.{pol, same}
 use Rattle.whole.proofs.Order.{le-yes, le-no}
 use Rattle.whole.proofs.Tests.{by-bool, choice-yes, choice-no, leb-yes, leb-no, lt-or-le}
-use Rattle.model.specs.Leg.{Leg, clamped}
-use Rattle.model.proofs.Envelopes.{Joined, since, until, since-until, highest, lowest, apart-at}
+use Rattle.model.specs.planning.Leg.{Leg, clamped}
+use Rattle.model.proofs.legs.Envelopes.{Joined, since, until, since-until, highest, lowest, apart-at}
 use Rattle.profile.specs.Regions.{rampTicks, rampChange, meetingTick, bothRamps, rise, fall}
 
 -- c with every sign turned: x < y exactly where −y ≤ turned x

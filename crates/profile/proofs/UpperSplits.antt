@@ -10,8 +10,8 @@ use Rattle.whole.specs.Integers.{sumTo}
 use Rattle.whole.proofs.Differences.{whole, all₂}
 use Rattle.whole.proofs.Laws.{+ℤ-mono, natAbs-iff}
 use Rattle.whole.proofs.Sums.{sum-mono}
-use Rattle.model.specs.Leg.{Leg, upper}
-use Rattle.model.proofs.Envelopes.{Joined, since, until, highest}
+use Rattle.model.specs.planning.Leg.{Leg, upper}
+use Rattle.model.proofs.legs.Envelopes.{Joined, since, until, highest}
 use Rattle.profile.specs.declared.Parts.{Parts}
 use Rattle.profile.specs.Areas.{rampArea, areaOf, splitArea, upperParts}
 use Rattle.profile.proofs.FeasibleParts.{joined-ends}

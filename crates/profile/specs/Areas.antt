@@ -7,7 +7,7 @@ use lib.IntN.{ℤ, pos, negℤ, natAbs, _+ℤ_, _-ℤ_, _*ℤ_}
 use lib.Signed.{leZ}
 use Rattle.whole.specs.Integers.{sumTo}
 use Rattle.whole.specs.Ranges.{Is}
-use Rattle.model.specs.Leg.{Leg, upper, required, sumIsWhole, climbSteps, feasible, cruise, remainder}
+use Rattle.model.specs.planning.Leg.{Leg, upper, required, sumIsWhole, climbSteps, feasible, cruise, remainder}
 use Rattle.profile.specs.declared.Parts.{Parts}
 use Rattle.profile.specs.declared.Regions.{Regions}
 use Rattle.profile.specs.declared.UpperArea.{UpperArea}

@@ -7,7 +7,7 @@ use lib.Signed.{leZ}
 use lib.Dec.{leb}
 use Rattle.whole.specs.Ranges.{Within, Is}
 use Rattle.whole.specs.Integers.{sumTo}
-use Rattle.model.specs.Leg.{Leg, upper, lower, fitsAt, cruise, remainder}
+use Rattle.model.specs.planning.Leg.{Leg, upper, lower, fitsAt, cruise, remainder}
 use Rattle.profile.specs.declared.Profile.{Profile}
 use Rattle.profile.specs.declared.CruisePlan.{CruisePlan}
 

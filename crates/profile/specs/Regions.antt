@@ -6,7 +6,7 @@ use lib.IntN.{ℤ, pos, negℤ, natAbs, _+ℤ_, _-ℤ_, _*ℤ_}
 use lib.Signed.{leZ}
 use lib.Dec.{leb}
 use Rattle.whole.specs.Ranges.{Within}
-use Rattle.model.specs.Leg.{Leg, cruise, remainder}
+use Rattle.model.specs.planning.Leg.{Leg, cruise, remainder}
 use Rattle.profile.specs.declared.Regions.{Regions}
 
 -- how many ticks a ramp from velocity v stays short of c, at limit a a tick

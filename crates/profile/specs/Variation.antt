@@ -3,9 +3,9 @@
 use Prim.Native.Nat.{ℕ, _+_, _*_}
 use lib.IntN.{natAbs}
 use Rattle.model.specs.declared.Axis.{Axis}
-use Rattle.model.specs.Quantities.{accelerationSteps}
-use Rattle.model.specs.Motion.{landingAcceleration}
-use Rattle.model.specs.Misfit.{SwayLeftHolds, MeasuredLeftHolds}
+use Rattle.model.specs.planning.Quantities.{accelerationSteps}
+use Rattle.model.specs.planning.Motion.{landingAcceleration}
+use Rattle.model.specs.theorems.Misfit.{SwayLeftHolds, MeasuredLeftHolds}
 
 abbrev pub mostVariation : Axis → ℕ → ℕ
 mostVariation x n = 4 * accelerationSteps x + natAbs (landingAcceleration x n) + 2

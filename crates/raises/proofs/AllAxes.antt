@@ -9,9 +9,9 @@ use borrow.Author.Tests.{not-true, not-false}
 use Rattle.whole.proofs.Tests.{true-T}
 use Rattle.model.specs.declared.Axis.{Axis}
 use Rattle.model.specs.declared.AxisRaises.{AxisRaises}
-use Rattle.model.specs.Motion.{reachable}
-use Rattle.model.specs.Job.{JobAxis}
-use Rattle.model.specs.Raises.{raisesOf, raisesFrom}
+use Rattle.model.specs.planning.Motion.{reachable}
+use Rattle.model.specs.planning.Job.{JobAxis}
+use Rattle.model.specs.calls.Raises.{raisesOf, raisesFrom}
 use Rattle.arrival.specs.Arrivals.{missedBy}
 use Rattle.arrival.proofs.SetAxes.{pick, from, axisAt, from-more, from-none}
 

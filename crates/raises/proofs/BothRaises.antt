@@ -8,7 +8,7 @@ use borrow.Author.Tests.{eq-eqb, ne-eqb, le-leb, lt-leb}
 use Rattle.whole.proofs.Tests.{choice-yes, choice-no}
 use Rattle.model.specs.declared.AxisRaises.{AxisRaises}
 use Rattle.model.specs.declared.Raise.the-variants.{AccelerationBy, SpeedBy, NoRaise}
-use Rattle.model.specs.Raises.{noRaises, inOrder}
+use Rattle.model.specs.calls.Raises.{noRaises, inOrder}
 use Rattle.raises.specs.Promise.{orNone}
 
 -- a raise as a number, 0 where there is none

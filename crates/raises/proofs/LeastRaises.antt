@@ -9,14 +9,14 @@ use Rattle.whole.proofs.Tests.{and-no, ltb-no}
 use Rattle.model.specs.declared.Axis.{Axis}
 use Rattle.model.specs.declared.Limit.{Limit}
 use Rattle.model.specs.declared.Limit.the-variants.{Acceleration, Speed}
-use Rattle.model.specs.Quantities.{delay, speedLimit, accelerationLimit}
-use Rattle.model.specs.Motion.{reachable}
-use Rattle.model.specs.Outcome.{leastFrom}
-use Rattle.model.specs.Refusals.{Passed}
-use Rattle.model.specs.Raises.{limitOf, highest, withLimit, raiseOf}
-use Rattle.model.proofs.LeastRaise.{raise-missing}
-use Rattle.model.proofs.LeastTick.{Result, result, one-result}
-use Rattle.model.proofs.PassedAxis.{speed-limit, some-acceleration}
+use Rattle.model.specs.planning.Quantities.{delay, speedLimit, accelerationLimit}
+use Rattle.model.specs.planning.Motion.{reachable}
+use Rattle.model.specs.planning.Outcome.{leastFrom}
+use Rattle.model.specs.planning.Refusals.{Passed}
+use Rattle.model.specs.calls.Raises.{limitOf, highest, withLimit, raiseOf}
+use Rattle.model.proofs.calls.LeastRaise.{raise-missing}
+use Rattle.model.proofs.jobs.LeastTick.{Result, result, one-result}
+use Rattle.model.proofs.jobs.PassedAxis.{speed-limit, some-acceleration}
 use Rattle.running.specs.Running.{Next}
 use Rattle.limits.specs.declared.Task.{Task}
 use Rattle.limits.specs.Limits.{limitIn, enough, enoughWith}

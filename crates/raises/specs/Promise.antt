@@ -6,8 +6,8 @@ use mathlib.Core.Option.{Option, none, some}
 use lib.Dec.{eqb}
 use Rattle.model.specs.declared.Limit.{Limit}
 use Rattle.model.specs.declared.RaisesAnswer.{RaisesAnswer}
-use Rattle.model.specs.Outcome.{Input, inputJob, leastFrom}
-use Rattle.model.specs.Raises.{highest, raisesCall, RaisesHold, RaisesCallVerdict}
+use Rattle.model.specs.planning.Outcome.{Input, inputJob, leastFrom}
+use Rattle.model.specs.calls.Raises.{highest, raisesCall, RaisesHold, RaisesCallVerdict}
 use Rattle.limits.specs.declared.Task.{Task}
 use Rattle.limits.specs.Limits.{limitIn, enoughWith}
 

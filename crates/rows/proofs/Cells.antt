@@ -1,8 +1,8 @@
 -- The cells of a plan's rows, as far as they are written: in the table the first k rows from a place on, in an order, and in a row the axes before axis i.
 use mathlib.Core.Path.{_≡_, refl, sym, ap, _∙_}
-use Rattle.model.proofs.CellPlaces.{blocks-length}
-use Rattle.model.proofs.CellPlaces as Places
-use Rattle.model.proofs.Reversed.{tabulate-more}
+use Rattle.model.proofs.tables.CellPlaces.{blocks-length}
+use Rattle.model.proofs.tables.CellPlaces as Places
+use Rattle.model.proofs.tables.Reversed.{tabulate-more}
 use mathlib.Core.List.{List, [], _∷_, _++_, map, append-assoc, append-nil, map-append, flatten}
 use Prim.Native.Nat.{ℕ, _+_, _*_, _<_, _≤_}
 use native.Mathlib.Numerals.{add-one}
@@ -10,7 +10,7 @@ use lib.IntN.{ℤ}
 use lib.ListN.{length, getD, take}
 use lib.Seq.{take-suc, take-length, length-take-le}
 use Rattle.model.specs.declared.Order.{Order}
-use Rattle.model.specs.Rows.{tabulate, rowAt}
+use Rattle.model.specs.planning.Rows.{tabulate, rowAt}
 use Rattle.tracks.specs.declared.AxisPlan.{AxisPlan}
 use Rattle.rows.specs.Plans.{unsetPlan}
 use Rattle.tracks.specs.Tracks.{axisCells}

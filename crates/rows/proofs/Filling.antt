@@ -9,7 +9,7 @@ use lib.IntN.{ℤ}
 use lib.ListN.{length, getD, drop, length-append}
 use lib.Seq.{length-take-le}
 use Rattle.model.specs.declared.Order.{Order}
-use Rattle.model.specs.Rows.{rowAt}
+use Rattle.model.specs.planning.Rows.{rowAt}
 use Rattle.tracks.specs.declared.AxisPlan.{AxisPlan}
 use Rattle.rows.specs.declared.Plan.{Plan}
 use Rattle.tracks.specs.declared.Track.{Track}

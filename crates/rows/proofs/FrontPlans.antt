@@ -9,7 +9,7 @@ use lib.Dec.{eqb}
 use lib.ListN.{length, getD, set, take, drop}
 use lib.Seq.{take-suc-set, drop-cons, drop-length, length-take-le, getD-take}
 use Rattle.model.specs.declared.Axis.{Axis}
-use Rattle.model.specs.Job.{JobAxis, setAxes, unsetAxis}
+use Rattle.model.specs.planning.Job.{JobAxis, setAxes, unsetAxis}
 use Rattle.tracks.specs.declared.AxisPlan.{AxisPlan}
 use Rattle.tracks.specs.Plans.{planOf}
 use Rattle.rows.specs.Plans.{unsetPlan, plansFor, Each}

@@ -7,12 +7,12 @@ use lib.IntN.{ℤ}
 use lib.ListN.{length, drop, length-map}
 use Rattle.model.specs.declared.Axis.{Axis}
 use Rattle.model.specs.declared.Order.{Order}
-use Rattle.model.specs.Rows.{track, tabulate, row, rowAt, part}
-use Rattle.model.specs.Job.{JobAxis, setAxes, axesOf, typedJob}
-use Rattle.model.specs.Refusals.{lastTick}
-use Rattle.model.specs.Outcome.{partOver}
-use Rattle.model.proofs.CellPlaces.{row-place}
-use Rattle.model.proofs.Reversed.{tabulate-same}
+use Rattle.model.specs.planning.Rows.{track, tabulate, row, rowAt, part}
+use Rattle.model.specs.planning.Job.{JobAxis, setAxes, axesOf, typedJob}
+use Rattle.model.specs.planning.Refusals.{lastTick}
+use Rattle.model.specs.planning.Outcome.{partOver}
+use Rattle.model.proofs.tables.CellPlaces.{row-place}
+use Rattle.model.proofs.tables.Reversed.{tabulate-same}
 use Rattle.rows.specs.Plans.{plansFor, plansOf, PlanIs, Each, Fillable}
 use Rattle.tracks.specs.Plans.{arrivalOf, PlanRanges}
 use Rattle.tracks.specs.declared.AxisPlan.{AxisPlan}

@@ -8,10 +8,10 @@ use lib.ListN.{length, getD, drop}
 use lib.Seq.{drop-cons}
 use lib.Dec.{eqb}
 use Rattle.model.specs.declared.Axis.{Axis}
-use Rattle.model.specs.Motion.{reachable}
-use Rattle.model.specs.Job.{JobAxis, setAxes, unsetAxis}
-use Rattle.model.specs.Outcome.{allReach}
-use Rattle.model.specs.Refusals.{lastTick, AllPassed, Ready}
+use Rattle.model.specs.planning.Motion.{reachable}
+use Rattle.model.specs.planning.Job.{JobAxis, setAxes, unsetAxis}
+use Rattle.model.specs.planning.Outcome.{allReach}
+use Rattle.model.specs.planning.Refusals.{lastTick, AllPassed, Ready}
 use Rattle.tracks.specs.Plans.{arrivalOf, PlanRanges}
 use Rattle.rows.specs.Plans.{plansFor, Each}
 use Rattle.tracks.proofs.ReadyAxis.{plan-ranges, plan-arrives}

@@ -13,7 +13,7 @@ use lib.ListN.{length, getD, set}
 use lib.Seq.{getD-set-same, getD-set-other}
 use Rattle.model.specs.declared.Order.{Order}
 use Rattle.model.specs.declared.Order.the-variants.{Forwards, Backwards}
-use Rattle.model.specs.Rows.{rowAt}
+use Rattle.model.specs.planning.Rows.{rowAt}
 use Rattle.tracks.specs.declared.AxisPlan.{AxisPlan}
 use Rattle.tracks.specs.declared.Track.{Track}
 use Rattle.rows.specs.Plans.{unsetPlan}

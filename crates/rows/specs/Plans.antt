@@ -5,7 +5,7 @@ use mathlib.Core.List.{List, [], _∷_, map}
 use lib.IntN.{pos}
 use lib.ListN.{length, getD, take}
 use Rattle.model.specs.declared.SecondSway.the-variants.{Absent}
-use Rattle.model.specs.Job.{JobAxis}
+use Rattle.model.specs.planning.Job.{JobAxis}
 use Rattle.tracks.specs.declared.AxisPlan.{AxisPlan}
 use Rattle.tracks.specs.Plans.{planOf, arrivalOf, PlanRanges}
 use Rattle.rows.specs.declared.Plan.{Plan}

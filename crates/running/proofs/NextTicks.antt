@@ -10,8 +10,8 @@ use lib.Dec.{leb}
 use lib.IntN.{ℤ, pos, natAbs, _+ℤ_, _-ℤ_, _*ℤ_}
 use Rattle.whole.proofs.Ring.{pol, same}
 use Rattle.whole.proofs.Tests.{and-yes, and-no, leb-no, lt-or-le}
-use Rattle.model.specs.Leg.{Leg}
-use Rattle.model.proofs.Envelopes.{Joined}
+use Rattle.model.specs.planning.Leg.{Leg}
+use Rattle.model.proofs.legs.Envelopes.{Joined}
 use Rattle.profile.specs.Profiles.{endsAllowed, sumBetween}
 use Rattle.running.specs.declared.Running.{Running}
 use Rattle.running.specs.Running.{runningAt, withinSums, withTicks, betweenAt, Next, NearFrom}

@@ -14,8 +14,8 @@ use Rattle.whole.proofs.Laws.{natAbs-neg, natAbs-+}
 use Rattle.whole.proofs.Ring.{pol, same}
 use Rattle.whole.proofs.Sums.{sum-same}
 use Rattle.whole.proofs.Tests.{lt-or-le}
-use Rattle.model.specs.Leg.{Leg, upper, lower}
-use Rattle.model.proofs.Envelopes.{Joined, since, until, highest, lowest, clamped-within, clamped-lowest, clamped-highest}
+use Rattle.model.specs.planning.Leg.{Leg, upper, lower}
+use Rattle.model.proofs.legs.Envelopes.{Joined, since, until, highest, lowest, clamped-within, clamped-lowest, clamped-highest}
 use Rattle.running.specs.declared.Running.{Running}
 use Rattle.running.specs.Running.{crossing, peakOf, troughOf, runningAt, stepped, RunningRanged, withTicks}
 use Rattle.profile.proofs.ThreeRegions.{before, after, up-is, up-late, before-half, after-half}

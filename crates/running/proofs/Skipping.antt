@@ -12,7 +12,7 @@ use Rattle.whole.specs.Integers.{sumTo}
 use Rattle.whole.proofs.Differences.{whole, all₂}
 use Rattle.whole.proofs.Ring.{pol, same}
 use Rattle.whole.proofs.Tests.{T-true, T-false, lt-or-le}
-use Rattle.model.specs.Leg.{Leg, upper, lower}
+use Rattle.model.specs.planning.Leg.{Leg, upper, lower}
 use Rattle.profile.specs.Profiles.{endsAllowed, sumBetween}
 use Rattle.running.specs.Running.{withTicks, betweenAt, Next}
 use Rattle.running.specs.Skips.{Lasting, Skips, ShortAt}

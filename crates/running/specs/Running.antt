@@ -8,7 +8,7 @@ use lib.IntN.{ℤ, pos, negℤ, natAbs, _+ℤ_, _-ℤ_, _*ℤ_}
 use lib.Signed.{leZ}
 use Rattle.whole.specs.Integers.{least, greatest, sumTo}
 use Rattle.whole.specs.Ranges.{Within}
-use Rattle.model.specs.Leg.{Leg, upper, lower}
+use Rattle.model.specs.planning.Leg.{Leg, upper, lower}
 use Rattle.running.specs.declared.Running.{Running}
 use Rattle.profile.specs.Profiles.{endsAllowed, sumBetween}
 

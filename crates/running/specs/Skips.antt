@@ -6,7 +6,7 @@ use mathlib.Core.Bool.{Bool, true, false}
 use lib.IntN.{ℤ, pos, negℤ, _+ℤ_, _*ℤ_}
 use lib.Signed.{_<ℤ_}
 use Rattle.whole.specs.Integers.{sumTo}
-use Rattle.model.specs.Leg.{Leg, upper}
+use Rattle.model.specs.planning.Leg.{Leg, upper}
 use Rattle.profile.specs.declared.Parts.{Parts}
 use Rattle.profile.specs.declared.Profile.{Profile}
 use Rattle.running.specs.declared.Ramps.{Ramps}

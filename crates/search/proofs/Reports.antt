@@ -7,9 +7,9 @@ use mathlib.Core.Option.{none, some}
 use lib.Dec.{ltb}
 use borrow.Author.Tests.{lt-ltb, le-ltb, ltb-true}
 use Rattle.model.specs.declared.Report.the-variants.{Found, Spent, Nothing}
-use Rattle.model.specs.Outcome.{leastFrom}
-use Rattle.model.specs.Search.{candidates, notFound, reported, searchFrom}
-use Rattle.model.proofs.LeastTick.{result, least-is}
+use Rattle.model.specs.planning.Outcome.{leastFrom}
+use Rattle.model.specs.calls.Search.{candidates, notFound, reported, searchFrom}
+use Rattle.model.proofs.jobs.LeastTick.{result, least-is}
 use Rattle.arrival.specs.Arrivals.{orZero}
 use Rattle.arrival.proofs.Search.{is-some, is-none}
 

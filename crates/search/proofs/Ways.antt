@@ -10,12 +10,12 @@ use Rattle.model.specs.declared.Axis.{Axis}
 use Rattle.model.specs.declared.Windows.{Windows}
 use Rattle.model.specs.declared.Job as Typed
 use Rattle.model.specs.declared.SearchAnswer.{SearchAnswer}
-use Rattle.model.specs.Windows.{inWindows}
-use Rattle.model.specs.Job.{Job, jobOf, jobWith, setAxes}
-use Rattle.model.specs.Words.{goodMask, Decoded, noMask, badWord, badLong, job, decode}
-use Rattle.model.specs.Outcome.{Input, words, typed, arrives}
-use Rattle.model.specs.Search.{searchFrom, refuseSearch, searchAnswer, firstAllowed, firstChecked, searchJob, searchCall}
-use Rattle.model.proofs.SearchCalls.{search-verdict, call-says}
+use Rattle.model.specs.planning.Windows.{inWindows}
+use Rattle.model.specs.planning.Job.{Job, jobOf, jobWith, setAxes}
+use Rattle.model.specs.planning.Words.{goodMask, Decoded, noMask, badWord, badLong, job, decode}
+use Rattle.model.specs.planning.Outcome.{Input, words, typed, arrives}
+use Rattle.model.specs.calls.Search.{searchFrom, refuseSearch, searchAnswer, firstAllowed, firstChecked, searchJob, searchCall}
+use Rattle.model.proofs.calls.SearchCalls.{search-verdict, call-says}
 use Rattle.arrival.specs.Arrivals.{arrivesIn}
 use Rattle.words.specs.declared.DecodedJob.{DecodedJob}
 use Rattle.words.specs.Decoding.{decodedJob, Decodes}

@@ -19,11 +19,11 @@ ghost use mathlib.Core.Bool.{cond};
 ghost use mathlib.Core.Option.{none};
 ghost use Prim.Native.Nat.{_+_, _≤_};
 ghost use lib.Dec.{ltb};
-ghost use Rattle.model.specs.Job.{setAxes, jobWith};
-ghost use Rattle.model.specs.Refusals.{AllPassed, lastTick};
-ghost use Rattle.model.specs.Windows.{refused13};
-ghost use Rattle.model.specs.Outcome as Input;
-ghost use Rattle.model.specs.Search.{refuseSearch, searchAnswer, foundTick, firstAllowed, searchFrom, searchJob};
+ghost use Rattle.model.specs.planning.Job.{setAxes, jobWith};
+ghost use Rattle.model.specs.planning.Refusals.{AllPassed, lastTick};
+ghost use Rattle.model.specs.planning.Windows.{refused13};
+ghost use Rattle.model.specs.planning.Outcome as Input;
+ghost use Rattle.model.specs.calls.Search.{refuseSearch, searchAnswer, foundTick, firstAllowed, searchFrom, searchJob};
 ghost use Rattle.arrival.specs.Arrivals.{arrivesIn};
 ghost use Rattle.search.specs.Promise.{SearchPromise};
 

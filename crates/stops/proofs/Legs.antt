@@ -16,9 +16,9 @@ use Rattle.model.specs.declared.Axis.{Axis}
 use Rattle.model.specs.declared.AxisLimits.{AxisLimits}
 use Rattle.model.specs.declared.Stop.{Stop}
 use Rattle.model.specs.declared.TourSettings.{TourSettings}
-use Rattle.model.specs.Windows.{longestDwell}
-use Rattle.model.specs.Job.{unsetAxis}
-use Rattle.model.specs.Tour.{Legs, legAxis, legAxes, legAnswer, allLegs, refusedLeg, legsFrom, firstLongDwell}
+use Rattle.model.specs.planning.Windows.{longestDwell}
+use Rattle.model.specs.planning.Job.{unsetAxis}
+use Rattle.model.specs.calls.Tour.{Legs, legAxis, legAxes, legAnswer, allLegs, refusedLeg, legsFrom, firstLongDwell}
 use Rattle.stops.specs.Parts.{noLimits, legAxisAt, legsIn}
 
 -- ---- the stops that are left

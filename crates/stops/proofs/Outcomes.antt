@@ -9,7 +9,7 @@ use lib.Dec.{eqb, leb, ltb}
 use borrow.Author.Tests.{le-leb, lt-leb, lt-ltb, le-ltb, eq-eqb, ne-eqb}
 use Rattle.model.specs.declared.Stop.{Stop}
 use Rattle.model.specs.declared.TourSettings.{TourSettings}
-use Rattle.model.specs.Tour.{Legs, TourOutcome, refuseTour, arrivalsOver, afterLegs, legsFrom, mostStops, firstLongDwell, dwellsChecked, stopsChecked, tourBy}
+use Rattle.model.specs.calls.Tour.{Legs, TourOutcome, refuseTour, arrivalsOver, afterLegs, legsFrom, mostStops, firstLongDwell, dwellsChecked, stopsChecked, tourBy}
 use Rattle.stops.specs.declared.LegRow.{LegRow}
 use Rattle.stops.specs.Parts.{legsIn}
 

@@ -11,7 +11,7 @@ use borrow.Author.Tests.{leb-true, leb-false}
 use Rattle.model.specs.declared.Stop.{Stop}
 use Rattle.model.specs.declared.TourSettings.{TourSettings}
 use Rattle.model.specs.declared.TourAnswer.{TourAnswer}
-use Rattle.model.specs.Tour.{TourOutcome, tourBy, tourOutcome, tourOutcomeOf}
+use Rattle.model.specs.calls.Tour.{TourOutcome, tourBy, tourOutcome, tourOutcomeOf}
 use Rattle.stops.specs.declared.StopRow.{StopRow}
 use Rattle.stops.specs.Rows.{noStop, heldOf, emptyRow, withStop, rowTo, rowOf, rowStops}
 use Rattle.stops.specs.Promise.{departsAt, LegPlanned, TourPromise}

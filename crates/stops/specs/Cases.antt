@@ -8,7 +8,7 @@ use Rattle.model.specs.declared.SecondSway.{SecondSway}
 use Rattle.model.specs.declared.SecondSway.the-variants.{Absent, HalfPeriod}
 use Rattle.model.specs.declared.Weight.the-variants.{Given}
 use Rattle.model.specs.declared.TourSettings.{TourSettings}
-use Rattle.model.specs.Tour.{TourOutcome, refuseTour, tourOutcome}
+use Rattle.model.specs.calls.Tour.{TourOutcome, refuseTour, tourOutcome}
 
 abbrev pub settings : ℕ → SecondSway → TourSettings
 settings mask sway =

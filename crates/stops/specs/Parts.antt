@@ -13,8 +13,8 @@ use Rattle.model.specs.declared.AxisLimits.{AxisLimits}
 use Rattle.model.specs.declared.SecondSway.the-variants.{Absent}
 use Rattle.model.specs.declared.Weight.the-variants.{Given}
 use Rattle.model.specs.declared.TourSettings.{TourSettings}
-use Rattle.model.specs.Refusals.{lastTick}
-use Rattle.model.specs.Tour.{Legs, legAxis, legAnswer}
+use Rattle.model.specs.planning.Refusals.{lastTick}
+use Rattle.model.specs.calls.Tour.{Legs, legAxis, legAnswer}
 use Rattle.stops.specs.declared.FirstStop.{FirstStop}
 use Rattle.stops.specs.declared.FirstStop.the-variants.{At, Nowhere}
 use Rattle.stops.specs.declared.LegRow.{LegRow}

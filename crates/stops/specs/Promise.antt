@@ -7,10 +7,10 @@ use lib.ListN.{length, getD}
 use Rattle.model.specs.declared.Stop.{Stop}
 use Rattle.model.specs.declared.TourSettings.{TourSettings}
 use Rattle.model.specs.declared.TourAnswer.{TourAnswer}
-use Rattle.model.specs.Outcome.{Input, typed, call, inputAxes, cellsNeeded}
+use Rattle.model.specs.planning.Outcome.{Input, typed, call, inputAxes, cellsNeeded}
 use Rattle.model.specs.declared.Order.the-variants.{Forwards}
-use Rattle.model.specs.Demand.{Demand3}
-use Rattle.model.specs.Tour.{legJob, tourOutcome, tourOutcomeOf}
+use Rattle.model.specs.planning.Demand.{Demand3}
+use Rattle.model.specs.calls.Tour.{legJob, tourOutcome, tourOutcomeOf}
 use Rattle.stops.specs.Rows.{noStop}
 
 -- ---- the leg to stop i: where it starts, and the tick at which it leaves; the first one from `here` at tick n

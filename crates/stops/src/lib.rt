@@ -11,7 +11,7 @@ ghost use mathlib.Core.Path.{_≡_};
 ghost use mathlib.Core.List.{_++_};
 ghost use Prim.Native.Nat.{_<_, _≤_};
 ghost use lib.ListN.{length, take, drop};
-ghost use Rattle.model.specs.Tour.{legAxes, legJob, firstLongDwell};
+ghost use Rattle.model.specs.calls.Tour.{legAxes, legJob, firstLongDwell};
 ghost use Rattle.stops.specs.Rows.{emptyRow, withStop, heldOf, rowOf};
 ghost use Rattle.stops.specs.Parts.{legAxisAt, foundStop};
 

@@ -8,7 +8,7 @@ use lib.IntN.{ℤ}
 use lib.ListN.{length, take}
 use Rattle.whole.specs.Lists.{WrittenAtStart}
 use Rattle.whole.proofs.Lists.{start-taken}
-use Rattle.model.specs.Outcome.{Outcome, outcomeOf}
+use Rattle.model.specs.planning.Outcome.{Outcome, outcomeOf}
 use Rattle.text.specs.Printed.{rowWidth, printed}
 use Rattle.text.specs.Enough.{tableBytes, textWithin}
 use Rattle.text.proofs.Enough.{TableFits, whole-text}

@@ -3,8 +3,8 @@ use Prim.Native.Nat.{ℕ}
 use mathlib.Core.List.{List}
 use lib.IntN.{ℤ, pos}
 use lib.ListN.{take, replicate}
-use Rattle.model.specs.Bytes.{wordsOf}
-use Rattle.model.specs.Outcome.{Input, words, call}
+use Rattle.model.specs.calls.Bytes.{wordsOf}
+use Rattle.model.specs.planning.Outcome.{Input, words, call}
 use Rattle.text.specs.Printed.{printed}
 
 -- at most 512 bytes are read

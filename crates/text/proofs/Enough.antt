@@ -13,9 +13,9 @@ use borrow.Author.Tests.{le-leb, lt-leb, eq-eqb, ne-eqb, eqb-true}
 use Rattle.whole.specs.Lists.{Room, Written, WrittenWithin, WrittenAtStart}
 use Rattle.whole.proofs.Lists.{written-nil, written-then, room-on}
 use Rattle.whole.proofs.Tests.{true-T, both, and-yes, and-no, leb-yes, leb-no, ltb-yes}
-use Rattle.model.specs.Job.{setBits}
-use Rattle.model.specs.Refusals.{lastTick}
-use Rattle.model.specs.Outcome.{Outcome, cellsNeeded}
+use Rattle.model.specs.planning.Job.{setBits}
+use Rattle.model.specs.planning.Refusals.{lastTick}
+use Rattle.model.specs.planning.Outcome.{Outcome, cellsNeeded}
 use Rattle.arrival.proofs.SetAxes.{six-bits}
 use Rattle.text.specs.Printed.{arrivalLine, refusalLine, rowWidth, rowLines, tableLines, printed}
 use Rattle.text.specs.Enough.{refusalBytes, rowBytes, tableBytes, tableFits, onlyIf, tableWithin, textWithin}

@@ -4,10 +4,10 @@ use mathlib.Core.List.{flatten}
 use lib.IntN.{pos}
 use lib.ListN.{replicate}
 use Rattle.whole.specs.Lists.{upTo}
-use Rattle.model.specs.Quantities.{finer}
-use Rattle.model.specs.Leg.{cruise}
-use Rattle.model.specs.Outcome.{words, call}
-use Rattle.model.specs.Cases.{wordsC, oneAxis, restTo}
+use Rattle.model.specs.planning.Quantities.{finer}
+use Rattle.model.specs.planning.Leg.{cruise}
+use Rattle.model.specs.planning.Outcome.{words, call}
+use Rattle.model.specs.cases.Cases.{wordsC, oneAxis, restTo}
 use Rattle.text.specs.Printed.{ascii, decimal, signed, labelled, cellText, rowLine, arrivalLine, refusalLine, printed}
 
 pub printed-C : printed (call (words wordsC) (replicate 8192 (pos 0)))

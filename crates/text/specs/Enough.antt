@@ -5,9 +5,9 @@ use mathlib.Core.List.{List, []}
 use lib.Dec.{eqb, ltb, leb}
 use lib.IntN.{ℤ}
 use lib.ListN.{length}
-use Rattle.model.specs.Job.{setBits}
-use Rattle.model.specs.Refusals.{lastTick}
-use Rattle.model.specs.Outcome.{Outcome, cellsNeeded}
+use Rattle.model.specs.planning.Job.{setBits}
+use Rattle.model.specs.planning.Refusals.{lastTick}
+use Rattle.model.specs.planning.Outcome.{Outcome, cellsNeeded}
 use Rattle.text.specs.Printed.{rowWidth, tableLines, printed}
 
 -- a refusal has at most 81 bytes: 30 of words, spaces and line feed, and numbers of at most 10, 20, 10 and 10 digits

@@ -10,8 +10,8 @@ use lib.Dec.{eqb, ltb}
 use lib.IntN.{ℤ, pos, negsuc}
 use lib.ListN.{length, take, drop}
 use Rattle.whole.specs.Lists.{upTo}
-use Rattle.model.specs.Job.{setBits}
-use Rattle.model.specs.Outcome.{Outcome}
+use Rattle.model.specs.planning.Job.{setBits}
+use Rattle.model.specs.planning.Outcome.{Outcome}
 
 -- the bytes of an ASCII text
 abbrev pub ascii : String → List ℕ

@@ -2,7 +2,7 @@
 use Prim.Native.Nat.{ℕ, _+_, _*_}
 use mathlib.Core.List.{List, [], _∷_}
 use lib.ListN.{getD}
-use Rattle.model.specs.Bytes.{littleEndian}
+use Rattle.model.specs.calls.Bytes.{littleEndian}
 
 -- the number of two bytes, the lower first
 abbrev pub pairAt : List ℕ → ℕ → ℕ

@@ -12,7 +12,7 @@ pub use words::words_of;
 ghost use mathlib.Core.Path.{_≡_};
 ghost use lib.ListN.{length};
 ghost use Rattle.whole.specs.Lists.{WrittenAtStart};
-ghost use Rattle.model.specs.Outcome.{outcomeOf};
+ghost use Rattle.model.specs.planning.Outcome.{outcomeOf};
 ghost use Rattle.text.specs.Enough.{tableFits, tableWithin, textWithin};
 
 // The most bytes that a text can have (specs/Enough.antt): of a refusal, of the arrival line, of a row's tick with its line feed, and

@@ -5,7 +5,7 @@ use crate::numbers::put_number;
 ghost use Prim.Native.Nat.{suc, _+_, _*_, _≤_};
 ghost use lib.ListN.{length};
 ghost use Rattle.whole.specs.Lists.{Room, Written, WrittenWithin};
-ghost use Rattle.model.specs.Refusals.{lastTick};
+ghost use Rattle.model.specs.planning.Refusals.{lastTick};
 ghost use Rattle.text.specs.Printed.{cellText, cellsText, rowLine, rowLines, arrivalLine, refusalLine};
 ghost use Rattle.text.specs.Enough.{refusalBytes, cellsBytes, rowBytes};
 

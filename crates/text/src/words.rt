@@ -3,7 +3,7 @@ ghost use mathlib.Core.Path.{_≡_};
 ghost use Prim.Native.Nat.{_+_, _*_, _<_, _≤_};
 ghost use lib.ListN.{length, take, drop};
 ghost use Rattle.whole.specs.Lists.{WrittenAtStart};
-ghost use Rattle.model.specs.Bytes.{wordsOf};
+ghost use Rattle.model.specs.calls.Bytes.{wordsOf};
 ghost use Rattle.text.specs.Words.{pairAt, firstWord};
 
 // The number of the two bytes at an index, the lower first.

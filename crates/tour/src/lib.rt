@@ -25,7 +25,7 @@ ghost use mathlib.Core.Option.{none};
 ghost use mathlib.Core.List.{[]};
 ghost use Prim.Native.Nat.{_≤_};
 ghost use lib.ListN.{take};
-ghost use Rattle.model.specs.Tour.{legsFrom, firstLongDwell};
+ghost use Rattle.model.specs.calls.Tour.{legsFrom, firstLongDwell};
 ghost use Rattle.stops.specs.Promise.{TourPromise};
 ghost use Rattle.stops.specs.Rows.{rowStops};
 ghost use Rattle.stops.specs.Parts.{LegIs, legsIn};

@@ -7,7 +7,7 @@ use Prim.Native.Nat.{ℕ, _+_, _*_}
 use lib.IntN.{ℤ, pos, _+ℤ_, _-ℤ_, _*ℤ_}
 use Rattle.model.specs.declared.SecondSway.{SecondSway}
 use Rattle.model.specs.declared.SecondSway.the-variants.{Absent, HalfPeriod}
-use Rattle.model.specs.Quantities.{swayDelay}
+use Rattle.model.specs.planning.Quantities.{swayDelay}
 use Rattle.tracks.specs.Tracks.{mix, added, blendsBy}
 
 pub mix-same : (a b : ℕ) (x : ℤ) → mix a b x x ≡ pos (a + b) *ℤ x

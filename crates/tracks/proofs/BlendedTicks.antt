@@ -15,12 +15,12 @@ use Rattle.whole.proofs.Rounding.{nearest-times}
 use Rattle.model.specs.declared.Axis.{Axis}
 use Rattle.model.specs.declared.SecondSway.{SecondSway}
 use Rattle.model.specs.declared.SecondSway.the-variants.{Absent, HalfPeriod}
-use Rattle.model.specs.Quantities.{halfPeriod, secondWeight, asMoving, twicePositionAt}
-use Rattle.model.specs.Motion.{Tick, earlier}
-use Rattle.model.specs.Rows.{track, tickAt, tickBack, blendOnce, blendBy, blend, divisor, cells, fromLanding}
-use Rattle.model.specs.Refusals.{Ready}
-use Rattle.model.proofs.FromLanding.{sums-from-landing}
-use Rattle.model.proofs.TwoBlends.{divisor-some}
+use Rattle.model.specs.planning.Quantities.{halfPeriod, secondWeight, asMoving, twicePositionAt}
+use Rattle.model.specs.planning.Motion.{Tick, earlier}
+use Rattle.model.specs.planning.Rows.{track, tickAt, tickBack, blendOnce, blendBy, blend, divisor, cells, fromLanding}
+use Rattle.model.specs.planning.Refusals.{Ready}
+use Rattle.model.proofs.tables.FromLanding.{sums-from-landing}
+use Rattle.model.proofs.tables.TwoBlends.{divisor-some}
 use Rattle.motion.proofs.ReadyAxis.{ready-after}
 use Rattle.tracks.specs.declared.AxisPlan.{AxisPlan}
 use Rattle.tracks.specs.Plans.{scale, planOf}

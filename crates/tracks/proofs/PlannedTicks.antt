@@ -7,12 +7,12 @@ use native.Mathlib.Omega.{arith}
 use lib.IntN.{ℤ, pos, _+ℤ_, _-ℤ_, _*ℤ_}
 use lib.ListN.{getD, replicate}
 use Rattle.model.specs.declared.Axis.{Axis}
-use Rattle.model.specs.Quantities.{delay}
-use Rattle.model.specs.Leg.{Leg}
-use Rattle.model.specs.Motion.{Tick, run, changesFrom, leg, displacement, startVelocity, planned, earlier, landingTick}
-use Rattle.model.specs.Refusals.{Ready}
-use Rattle.model.specs.Rows.{track, tickAt, tabulate}
-use Rattle.model.proofs.ReadyAxis.{some-acceleration, speed-range, moves}
+use Rattle.model.specs.planning.Quantities.{delay}
+use Rattle.model.specs.planning.Leg.{Leg}
+use Rattle.model.specs.planning.Motion.{Tick, run, changesFrom, leg, displacement, startVelocity, planned, earlier, landingTick}
+use Rattle.model.specs.planning.Refusals.{Ready}
+use Rattle.model.specs.planning.Rows.{track, tickAt, tabulate}
+use Rattle.model.proofs.jobs.ReadyAxis.{some-acceleration, speed-range, moves}
 use Rattle.profile.specs.Regions.{velocityIn}
 use Rattle.profile.proofs.ChosenRegions.{chosen-in-regions}
 use Rattle.motion.proofs.ReadyAxis.{ready-after}

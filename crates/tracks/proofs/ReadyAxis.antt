@@ -11,19 +11,19 @@ use native.Mathlib.Nat.{mul-le-mul-left, mul-le-mul-right}
 use Rattle.whole.proofs.Laws.{natAbs-+}
 use Rattle.whole.proofs.Ring.{pol, same}
 use Rattle.model.specs.declared.Axis.{Axis}
-use Rattle.model.specs.Quantities.{halfPeriod, secondWeight, delay, finer, speedSteps}
-use Rattle.model.specs.Leg.{Leg, feasible, required}
-use Rattle.model.specs.Motion.{startPosition, landingVelocity, landingAcceleration, arrivalVelocity, leg, displacement, requiredSum}
-use Rattle.model.specs.Refusals.{Ready}
+use Rattle.model.specs.planning.Quantities.{halfPeriod, secondWeight, delay, finer, speedSteps}
+use Rattle.model.specs.planning.Leg.{Leg, feasible, required}
+use Rattle.model.specs.planning.Motion.{startPosition, landingVelocity, landingAcceleration, arrivalVelocity, leg, displacement, requiredSum}
+use Rattle.model.specs.planning.Refusals.{Ready}
 use Rattle.profile.specs.declared.Profile.{Profile}
 use Rattle.profile.specs.declared.Regions.{Regions}
 use Rattle.profile.specs.Profiles.{legOf}
 use Rattle.profile.specs.Regions.{chosenRegions, velocityIn}
 use Rattle.profile.proofs.ChosenRegions.{chosen-within, chosen-ranged}
 use Rattle.motion.specs.Motions.{profileFor, destination}
-use Rattle.model.proofs.Grid.{finer-range}
-use Rattle.model.proofs.CellLimits.{between}
-use Rattle.model.proofs.ReadyAxis.{some-acceleration, speed-range, moves}
+use Rattle.model.proofs.motions.Grid.{finer-range}
+use Rattle.model.proofs.tables.CellLimits.{between}
+use Rattle.model.proofs.jobs.ReadyAxis.{some-acceleration, speed-range, moves}
 use Rattle.motion.proofs.ReadyAxis.{ready-after, ready-landed, ready-arrived, ready-feasible, ready-ranges}
 use Rattle.motion.proofs.ReadyAxis.{start-position-size, landing-acceleration-size, profile-ranged}
 use Rattle.tracks.specs.declared.AxisPlan.{AxisPlan}

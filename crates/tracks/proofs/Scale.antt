@@ -8,9 +8,9 @@ use Rattle.whole.proofs.Laws.{natAbs-*}
 use Rattle.model.specs.declared.Axis.{Axis}
 use Rattle.model.specs.declared.SecondSway.{SecondSway}
 use Rattle.model.specs.declared.SecondSway.the-variants.{Absent, HalfPeriod}
-use Rattle.model.specs.Quantities.{secondWeight, finer}
-use Rattle.model.specs.Rows.{weightsBy, divisor}
-use Rattle.model.proofs.Grid.{Grid, twoSways, still, unblended, undamped, corrected, grid}
+use Rattle.model.specs.planning.Quantities.{secondWeight, finer}
+use Rattle.model.specs.planning.Rows.{weightsBy, divisor}
+use Rattle.model.proofs.motions.Grid.{Grid, twoSways, still, unblended, undamped, corrected, grid}
 use Rattle.tracks.specs.Plans.{scale, planOf}
 use Rattle.tracks.specs.Tracks.{blendsBy, weightOf}
 

@@ -3,9 +3,9 @@ use Prim.Native.Nat.{ℕ, suc, _+_, _-_, _*_, _/_, _^_, _≤_, _<_}
 use Rattle.whole.specs.Ranges.{Within}
 use lib.IntN.{pos, _*ℤ_}
 use Rattle.model.specs.declared.Axis.{Axis}
-use Rattle.model.specs.Quantities.{halfPeriod, secondWeight, swayDelay, finer}
-use Rattle.model.specs.Motion.{leg, startPosition, landingAcceleration, requiredSum}
-use Rattle.model.specs.Refusals.{lastTick}
+use Rattle.model.specs.planning.Quantities.{halfPeriod, secondWeight, swayDelay, finer}
+use Rattle.model.specs.planning.Motion.{leg, startPosition, landingAcceleration, requiredSum}
+use Rattle.model.specs.planning.Refusals.{lastTick}
 use Rattle.motion.specs.Motions.{destination}
 use Rattle.profile.specs.Regions.{chosenRegions, RegionsRanged}
 use Rattle.tracks.specs.declared.AxisPlan.{AxisPlan}

@@ -11,7 +11,7 @@ use Rattle.model.specs.declared.Order.{Order}
 use Rattle.model.specs.declared.Order.the-variants.{Forwards, Backwards}
 use Rattle.model.specs.declared.SecondSway.{SecondSway}
 use Rattle.model.specs.declared.SecondSway.the-variants.{Absent, HalfPeriod}
-use Rattle.model.specs.Quantities.{swayDelay}
+use Rattle.model.specs.planning.Quantities.{swayDelay}
 use Rattle.profile.specs.Regions.{velocityIn}
 use Rattle.tracks.specs.declared.AxisPlan.{AxisPlan}
 use Rattle.tracks.specs.declared.Track.{Track}
@@ -88,6 +88,6 @@ abbrev pub halfUnit : ℕ
 halfUnit = 16777216
 
 -- the blended motion is on the destination at the arrival: there the position sums taken from the landing end begin (`fromLanding` in
--- `model/specs/Rows.antt`), and backward rows with them
+-- `crates/model/specs/planning/Rows.antt`), and backward rows with them
 pub record Lands (n : ℕ) (p : AxisPlan) : Type 0 where
   pub position : pos halfUnit *ℤ p .destination ≡ blendedPosition p n

@@ -7,7 +7,7 @@ ghost use Prim.Native.Nat.{suc, _+_, _^_, _<_, _≤_, max, min};
 ghost use mathlib.Core.Path.{_≡_};
 ghost use Rattle.whole.specs.Integers.{sumTo};
 ghost use Rattle.whole.specs.Ranges.{Within, Is};
-ghost use Rattle.model.specs.Refusals.{Ready};
+ghost use Rattle.model.specs.planning.Refusals.{Ready};
 ghost use Rattle.profile.specs.Regions.{RegionsRanged};
 ghost use Rattle.tracks.specs.Plans.{scale, planOf, arrivalOf, PlanRanges};
 ghost use Rattle.tracks.specs.Tracks.{mix, blendsBy, plannedAt, velocityBack, blendedBack, blendedVelocity, weightOf, lagOf, trackAt, comesTo, Lands};

@@ -8,7 +8,7 @@ use mathlib.Core.List.{List, [], _∷_}
 use lib.ListN.{length, getD, take, drop}
 use lib.Seq.{drop-cons, drop-length, getD-take}
 use Rattle.model.specs.declared.Window.{Window}
-use Rattle.model.specs.Windows.{fitsWindow, fitsOne, inOrderAfter, firstWrong}
+use Rattle.model.specs.planning.Windows.{fitsWindow, fitsOne, inOrderAfter, firstWrong}
 
 abbrev pub noWindow : Window
 noWindow = record { opening = 0; closing = 0 }

@@ -8,7 +8,7 @@ use lib.Dec.{leb}
 use lib.ListN.{take}
 use borrow.Author.Tests.{eq-eqb, ne-eqb, le-leb, lt-leb}
 use Rattle.model.specs.declared.Window.{Window}
-use Rattle.model.specs.Windows.{firstWrong, windowsRefused}
+use Rattle.model.specs.planning.Windows.{firstWrong, windowsRefused}
 
 module _ (count : ℕ) (list : List Window) (dwell : ℕ) where
   by : Bool → Bool → Option ℕ

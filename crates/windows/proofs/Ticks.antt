@@ -6,7 +6,7 @@ use mathlib.Core.Bool.{Bool, true, false, cond, _&&_, false≢true}
 use lib.Dec.{eqb, leb, ltb}
 use borrow.Author.Tests.{ltb-true, ltb-false, leb-true, eqb-true, eqb-false, le-leb, lt-ltb}
 use Rattle.model.specs.declared.Window.{Window}
-use Rattle.model.specs.Windows.{fitsWindow}
+use Rattle.model.specs.planning.Windows.{fitsWindow}
 use Rattle.windows.specs.Ticks.{firstTick, upTo, afterLast}
 
 -- what an arrival that fits has

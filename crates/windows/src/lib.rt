@@ -6,7 +6,7 @@ ghost use Prim.Native.Nat.{_≤_};
 ghost use lib.ListN.{take};
 ghost use mathlib.Core.Bool.{true};
 ghost use mathlib.Core.Option.{none};
-ghost use Rattle.model.specs.Windows.{noWindows, fitsWindow, fitsOne, inWindows, inOrderAfter, firstWrong, windowsRefused, refused13};
+ghost use Rattle.model.specs.planning.Windows.{noWindows, fitsWindow, fitsOne, inWindows, inOrderAfter, firstWrong, windowsRefused, refused13};
 ghost use Rattle.windows.specs.Places.{placeOf};
 ghost use Rattle.windows.specs.Ticks.{firstTick, upTo, afterLast};
 

@@ -9,8 +9,8 @@ use lib.ListN.{drop, set}
 use lib.Dec.{eqb}
 use borrow.Author.Tests.{eq-eqb, ne-eqb}
 use Rattle.model.specs.declared.Axis.{Axis}
-use Rattle.model.specs.Job.{JobAxis, setFrom}
-use Rattle.model.specs.Words.{Reading, got, wrong, axis, axes, give, _>>=_}
+use Rattle.model.specs.planning.Job.{JobAxis, setFrom}
+use Rattle.model.specs.planning.Words.{Reading, got, wrong, axis, axes, give, _>>=_}
 use Rattle.words.specs.declared.AxisReading.{AxisReading}
 use Rattle.words.specs.declared.AxesReading.{AxesReading}
 use Rattle.words.specs.Decoding.{placed}

@@ -11,8 +11,8 @@ use lib.ListN.{length, drop}
 use Rattle.model.specs.declared.Axis.{Axis}
 use Rattle.model.specs.declared.Target.{Target}
 use Rattle.model.specs.declared.Target.the-variants.{Fixed, Moving}
-use Rattle.model.specs.Words.{Reading, got, wrong, Reader, _>>=_, give, signed, next, position, target, axis}
-use Rattle.model.proofs.Spelling.{assoc₂}
+use Rattle.model.specs.planning.Words.{Reading, got, wrong, Reader, _>>=_, give, signed, next, position, target, axis}
+use Rattle.model.proofs.words.Spelling.{assoc₂}
 use Rattle.words.specs.declared.AxisReading.the-variants.{Got, Wrong}
 use Rattle.words.specs.ByIndex.{isKind, passing, firstWrong, signedAt, positionAt, restAt, stateAt, axisAt, axisReading}
 use Rattle.words.proofs.Reader.{on, next-is, step-field, step-signed, step-position, step-sway, passing-within}

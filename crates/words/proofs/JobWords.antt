@@ -13,8 +13,8 @@ use lib.Seq.{drop-cons}
 use lib.Dec.{eqb, ltb}
 use borrow.Author.Tests.{ltb-true, ltb-false, lt-ltb, le-ltb}
 use Rattle.model.specs.declared.Axis.{Axis}
-use Rattle.model.specs.Job.{JobAxis, setBits}
-use Rattle.model.specs.Words.{kind, payload, firstBadLong, Reading, got, wrong, axes, ending, readJob, afterMask, goodMask, noMask, spelled, decided, decode}
+use Rattle.model.specs.planning.Job.{JobAxis, setBits}
+use Rattle.model.specs.planning.Words.{kind, payload, firstBadLong, Reading, got, wrong, axes, ending, readJob, afterMask, goodMask, noMask, spelled, decided, decode}
 use Rattle.words.specs.declared.AxesReading.{AxesReading}
 use Rattle.words.specs.declared.DecodedJob.{DecodedJob}
 use Rattle.words.specs.Decoding.{unsetAxes, placed, wordJob, refusedJob, decodedJob, decidedJob}

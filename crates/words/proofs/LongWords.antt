@@ -9,7 +9,7 @@ use mathlib.Core.List.{List, [], _∷_}
 use lib.ListN.{getD, length, drop, drop-of-length-le}
 use lib.Seq.{drop-cons}
 use lib.Dec.{eqb}
-use Rattle.model.specs.Words.{kind, longAllowed, firstBadLong}
+use Rattle.model.specs.planning.Words.{kind, longAllowed, firstBadLong}
 use Rattle.words.specs.ByIndex.{payloadAt, isBadLong, badLongIn}
 use Rattle.words.proofs.Reader.{inside}
 

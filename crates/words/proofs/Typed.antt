@@ -10,10 +10,10 @@ use lib.Seq.{drop-cons, getD-set-same, getD-set-other}
 use lib.Dec.{eqb}
 use Rattle.model.specs.declared.Axis.{Axis}
 use Rattle.model.specs.declared.Windows.{Windows}
-use Rattle.model.specs.Windows.{noWindows}
-use Rattle.model.specs.Job.{Job, JobAxis, setFrom, setBits, setAxes, jobOf, unsetAxis}
-use Rattle.model.specs.Words.{Reading, got, wrong, _>>=_, give, kind, payload, field, axis, axes, ending}
-use Rattle.model.specs.Words.{firstBadLong, readJob, afterMask, goodMask, Decoded, noMask, badWord, badLong, job, spelled, decided, decode}
+use Rattle.model.specs.planning.Windows.{noWindows}
+use Rattle.model.specs.planning.Job.{Job, JobAxis, setFrom, setBits, setAxes, jobOf, unsetAxis}
+use Rattle.model.specs.planning.Words.{Reading, got, wrong, _>>=_, give, kind, payload, field, axis, axes, ending}
+use Rattle.model.specs.planning.Words.{firstBadLong, readJob, afterMask, goodMask, Decoded, noMask, badWord, badLong, job, spelled, decided, decode}
 use Rattle.words.specs.declared.DecodedJob.{DecodedJob}
 use Rattle.words.specs.Decoding.{unsetAxes, placed, decodedJob, Decodes}
 use Rattle.words.proofs.Reader.{on}

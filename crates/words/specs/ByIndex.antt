@@ -12,7 +12,7 @@ use Rattle.model.specs.declared.SecondSway.the-variants.{Absent, HalfPeriod}
 use Rattle.model.specs.declared.State.{State}
 use Rattle.model.specs.declared.Target.{Target}
 use Rattle.model.specs.declared.RestPoint.{RestPoint}
-use Rattle.model.specs.Words.{kind, payload, twos, longPosition, longAllowed, Reading, got, wrong, axis}
+use Rattle.model.specs.planning.Words.{kind, payload, twos, longPosition, longAllowed, Reading, got, wrong, axis}
 use Rattle.words.specs.declared.AxisReading.{AxisReading}
 use Rattle.words.specs.declared.AxisReading.the-variants.{Got, Wrong}
 use Rattle.words.specs.declared.AxesReading.{AxesReading}

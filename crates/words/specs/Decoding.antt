@@ -6,9 +6,9 @@ use mathlib.Core.List.{List, [], _∷_}
 use lib.ListN.{set, replicate}
 use Rattle.model.specs.declared.Axis.{Axis}
 use Rattle.model.specs.declared.Job as Typed
-use Rattle.model.specs.Windows.{noWindows}
-use Rattle.model.specs.Job.{Job, JobAxis, jobOf, unsetAxis}
-use Rattle.model.specs.Words.{Reading, Decoded, noMask, badWord, badLong, job, decided, decode, goodMask}
+use Rattle.model.specs.planning.Windows.{noWindows}
+use Rattle.model.specs.planning.Job.{Job, JobAxis, jobOf, unsetAxis}
+use Rattle.model.specs.planning.Words.{Reading, Decoded, noMask, badWord, badLong, job, decided, decode, goodMask}
 use Rattle.words.specs.declared.DecodedJob.{DecodedJob}
 
 -- six axes, none of them set

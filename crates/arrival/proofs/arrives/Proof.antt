@@ -1,9 +1,9 @@
 use mathlib.Core.Path.{sym, _∙_}
 use borrow.Author.Needs.{needs}
 use Rattle.whole.proofs.Tests.{and-yes, and-no}
-use Rattle.model.specs.Job.{setAxes}
-use Rattle.model.specs.Outcome.{allReach}
-use Rattle.model.specs.Windows.{inWindows}
+use Rattle.model.specs.planning.Job.{setAxes}
+use Rattle.model.specs.planning.Outcome.{allReach}
+use Rattle.model.specs.planning.Windows.{inWindows}
 use Rattle.arrival.proofs.arrives.Statement.{statement}
 use Rattle.arrival.proofs.arrives.Tie as tie
 

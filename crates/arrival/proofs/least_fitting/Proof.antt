@@ -2,15 +2,15 @@ use Prim.Native.Nat.{_-_}
 use native.Mathlib.Omega.{arith}
 use mathlib.Core.Path.{_≡_, sym, ap, _∙_}
 use mathlib.Core.Bool.{_&&_}
-use Rattle.model.specs.Outcome.{allReach, leastFrom}
-use Rattle.model.specs.Job.{setAxes}
-use Rattle.model.specs.Windows.{inWindows}
-use Rattle.model.proofs.LeastTick.{Least}
-use Rattle.model.proofs.WindowsInWords.{windows-right}
+use Rattle.model.specs.planning.Outcome.{allReach, leastFrom}
+use Rattle.model.specs.planning.Job.{setAxes}
+use Rattle.model.specs.planning.Windows.{inWindows}
+use Rattle.model.proofs.jobs.LeastTick.{Least}
+use Rattle.model.proofs.jobs.WindowsInWords.{windows-right}
 use Rattle.running.specs.Running.{Next}
 use Rattle.arrival.specs.Arrivals.{arrivesIn, orZero}
 use Rattle.arrival.proofs.WindowSearch.{with-windows}
-use Rattle.model.proofs.ArrivalRuns.{all-between}
+use Rattle.model.proofs.motions.ArrivalRuns.{all-between}
 use Rattle.arrival.proofs.Fitting.{LedTo, fit-some, fit-none, at-first, no-reach, nothing-fits, led-fitting, nowhere-else}
 use Rattle.arrival.proofs.Search.{none-passes, first-passes}
 use Rattle.arrival.proofs.least_fitting.Statement.{statement}

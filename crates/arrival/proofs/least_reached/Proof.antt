@@ -6,9 +6,9 @@ use mathlib.Core.List.{List}
 use mathlib.Core.Logic.{_⊎_, inl, inr}
 use lib.ListN.{length}
 use Rattle.whole.proofs.Tests.{lt-or-le}
-use Rattle.model.specs.Outcome.{allReach}
+use Rattle.model.specs.planning.Outcome.{allReach}
 use Rattle.model.specs.declared.Axis.{Axis}
-use Rattle.model.specs.Job.{setAxes}
+use Rattle.model.specs.planning.Job.{setAxes}
 use Rattle.arrival.specs.Arrivals.{After}
 use Rattle.arrival.proofs.Leading.{bitsFrom, bits-first, bits-later, reach, passed-at, reach-of, axis-misses, every-axis, reach-between, reach-not, reach-yes}
 use Rattle.arrival.proofs.Leading.{Led, turn-done, led-rest, bits-none, reach-unnamed, led-all, led-nowhere}

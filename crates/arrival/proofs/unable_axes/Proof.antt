@@ -3,8 +3,8 @@ use Rattle.whole.proofs.Counting.{twice-power}
 use native.Mathlib.Omega.{arith}
 use mathlib.Core.Path.{_≡_, refl, ap, _∙_}
 use lib.ListN.{length}
-use Rattle.model.specs.Refusals.{AllPassed}
-use Rattle.model.specs.Job.{setAxes, maskWhere}
+use Rattle.model.specs.planning.Refusals.{AllPassed}
+use Rattle.model.specs.planning.Job.{setAxes, maskWhere}
 use Rattle.arrival.specs.Arrivals.{cannotArrive, bitOf}
 use Rattle.arrival.proofs.Unable.{rest, one-more, none-more, all, bit-at-most, bit-of-six}
 use Rattle.arrival.proofs.SetAxes.{from, axisAt, passed-from}

@@ -5,7 +5,7 @@ use mathlib.Core.Path.{_≡_, refl, sym, _∙_}
 use mathlib.Core.Logic.{⊎-elim}
 use lib.ListN.{length}
 use borrow.Author.Needs.{needs}
-use Rattle.model.specs.Job.{setAxes}
+use Rattle.model.specs.planning.Job.{setAxes}
 use Rattle.checks.specs.Checks.{anyMeasured}
 use Rattle.checks.proofs.Weights.{measuredOn, measured-here, measured-later, measured-unnamed, measured-none}
 use Rattle.checks.proofs.any_measured.Statement.{statement}

@@ -1,8 +1,8 @@
 use mathlib.Core.Path.{sym, ap, _∙_}
 use mathlib.Core.Bool.{not}
 use Rattle.whole.proofs.Tests.{and-no, and-yes}
-use Rattle.model.specs.Quantities.{halfPeriod, secondWeight}
-use Rattle.model.specs.Refusals.{within}
+use Rattle.model.specs.planning.Quantities.{halfPeriod, secondWeight}
+use Rattle.model.specs.planning.Refusals.{within}
 use borrow.Author.Needs.{needs}
 use Rattle.checks.proofs.blend_refused.Statement.{statement}
 use Rattle.checks.proofs.blend_refused.Tie as tie

@@ -8,7 +8,7 @@ use lib.ListN.{length, set, length-set}
 use lib.Seq.{set-getD}
 use borrow.Author.Needs.{needs}
 use Rattle.model.specs.declared.Axis.{Axis}
-use Rattle.model.specs.Job.{unsetAxis}
+use Rattle.model.specs.planning.Job.{unsetAxis}
 use Rattle.checks.specs.Checks.{namedByHand}
 use Rattle.checks.proofs.Weights.{handAt, hand-named, hand-unnamed, handFrom, hand-next, hand-all}
 use Rattle.checks.proofs.by_hand.Statement.{statement}

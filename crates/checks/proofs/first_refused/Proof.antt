@@ -4,7 +4,7 @@ use mathlib.Core.Bool.{Bool, true, false, cond}
 use borrow.Author.Tests.{not-true, not-false}
 use borrow.Author.Needs.{needs}
 use Rattle.model.specs.declared.Axis.{Axis}
-use Rattle.model.specs.Refusals.{limitsRefused, dampingRefused, blendRefused, swayRefused, valuesRefused, accelerationRefused, flyingRefused}
+use Rattle.model.specs.planning.Refusals.{limitsRefused, dampingRefused, blendRefused, swayRefused, valuesRefused, accelerationRefused, flyingRefused}
 use Rattle.checks.specs.Checks.{testsFor, firstMet}
 use Rattle.checks.proofs.first_refused.Statement.{statement}
 use Rattle.checks.proofs.first_refused.Tie as tie

@@ -1,7 +1,7 @@
 use mathlib.Core.Path.{sym, ap, _∙_}
 use mathlib.Core.Bool.{not}
 use Rattle.whole.proofs.Bounds.{bits-zero}
-use Rattle.model.specs.Refusals.{flies}
+use Rattle.model.specs.planning.Refusals.{flies}
 use borrow.Author.Needs.{needs}
 use Rattle.checks.proofs.flies.Statement.{statement}
 use Rattle.checks.proofs.flies.Tie as tie

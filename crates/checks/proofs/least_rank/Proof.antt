@@ -5,7 +5,7 @@ use mathlib.Core.Path.{_≡_}
 use mathlib.Core.Logic.{⊎-elim}
 use lib.ListN.{length}
 use borrow.Author.Needs.{needs}
-use Rattle.model.specs.Job.{setAxes}
+use Rattle.model.specs.planning.Job.{setAxes}
 use Rattle.checks.specs.Checks.{testsFor, leastRank}
 use Rattle.checks.proofs.Ranks.{leastOn, least-named, least-unnamed, least-none, least-few}
 use Rattle.checks.proofs.least_rank.Statement.{statement}

@@ -1,7 +1,7 @@
 use mathlib.Core.Path.{sym, ap, _∙_}
 use mathlib.Core.Bool.{not}
 use Rattle.whole.proofs.Tests.{and-no, and-yes}
-use Rattle.model.specs.Refusals.{within}
+use Rattle.model.specs.planning.Refusals.{within}
 use borrow.Author.Needs.{needs}
 use Rattle.checks.proofs.limits_refused.Statement.{statement}
 use Rattle.checks.proofs.limits_refused.Tie as tie

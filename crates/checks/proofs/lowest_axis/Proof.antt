@@ -5,7 +5,7 @@ use mathlib.Core.Path.{_≡_, refl, sym, _∙_}
 use mathlib.Core.Logic.{⊎-elim}
 use lib.ListN.{length}
 use borrow.Author.Needs.{needs}
-use Rattle.model.specs.Job.{setAxes}
+use Rattle.model.specs.planning.Job.{setAxes}
 use Rattle.checks.specs.Checks.{testsFor, lowestAxis}
 use Rattle.checks.proofs.Ranks.{lowestOn, lowest-here, lowest-later, lowest-unnamed, lowest-none}
 use Rattle.checks.proofs.lowest_axis.Statement.{statement}

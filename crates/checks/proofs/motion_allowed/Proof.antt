@@ -5,8 +5,8 @@ use mir.Syntax.{w64}
 use mir.Val.{toZ, ofZ}
 use Rattle.whole.proofs.Bounds.{exactly, loose}
 use Rattle.whole.proofs.Tests.{and-no, and-yes}
-use Rattle.model.specs.Quantities.{accelerationLimit}
-use Rattle.model.specs.Refusals.{lastTick}
+use Rattle.model.specs.planning.Quantities.{accelerationLimit}
+use Rattle.model.specs.planning.Refusals.{lastTick}
 use borrow.Author.Needs.{needs}
 use Rattle.checks.proofs.motion_allowed.Statement.{statement}
 use Rattle.checks.proofs.motion_allowed.Tie as tie

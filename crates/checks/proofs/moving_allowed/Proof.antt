@@ -5,7 +5,7 @@ use Rattle.whole.proofs.Bounds.{exactly, loose}
 use Rattle.whole.proofs.Tests.{and-no, and-yes}
 use Rattle.model.specs.declared.RestPoint.{RestPoint}
 use Rattle.model.specs.declared.State.{State}
-use Rattle.model.specs.Refusals.{restAllowed, motionAllowed}
+use Rattle.model.specs.planning.Refusals.{restAllowed, motionAllowed}
 use borrow.Author.Needs.{needs}
 use Rattle.checks.proofs.moving_allowed.Statement.{statement}
 use Rattle.checks.proofs.moving_allowed.Tie as tie

@@ -3,7 +3,7 @@ use mir.Syntax.{w64}
 use mir.Val.{toZ, ofZ}
 use Rattle.whole.proofs.Bounds.{exactly, loose}
 use Rattle.whole.proofs.Tests.{and-no, and-yes}
-use Rattle.model.specs.Refusals.{positionAllowed, velocityAllowed}
+use Rattle.model.specs.planning.Refusals.{positionAllowed, velocityAllowed}
 use borrow.Author.Needs.{needs}
 use Rattle.checks.proofs.rest_allowed.Statement.{statement}
 use Rattle.checks.proofs.rest_allowed.Tie as tie

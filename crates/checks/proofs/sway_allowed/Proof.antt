@@ -1,5 +1,5 @@
 use mathlib.Core.Path.{sym, ap, _∙_}
-use Rattle.model.specs.Refusals.{swayAllowed}
+use Rattle.model.specs.planning.Refusals.{swayAllowed}
 use borrow.Author.Needs.{needs}
 use Rattle.checks.proofs.sway_allowed.Statement.{statement}
 use Rattle.checks.proofs.sway_allowed.Tie as tie

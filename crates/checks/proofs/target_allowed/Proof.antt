@@ -1,5 +1,5 @@
 use mathlib.Core.Path.{sym, ap, _∙_}
-use Rattle.model.specs.Refusals.{targetAllowed}
+use Rattle.model.specs.planning.Refusals.{targetAllowed}
 use borrow.Author.Needs.{needs}
 use Rattle.checks.proofs.target_allowed.Statement.{statement}
 use Rattle.checks.proofs.target_allowed.Tie as tie

@@ -2,7 +2,7 @@ use mathlib.Core.Path.{_≡_, ap, _∙_}
 use mir.Syntax.{w64}
 use mir.Val.{toZ, ofZ}
 use Rattle.whole.proofs.Bounds.{exactly, loose}
-use Rattle.model.specs.Refusals.{velocityAllowed}
+use Rattle.model.specs.planning.Refusals.{velocityAllowed}
 use borrow.Author.Needs.{needs}
 use Rattle.checks.proofs.velocity_allowed.Statement.{statement}
 use Rattle.checks.proofs.velocity_allowed.Tie as tie

@@ -3,7 +3,7 @@ use native.Mathlib.Omega.{arith}
 use mathlib.Core.Path.{_≡_}
 use lib.ListN.{length, drop}
 use borrow.Author.Needs.{needs}
-use Rattle.model.specs.Converter.{converted}
+use Rattle.model.specs.calls.Converter.{converted}
 use Rattle.converter.specs.Pieces.{neededFor}
 use Rattle.converter.proofs.Pieces.{count-more, count-all}
 use Rattle.converter.proofs.words_needed.Statement.{statement}

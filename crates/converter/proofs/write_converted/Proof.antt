@@ -1,7 +1,7 @@
 use native.Mathlib.Omega.{arith}
 use mathlib.Core.Path.{_∙_}
 use borrow.Author.Needs.{needs}
-use Rattle.model.specs.Converter.{converted}
+use Rattle.model.specs.calls.Converter.{converted}
 use Rattle.converter.proofs.Pieces as pieces
 use Rattle.converter.proofs.Stages.{too-few, enough}
 use Rattle.converter.proofs.write_converted.Statement.{statement}

@@ -2,7 +2,7 @@ use mathlib.Core.Path.{sym, ap, _∙_}
 use lib.Ieee
 use lib.Ieee.{binary32, div}
 use Rattle.whole.proofs.Tests.{and-no, and-yes}
-use Rattle.model.specs.Damping.{aboveZero, ratioAllowed, dampingAllowed}
+use Rattle.model.specs.planning.Damping.{aboveZero, ratioAllowed, dampingAllowed}
 use borrow.Author.Needs.{needs}
 use Rattle.damping.proofs.damping_allowed.Statement.{statement}
 use Rattle.damping.proofs.damping_allowed.Tie as tie

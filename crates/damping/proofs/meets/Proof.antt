@@ -2,7 +2,7 @@ use Prim.Native.Nat.{_-_}
 use native.Mathlib.Omega.{arith}
 use mathlib.Core.Path.{refl}
 use borrow.Author.Needs.{needs}
-use Rattle.model.specs.Damping.{meets}
+use Rattle.model.specs.planning.Damping.{meets}
 use Rattle.damping.proofs.WholeFloats.{is-float}
 use Rattle.damping.proofs.meets.Statement.{statement}
 use Rattle.damping.proofs.meets.Tie as tie

@@ -4,7 +4,7 @@ use lib.IntN.{pos}
 use lib.Ieee
 use lib.Ieee.{fin, le}
 use Rattle.whole.proofs.Tests.{and-no, and-yes}
-use Rattle.model.specs.Damping.{aboveZero}
+use Rattle.model.specs.planning.Damping.{aboveZero}
 use Rattle.damping.proofs.ratio_allowed.Statement.{statement}
 use Rattle.damping.proofs.ratio_allowed.Tie as tie
 

@@ -1,5 +1,5 @@
 use mathlib.Core.Path.{sym, ap}
-use Rattle.model.specs.Damping.{ratioOf}
+use Rattle.model.specs.planning.Damping.{ratioOf}
 use borrow.Author.Needs.{needs}
 use Rattle.damping.proofs.ratio_of.Statement.{statement}
 use Rattle.damping.proofs.ratio_of.Tie as tie

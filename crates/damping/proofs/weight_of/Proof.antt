@@ -1,6 +1,6 @@
 use mathlib.Core.Path.{sym, ap, _∙_}
 use lib.Ieee.{Float}
-use Rattle.model.specs.Damping.{ratioWeight, weightOf}
+use Rattle.model.specs.planning.Damping.{ratioWeight, weightOf}
 use borrow.Author.Needs.{needs}
 use Rattle.damping.proofs.weight_of.Statement.{statement}
 use Rattle.damping.proofs.weight_of.Tie as tie

@@ -8,7 +8,7 @@ use lib.ListN.{length, getD, set, length-set, getD-replicate}
 use lib.Seq.{set-getD, getD-set-other}
 use borrow.Author.Needs.{needs}
 use Rattle.model.specs.declared.Axis.{Axis}
-use Rattle.model.specs.Job.{unsetAxis}
+use Rattle.model.specs.planning.Job.{unsetAxis}
 use Rattle.layout.specs.Jobs.{axisOf, axesOf}
 use Rattle.layout.proofs.Named.{namedAt, is-named, not-named, namedFrom, named-next, named-all}
 use Rattle.layout.proofs.axes_of.Statement.{statement}

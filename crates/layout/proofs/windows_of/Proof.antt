@@ -5,7 +5,7 @@ use mathlib.Core.Bool.{Bool, true, cond}
 use borrow.Author.Needs.{needs}
 use borrow.Author.Tests.{eq-eqb, ne-eqb}
 use Rattle.model.specs.declared.Windows.{Windows}
-use Rattle.model.specs.Windows.{noWindows}
+use Rattle.model.specs.planning.Windows.{noWindows}
 use Rattle.layout.specs.declared.PolgamirWindows.{PolgamirWindows}
 use Rattle.layout.specs.Jobs.{windowsOf}
 use Rattle.layout.proofs.windows_of.Statement.{statement}

@@ -12,7 +12,7 @@ use Rattle.whole.specs.Ranges.{Within}
 use Rattle.whole.proofs.Differences.{whole, all₂}
 use Rattle.whole.proofs.Laws.{add-sub, sub-nonneg, <ℤ-weaken}
 use Rattle.whole.proofs.Bounds.{sfits, within, exactly, computed, cast-up, back-id, le-is, le-left}
-use Rattle.model.specs.Leg.{upper}
+use Rattle.model.specs.planning.Leg.{upper}
 use Rattle.profile.specs.declared.Profile.{Profile}
 use Rattle.profile.specs.Profiles.{legOf}
 use Rattle.profile.specs.Areas.{upperParts}

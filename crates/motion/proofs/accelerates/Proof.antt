@@ -1,7 +1,7 @@
 use mathlib.Core.Path.{sym, ap, _∙_}
 use mathlib.Core.Bool.{not}
 use Rattle.whole.proofs.Bounds.{bits-zero}
-use Rattle.model.specs.Quantities.{accelerates}
+use Rattle.model.specs.planning.Quantities.{accelerates}
 use borrow.Author.Needs.{needs}
 use Rattle.motion.proofs.accelerates.Statement.{statement}
 use Rattle.motion.proofs.accelerates.Tie as tie

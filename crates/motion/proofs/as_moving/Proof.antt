@@ -4,7 +4,7 @@ use mir.Syntax.{w64}
 use mir.Val.{toZ, ofZ}
 use Rattle.whole.proofs.Bounds.{exactly, exact, loose}
 use Rattle.model.specs.declared.Target.{Target}
-use Rattle.model.specs.Quantities.{asMoving}
+use Rattle.model.specs.planning.Quantities.{asMoving}
 use borrow.Author.Needs.{needs}
 use Rattle.motion.proofs.as_moving.Statement.{statement}
 use Rattle.motion.proofs.as_moving.Tie as tie

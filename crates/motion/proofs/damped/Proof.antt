@@ -3,7 +3,7 @@ use mathlib.Core.Path.{ap}
 use mathlib.Core.Bool.{not}
 use lib.Dec.{eqb}
 use Rattle.whole.proofs.Tests.{and-no, and-yes, eqb-no}
-use Rattle.model.specs.Quantities.{halfPeriod, secondWeight}
+use Rattle.model.specs.planning.Quantities.{halfPeriod, secondWeight}
 use borrow.Author.Needs.{needs}
 use Rattle.motion.proofs.damped.Statement.{statement}
 use Rattle.motion.proofs.damped.Tie as tie

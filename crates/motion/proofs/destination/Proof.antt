@@ -2,7 +2,7 @@ use mathlib.Core.Path.{sym, ap, subst}
 use lib.IntN.{pos}
 use Rattle.whole.proofs.Bounds.{computed, is-of, then-is}
 use Rattle.model.specs.declared.State.{State}
-use Rattle.model.specs.Quantities.{twicePositionAt}
+use Rattle.model.specs.planning.Quantities.{twicePositionAt}
 use Rattle.motion.specs.Motions.{StateRanges}
 use Rattle.motion.proofs.PassedRanges.{ranges-of}
 use borrow.Author.Needs.{needs}

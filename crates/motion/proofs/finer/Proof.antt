@@ -1,7 +1,7 @@
 use mathlib.Core.Path.{sym, ap, _∙_}
 use mathlib.Core.Bool.{_&&_}
 use Rattle.model.specs.declared.SecondSway.{SecondSway}
-use Rattle.model.specs.Quantities.{accelerates, damped, finerBy, finer}
+use Rattle.model.specs.planning.Quantities.{accelerates, damped, finerBy, finer}
 use borrow.Author.Needs.{needs}
 use Rattle.motion.proofs.finer.Statement.{statement}
 use Rattle.motion.proofs.finer.Tie as tie

@@ -1,6 +1,6 @@
 use mathlib.Core.Path.{sym, _∙_}
 use Rattle.whole.proofs.Tests.{choice-yes, choice-no, and-yes, and-no}
-use Rattle.model.specs.Quantities.{accelerates, damped}
+use Rattle.model.specs.planning.Quantities.{accelerates, damped}
 use borrow.Author.Needs.{needs}
 use Rattle.motion.proofs.finer_by_target.Statement.{statement}
 use Rattle.motion.proofs.finer_by_target.Tie as tie

@@ -2,7 +2,7 @@ use Prim.Native.Nat.{ℕ, _-_, _≤_, _<_}
 use mathlib.Core.Path.{_≡_, ap, _∙_}
 use mathlib.Core.Bool.{true, false}
 use native.Mathlib.Omega.{arith}
-use Rattle.model.specs.Motion.{reachable}
+use Rattle.model.specs.planning.Motion.{reachable}
 use Rattle.motion.proofs.Halves.{missed-joined}
 use Rattle.motion.proofs.first_in.Statement.{statement}
 use Rattle.motion.proofs.first_in.Tie as tie

@@ -3,8 +3,8 @@ use mathlib.Core.Path.{sym, ap, subst}
 use lib.IntN.{pos}
 use native.Mathlib.Omega.{arith}
 use Rattle.whole.proofs.Bounds.{cast-small, then-is}
-use Rattle.model.specs.Quantities.{finer}
-use Rattle.model.proofs.Grid.{finer-range}
+use Rattle.model.specs.planning.Quantities.{finer}
+use Rattle.model.proofs.motions.Grid.{finer-range}
 use borrow.Author.Needs.{needs}
 use Rattle.motion.proofs.grid_steps.Statement.{statement}
 use Rattle.motion.proofs.grid_steps.Tie as tie

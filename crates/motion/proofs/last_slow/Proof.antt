@@ -5,9 +5,9 @@ use lib.IntN.{ℤ, pos, _+ℤ_, _*ℤ_}
 use mir.Syntax.{w64}
 use mir.Val.{toZ, ofZ}
 use Rattle.whole.proofs.Bounds.{within, exactly, computed}
-use Rattle.model.specs.Motion.{landingAcceleration, arrivalVelocity}
-use Rattle.model.proofs.Grid.{speed-range}
-use Rattle.model.proofs.PassedAxis.{speed-limit}
+use Rattle.model.specs.planning.Motion.{landingAcceleration, arrivalVelocity}
+use Rattle.model.proofs.motions.Grid.{speed-range}
+use Rattle.model.proofs.jobs.PassedAxis.{speed-limit}
 use Rattle.motion.specs.declared.Landing.{Landing}
 use Rattle.motion.proofs.PassedRanges.{ranges-of}
 use Rattle.motion.proofs.Halves.{last-passing-of}

@@ -2,8 +2,8 @@ use Prim.Native.Nat.{ℕ, _*_, _≤_}
 use mathlib.Core.Path.{sym, ap, subst}
 use native.Mathlib.Omega.{arith}
 use native.Mathlib.Nat.{mul-le-mul}
-use Rattle.model.specs.Quantities.{fineSteps, finer}
-use Rattle.model.proofs.Grid.{finer-range}
+use Rattle.model.specs.planning.Quantities.{fineSteps, finer}
+use Rattle.model.proofs.motions.Grid.{finer-range}
 use borrow.Author.Needs.{needs}
 use Rattle.motion.proofs.limit_on_grid.Statement.{statement}
 use Rattle.motion.proofs.limit_on_grid.Tie as tie

@@ -1,6 +1,6 @@
 use mathlib.Core.Path.{sym, ap, _∙_}
 use native.Mathlib.Omega.{arith}
-use Rattle.model.specs.Motion.{reachable}
+use Rattle.model.specs.planning.Motion.{reachable}
 use Rattle.motion.proofs.Halves.{next-one}
 use borrow.Author.Needs.{needs}
 use Rattle.motion.proofs.next_by_areas.Statement.{statement}

@@ -1,8 +1,8 @@
 use Prim.Native.Nat.{ℕ, suc, max}
 use mathlib.Core.Path.{_≡_, sym, ap, _∙_}
 use native.Mathlib.Omega.{arith}
-use Rattle.model.specs.Quantities.{delay}
-use Rattle.model.specs.Motion.{reachable}
+use Rattle.model.specs.planning.Quantities.{delay}
+use Rattle.model.specs.planning.Motion.{reachable}
 use Rattle.motion.proofs.PassedRanges.{ranges-of}
 use Rattle.motion.proofs.Steady.{none-after}
 use Rattle.motion.proofs.Halves.{next-first, next-none, next-within}

@@ -6,9 +6,9 @@ use lib.IntN.{ℤ, natAbs, _-ℤ_}
 use mir.Syntax.{w64}
 use mir.Val.{toZ, ofZ}
 use Rattle.whole.proofs.Bounds.{within, exactly, computed}
-use Rattle.model.specs.Leg.{required}
-use Rattle.model.specs.Motion.{startPosition, leg, requiredSum, reachable}
-use Rattle.model.specs.Quantities.{delay}
+use Rattle.model.specs.planning.Leg.{required}
+use Rattle.model.specs.planning.Motion.{startPosition, leg, requiredSum, reachable}
+use Rattle.model.specs.planning.Quantities.{delay}
 use Rattle.profile.specs.declared.Profile.{Profile}
 use Rattle.profile.specs.Profiles.{legOf}
 use Rattle.running.specs.Running.{Next, betweenAt}

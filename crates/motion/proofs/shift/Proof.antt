@@ -6,7 +6,7 @@ use lib.IntN.{pos}
 use mir.Syntax.{w64}
 use mir.ValLaws.{toZ-pos}
 use borrow.Author.Needs.{needs}
-use Rattle.model.specs.Quantities.{halfPeriod}
+use Rattle.model.specs.planning.Quantities.{halfPeriod}
 use Rattle.motion.proofs.shift.Statement.{statement}
 use Rattle.motion.proofs.shift.Tie as tie
 

@@ -1,4 +1,4 @@
-use Rattle.model.specs.Outcome.{typed}
+use Rattle.model.specs.planning.Outcome.{typed}
 use Rattle.parts.proofs.Calls.{promise}
 use borrow.Author.Needs.{needs}
 use Rattle.parts.proofs.plan_job_part.Statement.{statement}

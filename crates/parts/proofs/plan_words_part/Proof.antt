@@ -1,4 +1,4 @@
-use Rattle.model.specs.Outcome.{words}
+use Rattle.model.specs.planning.Outcome.{words}
 use Rattle.parts.proofs.Calls.{promise}
 use borrow.Author.Needs.{needs}
 use Rattle.parts.proofs.plan_words_part.Statement.{statement}

@@ -1,7 +1,7 @@
 use Prim.Native.Nat.{ℕ, _*_, _/_}
 use mathlib.Core.Path.{ap, _∙_}
 use native.Mathlib.Omega.{arith}
-use Rattle.model.specs.Parts.{partRows}
+use Rattle.model.specs.calls.Parts.{partRows}
 use Rattle.planner.proofs.Stages.{few-axes}
 use Rattle.planner.proofs.Rows.{some-bits, held-rows, left-rows}
 use borrow.Author.Needs.{needs}

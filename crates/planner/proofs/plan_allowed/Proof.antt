@@ -1,7 +1,7 @@
 use native.Mathlib.Omega.{arith}
 use mathlib.Core.Path.{_≡_, refl, sym, _∙_}
 use mathlib.Core.Logic.{⊎-elim}
-use Rattle.model.specs.Job.{Job, jobWith}
+use Rattle.model.specs.planning.Job.{Job, jobWith}
 use Rattle.checks.specs.Checks.{Checked, namedByHand}
 use Rattle.checks.proofs.Checks.{asked-late, asked-in-time}
 use Rattle.checks.proofs.Weights.{given-are, given-passed}

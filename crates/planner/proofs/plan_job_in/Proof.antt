@@ -1,7 +1,7 @@
 use native.Mathlib.Omega.{arith}
 use mathlib.Core.Path.{sym, _∙_}
 use borrow.Author.Tests.{not-true, not-false}
-use Rattle.model.specs.Outcome.{typed}
+use Rattle.model.specs.planning.Outcome.{typed}
 use Rattle.planner.proofs.Calls.{promise-in, mask-refused, mask-passed, good-mask}
 use Rattle.planner.proofs.Stages.{refuses, onward}
 use borrow.Author.Needs.{needs}

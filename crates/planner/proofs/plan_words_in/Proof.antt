@@ -1,4 +1,4 @@
-use Rattle.model.specs.Outcome.{words, inputJob}
+use Rattle.model.specs.planning.Outcome.{words, inputJob}
 use Rattle.planner.proofs.Calls.{promise-in, words-refused}
 use Rattle.planner.proofs.Answers.{words-not-ten, words-promise}
 use Rattle.planner.proofs.Stages.{refuses}

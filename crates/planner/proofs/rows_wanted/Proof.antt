@@ -5,7 +5,7 @@ use lib.Dec.{leb}
 use Rattle.model.specs.declared.Order.the-variants.{Forwards}
 use Rattle.planner.specs.declared.Wanted.{Wanted}
 use lib.ListN.{length}
-use Rattle.model.specs.Job.{setBits}
+use Rattle.model.specs.planning.Job.{setBits}
 use Rattle.planner.specs.Stages.{choiceFor}
 use borrow.Author.Needs.{needs}
 use Rattle.planner.proofs.rows_wanted.Statement.{statement}

@@ -2,7 +2,7 @@ use Prim.Native.Nat.{ℕ}
 use mathlib.Core.Path.{refl, sym, ap, _∙_}
 use native.Mathlib.Omega.{arith}
 use borrow.Author.Tests.{not-true, not-false}
-use Rattle.model.specs.Job.{axesOf, typedJob}
+use Rattle.model.specs.planning.Job.{axesOf, typedJob}
 use Rattle.planner.proofs.Rows.{rows-inside, rows-fit, too-short, wrote, none-written}
 use borrow.Author.Needs.{needs}
 use Rattle.planner.proofs.write_rows.Statement.{statement}

@@ -5,7 +5,7 @@ use mir.Syntax.{w64}
 use mir.Val.{toZ, ofZ}
 use Rattle.whole.specs.Ranges.{Within}
 use Rattle.whole.proofs.Bounds.{within, exactly, computed, is-of, then-is}
-use Rattle.model.proofs.Envelopes.{Joined}
+use Rattle.model.proofs.legs.Envelopes.{Joined}
 use Rattle.profile.specs.declared.Regions.{Regions}
 use Rattle.profile.specs.Profiles.{legOf}
 use Rattle.profile.specs.Regions.{regionsOf, RegionsRanged}

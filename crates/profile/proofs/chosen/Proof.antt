@@ -2,7 +2,7 @@ use mathlib.Core.Path.{_≡_, sym, _∙_}
 use mathlib.Core.Bool.{true}
 use mir.Syntax.{w64}
 use mir.Val.{toZ, ofZ}
-use Rattle.model.specs.Leg.{required}
+use Rattle.model.specs.planning.Leg.{required}
 use Rattle.whole.proofs.Bounds.{within, exactly, computed}
 use Rattle.whole.proofs.Tests.{T-true, left, true-T}
 use Rattle.profile.specs.Profiles.{legOf, endsAllowed}

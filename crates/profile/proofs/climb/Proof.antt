@@ -7,7 +7,7 @@ use mir.Val.{toZ, ofZ}
 use Rattle.whole.specs.Ranges.{Within}
 use Rattle.whole.proofs.Bounds.{within, exactly, exact, computed, then-is}
 use Rattle.whole.proofs.Laws.{natAbs-negpos}
-use Rattle.model.specs.Leg.{cruise}
+use Rattle.model.specs.planning.Leg.{cruise}
 use Rattle.profile.specs.Profiles.{legOf, climbStep}
 use Rattle.profile.proofs.ClimbSteps.{Climbing, climb-start, climb-next, climb-end, climb-inside}
 use Rattle.profile.proofs.climb.Statement.{statement}

@@ -8,7 +8,7 @@ use mir.Syntax.{w64}
 use mir.Val.{toZ, ofZ}
 use Rattle.whole.specs.Ranges.{Within}
 use Rattle.whole.proofs.Bounds.{sfits, exactly, le-taken, computed, is-of, then-is, le-is}
-use Rattle.model.specs.Leg.{fitsAt}
+use Rattle.model.specs.planning.Leg.{fitsAt}
 use Rattle.profile.specs.Profiles.{legOf}
 use Rattle.profile.proofs.ClimbSteps.{step-up, step-unfit, step-fast, step-inside}
 use borrow.Author.Needs.{needs}

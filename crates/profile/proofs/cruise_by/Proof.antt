@@ -9,8 +9,8 @@ use Rattle.whole.proofs.Bounds.{within, exactly, exact, computed, is-of, then-i
 use Rattle.whole.proofs.Tests.{T-true, left, true-T}
 use Rattle.whole.proofs.Laws.{natAbs-iff}
 use Rattle.profile.proofs.FeasibleParts.{feasible-parts}
-use Rattle.model.specs.Leg.{sumAt, required, cruise}
-use Rattle.model.proofs.FeasibleTests.{feasible-cruise}
+use Rattle.model.specs.planning.Leg.{sumAt, required, cruise}
+use Rattle.model.proofs.legs.FeasibleTests.{feasible-cruise}
 use Rattle.profile.specs.Profiles.{legOf, Joinable, endsAllowed}
 use borrow.Author.Needs.{needs}
 use Rattle.profile.proofs.cruise_by.Statement.{statement}

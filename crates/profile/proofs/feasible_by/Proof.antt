@@ -4,7 +4,7 @@ use mir.Syntax.{w64}
 use mir.Val.{toZ, ofZ}
 use Rattle.whole.proofs.Bounds.{within, exactly, exact, computed}
 use Rattle.whole.proofs.Tests.{and-no, and-yes}
-use Rattle.model.specs.Leg.{required, sumIsWhole}
+use Rattle.model.specs.planning.Leg.{required, sumIsWhole}
 use Rattle.profile.specs.Profiles.{legOf, Joinable, endsAllowed, sumBetween}
 use Rattle.profile.proofs.FeasibleParts.{feasible-parts}
 use borrow.Author.Needs.{needs}

@@ -2,7 +2,7 @@ use mathlib.Core.Path.{_≡_}
 use mir.Syntax.{w64}
 use mir.Val.{toZ, ofZ}
 use Rattle.whole.proofs.Bounds.{exactly, exact, computed, is-of, then-is}
-use Rattle.model.specs.Leg.{required}
+use Rattle.model.specs.planning.Leg.{required}
 use Rattle.profile.specs.Profiles.{legOf}
 use borrow.Author.Needs.{needs}
 use Rattle.profile.proofs.required.Statement.{statement}

@@ -10,8 +10,8 @@ use mir.Val.{toZ, ofZ}
 use Rattle.whole.proofs.Bounds.{exactly, computed, le-is}
 use Rattle.whole.proofs.Tests.{and-no, and-yes}
 use Rattle.whole.specs.Integers.{sumTo}
-use Rattle.model.specs.Leg.{sumAt, lower}
-use Rattle.model.proofs.Envelopes.{lowest-sum, highest-sum}
+use Rattle.model.specs.planning.Leg.{sumAt, lower}
+use Rattle.model.proofs.legs.Envelopes.{lowest-sum, highest-sum}
 use Rattle.profile.specs.Profiles.{legOf}
 use Rattle.profile.proofs.FeasibleParts.{ends-joined}
 use borrow.Author.Needs.{needs}

@@ -6,7 +6,7 @@ use mir.Val.{toZ, ofZ}
 use Rattle.whole.specs.Ranges.{Within}
 use Rattle.whole.proofs.Bounds.{within, exactly, computed, is-of, then-is}
 use borrow.Author.Needs.{needs}
-use Rattle.model.specs.Leg.{sumAt}
+use Rattle.model.specs.planning.Leg.{sumAt}
 use Rattle.profile.specs.Profiles.{legOf}
 use Rattle.profile.proofs.sum_by.Statement.{statement}
 use Rattle.profile.proofs.sum_by.Tie as tie

@@ -6,7 +6,7 @@ use mir.Syntax.{w64}
 use mir.Val.{toZ, ofZ}
 use Rattle.whole.proofs.Bounds.{sfits, exactly, exact, computed}
 use Rattle.whole.proofs.Order.{even-is}
-use Rattle.model.specs.Leg.{twiceRequired}
+use Rattle.model.specs.planning.Leg.{twiceRequired}
 use Rattle.profile.specs.Profiles.{legOf}
 use borrow.Author.Needs.{needs}
 use Rattle.profile.proofs.sum_is_whole.Statement.{statement}

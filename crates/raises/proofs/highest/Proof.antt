@@ -2,7 +2,7 @@
 use mathlib.Core.Path.{sym, ap}
 use borrow.Author.Needs.{needs}
 use Rattle.model.specs.declared.Limit.{Limit}
-use Rattle.model.specs.Raises as limits
+use Rattle.model.specs.calls.Raises as limits
 use Rattle.raises.proofs.highest.Statement.{statement}
 use Rattle.raises.proofs.highest.Tie as tie
 

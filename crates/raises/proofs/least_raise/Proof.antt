@@ -2,7 +2,7 @@ use Prim.Native.Nat.{ℕ, suc, _-_}
 use mathlib.Core.Path.{ap, subst, _∙_}
 use native.Mathlib.Omega.{arith}
 use borrow.Author.Needs.{needs}
-use Rattle.model.specs.Raises as model
+use Rattle.model.specs.calls.Raises as model
 use Rattle.running.specs.Running.{Next}
 use Rattle.limits.specs.Limits.{limitIn, enoughWith}
 use Rattle.limits.proofs.FallsShort.{limit-range, highest-small}

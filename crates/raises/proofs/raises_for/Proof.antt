@@ -7,9 +7,9 @@ use lib.ListN.{length, set, length-set}
 use borrow.Author.Needs.{needs}
 use Rattle.model.specs.declared.Axis.{Axis}
 use Rattle.model.specs.declared.AxisRaises.{AxisRaises}
-use Rattle.model.specs.Job.{setAxes}
-use Rattle.model.specs.Refusals.{AllPassed}
-use Rattle.model.specs.Raises.{raisesOf, raisesFrom, noneRaised}
+use Rattle.model.specs.planning.Job.{setAxes}
+use Rattle.model.specs.planning.Refusals.{AllPassed}
+use Rattle.model.specs.calls.Raises.{raisesOf, raisesFrom, noneRaised}
 use Rattle.arrival.proofs.SetAxes.{from, axisAt, passed-from}
 use Rattle.raises.proofs.AllAxes.{missed-is, missed, not-missed, no-more}
 use Rattle.raises.proofs.raises_for.Statement.{statement}

@@ -7,12 +7,12 @@ use borrow.Author.Needs.{needs}
 use Rattle.model.specs.declared.Axis.{Axis}
 use Rattle.model.specs.declared.Limit.{Limit}
 use Rattle.model.specs.declared.Limit.the-variants.{Acceleration, Speed}
-use Rattle.model.specs.Quantities.{delay, finer}
-use Rattle.model.specs.Job.{byHand}
-use Rattle.model.specs.Refusals.{Passed}
-use Rattle.model.specs.Raises.{raiseOf, inOrder}
-use Rattle.model.proofs.ByHand.{passed-by-hand}
-use Rattle.model.proofs.LeastRaise.{raise-by-hand}
+use Rattle.model.specs.planning.Quantities.{delay, finer}
+use Rattle.model.specs.planning.Job.{byHand}
+use Rattle.model.specs.planning.Refusals.{Passed}
+use Rattle.model.specs.calls.Raises.{raiseOf, inOrder}
+use Rattle.model.proofs.jobs.ByHand.{passed-by-hand}
+use Rattle.model.proofs.calls.LeastRaise.{raise-by-hand}
 use Rattle.motion.proofs.PassedRanges.{ranges-of}
 use Rattle.raises.proofs.LeastRaises.{too-early, of-task}
 use Rattle.raises.proofs.raises_of.Statement.{statement}

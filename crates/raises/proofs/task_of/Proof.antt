@@ -9,8 +9,8 @@ use borrow.Author.Needs.{needs}
 use Rattle.whole.specs.Ranges.{Is}
 use Rattle.whole.proofs.Bounds.{sfits, within, exactly, computed, cast-small, lt-taken, lt-left, add-holds, mul-holds}
 use Rattle.model.specs.declared.Axis.{Axis}
-use Rattle.model.specs.Quantities.{delay}
-use Rattle.model.specs.Motion.{startPosition, startVelocity, landingVelocity, landingAcceleration, arrivalVelocity, landingTick, displacement}
+use Rattle.model.specs.planning.Quantities.{delay}
+use Rattle.model.specs.planning.Motion.{startPosition, startVelocity, landingVelocity, landingAcceleration, arrivalVelocity, landingTick, displacement}
 use Rattle.motion.proofs.PassedRanges.{ranges-of}
 use Rattle.limits.specs.Tasks.{taskWith, fastestOf, TaskIs}
 use Rattle.limits.proofs.Decisions.{task-ahead, task-behind}

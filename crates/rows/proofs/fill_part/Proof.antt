@@ -1,6 +1,6 @@
 use mathlib.Core.Path.{_∙_}
 use borrow.Author.Needs.{needs}
-use Rattle.model.specs.Job.{setAxes}
+use Rattle.model.specs.planning.Job.{setAxes}
 use Rattle.rows.proofs.ReadyAxes.{AllReady, all-ready}
 use Rattle.rows.proofs.JobTable.{fillable, plan-arrives, plan-inside, plan-fits, plan-rows}
 use Rattle.rows.proofs.fill_part.Statement.{statement}

@@ -3,8 +3,8 @@ use mathlib.Core.Path.{sym, ap, subst, _∙_}
 use native.Mathlib.Omega.{arith}
 use native.Mathlib.Numerals.{add-one}
 use lib.ListN.{length}
-use Rattle.model.specs.Job.{setAxes, axesOf, typedJob}
-use Rattle.model.specs.Outcome.{partOver}
+use Rattle.model.specs.planning.Job.{setAxes, axesOf, typedJob}
+use Rattle.model.specs.planning.Outcome.{partOver}
 use borrow.Author.Needs.{needs}
 use Rattle.rows.proofs.fill_table.Statement.{statement}
 use Rattle.rows.proofs.fill_table.Tie as tie

@@ -8,7 +8,7 @@ use borrow.Author.Tests.{eq-eqb, ne-eqb}
 use lib.ListN.{length, getD, set, take, drop, length-set, length-map, getD-replicate}
 use lib.Seq.{length-take-le, getD-set-other}
 use Rattle.model.specs.declared.Axis.{Axis}
-use Rattle.model.specs.Job.{setAxes}
+use Rattle.model.specs.planning.Job.{setAxes}
 use Rattle.tracks.specs.declared.AxisPlan.{AxisPlan}
 use Rattle.rows.specs.Plans.{unsetPlan, plansFor}
 use Rattle.rows.proofs.ReadyAxes.{AllReady, all-ready, ready-here, ready-next}

@@ -2,7 +2,7 @@ use mathlib.Core.Path.{sym, ap}
 use native.Mathlib.Omega.{arith}
 use borrow.Author.Needs.{needs}
 use Rattle.model.specs.declared.Order.{Order}
-use Rattle.model.specs.Rows.{rowAt}
+use Rattle.model.specs.planning.Rows.{rowAt}
 use Rattle.rows.proofs.row_at.Statement.{statement}
 use Rattle.rows.proofs.row_at.Tie as tie
 

@@ -5,7 +5,7 @@ use lib.Signed.{_≤ℤ_, _<ℤ_}
 use Rattle.whole.specs.Integers.{sumTo}
 use Rattle.whole.proofs.Bounds.{computed, lt-taken}
 use Rattle.whole.proofs.Differences.{whole, all₃}
-use Rattle.model.specs.Leg.{upper}
+use Rattle.model.specs.planning.Leg.{upper}
 use Rattle.profile.specs.Areas.{splitArea}
 use Rattle.profile.specs.Profiles.{legOf}
 use Rattle.profile.proofs.UpperSplits.{split-above}

@@ -9,7 +9,7 @@ use mir.Val.{toZ, ofZ}
 use Rattle.whole.specs.Ranges.{Within}
 use Rattle.whole.proofs.Bounds.{sfits, within, exactly, exact, computed, back-id}
 use Rattle.whole.proofs.Laws.{natAbs-+}
-use Rattle.model.proofs.Envelopes.{Joined}
+use Rattle.model.proofs.legs.Envelopes.{Joined}
 use Rattle.profile.specs.Profiles.{legOf}
 use Rattle.running.specs.Running.{runningAt, stepped, RunningRanged, withTicks, Next, betweenAt}
 use Rattle.profile.proofs.FeasibleParts.{ends-joined}

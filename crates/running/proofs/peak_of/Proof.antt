@@ -8,8 +8,8 @@ use mir.Syntax.{w64}
 use mir.Val.{toZ, ofZ}
 use Rattle.whole.specs.Integers.{least}
 use Rattle.whole.proofs.Bounds.{sfits, exactly, computed, back-id, cast-up, is-of, then-is}
-use Rattle.model.specs.Leg.{Leg}
-use Rattle.model.proofs.Envelopes.{Joined}
+use Rattle.model.specs.planning.Leg.{Leg}
+use Rattle.model.proofs.legs.Envelopes.{Joined}
 use Rattle.running.specs.Running.{crossing, peakOf}
 use Rattle.profile.proofs.ThreeRegions.{up-some}
 use Rattle.running.proofs.RunningSums.{m-late}

@@ -8,8 +8,8 @@ use mir.Val.{toZ, ofZ}
 use Rattle.whole.specs.Ranges.{Within}
 use Rattle.whole.proofs.Bounds.{within, exactly, computed}
 use Rattle.whole.proofs.Laws.{natAbs-negpos}
-use Rattle.model.specs.Leg.{sumAt}
-use Rattle.model.proofs.Envelopes.{Joined, lowest-sum, highest-sum}
+use Rattle.model.specs.planning.Leg.{sumAt}
+use Rattle.model.proofs.legs.Envelopes.{Joined, lowest-sum, highest-sum}
 use Rattle.profile.specs.Profiles.{legOf}
 use Rattle.running.specs.Running.{peakOf, troughOf}
 use Rattle.profile.proofs.FeasibleParts.{ends-joined}

@@ -3,8 +3,8 @@ use mathlib.Core.Path.{_≡_, sym, ap, _∙_}
 use mathlib.Core.Logic.{⊎-elim}
 use borrow.Author.Needs.{needs}
 use borrow.Author.Tests.{not-true, not-false}
-use Rattle.model.specs.Search.{searchAnswer}
-use Rattle.model.specs.Job.{jobWith}
+use Rattle.model.specs.calls.Search.{searchAnswer}
+use Rattle.model.specs.planning.Job.{jobWith}
 use Rattle.checks.specs.Checks.{namedByHand}
 use Rattle.checks.proofs.Checks.{checked}
 use Rattle.checks.proofs.Weights.{given-are, given-passed}

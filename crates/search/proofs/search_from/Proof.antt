@@ -1,8 +1,8 @@
 use native.Mathlib.Omega.{arith}
 use mathlib.Core.Path.{_∙_}
 use borrow.Author.Needs.{needs}
-use Rattle.model.specs.Job.{setAxes}
-use Rattle.model.specs.Search.{candidates}
+use Rattle.model.specs.planning.Job.{setAxes}
+use Rattle.model.specs.calls.Search.{candidates}
 use Rattle.arrival.specs.Arrivals.{arrivesIn}
 use Rattle.search.proofs.Reports.{no-more, found-late, found-out, spent-out, nothing-out}
 use Rattle.search.proofs.search_from.Statement.{statement}

@@ -1,7 +1,7 @@
 use mathlib.Core.Path.{sym, _∙_}
 use borrow.Author.Needs.{needs}
 use borrow.Author.Tests.{not-true, not-false}
-use Rattle.model.specs.Outcome.{typed}
+use Rattle.model.specs.planning.Outcome.{typed}
 use Rattle.search.proofs.Ways.{promise, mask-refused, mask-passed}
 use Rattle.search.proofs.search_job.Statement.{statement}
 use Rattle.search.proofs.search_job.Tie as tie

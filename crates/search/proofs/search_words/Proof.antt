@@ -1,6 +1,6 @@
 use mathlib.Core.Path.{_∙_}
 use borrow.Author.Needs.{needs}
-use Rattle.model.specs.Outcome.{words}
+use Rattle.model.specs.planning.Outcome.{words}
 use Rattle.search.proofs.Ways.{promise, words-refused, words-passed}
 use Rattle.search.proofs.search_words.Statement.{statement}
 use Rattle.search.proofs.search_words.Tie as tie

@@ -2,7 +2,7 @@ use Prim.Native.Nat.{_-_, _≤_}
 use native.Mathlib.Omega.{arith}
 use mathlib.Core.Path.{_≡_, refl, sym, ap, _∙_}
 use lib.ListN.{length, take, drop}
-use Rattle.model.specs.Tour.{firstLongDwell}
+use Rattle.model.specs.calls.Tour.{firstLongDwell}
 use Rattle.stops.proofs.Legs.{long-here, long-later, long-nowhere, emptyStop}
 use Rattle.stops.proofs.first_long_dwell.Statement.{statement}
 use Rattle.stops.proofs.first_long_dwell.Tie as tie

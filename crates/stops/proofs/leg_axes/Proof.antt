@@ -7,7 +7,7 @@ use lib.ListN.{length, take, length-set, length-map}
 use lib.Seq.{take-length}
 use borrow.Author.Needs.{needs}
 use Rattle.model.specs.declared.Axis.{Axis}
-use Rattle.model.specs.Tour.{legAxes}
+use Rattle.model.specs.calls.Tour.{legAxes}
 use Rattle.stops.proofs.Legs.{legs-next, legs-long}
 use Rattle.stops.proofs.leg_axes.Statement.{statement}
 use Rattle.stops.proofs.leg_axes.Tie as tie

@@ -1,5 +1,5 @@
 use native.Mathlib.Omega.{arith}
-use Rattle.model.specs.Outcome.{outcomeOf}
+use Rattle.model.specs.planning.Outcome.{outcomeOf}
 use Rattle.text.proofs.Enough.{put-accepted, put-short, put-refused}
 use borrow.Author.Needs.{needs}
 use Rattle.text.proofs.answer_text.Statement.{statement}

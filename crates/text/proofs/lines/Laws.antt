@@ -14,7 +14,7 @@ use mir.Val.{SFits, toZ, ofZ}
 use mir.ValLaws.{toZ-ofZ}
 use Rattle.whole.specs.Lists.{upTo, Room, Written, WrittenWithin}
 use Rattle.whole.proofs.Lists.{flatten-upTo, turn-within, written-within, written-one, written-then, room-front, room-then, room-on}
-use Rattle.model.specs.Refusals.{lastTick}
+use Rattle.model.specs.planning.Refusals.{lastTick}
 use Rattle.text.specs.Printed.{ascii, decimal, signed, labelled, cellText, cellsText, rowLine, rowAt, arrivalLine, refusalLine}
 use Rattle.text.specs.Enough.{refusalBytes, cellsBytes, rowBytes}
 use Rattle.text.proofs.numbers.Laws.{decimal-most, signed-below, signed-from}

@@ -7,7 +7,7 @@ use lib.ListN.{length, getD, take, drop, set, length-take, length-drop}
 use lib.Seq.{drop-cons, drop-drop, take-all, take-nil, getD-take}
 use Rattle.whole.specs.Lists.{Room, Written, WrittenAtStart}
 use Rattle.whole.proofs.Lists.{written-nil, written-copy}
-use Rattle.model.specs.Bytes.{littleEndian, wordsOf}
+use Rattle.model.specs.calls.Bytes.{littleEndian, wordsOf}
 use Rattle.text.specs.Words.{pairAt, firstWord}
 
 -- ---- the first word

@@ -1,6 +1,6 @@
 use mathlib.Core.Path.{ap, _∙_}
 use Rattle.model.specs.declared.Job.{Job}
-use Rattle.model.specs.Outcome.{typed, answerOf}
+use Rattle.model.specs.planning.Outcome.{typed, answerOf}
 use borrow.Author.Needs.{needs}
 use Rattle.tour.proofs.leg_answer.Statement.{statement}
 use Rattle.tour.proofs.leg_answer.Tie as tie

@@ -8,7 +8,7 @@ use mathlib.Core.Path.{_≡_, refl, sym, ap, _∙_}
 use mathlib.Core.Option.{none}
 use mathlib.Core.List.{[], _∷_, _++_}
 use lib.ListN.{length, getD, take, drop, length-set}
-use Rattle.model.specs.Tour.{legsFrom, firstLongDwell, refusedLeg, allLegs}
+use Rattle.model.specs.calls.Tour.{legsFrom, firstLongDwell, refusedLeg, allLegs}
 use Rattle.stops.proofs.Legs.{short, leg-refused, leg-made, legs-made, stored-next, refused-row, emptyStop}
 use Rattle.tour.proofs.legs_of.Statement.{statement}
 use Rattle.tour.proofs.legs_of.Tie as tie

@@ -6,7 +6,7 @@ use mathlib.Core.List.{List}
 use lib.ListN.{take, length-map}
 use Rattle.model.specs.declared.Stop.{Stop}
 use Rattle.model.specs.declared.TourAnswer.{TourAnswer}
-use Rattle.model.specs.Tour.{TourOutcome, firstLongDwell, tourBy, tourOutcomeOf}
+use Rattle.model.specs.calls.Tour.{TourOutcome, firstLongDwell, tourBy, tourOutcomeOf}
 use Rattle.stops.specs.Parts.{foundStop}
 use Rattle.stops.specs.Rows.{rowStops}
 use Rattle.stops.specs.Promise.{TourPromise}

@@ -5,7 +5,7 @@ use borrow.Author.Needs.{needs}
 use lib.IntN.{ℤ, _-ℤ_}
 use mir.Syntax.{w64}
 use mir.Val.{toZ, ofZ}
-use Rattle.model.specs.Motion.{startPosition, displacement}
+use Rattle.model.specs.planning.Motion.{startPosition, displacement}
 use native.Mathlib.Omega.{arith}
 use native.Mathlib.Nat.{mul-le-mul}
 use Rattle.motion.proofs.ReadyAxis.{ready-after, ready-landed, ready-ranges}

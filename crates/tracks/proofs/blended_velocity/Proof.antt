@@ -5,7 +5,7 @@ use mir.Syntax.{w64}
 use mir.Val.{toZ, ofZ}
 use Rattle.whole.proofs.Bounds.{exact, exactly, sfits}
 use Rattle.model.specs.declared.SecondSway.{SecondSway}
-use Rattle.model.specs.Quantities.{swayDelay}
+use Rattle.model.specs.planning.Quantities.{swayDelay}
 use Rattle.tracks.specs.declared.AxisPlan.{AxisPlan}
 use Rattle.tracks.specs.Tracks.{blendedBack, added}
 use Rattle.tracks.proofs.Ranges.{blends-are}

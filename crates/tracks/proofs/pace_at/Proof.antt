@@ -3,7 +3,7 @@ use Prim.Native.Nat.{_^_, _≤_}
 use native.Mathlib.Omega.{arith}
 use Rattle.whole.proofs.Bounds.{exact, sfits, exactly, within}
 use Rattle.model.specs.declared.SecondSway.{SecondSway}
-use Rattle.model.specs.Quantities.{swayDelay}
+use Rattle.model.specs.planning.Quantities.{swayDelay}
 use Rattle.tracks.specs.Tracks.{blendedVelocity}
 use Rattle.tracks.specs.Paces.{PaceAt}
 use Rattle.tracks.proofs.PlannedPaces.{shared-at, pace-sum, pace-added}

@@ -7,7 +7,7 @@ use lib.Seq.{length-take-le}
 use borrow.Author.Needs.{needs}
 use borrow.Author.Tests.{not-true, not-false}
 use Rattle.model.specs.declared.Window.{Window}
-use Rattle.model.specs.Windows.{firstWrong}
+use Rattle.model.specs.planning.Windows.{firstWrong}
 use Rattle.windows.proofs.Listed.{wrong-here, wrong-later, ended}
 use Rattle.windows.proofs.first_wrong.Statement.{statement}
 use Rattle.windows.proofs.first_wrong.Tie as tie

@@ -5,7 +5,7 @@ use mathlib.Core.List.{List}
 use lib.ListN.{length, take, drop}
 use lib.Seq.{length-take-le}
 use Rattle.model.specs.declared.Window.{Window}
-use Rattle.model.specs.Windows.{fitsOne}
+use Rattle.model.specs.planning.Windows.{fitsOne}
 use Rattle.windows.proofs.Listed.{fits-here, fits-later, ended}
 use Rattle.windows.proofs.fits_one.Statement.{statement}
 use Rattle.windows.proofs.fits_one.Tie as tie

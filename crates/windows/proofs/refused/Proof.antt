@@ -2,7 +2,7 @@ use mathlib.Core.Option.{none}
 use mathlib.Core.Path.{_∙_}
 use borrow.Author.Needs.{needs}
 use Rattle.whole.proofs.Tests.{choice-yes}
-use Rattle.model.specs.Windows.{windowsRefused}
+use Rattle.model.specs.planning.Windows.{windowsRefused}
 use Rattle.windows.proofs.refused.Statement.{statement}
 use Rattle.windows.proofs.refused.Tie as tie
 

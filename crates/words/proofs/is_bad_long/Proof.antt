@@ -6,7 +6,7 @@ use mir.Val.{toZ, ofZ}
 use Rattle.whole.proofs.Bounds.{exactly, computed}
 use borrow.Author.Tests.{not-true, not-false}
 use borrow.Author.Needs.{needs}
-use Rattle.model.specs.Words.{between, fitsWord}
+use Rattle.model.specs.planning.Words.{between, fitsWord}
 use Rattle.words.specs.ByIndex.{signedAt, longAt, isBadLong}
 use Rattle.words.proofs.is_bad_long.Statement.{statement}
 use Rattle.words.proofs.is_bad_long.Tie as tie

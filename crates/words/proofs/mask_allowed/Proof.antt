@@ -4,7 +4,7 @@ use mathlib.Core.Bool.{Bool, _&&_}
 use mathlib.Core.Path.{sym, ap}
 use lib.Dec.{leb}
 use borrow.Author.Tests.{lt-ltb}
-use Rattle.model.specs.Words.{goodMask}
+use Rattle.model.specs.planning.Words.{goodMask}
 use Rattle.words.proofs.mask_allowed.Statement.{statement}
 use Rattle.words.proofs.mask_allowed.Tie as tie
 

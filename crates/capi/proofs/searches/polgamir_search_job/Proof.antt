@@ -2,7 +2,7 @@
 use mathlib.Core.Path.{subst}
 use borrow.Author.Needs.{needs}
 use Rattle.model.specs.declared.Job.{Job}
-use Rattle.model.specs.Outcome.{typed}
+use Rattle.model.specs.planning.Outcome.{typed}
 use Rattle.search.specs.Promise.{SearchPromise}
 use Rattle.capi.proofs.searches.polgamir_search_job.Statement.{statement}
 use Rattle.capi.proofs.searches.polgamir_search_job.Tie as tie

@@ -1,0 +1,8 @@
+-- The cases, computed.
+
+-- The starred field cases, windows, a second sway, raises and the converter.
+pub mod Starred
+-- Positions past 28 bits.
+pub mod LongCases
+-- Searches with a budget.
+pub mod SearchCases

@@ -1,0 +1,142 @@
+-- The converter (docs/METHOD.md, section 20): from the words of an old job, whose fixed targets may fly, to words of a job whose fixed targets are all at rest.
+use Prim.Native.Nat.{ℕ, zero, suc}
+use mathlib.Core.Path.{_≡_}
+use mathlib.Core.Bool.{Bool, true, false, not, _&&_}
+use mathlib.Core.Option.{none, some}
+use mathlib.Core.List.{List, [], _∷_, _++_, map}
+use lib.IntN.{ℤ}
+use lib.Dec.{eqb, leb, ltb}
+use lib.ListN.{length, take, drop}
+use Rattle.model.specs.declared.Axis.{Axis}
+use Rattle.model.specs.declared.Target.{Target}
+use Rattle.model.specs.declared.Target.the-variants.{Fixed, Moving}
+use Rattle.model.specs.planning.Quantities.{asMoving}
+use Rattle.model.specs.planning.Job.{Job, JobAxis}
+use Rattle.model.specs.planning.Words.{kind, payload, noMask, badWord, badLong, job, decode}
+use Rattle.model.specs.theorems.Spelling.{word}
+use Rattle.model.specs.planning.Refusals.{lastTick, limitsRefused, dampingRefused, blendRefused, swayRefused, valuesRefused, accelerationRefused, flies}
+use Rattle.model.specs.planning.Outcome.{Outcome, Tests, firstAxis, axisRefusals, outcomeOfWordsBy, outcomeOfWords, words}
+use Rattle.model.specs.theorems.Verdict.{ByInput}
+
+-- ---- the old rules: the tests of `axisRefusals` without 17
+
+abbrev pub oldRefusals : Tests
+oldRefusals =
+    (4, limitsRefused) ∷ (12, dampingRefused) ∷ (5, blendRefused) ∷ (15, swayRefused) ∷ (6, valuesRefused) ∷ (16, accelerationRefused) ∷ []
+
+abbrev pub oldOutcome : List ℕ → List ℤ → Outcome
+oldOutcome = outcomeOfWordsBy oldRefusals
+
+-- ---- the converted words
+
+-- the first word is of kind k
+abbrev pub begins : ℕ → List ℕ → Bool
+begins k [] = false
+begins k (w ∷ ws) = eqb (kind w) k
+
+-- the word w, before ws, is the velocity of a fixed target that flies
+abbrev pub flyingWord : ℕ → List ℕ → Bool
+flyingWord w ws = eqb (kind w) 10 && (not (eqb (payload w) 0) && not (begins 11 ws))
+
+-- right after such a word come an acceleration of 0 and the asked arrival as tick; all else is copied
+abbrev pub converted : ℕ → List ℕ → List ℕ
+converted asked [] = []
+converted asked (w ∷ ws) =
+    elim (flyingWord w ws) [
+      | true ↦ w ∷ word 11 0 ∷ word 12 asked ∷ converted asked ws
+      | false ↦ w ∷ converted asked ws
+    ]
+
+-- ---- what the converter gives: number and place of its answer, and the lent words as it leaves them
+
+pub record Conversion : Type 0 where
+  pub number : ℕ
+  pub place : ℕ
+  pub words : List ℕ
+
+-- a refusal leaves the lent words as they were
+abbrev pub unconverted : ℕ → ℕ → List ℕ → Conversion
+unconverted n p lent = record { number = n; place = p; words = lent }
+
+-- too few lent words give 10 with the number needed as place; else number 0 with the number written, and later words stay
+abbrev pub written : List ℕ → List ℕ → Conversion
+written ws lent =
+    elim (ltb (length lent) (length ws)) [
+      | true ↦ unconverted 10 (length ws) lent
+      | false ↦ record { number = 0; place = length ws; words = ws ++ drop (length ws) lent }
+    ]
+
+-- planning's tests through 17, which is given only where the least arrival is sought
+abbrev pub conversionRefusals : ℕ → Tests
+conversionRefusals zero = axisRefusals
+conversionRefusals (suc n) = oldRefusals
+
+abbrev pub unlessRefused : Tests → List JobAxis → List ℕ → Conversion → Conversion
+unlessRefused [] xs lent c = c
+unlessRefused (t ∷ ts) xs lent c =
+    elim (firstAxis (t .1) xs) [ some i ↦ unconverted (t .0) i lent | none ↦ unlessRefused ts xs lent c ]
+
+abbrev pub jobConversion : Job → List ℕ → List ℕ → Conversion
+jobConversion j ws lent =
+    elim (leb (j .asked) lastTick) [
+      | true ↦ unlessRefused (conversionRefusals (j .asked)) (j .axes) lent (written (converted (j .asked) ws) lent)
+      | false ↦ unconverted 3 1 lent
+    ]
+
+abbrev pub conversion : List ℕ → List ℕ → Conversion
+conversion ws lent =
+    elim (decode ws) [
+      | noMask ↦ unconverted 1 0 lent
+      | badWord p ↦ unconverted 2 p lent
+      | badLong p ↦ unconverted 14 p lent
+      | job j ↦ jobConversion j ws lent
+    ]
+
+-- which words it refuses, and which job it converts, said of the words
+abbrev pub ConversionVerdict : List ℕ → List ℕ → Conversion → Type 0
+ConversionVerdict ws lent c = ByInput (λ n p. c ≡ unconverted n p lent) (λ j. c ≡ jobConversion j ws lent) (words ws)
+
+-- ---- the job that the converted words are: a fixed target that flies is what it is read as for arrival n, a moving one of acceleration 0 at tick n
+
+abbrev pub convertedTarget : ℕ → Target → Target
+convertedTarget n (Fixed r) =
+    elim (flies (Fixed r)) [
+      | true ↦ Moving (asMoving (Fixed r) n)
+      | false ↦ Fixed r
+    ]
+convertedTarget n (Moving m) = Moving m
+
+abbrev pub withTarget : Axis → Target → Axis
+withTarget x g =
+    record {
+      start = x .start;
+      «speed_limit» = x .«speed_limit»;
+      «acceleration_limit» = x .«acceleration_limit»;
+      «half_period» = x .«half_period»;
+      «second_weight» = x .«second_weight»;
+      «second_sway» = x .«second_sway»;
+      target = g;
+    }
+
+abbrev pub convertedAxis : ℕ → Axis → Axis
+convertedAxis n x = withTarget x (convertedTarget n (x .target))
+
+abbrev pub convertedAxes : ℕ → List JobAxis → List JobAxis
+convertedAxes n xs = map (λ x. record { number = x .number; axis = convertedAxis n (x .axis) }) xs
+
+abbrev pub convertedJob : Job → Job
+convertedJob j = record { mask = j .mask; asked = j .asked; axes = convertedAxes (j .asked) (j .axes); windows = j .windows }
+
+-- ---- what is proved of every conversion that returns number 0, whatever table is lent for the job
+
+-- the words that it wrote
+abbrev pub writtenWords : List ℕ → List ℕ → List ℕ
+writtenWords ws lent = take (conversion ws lent .place) (conversion ws lent .words)
+
+-- under the old rules they have the outcome of the old words: number, place, mask, arrival and every cell
+abbrev pub ConversionKept : Type 0
+ConversionKept = (ws lent : List ℕ) → conversion ws lent .number ≡ 0 → (cells : List ℤ) → oldOutcome (writtenWords ws lent) cells ≡ oldOutcome ws cells
+
+-- and planning gives them that outcome too
+abbrev pub ConversionPlans : Type 0
+ConversionPlans = (ws lent : List ℕ) → conversion ws lent .number ≡ 0 → (cells : List ℤ) → outcomeOfWords (writtenWords ws lent) cells ≡ oldOutcome ws cells
