@@ -13,7 +13,7 @@ use Rattle.whole.proofs.Counting.{next-one}
 use Rattle.model.specs.declared.Axis.{Axis}
 use Rattle.model.specs.planning.Motion.{reachable}
 use Rattle.model.specs.planning.Outcome.{allReach}
-use Rattle.running.specs.Running.{Next}
+use Rattle.envelopes.specs.Sums.{Next}
 use Rattle.model.specs.planning.Job.{JobAxis, setAxes}
 use Rattle.model.specs.planning.Refusals.{Passed, AllPassed}
 use Rattle.model.proofs.motions.Threshold.{reached-slow, reached-later}

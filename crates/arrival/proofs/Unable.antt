@@ -10,7 +10,7 @@ use lib.ListN.{length}
 use lib.Dec.{eqb}
 use borrow.Author.Tests.{eq-eqb, ne-eqb}
 use Rattle.whole.proofs.Tests.{lt-or-le}
-use Rattle.running.specs.Running.{Next}
+use Rattle.envelopes.specs.Sums.{Next}
 use Rattle.model.specs.declared.Axis.{Axis}
 use Rattle.model.specs.planning.Motion.{reachable}
 use Rattle.model.specs.planning.Job.{JobAxis, setAxes, maskWhere}

@@ -12,7 +12,7 @@ use lib.ListN.{length, getD, take, drop}
 use Rattle.whole.proofs.Elements.{none-some}
 use Rattle.model.specs.declared.Window.{Window}
 use Rattle.model.specs.declared.Windows.{Windows}
-use Rattle.model.specs.planning.Windows.{brought, fitsWindow, fitsOne, inOrderAfter, firstWrong, windowsRefused, refused13, inWindows}
+use Rattle.model.specs.planning.Windows.{brought, fitsWindow, fitsOne, inOrderAfter, firstWrongWindow, windowsRefused, refused13, inWindows}
 use Rattle.model.specs.planning.Outcome.{leastFrom}
 use Rattle.model.proofs.jobs.WindowsInWords.{none-wrong}
 use Rattle.windows.specs.Ticks.{firstTick, afterLast}
@@ -27,21 +27,21 @@ use Rattle.arrival.proofs.Search.{is-some, is-none}
 pub record Ordered (i c : ℕ) (w : Window) (l : List Window) : Type 0 where
   pub closes : w .opening < w .closing
   pub follows : c ≤ w .opening
-  pub later : firstWrong (suc i) (w .closing) l ≡ none
+  pub later : firstWrongWindow (suc i) (w .closing) l ≡ none
 
-ordered : (i c : ℕ) (w : Window) (l : List Window) → firstWrong i c (w ∷ l) ≡ none → Ordered i c w l
+ordered : (i c : ℕ) (w : Window) (l : List Window) → firstWrongWindow i c (w ∷ l) ≡ none → Ordered i c w l
 ordered i c w l e =
     let r = none-wrong i c (w ∷ l) e 0 w refl in
     record { closes = r .closes; follows = r .follows; later = go (inOrderAfter c w) e }
   where
-    go : (b : Bool) → _≡_ {A = Option ℕ} (elim b as (λ _. Option ℕ) [ true ↦ firstWrong (suc i) (w .closing) l | false ↦ some i ]) none
-        → firstWrong (suc i) (w .closing) l ≡ none
+    go : (b : Bool) → _≡_ {A = Option ℕ} (elim b as (λ _. Option ℕ) [ true ↦ firstWrongWindow (suc i) (w .closing) l | false ↦ some i ]) none
+        → firstWrongWindow (suc i) (w .closing) l ≡ none
     go true e = e
     go false e = absurd (none-some (sym e))
 
 module _ (test : ℕ → Bool) (first end dwell : ℕ) where
   -- a tick that fits one of them is at c or later
-  after : (i c : ℕ) (l : List Window) → firstWrong i c l ≡ none → (n : ℕ) → fitsOne n dwell l ≡ true → c ≤ n
+  after : (i c : ℕ) (l : List Window) → firstWrongWindow i c l ≡ none → (n : ℕ) → fitsOne n dwell l ≡ true → c ≤ n
   after i c [] e n f = absurd (false≢true f)
   after i c (w ∷ l) e n f =
       let o = ordered i c w l e in
@@ -118,20 +118,20 @@ module _ (test : ℕ → Bool) (first end dwell : ℕ) where
 
   -- ---- all windows
 
-  searched-least : (i c : ℕ) (l : List Window) → firstWrong i c l ≡ none → Result (both l) first (end - first) (searched test first end dwell l)
+  searched-least : (i c : ℕ) (l : List Window) → firstWrongWindow i c l ≡ none → Result (both l) first (end - first) (searched test first end dwell l)
   searched-least i c [] e = λ k a b f. absurd (false≢true f)
   searched-least i c (w ∷ l) e =
       let o = ordered i c w l e in
       go (leastFrom test (firstTick first w) (count w l)) (result test (firstTick first w) (count w l)) (o .later)
       (searched-least (suc i) (w .closing) l (o .later))
     where
-      go : (o : Option ℕ) → Result test (firstTick first w) (count w l) o → firstWrong (suc i) (w .closing) l ≡ none
+      go : (o : Option ℕ) → Result test (firstTick first w) (count w l) o → firstWrongWindow (suc i) (w .closing) l ≡ none
           → Result (both l) first (end - first) (searched test first end dwell l)
           → Result (both (w ∷ l)) first (end - first) (elim o as (λ _. Option ℕ) [ some n ↦ some n | none ↦ searched test first end dwell l ])
       go none r s h = onward w l (searched test first end dwell l) r h
       go (some n) r s h = found w l n (λ k q. after (suc i) (w .closing) l s k (fits-of w l k q)) r
 
-  pub searched-is : (l : List Window) → firstWrong 0 0 l ≡ none
+  pub searched-is : (l : List Window) → firstWrongWindow 0 0 l ≡ none
       → searched test first end dwell l ≡ leastFrom (λ n. fitsOne n dwell l && test n) first (end - first)
   searched-is l e =
       let c = end - first in
@@ -172,21 +172,21 @@ module _ (test : ℕ → Bool) (first end dwell : ℕ) (low : 1 ≤ first) (list
 
 -- ---- with windows and without
 
-in-order : (w : Windows) → refused13 w ≡ none → w .given ≡ true → firstWrong 0 0 (brought w) ≡ none
+in-order : (w : Windows) → refused13 w ≡ none → w .given ≡ true → firstWrongWindow 0 0 (brought w) ≡ none
 in-order w e t = by-given (w .given) t e
   where
     by-count : (a b : Bool)
         → _≡_ {A = Option ℕ} (elim a as (λ _. Option ℕ) [
           | true ↦ some 0
-          | false ↦ elim b as (λ _. Option ℕ) [ true ↦ firstWrong 0 0 (brought w) | false ↦ some 32 ]
+          | false ↦ elim b as (λ _. Option ℕ) [ true ↦ firstWrongWindow 0 0 (brought w) | false ↦ some 32 ]
         ]) none
-        → firstWrong 0 0 (brought w) ≡ none
+        → firstWrongWindow 0 0 (brought w) ≡ none
     by-count true b e = absurd (none-some (sym e))
     by-count false true e = e
     by-count false false e = absurd (none-some (sym e))
 
     by-given : (b : Bool) → b ≡ true → _≡_ {A = Option ℕ} (elim b as (λ _. Option ℕ) [ true ↦ windowsRefused w | false ↦ none ]) none
-        → firstWrong 0 0 (brought w) ≡ none
+        → firstWrongWindow 0 0 (brought w) ≡ none
     by-given true t e = by-count (eqb (w .count) 0) (leb (w .count) 32 && leb (w .dwell) 4096) e
     by-given false t e = absurd (false≢true t)
 

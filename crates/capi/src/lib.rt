@@ -14,7 +14,7 @@ ghost use Rattle.model.specs.declared.Order.the-variants.{Forwards, Backwards};
 ghost use Rattle.model.specs.planning.Outcome as Input;
 ghost use Rattle.planner.specs.Promise.{Promise};
 ghost use Rattle.converter.specs.Promise.{Converts};
-ghost use Rattle.layout.specs.Jobs.{jobOf, answerOf};
+ghost use Rattle.layout.specs.Jobs.{jobFromC, answerForC};
 
 // The version of the library, 1,000,000 * major + 1,000 * minor + patch, as the header it belongs to says.
 #[no_mangle]
@@ -29,7 +29,7 @@ pub extern "C" fn polgamir_version() -> u32
 // names and 0 for those that it does not, and then no cell is written.
 #[no_mangle]
 pub extern "C" fn polgamir_plan_words(words: &[u32], table: &mut [i64]) -> PolgamirAnswer
-    ensures { λ r. ⌜ Promise Forwards (Input.words (now (words .entry))) (now (table .entry)) (answerOf r) (now (table .exit)) ⌝ }
+    ensures { λ r. ⌜ Promise Forwards (Input.words (now (words .entry))) (now (table .entry)) (answerForC r) (now (table .exit)) ⌝ }
 {
     returned(planner::plan_words(words, table))
 }
@@ -39,7 +39,7 @@ pub extern "C" fn polgamir_plan_words(words: &[u32], table: &mut [i64]) -> Polga
 // Gives back what the call for words gives; its refusals are 1, 3 to 6, 8 to 10, 12, 13, 15, 16 and 17.
 #[no_mangle]
 pub extern "C" fn polgamir_plan_job(job: PolgamirJob, table: &mut [i64]) -> PolgamirAnswer
-    ensures { λ r. ⌜ Promise Forwards (Input.typed (jobOf job)) (now (table .entry)) (answerOf r) (now (table .exit)) ⌝ }
+    ensures { λ r. ⌜ Promise Forwards (Input.typed (jobFromC job)) (now (table .entry)) (answerForC r) (now (table .exit)) ⌝ }
 {
     let typed = job_of(job);
     returned(planner::plan_job(typed, table))
@@ -50,7 +50,7 @@ pub extern "C" fn polgamir_plan_job(job: PolgamirJob, table: &mut [i64]) -> Polg
 // then no word is written. Mask and arrival are 0.
 #[no_mangle]
 pub extern "C" fn polgamir_convert(words: &[u32], lent: &mut [u32]) -> PolgamirAnswer
-    ensures { λ r. ⌜ Converts (now (words .entry)) (now (lent .entry)) (answerOf r) (now (lent .exit)) ⌝ }
+    ensures { λ r. ⌜ Converts (now (words .entry)) (now (lent .entry)) (answerForC r) (now (lent .exit)) ⌝ }
 {
     returned(converter::convert(words, lent))
 }
@@ -60,7 +60,7 @@ pub extern "C" fn polgamir_convert(words: &[u32], lent: &mut [u32]) -> PolgamirA
 // The answer of `polgamir_plan_words`, and the same rows with the arrival's first and row 0 last.
 #[no_mangle]
 pub extern "C" fn polgamir_plan_words_backwards(words: &[u32], table: &mut [i64]) -> PolgamirAnswer
-    ensures { λ r. ⌜ Promise Backwards (Input.words (now (words .entry))) (now (table .entry)) (answerOf r) (now (table .exit)) ⌝ }
+    ensures { λ r. ⌜ Promise Backwards (Input.words (now (words .entry))) (now (table .entry)) (answerForC r) (now (table .exit)) ⌝ }
 {
     returned(planner::plan_words_backwards(words, table))
 }
@@ -68,7 +68,7 @@ pub extern "C" fn polgamir_plan_words_backwards(words: &[u32], table: &mut [i64]
 // The answer of `polgamir_plan_job`, and the same rows with the arrival's first and row 0 last.
 #[no_mangle]
 pub extern "C" fn polgamir_plan_job_backwards(job: PolgamirJob, table: &mut [i64]) -> PolgamirAnswer
-    ensures { λ r. ⌜ Promise Backwards (Input.typed (jobOf job)) (now (table .entry)) (answerOf r) (now (table .exit)) ⌝ }
+    ensures { λ r. ⌜ Promise Backwards (Input.typed (jobFromC job)) (now (table .entry)) (answerForC r) (now (table .exit)) ⌝ }
 {
     let typed = job_of(job);
     returned(planner::plan_job_backwards(typed, table))

@@ -4,7 +4,7 @@ use layout::job_of;
 use layout::limit_raises::PolgamirRaises;
 use layout::limit_raises::raises_in_c;
 ghost use Rattle.model.specs.planning.Outcome as Input;
-ghost use Rattle.layout.specs.Jobs.{jobOf};
+ghost use Rattle.layout.specs.Jobs.{jobFromC};
 ghost use Rattle.capi.specs.Raises.{RaisesReturned};
 
 // The answer to the job that the words hold, with no table lent, so that 10 never comes; where its number is 8, with the least raise of each limit alone
@@ -19,7 +19,7 @@ pub extern "C" fn polgamir_raises_words(words: &[u32]) -> PolgamirRaises
 // The same for a job of typed values.
 #[no_mangle]
 pub extern "C" fn polgamir_raises_job(job: PolgamirJob) -> PolgamirRaises
-    ensures { λ r. ⌜ RaisesReturned (Input.typed (jobOf job)) r ⌝ }
+    ensures { λ r. ⌜ RaisesReturned (Input.typed (jobFromC job)) r ⌝ }
 {
     let typed = job_of(job);
     raises_in_c(raises::raises_job(typed))

@@ -5,7 +5,7 @@ use layout::row_parts::PolgamirPartAnswer;
 use layout::row_parts::part_returned;
 ghost use Rattle.model.specs.planning.Outcome as Input;
 ghost use Rattle.parts.specs.Promise.{PartPromise};
-ghost use Rattle.layout.specs.Jobs.{jobOf};
+ghost use Rattle.layout.specs.Jobs.{jobFromC};
 ghost use Rattle.layout.specs.Parts.{partOf};
 
 // Plans a job and writes its rows from a first one on into the table, as many whole rows as it holds, up to the arrival's.
@@ -16,7 +16,7 @@ pub extern "C" fn polgamir_plan_job_part(
     first: u32,
     table: &mut [i64],
 ) -> PolgamirPartAnswer
-    ensures { λ r. ⌜ PartPromise (Input.typed (jobOf job)) first (now (table .entry)) (partOf r) (now (table .exit)) ⌝ }
+    ensures { λ r. ⌜ PartPromise (Input.typed (jobFromC job)) first (now (table .entry)) (partOf r) (now (table .exit)) ⌝ }
 {
     let typed = job_of(job);
     part_returned(parts::plan_job_part(typed, first, table))

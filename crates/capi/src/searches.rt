@@ -4,7 +4,7 @@ use layout::job_of;
 use layout::searches::PolgamirSearchAnswer;
 use layout::searches::searched;
 ghost use Rattle.model.specs.planning.Outcome as Input;
-ghost use Rattle.layout.specs.Jobs.{jobOf};
+ghost use Rattle.layout.specs.Jobs.{jobFromC};
 ghost use Rattle.capi.specs.Searches.{SearchReturned};
 
 // Looks for the least tick from the first candidate on, up to 4,096 and within the budget, that every axis of the mask reaches and that fits a window where
@@ -17,7 +17,7 @@ pub extern "C" fn polgamir_search_job(
     first: u32,
     budget: u32,
 ) -> PolgamirSearchAnswer
-    ensures { λ r. ⌜ SearchReturned (Input.typed (jobOf job)) first budget r ⌝ }
+    ensures { λ r. ⌜ SearchReturned (Input.typed (jobFromC job)) first budget r ⌝ }
 {
     let typed = job_of(job);
     searched(search::search_job(typed, first, budget))

@@ -22,10 +22,10 @@ use Rattle.model.specs.calls.Converter.{ConversionVerdict}
 use Rattle.model.proofs.calls.Conversion.{conversion-kept, conversion-plans, conversion-verdict}
 use Rattle.words.specs.declared.DecodedJob.{DecodedJob}
 use Rattle.words.specs.Decoding.{decodedJob, Decodes}
-use Rattle.checks.specs.declared.Refusal.{Refusal}
-use Rattle.checks.specs.Checks.{testsFor, firstRefusal}
+use Rattle.refusals.specs.declared.Refusal.{Refusal}
+use Rattle.refusals.specs.Checks.{testsFor, firstRefusal}
 use Rattle.model.proofs.jobs.CheckingOrder.{Lacks, lacks}
-use Rattle.converter.specs.Promise.{Converts, refusalOf, Gives}
+use Rattle.converter.specs.Promise.{Converts, refusalOf, Answers}
 
 -- ---- refusals 1, 2 and 14
 
@@ -173,7 +173,7 @@ answered n p = record { number = n; place = p; mask = 0; arrival = 0 }
 
 -- n is the number of words needed
 module _ (ws lent : List ℕ) (n : ℕ) (e : n ≡ length ws) where
-  pub too-few : length lent < n → (r : Answer) → r ≡ answered 10 n → Gives (written ws lent) r lent
+  pub too-few : length lent < n → (r : Answer) → r ≡ answered 10 n → Answers (written ws lent) r lent
   unfolding by-room
   too-few h r q =
       record {
@@ -185,7 +185,7 @@ module _ (ws lent : List ℕ) (n : ℕ) (e : n ≡ length ws) where
         arrival = ap (λ (a : Answer). a .arrival) q;
       }
 
-  pub enough : n ≤ length lent → (exit : List ℕ) → exit ≡ over lent 0 ws → (r : Answer) → r ≡ answered 0 n → Gives (written ws lent) r exit
+  pub enough : n ≤ length lent → (exit : List ℕ) → exit ≡ over lent 0 ws → (r : Answer) → r ≡ answered 0 n → Answers (written ws lent) r exit
   unfolding by-room
   enough h exit x r q =
       record {
@@ -200,7 +200,7 @@ module _ (ws lent : List ℕ) (n : ℕ) (e : n ≡ length ws) where
 -- ---- the promise
 
 -- what a stage that ends the call gives is what the call promises
-pub promised : (ws lent : List ℕ) (r : Answer) (exit : List ℕ) → Gives (conversion ws lent) r exit → Converts ws lent r exit
+pub promised : (ws lent : List ℕ) (r : Answer) (exit : List ℕ) → Answers (conversion ws lent) r exit → Converts ws lent r exit
 promised ws lent r exit g =
     record {
       conversion = g .conversion;
@@ -246,7 +246,7 @@ module _ (ws lent : List ℕ) (r : DecodedJob) (d : Decodes ws r) where
     pub soon : q .number ≡ 0 → r .job .asked ≤ lastTick
     soon n = in-time (r .job) (same-number ∙ n)
 
-    pub ends-written : q .number ≡ 0 → (a : Answer) (exit : List ℕ) → Gives (written (converted (r .job .asked) ws) lent) a exit
+    pub ends-written : q .number ≡ 0 → (a : Answer) (exit : List ℕ) → Answers (written (converted (r .job .asked) ws) lent) a exit
         → Converts ws lent a exit
     ends-written n a exit g =
         promised ws lent a exit

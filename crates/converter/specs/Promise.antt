@@ -12,8 +12,8 @@ use Rattle.model.specs.planning.Job.{setAxes}
 use Rattle.model.specs.planning.Refusals.{lastTick}
 use Rattle.model.specs.planning.Outcome.{outcomeOfWords}
 use Rattle.model.specs.calls.Converter.{oldOutcome, Conversion, conversion, ConversionVerdict}
-use Rattle.checks.specs.declared.Refusal.{Refusal}
-use Rattle.checks.specs.Checks.{testsFor, firstRefusal}
+use Rattle.refusals.specs.declared.Refusal.{Refusal}
+use Rattle.refusals.specs.Checks.{testsFor, firstRefusal}
 
 -- ws are the words of the job, entry and exit the lent words before and after the call, r is the answer
 pub record Converts (ws entry : List ℕ) (r : Answer) (exit : List ℕ) : Type 0 where
@@ -39,7 +39,7 @@ refusalOf t =
     ]
 
 -- a stage that ends the call: the answer and the lent words are a conversion of the definitions
-pub record Gives (c : Conversion) (r : Answer) (exit : List ℕ) : Type 0 where
+pub record Answers (c : Conversion) (r : Answer) (exit : List ℕ) : Type 0 where
   pub conversion : record { number = r .number; place = r .place; words = exit } ≡ c
   pub mask : r .mask ≡ 0
   pub arrival : r .arrival ≡ 0

@@ -5,9 +5,9 @@
 //     convert           words::decode          refusals 1, 2 and 14
 //                       refusal                3, 4, 5, 15, 6, 16, and 17 where the least arrival is sought
 //                       write_converted        10, or the converted words
-use checks::Refusal;
 use model::Answer;
 use model::Job;
+use refusals::Refusal;
 ghost use mathlib.Core.Path.{_≡_};
 ghost use Prim.Native.Nat.{_<_, _≤_};
 ghost use lib.ListN.{length};
@@ -15,11 +15,11 @@ ghost use Rattle.whole.specs.Lists.{over, Room, Written};
 ghost use Rattle.model.specs.planning.Refusals.{lastTick};
 ghost use Rattle.model.specs.calls.Converter.{converted, written};
 ghost use Rattle.converter.specs.Pieces.{flyingAt, pieceAt, neededFor};
-ghost use Rattle.converter.specs.Promise.{Converts, Gives, refusalOf};
+ghost use Rattle.converter.specs.Promise.{Converts, Answers, refusalOf};
 
 // Writes the converted words of a job at the start of the lent ones. Words that are not the velocity of a fixed target that flies are copied; such a one
 // is followed by an acceleration of 0 and the asked arrival as tick.
-// Gives back number 0 with the number of words written as place, and later lent words stay; or, with every lent word as it was, the first of refusals 1, 2,
+// Answers back number 0 with the number of words written as place, and later lent words stay; or, with every lent word as it was, the first of refusals 1, 2,
 // 14, 3, 4, 5, 15, 6, 16 and 17 with its place, 17 only where the least arrival is sought; or 10 with the number of words needed as place. Mask and arrival
 // are 0. Whether the asked arrival can be reached is not looked at.
 pub fn convert(words: &[u32], lent: &mut [u32]) -> Answer
@@ -50,14 +50,14 @@ fn refusal(job: Job) -> Refusal
     }
     let axes = job.axes;
     let windows = job.windows;
-    checks::check(job.mask, axes, windows, asked == 0)
+    refusals::check(job.mask, axes, windows, asked == 0)
 }
 
 // ---- refusal 10, or the converted words
 
 fn write_converted(words: &[u32], asked: u32, lent: &mut [u32]) -> Answer
     requires { ⌜ asked ≤ lastTick ⌝ }
-    ensures { λ r. ⌜ Gives (written (converted asked (now (words .entry))) (now (lent .entry))) r (now (lent .exit)) ⌝ }
+    ensures { λ r. ⌜ Answers (written (converted asked (now (words .entry))) (now (lent .entry))) r (now (lent .exit)) ⌝ }
 {
     let needed = words_needed(words);
     if lent.len() < needed {

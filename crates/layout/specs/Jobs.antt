@@ -46,22 +46,22 @@ unfoldable pub targetOf : PolgamirAxis → Target
 targetOf a = cond (eqb (a .«target_kind») 0) (Fixed (fixedOf a)) (Moving (movingOf a))
 
 -- of an axis or of a tour's limits: the number given where the kind is 0, of a ratio where it is 1, of two peaks where it is any other number
-unfoldable pub weightOf : ℕ → ℕ → Float → Float → Float → Weight
-weightOf kind weight ratio first second =
+unfoldable pub weightFromC : ℕ → ℕ → Float → Float → Float → Weight
+weightFromC kind weight ratio first second =
     cond (eqb kind 0) (Given weight) (cond (eqb kind 1) (Measured (Ratio ratio)) (Measured (Peaks first second)))
 
 -- of an axis or of a tour's limits: none where it is given by 0, and by any other number of the half period
 unfoldable pub swayOf : ℕ → ℕ → SecondSway
 swayOf given period = cond (eqb given 0) Absent (HalfPeriod period)
 
-unfoldable pub axisOf : PolgamirAxis → Axis
-axisOf a =
+unfoldable pub axisFromC : PolgamirAxis → Axis
+axisFromC a =
     record {
       start = startOf a;
       «speed_limit» = a .«speed_limit»;
       «acceleration_limit» = a .«acceleration_limit»;
       «half_period» = a .«half_period»;
-      «second_weight» = weightOf (a .«damping_kind») (a .«second_weight») (a .«swing_ratio») (a .«first_peak») (a .«second_peak»);
+      «second_weight» = weightFromC (a .«damping_kind») (a .«second_weight») (a .«swing_ratio») (a .«first_peak») (a .«second_peak»);
       «second_sway» = swayOf (a .«second_sway_given») (a .«second_half_period»);
       target = targetOf a;
     }
@@ -73,18 +73,18 @@ unfoldable pub namedOf : {A B : Type 0} → (A → B) → B → ℕ → List A �
 namedOf f unset m [] = []
 namedOf f unset m (x ∷ xs) = cond (eqb (m % 2) 1) (f x) unset ∷ namedOf f unset (m / 2) xs
 
-abbrev pub axesOf : ℕ → List PolgamirAxis → List Axis
-axesOf m l = namedOf axisOf unsetAxis m l
+abbrev pub axesFromC : ℕ → List PolgamirAxis → List Axis
+axesFromC m l = namedOf axisFromC unsetAxis m l
 
 -- none where they are given by 0: what follows is then not looked at; by any other number as they stand
 unfoldable pub windowsOf : PolgamirWindows → Windows
 windowsOf w = cond (eqb (w .given) 0) noWindows (record { given = true; dwell = w .dwell; count = w .count; list = w .list })
 
-abbrev pub jobOf : PolgamirJob → Job
-jobOf j = record { mask = j .mask; asked = j .asked; axes = axesOf (j .mask) (j .axes); windows = windowsOf (j .windows) }
+abbrev pub jobFromC : PolgamirJob → Job
+jobFromC j = record { mask = j .mask; asked = j .asked; axes = axesFromC (j .mask) (j .axes); windows = windowsOf (j .windows) }
 
 -- ---- an answer
 
 -- the planner's answer that C's holds
-abbrev pub answerOf : PolgamirAnswer → Answer
-answerOf r = record { number = r .number; place = r .place; mask = r .mask; arrival = r .arrival }
+abbrev pub answerForC : PolgamirAnswer → Answer
+answerForC r = record { number = r .number; place = r .place; mask = r .mask; arrival = r .arrival }

@@ -7,7 +7,7 @@ use Rattle.model.specs.declared.TourSettings.{TourSettings}
 use Rattle.model.specs.declared.Weight.the-variants.{Given}
 use Rattle.layout.specs.declared.tours.PolgamirLimits.{PolgamirLimits}
 use Rattle.layout.specs.declared.tours.PolgamirTour.{PolgamirTour}
-use Rattle.layout.specs.Jobs.{weightOf, swayOf, namedOf}
+use Rattle.layout.specs.Jobs.{weightFromC, swayOf, namedOf}
 
 unfoldable pub limitsOf : PolgamirLimits → AxisLimits
 limitsOf l =
@@ -15,7 +15,7 @@ limitsOf l =
       «speed_limit» = l .«speed_limit»;
       «acceleration_limit» = l .«acceleration_limit»;
       «half_period» = l .«half_period»;
-      «second_weight» = weightOf (l .«damping_kind») (l .«second_weight») (l .«swing_ratio») (l .«first_peak») (l .«second_peak»);
+      «second_weight» = weightFromC (l .«damping_kind») (l .«second_weight») (l .«swing_ratio») (l .«first_peak») (l .«second_peak»);
       «second_sway» = swayOf (l .«second_sway_given») (l .«second_half_period»);
     }
 

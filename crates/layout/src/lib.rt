@@ -16,7 +16,7 @@ use model::Weight;
 use model::Window;
 use model::Windows;
 ghost use mathlib.Core.Path.{_≡_};
-ghost use Rattle.layout.specs.Jobs.{startOf, fixedOf, movingOf, targetOf, weightOf, swayOf, axisOf, axesOf, windowsOf, jobOf, answerOf};
+ghost use Rattle.layout.specs.Jobs.{startOf, fixedOf, movingOf, targetOf, weightFromC, swayOf, axisFromC, axesFromC, windowsOf, jobFromC, answerForC};
 
 // What a call gives back, laid out as the header's `polgamir_answer`.
 #[repr(C)]
@@ -70,7 +70,7 @@ pub struct PolgamirJob {
 
 // The planner's answer in the header's layout.
 pub fn returned(r: Answer) -> PolgamirAnswer
-    ensures { λ c. ⌜ answerOf c ≡ r ⌝ }
+    ensures { λ c. ⌜ answerForC c ≡ r ⌝ }
 {
     PolgamirAnswer {
         number: r.number,
@@ -124,7 +124,7 @@ fn target_of(a: PolgamirAxis) -> Target
 
 // The second weight of an axis or of a tour's limits, from its five fields.
 fn weight_of(kind: u32, weight: u32, ratio: f32, first: f32, second: f32) -> Weight
-    ensures { λ r. ⌜ r ≡ weightOf kind weight ratio first second ⌝ }
+    ensures { λ r. ⌜ r ≡ weightFromC kind weight ratio first second ⌝ }
 {
     if kind == 0 {
         return Weight::Given(weight);
@@ -148,7 +148,7 @@ fn sway_of(given: u32, half_period: u32) -> SecondSway
 }
 
 fn axis_of(a: PolgamirAxis) -> Axis
-    ensures { λ r. ⌜ r ≡ axisOf a ⌝ }
+    ensures { λ r. ⌜ r ≡ axisFromC a ⌝ }
 {
     let start = start_of(a);
     let weight = weight_of(
@@ -173,7 +173,7 @@ fn axis_of(a: PolgamirAxis) -> Axis
 
 // The axes that the mask names. The others are not read, and unset.
 fn axes_of(mask: u32, list: [PolgamirAxis; 6]) -> [Axis; 6]
-    ensures { λ r. ⌜ r ≡ axesOf mask list ⌝ }
+    ensures { λ r. ⌜ r ≡ axesFromC mask list ⌝ }
 {
     let unset = words::unset_axis();
     let mut axes = [unset; 6];
@@ -210,7 +210,7 @@ fn windows_of(w: PolgamirWindows) -> Windows
 }
 
 pub fn job_of(job: PolgamirJob) -> Job
-    ensures { λ r. ⌜ r ≡ jobOf job ⌝ }
+    ensures { λ r. ⌜ r ≡ jobFromC job ⌝ }
 {
     let list = job.axes;
     let axes = axes_of(job.mask, list);

@@ -3,13 +3,13 @@
 -- The weight of damping as measured.
 pub mod MeasuredWeight
 -- A measured weight and the same weight given.
-pub mod ByHand
+pub mod GivenWeights
 -- The bits of a mask.
 pub mod Masks
 -- The ranges of an axis that passed its refusals.
 pub mod PassedAxis
 -- An axis that can be planned for an arrival.
-pub mod ReadyAxis
+pub mod PlannableAxis
 -- Two jobs that nothing tells apart.
 pub mod MappedAxes
 -- Windows: decisions and words agree.

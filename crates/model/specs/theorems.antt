@@ -7,7 +7,7 @@ pub mod Grammar
 -- The words of a job, and that a job has one spelling.
 pub mod Spelling
 -- Damping as measured gives what the same job with its weights given does.
-pub mod ByHand
+pub mod GivenWeights
 -- A motion mirrored has every cell negated.
 pub mod Mirror
 -- Finer motors gain no time.

@@ -18,7 +18,7 @@ use Rattle.model.specs.planning.Motion.{landingAcceleration, arrivalVelocity, r
 use Rattle.model.specs.planning.Refusals.{Passed}
 use Rattle.model.specs.theorems.Threshold.{Slow}
 use Rattle.model.proofs.motions.Threshold.{arrival-later, slow-ahead, reached-slow, reached-later, missed-before}
-use Rattle.running.specs.Running.{Next}
+use Rattle.envelopes.specs.Sums.{Next}
 use Rattle.motion.specs.declared.Span.{Span}
 use Rattle.motion.specs.Halving.{roomToward, TicksWithin, LastPassing, Narrower}
 use Rattle.motion.proofs.Steady.{reach-after}

@@ -28,8 +28,8 @@ use Rattle.model.specs.theorems.Threshold.{Slow}
 use Rattle.model.proofs.motions.Threshold.{reached-later}
 use Rattle.model.proofs.legs.WholeSum.{sum-is-whole}
 use Rattle.profile.specs.Profiles.{endsAllowed, sumBetween}
-use Rattle.running.specs.Running.{withTicks, betweenAt, Next}
-use Rattle.running.specs.Skips.{Lasting}
+use Rattle.envelopes.specs.Sums.{withTicks, betweenAt, Next}
+use Rattle.envelopes.specs.Skips.{Lasting}
 use Rattle.profile.proofs.FeasibleParts.{feasible-parts}
 use Rattle.motion.specs.Motions.{speedOf, driftOf, drift}
 

@@ -5,14 +5,14 @@ use Rattle.model.specs.declared.Axis.{Axis}
 use Rattle.model.specs.declared.Weight.{Weight}
 use Rattle.model.specs.declared.Weight.the-variants.{Given, Measured}
 use Rattle.model.specs.planning.Damping.{weightOf}
-use Rattle.model.specs.planning.Job.{byHand}
+use Rattle.model.specs.planning.Job.{withWeight}
 use Rattle.motion.specs.Motions.{measuredBy, measured}
 
 given-weight : (w : Weight) → measuredBy w ≡ false → w ≡ Given (weightOf w)
 given-weight (Given b) e = refl
 given-weight (Measured d) e = absurd (false≢true (sym e))
 
-pub given-is : (x : Axis) → measured x ≡ false → x ≡ byHand x
+pub given-is : (x : Axis) → measured x ≡ false → x ≡ withWeight x
 given-is x e =
     λ i.
     record {

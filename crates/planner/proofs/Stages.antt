@@ -16,7 +16,7 @@ use Rattle.model.specs.declared.Answer.{Answer}
 use Rattle.model.specs.declared.Order.the-variants.{Forwards}
 use Rattle.model.specs.declared.PartAnswer.{PartAnswer}
 use Rattle.model.specs.declared.Windows.{Windows}
-use Rattle.model.specs.planning.Job.{Job, JobAxis, setBits, axesOf, jobWith, jobByHand}
+use Rattle.model.specs.planning.Job.{Job, JobAxis, setBits, axesOf, jobWith, jobWithWeight}
 use Rattle.model.specs.planning.Windows.{refused13}
 use Rattle.model.specs.planning.Refusals.{lastTick}
 use Rattle.model.specs.planning.Outcome.{Outcome, Tests, axisRefusals, firstAxis, outcomeOf, refuse, leastFrom, arrives, partOver, filled, arrived, jobOutcome, ordered, beforeTen}
@@ -25,15 +25,15 @@ use Rattle.arrival.specs.declared.Arrival.{Arrival}
 use Rattle.arrival.specs.Arrivals.{leastOr, askedOr, arrivalFor}
 use Rattle.arrival.proofs.SetAxes.{six-bits}
 use Rattle.model.proofs.jobs.Ordered.{refusal-stays}
-use Rattle.model.proofs.jobs.ByHand.{ordered-by-hand, arrived-by-hand, part-by-hand}
-use Rattle.checks.specs.declared.Refusal.{Refusal}
-use Rattle.checks.specs.Checks.{firstRefusal, checkedFor, namedByHand}
+use Rattle.model.proofs.jobs.GivenWeights.{ordered-with-weight, arrived-with-weight, part-with-weight}
+use Rattle.refusals.specs.declared.Refusal.{Refusal}
+use Rattle.refusals.specs.Checks.{firstRefusal, checkedFor, namedWithWeight}
 use Rattle.planner.specs.declared.Wanted.{Wanted}
 use Rattle.planner.specs.declared.Wanted.the-variants.{Whole, From}
 use Rattle.planner.specs.Promise.{partOutcome}
 use Rattle.planner.specs.Stages.{GivesAll, Gives, GivesFrom}
-use Rattle.checks.proofs.Checks.{afterChecks, checks-are}
-use Rattle.checks.proofs.Weights.{axes-given}
+use Rattle.refusals.proofs.Checks.{afterChecks, checks-are}
+use Rattle.refusals.proofs.Weights.{axes-given}
 
 -- ---- where a stage ends a call
 
@@ -110,46 +110,46 @@ checks-not-ten j c is e = go (leb (j .asked) lastTick) (sym (ap (λ (r : Refusal
 
 -- ---- with the weights by hand
 
-part-with-by-hand : (j : Job) (k : ℕ) (lent : List ℤ) (a : Answer) → partWith a (axesOf (jobByHand j)) k lent ≡ partWith a (axesOf j) k lent
-part-with-by-hand j k lent a =
+part-with-with-weight : (j : Job) (k : ℕ) (lent : List ℤ) (a : Answer) → partWith a (axesOf (jobWithWeight j)) k lent ≡ partWith a (axesOf j) k lent
+part-with-with-weight j k lent a =
     λ i. elim (eqb (a .number) 0) as (λ _. PartOutcome) [ true ↦ accepted i | false ↦ partRefused a lent ]
   where
     xs : List Axis
-    xs = axesOf (jobByHand j)
+    xs = axesOf (jobWithWeight j)
 
     c : ℕ → ℕ
     c l = partRows l (a .arrival) k (length lent)
 
     same : length xs ≡ length (axesOf j)
-    same = length-map (jobByHand j .axes) (λ x. x .axis) ∙ length-map (j .axes) _ ∙ sym (length-map (j .axes) (λ x. x .axis))
+    same = length-map (jobWithWeight j .axes) (λ x. x .axis) ∙ length-map (j .axes) _ ∙ sym (length-map (j .axes) (λ x. x .axis))
 
     accepted : partAccepted a xs k lent ≡ partAccepted a (axesOf j) k lent
     accepted =
         ap (λ (l : ℕ). record { answer = a; rows = c l; cells = partOver Forwards xs (a .arrival) k (c l) lent }) same
-        ∙ ap (λ (l : List ℤ). record { answer = a; rows = c (length (axesOf j)); cells = l }) (part-by-hand Forwards j (a .arrival) k (c (length (axesOf j))) lent)
+        ∙ ap (λ (l : List ℤ). record { answer = a; rows = c (length (axesOf j)); cells = l }) (part-with-weight Forwards j (a .arrival) k (c (length (axesOf j))) lent)
 
-module _ (m asked : ℕ) (axes given : List Axis) (v : Windows) (is : given ≡ namedByHand m axes) (lent : List ℤ) (r : PartAnswer) (exit : List ℤ) where
+module _ (m asked : ℕ) (axes given : List Axis) (v : Windows) (is : given ≡ namedWithWeight m axes) (lent : List ℤ) (r : PartAnswer) (exit : List ℤ) where
   Given : Wanted → Job → Type 0
   Given w j = Gives w (j .mask) (axesOf j) lent (arrived j asked lent) r exit
 
   j : Job
   j = jobWith m asked axes v
 
-  by-hand : (w : Wanted) → Given w (jobByHand j) → Given w j
+  with-weight : (w : Wanted) → Given w (jobWithWeight j) → Given w j
   unfolding Given j
-  by-hand (Whole o) g =
+  with-weight (Whole o) g =
       subst (λ (q : Outcome). GivesAll q (r .answer) exit)
-      (ordered-by-hand o j lent (arrived (jobByHand j) asked lent) ∙ ap (λ (q : Outcome). ordered o (axesOf j) lent q) (arrived-by-hand j asked lent)) g
-  by-hand (From k) g =
+      (ordered-with-weight o j lent (arrived (jobWithWeight j) asked lent) ∙ ap (λ (q : Outcome). ordered o (axesOf j) lent q) (arrived-with-weight j asked lent)) g
+  with-weight (From k) g =
       g
-      ∙ part-with-by-hand j k lent (beforeTen m (arrived (jobByHand j) asked lent))
-      ∙ ap (λ (q : Outcome). partWith (beforeTen m q) (axesOf j) k lent) (arrived-by-hand j asked lent)
+      ∙ part-with-with-weight j k lent (beforeTen m (arrived (jobWithWeight j) asked lent))
+      ∙ ap (λ (q : Outcome). partWith (beforeTen m q) (axesOf j) k lent) (arrived-with-weight j asked lent)
 
   pub given-arrives : (w : Wanted) → GivesFrom w (jobWith m asked given v) (λ j. arrived j asked) lent r exit
       → GivesFrom w (jobWith m asked axes v) (λ j. arrived j asked) lent r exit
   unfolding Given j
   given-arrives w g =
-      by-hand w (subst (λ (l : List JobAxis). Given w (record { mask = m; asked = asked; axes = l; windows = v })) (axes-given m axes given is) g)
+      with-weight w (subst (λ (l : List JobAxis). Given w (record { mask = m; asked = asked; axes = l; windows = v })) (axes-given m axes given is) g)
 
 -- ---- after the arrival
 

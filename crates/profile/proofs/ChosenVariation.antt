@@ -21,8 +21,8 @@ use Rattle.model.specs.declared.Axis.{Axis}
 use Rattle.model.specs.planning.Quantities.{accelerationSteps}
 use Rattle.model.specs.planning.Leg.{Leg, Meets, clamped, required, cruise, chosen, feasible}
 use Rattle.model.specs.planning.Motion.{Tick, leg, displacement, landingTick, landingAcceleration}
-use Rattle.model.specs.planning.Rows.{track, tickAt}
-use Rattle.model.specs.planning.Refusals.{Ready}
+use Rattle.model.specs.planning.Rows.{plannedAxis, tickAt}
+use Rattle.model.specs.planning.Refusals.{Plannable}
 use Rattle.model.specs.planning.Demand.{CellTable}
 use Rattle.model.specs.theorems.Misfit.{variation, plannedVariation, SwayLeft}
 use Rattle.model.proofs.legs.Envelopes.{Joined, clamped-end}
@@ -30,9 +30,9 @@ use Rattle.model.proofs.legs.ChosenMeets.{chosen-meets}
 use Rattle.model.proofs.legs.FeasibleTests.{feasible-joined}
 use Rattle.model.proofs.motions.PlannedTarget.{tick-landed}
 use Rattle.model.proofs.tables.MeasuredMisfit.{measured-left}
-use Rattle.model.proofs.jobs.ReadyAxis.{after, weight-range, some-acceleration, speed-range, moves}
+use Rattle.model.proofs.jobs.PlannableAxis.{after, weight-range, some-acceleration, speed-range, moves}
 use Rattle.model.proofs.tables.CellLimits.{planned-change, now-acceleration}
-use Rattle.model.proofs.tables.Demand.{ready-axes, sway-left}
+use Rattle.model.proofs.tables.Demand.{plannable-axes, sway-left}
 use Rattle.profile.specs.declared.Regions.{Regions}
 use Rattle.profile.specs.Variation.{mostVariation, MostSwayHolds, MostMeasuredHolds}
 use Rattle.profile.specs.Regions.{rise, fall, chosenRegions, velocityIn}
@@ -225,17 +225,17 @@ variation-same a b (suc k) f =
     ap₂ (λ (m : ℕ) (z : ℤ). m + natAbs z) (variation-same a b k (λ i h. f i (omega arith)))
     (ap₂ (λ (y z : ℤ). y -ℤ z) (f (suc k) (omega arith)) (f k (omega arith)))
 
-module _ (x : Axis) (n : ℕ) (ready : Ready x n) where
+module _ (x : Axis) (n : ℕ) (plannable : Plannable x n) where
   abbrev α : ℕ → ℤ
-  α k = tickAt (track n x) k .acceleration
+  α k = tickAt (plannedAxis n x) k .acceleration
 
   some-ticks : 0 < landingTick x n
-  some-ticks = omega (arith, after x n ready)
+  some-ticks = omega (arith, after x n plannable)
 
   before-landing : (k : ℕ) → k < landingTick x n → variation α k ≤ 3 * accelerationSteps x + 2
   before-landing k h =
-      subst (λ (m : ℕ). m ≤ 3 * accelerationSteps x + 2) (sym (variation-same α _ k (λ i l. planned-change x n ready i (omega arith))))
-      (chosen-variation (leg x n) (displacement x n) some-ticks (some-acceleration x n ready) (speed-range x n ready) (moves x n ready) k h)
+      subst (λ (m : ℕ). m ≤ 3 * accelerationSteps x + 2) (sym (variation-same α _ k (λ i l. planned-change x n plannable i (omega arith))))
+      (chosen-variation (leg x n) (displacement x n) some-ticks (some-acceleration x n plannable) (speed-range x n plannable) (moves x n plannable) k h)
 
   pub planned-variation : plannedVariation x n ≤ mostVariation x n
   planned-variation = go (landingTick x n) refl
@@ -243,7 +243,7 @@ module _ (x : Axis) (n : ℕ) (ready : Ready x n) where
       landed : α (landingTick x n) ≡ landingAcceleration x n
       landed =
           ap α {x = landingTick x n} {y = landingTick x n + 0} (omega arith)
-          ∙ ap (λ (t : Tick). t .acceleration) (tick-landed x n ready 0 (omega arith))
+          ∙ ap (λ (t : Tick). t .acceleration) (tick-landed x n plannable 0 (omega arith))
 
       go : (k : ℕ) → k ≡ landingTick x n → variation α k ≤ mostVariation x n
       go zero e = absurd (omega (arith, some-ticks))
@@ -251,7 +251,7 @@ module _ (x : Axis) (n : ℕ) (ready : Ready x n) where
           omega (
             arith,
             before-landing k (omega arith),
-            now-acceleration x n ready k (omega (arith, after x n ready)),
+            now-acceleration x n plannable k (omega (arith, after x n plannable)),
             apart (α k) (α (suc k)),
             ap natAbs (ap α e ∙ landed),
           )
@@ -267,8 +267,8 @@ wider p q x i n g h l =
 
 pub sway-most : MostSwayHolds
 sway-most o q lent z i x e =
-    wider plannedVariation mostVariation x i _ _ (planned-variation x _ (ready-axes o q lent z i x e)) (sway-left o q lent z i x e)
+    wider plannedVariation mostVariation x i _ _ (planned-variation x _ (plannable-axes o q lent z i x e)) (sway-left o q lent z i x e)
 
 pub measured-most : MostMeasuredHolds
 measured-most o q lent z i x e =
-    measured-left mostVariation x (weight-range x _ (ready-axes o q lent z i x e)) i _ _ (sway-most o q lent z i x e)
+    measured-left mostVariation x (weight-range x _ (plannable-axes o q lent z i x e)) i _ _ (sway-most o q lent z i x e)

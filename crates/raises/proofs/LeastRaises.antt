@@ -17,10 +17,10 @@ use Rattle.model.specs.calls.Raises.{limitOf, highest, withLimit, raiseOf}
 use Rattle.model.proofs.calls.LeastRaise.{raise-missing}
 use Rattle.model.proofs.jobs.LeastTick.{Result, result, one-result}
 use Rattle.model.proofs.jobs.PassedAxis.{speed-limit, some-acceleration}
-use Rattle.running.specs.Running.{Next}
-use Rattle.limits.specs.declared.Task.{Task}
-use Rattle.limits.specs.Limits.{limitIn, enough, enoughWith}
-use Rattle.limits.specs.Tasks.{TaskIs}
+use Rattle.envelopes.specs.Sums.{Next}
+use Rattle.least_limit.specs.declared.Task.{Task}
+use Rattle.least_limit.specs.Limits.{limitIn, enough, enoughWith}
+use Rattle.least_limit.specs.Tasks.{TaskIs}
 use Rattle.raises.proofs.BothRaises.{none-of, some-of}
 use Rattle.raises.specs.Promise.{orNone, leastRaise}
 

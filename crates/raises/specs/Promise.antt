@@ -8,8 +8,8 @@ use Rattle.model.specs.declared.Limit.{Limit}
 use Rattle.model.specs.declared.RaisesAnswer.{RaisesAnswer}
 use Rattle.model.specs.planning.Outcome.{Input, inputJob, leastFrom}
 use Rattle.model.specs.calls.Raises.{highest, raisesCall, RaisesHold, RaisesCallVerdict}
-use Rattle.limits.specs.declared.Task.{Task}
-use Rattle.limits.specs.Limits.{limitIn, enoughWith}
+use Rattle.least_limit.specs.declared.Task.{Task}
+use Rattle.least_limit.specs.Limits.{limitIn, enoughWith}
 
 -- q is what the call was given, r the answer
 pub record RaisesPromise (q : Input) (r : RaisesAnswer) : Type 0 where

@@ -6,8 +6,8 @@
 //     raises_job      planner::answer_of    every other answer
 //     raises_for      raises_of             the axes that do not reach the asked arrival
 //     raises_of       task_of               what does not depend on the limits, once an axis
-//                     limits::least_limit   by least_raise, for M and for L, in_order
-use limits::Task;
+//                     least_limit::least_limit   by least_raise, for M and for L, in_order
+use least_limit::Task;
 use model::Answer;
 use model::Axis;
 use model::AxisRaises;
@@ -25,8 +25,8 @@ ghost use Rattle.model.specs.planning.Quantities.{delay};
 ghost use Rattle.model.specs.planning.Refusals.{Passed, AllPassed, lastTick};
 ghost use Rattle.model.specs.planning.Outcome as Input;
 ghost use Rattle.model.specs.calls.Raises.{highest, inOrder, raisesOf, raisesFrom, noneRaised};
-ghost use Rattle.limits.specs.Limits.{TaskRanged};
-ghost use Rattle.limits.specs.Tasks.{taskWith, fastestOf, TaskIs};
+ghost use Rattle.least_limit.specs.Limits.{TaskRanged};
+ghost use Rattle.least_limit.specs.Tasks.{taskWith, fastestOf, TaskIs};
 ghost use Rattle.raises.specs.Promise.{RaisesPromise, orNone, leastRaise};
 
 // The answer to a job with no table lent, so that 10 never comes; where its number is 8, with the raises of each axis that its mask names, and else
@@ -105,7 +105,7 @@ fn raises_of(x: Axis, n: u32) -> AxisRaises
     requires { ⌜ n ≤ lastTick ⌝ }
     ensures { λ r. ⌜ r ≡ raisesOf x n ⌝ }
 {
-    let given = motion::by_hand(x);
+    let given = motion::with_weight(x);
     if n <= motion::delay_of(given) {
         return pair(Raise::NoRaise, Raise::NoRaise);
     }
@@ -150,9 +150,9 @@ fn least_raise(t: Task, limit: Limit) -> u32
     requires { ⌜ TaskRanged t ⌝ }
     ensures { λ r. ⌜ orNone r ≡ leastRaise limit t ⌝ }
 {
-    let current = limits::limit_in(t, limit);
+    let current = least_limit::limit_in(t, limit);
     let most = highest(limit);
-    let found = limits::least_limit(t, limit, most);
+    let found = least_limit::least_limit(t, limit, most);
     if most < found {
         return 0;
     }

@@ -11,9 +11,9 @@ use lib.ListN.{length, getD, take}
 use lib.Seq.{take-suc, take-length, length-take-le}
 use Rattle.model.specs.declared.Order.{Order}
 use Rattle.model.specs.planning.Rows.{tabulate, rowAt}
-use Rattle.tracks.specs.declared.AxisPlan.{AxisPlan}
+use Rattle.blended.specs.declared.AxisPlan.{AxisPlan}
 use Rattle.rows.specs.Plans.{unsetPlan}
-use Rattle.tracks.specs.Tracks.{axisCells}
+use Rattle.blended.specs.BlendedStates.{axisCells}
 use Rattle.rows.specs.Table.{planRow}
 
 flatten-append : (l m : List (List ℤ)) → flatten (l ++ m) ≡ flatten l ++ flatten m

@@ -10,11 +10,11 @@ use lib.ListN.{length, getD, drop, length-append}
 use lib.Seq.{length-take-le}
 use Rattle.model.specs.declared.Order.{Order}
 use Rattle.model.specs.planning.Rows.{rowAt}
-use Rattle.tracks.specs.declared.AxisPlan.{AxisPlan}
+use Rattle.blended.specs.declared.AxisPlan.{AxisPlan}
 use Rattle.rows.specs.declared.Plan.{Plan}
-use Rattle.tracks.specs.declared.Track.{Track}
+use Rattle.blended.specs.declared.BlendedState.{BlendedState}
 use Rattle.rows.specs.Plans.{unsetPlan, plansOf, Each, Fillable}
-use Rattle.tracks.specs.Tracks.{trackAt, cellsOf, axisCells}
+use Rattle.blended.specs.BlendedStates.{blendedStateAt, cellsOf, axisCells}
 use Rattle.rows.specs.Table.{planRow, rowsOver}
 use Rattle.whole.specs.Lists.{over}
 use Rattle.whole.proofs.Lists.{over-over}
@@ -62,9 +62,9 @@ module _ (ps : List AxisPlan) (k : ℕ) (t₁ : List ℤ) (at₁ : ℕ) where
   pub row-starts : at₁ ≤ length t₁ → t₁ ≡ over t₁ at₁ (rowTo ps k 0)
   row-starts h = sym (ap (over t₁ at₁) (row-none ps k) ∙ over-nil t₁ at₁ h)
 
-  pub row-goes-on : (i at : ℕ) (t t′ : List ℤ) (u v : Track) → i < length ps → at₁ + 3 * i + 3 ≤ length t₁
+  pub row-goes-on : (i at : ℕ) (t t′ : List ℤ) (u v : BlendedState) → i < length ps → at₁ + 3 * i + 3 ≤ length t₁
       → at ≡ at₁ + 3 * i → t ≡ over t₁ at₁ (rowTo ps k i)
-      → u ≡ trackAt (getD ps i unsetPlan) k → v ≡ trackAt (getD ps i unsetPlan) (suc k)
+      → u ≡ blendedStateAt (getD ps i unsetPlan) k → v ≡ blendedStateAt (getD ps i unsetPlan) (suc k)
       → t′ ≡ over t at (cellsOf u v) → t′ ≡ over t₁ at₁ (rowTo ps k (i + 1))
   row-goes-on i at t t′ u v l h p c e f w =
       w

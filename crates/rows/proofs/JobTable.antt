@@ -7,41 +7,41 @@ use lib.IntN.{ℤ}
 use lib.ListN.{length, drop, length-map}
 use Rattle.model.specs.declared.Axis.{Axis}
 use Rattle.model.specs.declared.Order.{Order}
-use Rattle.model.specs.planning.Rows.{track, tabulate, row, rowAt, part}
+use Rattle.model.specs.planning.Rows.{plannedAxis, tabulate, row, rowAt, part}
 use Rattle.model.specs.planning.Job.{JobAxis, setAxes, axesOf, typedJob}
 use Rattle.model.specs.planning.Refusals.{lastTick}
 use Rattle.model.specs.planning.Outcome.{partOver}
 use Rattle.model.proofs.tables.CellPlaces.{row-place}
 use Rattle.model.proofs.tables.Reversed.{tabulate-same}
 use Rattle.rows.specs.Plans.{plansFor, plansOf, PlanIs, Each, Fillable}
-use Rattle.tracks.specs.Plans.{arrivalOf, PlanRanges}
-use Rattle.tracks.specs.declared.AxisPlan.{AxisPlan}
+use Rattle.blended.specs.Plans.{arrivalOf, PlanRanges}
+use Rattle.blended.specs.declared.AxisPlan.{AxisPlan}
 use Rattle.rows.specs.declared.Plan.{Plan}
-use Rattle.tracks.specs.Tracks.{Lands}
+use Rattle.blended.specs.BlendedStates.{LandsAt}
 use Rattle.rows.specs.Table.{planRow, planPart, rowsOver}
-use Rattle.tracks.proofs.BlendedTicks.{cells-are, lands}
-use Rattle.rows.proofs.ReadyAxes.{AllReady, all-ranged, all-arrive}
+use Rattle.blended.proofs.BlendedTicks.{cells-are, lands}
+use Rattle.rows.proofs.PlannableAxes.{AllPlannable, all-ranged, all-arrive}
 
-row-is : (n k : ℕ) (xs : List JobAxis) → AllReady n xs → k ≤ n → planRow (plansFor n xs) k ≡ row (map (track n) (map (λ (x : JobAxis). x .axis) xs)) k
+row-is : (n k : ℕ) (xs : List JobAxis) → AllPlannable n xs → k ≤ n → planRow (plansFor n xs) k ≡ row (map (plannedAxis n) (map (λ (x : JobAxis). x .axis) xs)) k
 unfolding flatten
 row-is n k [] r h = refl
 row-is n k (x ∷ xs) r h =
     ap₂ _++_ (cells-are (x .axis) n k (r .0) h) (row-is n k xs (r .1) h)
 
-all-land : (n : ℕ) (xs : List JobAxis) → AllReady n xs → Each (Lands n) (plansFor n xs)
+all-land : (n : ℕ) (xs : List JobAxis) → AllPlannable n xs → Each (LandsAt n) (plansFor n xs)
 all-land n [] r = tt
 all-land n (x ∷ xs) r = (lands (x .axis) n (r .0), all-land n xs (r .1))
 
 -- ---- a plan that is the job's
 
-module _ (m n : ℕ) (xs : List Axis) (ready : AllReady n (setAxes 0 m xs)) (plan : Plan) (is : PlanIs m (setAxes 0 m xs) n plan) where
+module _ (m n : ℕ) (xs : List Axis) (plannable : AllPlannable n (setAxes 0 m xs)) (plan : Plan) (is : PlanIs m (setAxes 0 m xs) n plan) where
   pub fillable : Fillable plan
   fillable =
       record {
         few = is .few;
-        ranged = subst (Each PlanRanges) (sym (is .plans)) (all-ranged n (setAxes 0 m xs) ready);
-        arrive = of (λ k p. k ≤ arrivalOf p) (all-arrive n (setAxes 0 m xs) ready);
-        land = of Lands (all-land n (setAxes 0 m xs) ready);
+        ranged = subst (Each PlanRanges) (sym (is .plans)) (all-ranged n (setAxes 0 m xs) plannable);
+        arrive = of (λ k p. k ≤ arrivalOf p) (all-arrive n (setAxes 0 m xs) plannable);
+        land = of LandsAt (all-land n (setAxes 0 m xs) plannable);
       }
     where
       of : (Q : ℕ → AxisPlan → Type 0) → Each (Q n) (plansFor n (setAxes 0 m xs)) → Each (Q (plan .arrival)) (plansOf plan)
@@ -61,8 +61,8 @@ module _ (m n : ℕ) (xs : List Axis) (ready : AllReady n (setAxes 0 m xs)) (pla
       ap₂ (λ (ps : List AxisPlan) (k : ℕ). flatten (tabulate (λ i. planRow ps (rowAt o k i)) j c)) (is .plans) (is .arrival)
       ∙ ap flatten
       (tabulate-same (λ i. planRow (plansFor n (setAxes 0 m xs)) (rowAt o n i))
-      (λ i. row (map (track n) (axesOf (typedJob m n xs))) (rowAt o n i)) j c
-      (λ i q. row-is n (rowAt o n i) (setAxes 0 m xs) ready (row-place o n i (omega arith))))
+      (λ i. row (map (plannedAxis n) (axesOf (typedJob m n xs))) (rowAt o n i)) j c
+      (λ i q. row-is n (rowAt o n i) (setAxes 0 m xs) plannable (row-place o n i (omega arith))))
 
   plans-long : length (plansOf plan) ≡ length (axesOf (typedJob m n xs))
   plans-long = ap length (is .plans) ∙ length-map (setAxes 0 m xs) _ ∙ sym (length-map (setAxes 0 m xs) _)

@@ -1,4 +1,4 @@
--- The tracks while the table is filled: one axis is stepped, and the others stay.
+-- The states while the table is filled: one axis is stepped, and the others stay.
 use mathlib.Core.Path.{_≡_, refl, sym, ap, subst, _∙_}
 use mathlib.Core.Bool.{true, false}
 use mathlib.Core.List.{List}
@@ -14,10 +14,10 @@ use lib.Seq.{getD-set-same, getD-set-other}
 use Rattle.model.specs.declared.Order.{Order}
 use Rattle.model.specs.declared.Order.the-variants.{Forwards, Backwards}
 use Rattle.model.specs.planning.Rows.{rowAt}
-use Rattle.tracks.specs.declared.AxisPlan.{AxisPlan}
-use Rattle.tracks.specs.declared.Track.{Track}
+use Rattle.blended.specs.declared.AxisPlan.{AxisPlan}
+use Rattle.blended.specs.declared.BlendedState.{BlendedState}
 use Rattle.rows.specs.Plans.{unsetPlan}
-use Rattle.tracks.specs.Tracks.{trackAt, comesTo}
+use Rattle.blended.specs.BlendedStates.{blendedStateAt, comesTo}
 use Rattle.rows.specs.Rows.{comesAt, goesOnAt}
 use Rattle.whole.proofs.Tests.{choice-yes, choice-no}
 
@@ -33,53 +33,53 @@ pub tick-before : (i k l a : ℕ) → i ≤ a → tickOf i k l a ≡ k
 unfolding tickOf
 tick-before i k l a h = sym (choice-no (ltb a i) l k (le-ltb a i h))
 
--- what stands where no track is
-abbrev pub noTrack : Track
-noTrack = record { position = pos 0; velocity = pos 0 }
+-- what stands where no state is
+abbrev pub noStates : BlendedState
+noStates = record { position = pos 0; velocity = pos 0 }
 
--- the tracks of the first `count` axes
-abbrev pub At : List AxisPlan → ℕ → ℕ → List Track → Type 0
-At axes count k tracks = (a : ℕ) → a < count → getD tracks a noTrack ≡ trackAt (getD axes a unsetPlan) k
+-- the states of the first `count` axes
+abbrev pub At : List AxisPlan → ℕ → ℕ → List BlendedState → Type 0
+At axes count k states = (a : ℕ) → a < count → getD states a noStates ≡ blendedStateAt (getD axes a unsetPlan) k
 
-abbrev pub States : List AxisPlan → ℕ → ℕ → ℕ → ℕ → List Track → Type 0
-States axes count k l i tracks = (a : ℕ) → a < count → getD tracks a noTrack ≡ trackAt (getD axes a unsetPlan) (tickOf i k l a)
+abbrev pub States : List AxisPlan → ℕ → ℕ → ℕ → ℕ → List BlendedState → Type 0
+States axes count k l i states = (a : ℕ) → a < count → getD states a noStates ≡ blendedStateAt (getD axes a unsetPlan) (tickOf i k l a)
 
 -- all at tick k: no axis is stepped yet
-pub row-begins : (axes : List AxisPlan) (count k l : ℕ) (tracks : List Track) → At axes count k tracks → States axes count k l 0 tracks
-row-begins axes count k l tracks h a q = h a q ∙ ap (trackAt (getD axes a unsetPlan)) (sym (tick-before 0 k l a (omega arith)))
+pub row-begins : (axes : List AxisPlan) (count k l : ℕ) (states : List BlendedState) → At axes count k states → States axes count k l 0 states
+row-begins axes count k l states h a q = h a q ∙ ap (blendedStateAt (getD axes a unsetPlan)) (sym (tick-before 0 k l a (omega arith)))
 
 -- and all of them are
-pub row-ends : (axes : List AxisPlan) (count k l : ℕ) (tracks : List Track) → States axes count k l count tracks → At axes count l tracks
-row-ends axes count k l tracks h a q = h a q ∙ ap (trackAt (getD axes a unsetPlan)) (tick-after count k l a q)
+pub row-ends : (axes : List AxisPlan) (count k l : ℕ) (states : List BlendedState) → States axes count k l count states → At axes count l states
+row-ends axes count k l states h a q = h a q ∙ ap (blendedStateAt (getD axes a unsetPlan)) (tick-after count k l a q)
 
 -- axis i, which is the next to be stepped
-pub next-state : (axes : List AxisPlan) (count k l i : ℕ) (tracks : List Track) → States axes count k l i tracks → i < count
-    → getD tracks i noTrack ≡ trackAt (getD axes i unsetPlan) k
-next-state axes count k l i tracks h q = h i q ∙ ap (trackAt (getD axes i unsetPlan)) (tick-before i k l i (omega arith))
+pub next-state : (axes : List AxisPlan) (count k l i : ℕ) (states : List BlendedState) → States axes count k l i states → i < count
+    → getD states i noStates ≡ blendedStateAt (getD axes i unsetPlan) k
+next-state axes count k l i states h q = h i q ∙ ap (blendedStateAt (getD axes i unsetPlan)) (tick-before i k l i (omega arith))
 
 -- axis i is stepped
-pub steps : (axes : List AxisPlan) (count k l i : ℕ) (tracks : List Track) (u : Track) → i < count → count ≤ 6 → length tracks ≡ 6
-    → u ≡ trackAt (getD axes i unsetPlan) l → States axes count k l i tracks → States axes count k l (i + 1) (set tracks i u)
-steps axes count k l i tracks u m six long e h a q = go (decLt a i) (decLt i a)
+pub steps : (axes : List AxisPlan) (count k l i : ℕ) (states : List BlendedState) (u : BlendedState) → i < count → count ≤ 6 → length states ≡ 6
+    → u ≡ blendedStateAt (getD axes i unsetPlan) l → States axes count k l i states → States axes count k l (i + 1) (set states i u)
+steps axes count k l i states u m six long e h a q = go (decLt a i) (decLt i a)
   where
     Goal : ℕ → Type 0
-    Goal b = getD (set tracks i u) b noTrack ≡ trackAt (getD axes b unsetPlan) (tickOf (i + 1) k l b)
+    Goal b = getD (set states i u) b noStates ≡ blendedStateAt (getD axes b unsetPlan) (tickOf (i + 1) k l b)
 
     own : Goal i
     own =
-        getD-set-same tracks i u noTrack (omega arith)
+        getD-set-same states i u noStates (omega arith)
         ∙ e
-        ∙ ap (trackAt (getD axes i unsetPlan)) (sym (tick-after (i + 1) k l i (omega arith)))
+        ∙ ap (blendedStateAt (getD axes i unsetPlan)) (sym (tick-after (i + 1) k l i (omega arith)))
 
     other : (a ≡ i → ⊥) → tickOf i k l a ≡ tickOf (i + 1) k l a → Goal a
-    other n t = getD-set-other tracks i a u noTrack n ∙ h a q ∙ ap (trackAt (getD axes a unsetPlan)) t
+    other n t = getD-set-other states i a u noStates n ∙ h a q ∙ ap (blendedStateAt (getD axes a unsetPlan)) t
 
     go : Dec (a < i) → Dec (i < a) → Goal a
     go (yes r) d = other (λ w. omega arith) (tick-after i k l a r ∙ sym (tick-after (i + 1) k l a (omega arith)))
     go (no r) (yes t) = other (λ w. omega arith) (tick-before i k l a (omega arith) ∙ sym (tick-before (i + 1) k l a (omega arith)))
     go (no r) (no t) = let w : i ≡ a = omega arith in subst Goal w own
 
--- ---- the track that comes to the row at place j is that of the row's tick, and the one that goes on comes to the next row
+-- ---- the state that comes to the row at place j is that of the row's tick, and the one that goes on comes to the next row
 
 pub comes : (o : Order) (n j : ℕ) → j ≤ n → comesTo o n j ≡ comesAt o (rowAt o n j)
 comes Forwards n j h = refl

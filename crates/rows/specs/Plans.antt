@@ -6,10 +6,10 @@ use lib.IntN.{pos}
 use lib.ListN.{length, getD, take}
 use Rattle.model.specs.declared.SecondSway.the-variants.{Absent}
 use Rattle.model.specs.planning.Job.{JobAxis}
-use Rattle.tracks.specs.declared.AxisPlan.{AxisPlan}
-use Rattle.tracks.specs.Plans.{planOf, arrivalOf, PlanRanges}
+use Rattle.blended.specs.declared.AxisPlan.{AxisPlan}
+use Rattle.blended.specs.Plans.{planOf, arrivalOf, PlanRanges}
 use Rattle.rows.specs.declared.Plan.{Plan}
-use Rattle.tracks.specs.Tracks.{Lands}
+use Rattle.blended.specs.BlendedStates.{LandsAt}
 
 -- what stands after the last axis
 abbrev pub unsetPlan : AxisPlan
@@ -53,4 +53,4 @@ pub record Fillable (plan : Plan) : Type 0 where
   pub few : plan .count ≤ 6
   pub ranged : Each PlanRanges (plansOf plan)
   pub arrive : Each (λ p. plan .arrival ≤ arrivalOf p) (plansOf plan)
-  pub land : Each (Lands (plan .arrival)) (plansOf plan)
+  pub land : Each (LandsAt (plan .arrival)) (plansOf plan)

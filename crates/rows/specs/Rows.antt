@@ -1,4 +1,4 @@
--- A row of one axis, in an order: the tracks at its tick and one tick on, by the change of velocity in its tick (docs/METHOD.md, section 4).
+-- A row of one axis, in an order: the states at its tick and one tick on, by the change of velocity in its tick (docs/METHOD.md, section 4).
 use Prim.Native.Nat.{ℕ, suc}
 use mathlib.Core.Bool.{Bool, _&&_}
 use mathlib.Core.List.{List}
@@ -7,13 +7,13 @@ use lib.IntN.{ℤ, pos, _+ℤ_, _-ℤ_}
 use lib.ListN.{replicate}
 use Rattle.model.specs.declared.Order.{Order}
 use Rattle.model.specs.declared.Order.the-variants.{Forwards, Backwards}
-use Rattle.tracks.specs.declared.AxisPlan.{AxisPlan}
-use Rattle.tracks.specs.Tracks.{trackAt}
-use Rattle.tracks.specs.declared.Pace.{Pace}
-use Rattle.tracks.specs.declared.Track.{Track}
-use Rattle.rows.specs.declared.RowTracks.{RowTracks}
+use Rattle.blended.specs.declared.AxisPlan.{AxisPlan}
+use Rattle.blended.specs.BlendedStates.{blendedStateAt}
+use Rattle.blended.specs.declared.Segment.{Segment}
+use Rattle.blended.specs.declared.BlendedState.{BlendedState}
+use Rattle.rows.specs.declared.RowStates.{RowStates}
 
--- ---- a row, in an order: forwards the track at tick k comes to the row of tick k, and that one tick on goes on to the next row; backwards that one tick
+-- ---- a row, in an order: forwards the state at tick k comes to the row of tick k, and that one tick on goes on to the next row; backwards that one tick
 -- on comes, and that at tick k goes on
 
 abbrev pub comesAt : Order → ℕ → ℕ
@@ -24,27 +24,27 @@ abbrev pub goesOnAt : Order → ℕ → ℕ
 goesOnAt Forwards k = suc k
 goesOnAt Backwards k = k
 
-abbrev pub rowTracks : Order → AxisPlan → ℕ → RowTracks
-rowTracks o p k = record { now = trackAt p k; next = trackAt p (suc k); onward = trackAt p (goesOnAt o k) }
+abbrev pub rowStates : Order → AxisPlan → ℕ → RowStates
+rowStates o p k = record { now = blendedStateAt p k; next = blendedStateAt p (suc k); onward = blendedStateAt p (goesOnAt o k) }
 
--- whether tick k is one of a pace's
-abbrev pub keptAt : Pace → ℕ → Bool
+-- whether tick k is one of a segment's
+abbrev pub keptAt : Segment → ℕ → Bool
 keptAt q k = leb (q .from) k && ltb k (q .until)
 
--- a pace with no tick, for each axis
-abbrev pub noPace : Pace
-noPace = record { change = pos 0; from = 0; until = 0 }
+-- a segment with no tick, for each axis
+abbrev pub noSegment : Segment
+noSegment = record { change = pos 0; from = 0; until = 0 }
 
-abbrev pub noPaces : List Pace
-noPaces = replicate 6 noPace
+abbrev pub noSegments : List Segment
+noSegments = replicate 6 noSegment
 
--- the tracks of a row, from the one that comes to it and the change of velocity in the row's tick
-abbrev pub changed : Order → Track → ℤ → RowTracks
+-- the states of a row, from the one that comes to it and the change of velocity in the row's tick
+abbrev pub changed : Order → BlendedState → ℤ → RowStates
 changed Forwards t c =
     let v : ℤ = t .velocity +ℤ c in
-    let next : Track = record { position = t .position +ℤ t .velocity +ℤ v; velocity = v } in
+    let next : BlendedState = record { position = t .position +ℤ t .velocity +ℤ v; velocity = v } in
     record { now = t; next = next; onward = next }
 changed Backwards t c =
     let v : ℤ = t .velocity -ℤ c in
-    let now : Track = record { position = t .position -ℤ t .velocity -ℤ v; velocity = v } in
+    let now : BlendedState = record { position = t .position -ℤ t .velocity -ℤ v; velocity = v } in
     record { now = now; next = t; onward = now }

@@ -8,7 +8,7 @@ use lib.Dec.{ltb}
 use borrow.Author.Tests.{lt-ltb, le-ltb, ltb-true}
 use Rattle.model.specs.declared.Report.the-variants.{Found, Spent, Nothing}
 use Rattle.model.specs.planning.Outcome.{leastFrom}
-use Rattle.model.specs.calls.Search.{candidates, notFound, reported, searchFrom}
+use Rattle.model.specs.calls.Search.{candidates, notFound, reportOf, searchFrom}
 use Rattle.model.proofs.jobs.LeastTick.{result, least-is}
 use Rattle.arrival.specs.Arrivals.{orZero}
 use Rattle.arrival.proofs.Search.{is-some, is-none}
@@ -32,9 +32,9 @@ module _ (test : ℕ → Bool) (first budget count n : ℕ) (low : 1 ≤ first) 
   none-least : n ≡ 0 → leastFrom test first count ≡ none
   none-least z = is-none test first count (leastFrom test first count) low (result test first count) (sym tick-is ∙ z)
 
-  by-least : reported first budget (leastFrom test first count) ≡ searchFrom test first budget
+  by-least : reportOf first budget (leastFrom test first count) ≡ searchFrom test first budget
   unfolding searchFrom
-  by-least = ap (λ (k : ℕ). reported first budget (leastFrom test first k)) (is ∙ go (ltb budget (candidates first)))
+  by-least = ap (λ (k : ℕ). reportOf first budget (leastFrom test first k)) (is ∙ go (ltb budget (candidates first)))
     where
       go : (b : Bool) → cond b budget (candidates first) ≡ (elim b as (λ _. ℕ) [ true ↦ budget | false ↦ candidates first ])
       go true = refl
@@ -44,10 +44,10 @@ module _ (test : ℕ → Bool) (first budget count n : ℕ) (low : 1 ≤ first) 
   found-late h = least-is test first count n (some-least h) .first
 
   pub found-out : (n ≡ 0 → ⊥) → record { report = Found n; tried = n - first + 1 } ≡ searchFrom test first budget
-  found-out h = sym (ap (reported first budget) (some-least h)) ∙ by-least
+  found-out h = sym (ap (reportOf first budget) (some-least h)) ∙ by-least
 
   not-found : n ≡ 0 → (b : Bool) → ltb budget (candidates first) ≡ b → notFound first budget b ≡ searchFrom test first budget
-  not-found z b t = sym (ap (notFound first budget) t) ∙ sym (ap (reported first budget) (none-least z)) ∙ by-least
+  not-found z b t = sym (ap (notFound first budget) t) ∙ sym (ap (reportOf first budget) (none-least z)) ∙ by-least
 
   pub spent-out : n ≡ 0 → budget < candidates first → record { report = Spent (first + budget); tried = budget } ≡ searchFrom test first budget
   spent-out z h = not-found z true (lt-ltb budget (candidates first) h)

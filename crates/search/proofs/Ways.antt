@@ -19,10 +19,10 @@ use Rattle.model.proofs.calls.SearchCalls.{search-verdict, call-says}
 use Rattle.arrival.specs.Arrivals.{arrivesIn}
 use Rattle.words.specs.declared.DecodedJob.{DecodedJob}
 use Rattle.words.specs.Decoding.{decodedJob, Decodes}
-use Rattle.checks.specs.declared.Refusal.{Refusal}
-use Rattle.checks.specs.Checks.{checkedFor, namedByHand}
-use Rattle.checks.proofs.Checks.{after, after-tests}
-use Rattle.checks.proofs.Weights.{given-reaches}
+use Rattle.refusals.specs.declared.Refusal.{Refusal}
+use Rattle.refusals.specs.Checks.{checkedFor, namedWithWeight}
+use Rattle.refusals.proofs.Checks.{after, after-tests}
+use Rattle.refusals.proofs.Weights.{given-reaches}
 use Rattle.search.specs.Promise.{SearchPromise}
 
 pub promise : (q : Input) (first budget : ℕ) (r : SearchAnswer) → r ≡ searchCall q first budget → SearchPromise q first budget r
@@ -65,7 +65,7 @@ module _ (m : ℕ) (axes : List Axis) (w : Windows) (first budget : ℕ) where
     first-refused z e = choice-no (firstAllowed first) (searchAnswer m (searchFrom (arrives j) first budget)) (refuseSearch 18 0) e ∙ checks-pass z
 
     -- the search, of the axes with the number B of each given
-    pub searched : c .number ≡ 0 → firstAllowed first ≡ true → (given : List Axis) → given ≡ namedByHand m axes
+    pub searched : c .number ≡ 0 → firstAllowed first ≡ true → (given : List Axis) → given ≡ namedWithWeight m axes
         → searchAnswer m (searchFrom (arrivesIn w (setAxes 0 m given)) first budget) ≡ searchJob j first budget
     searched z e given is =
         ap (λ (test : ℕ → Bool). searchAnswer m (searchFrom test first budget))

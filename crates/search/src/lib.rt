@@ -4,9 +4,9 @@
 // The way of a job:
 //     search_words      words::decode          the refusals of words, then as search_job
 //     search_job        words::mask_allowed    refusal 1
-//     search_allowed    checks::check         the refusals of an axis, and 13; the asked arrival is read as 0, so that 3 never comes
+//     search_allowed    refusals::check         the refusals of an axis, and 13; the asked arrival is read as 0, so that 3 never comes
 //                       first_allowed          refusal 18
-//                       checks::by_hand       damping as measured to a number B
+//                       refusals::with_weight       damping as measured to a number B
 //                       search_from            the search
 use model::Axis;
 use model::Job;
@@ -65,15 +65,15 @@ fn search_allowed(
     ensures { λ r. ⌜ r ≡ searchJob (jobWith mask 0 axes windows) first budget ⌝ }
 {
     let mut given = axes;
-    let checked = checks::check(mask, given, windows, true);
+    let checked = refusals::check(mask, given, windows, true);
     if checked.number != 0 {
         return refused(checked.number, checked.place);
     }
     if !first_allowed(first) {
         return refused(18, 0);
     }
-    if checks::any_measured(mask, given) {
-        let weighed = checks::by_hand(mask, given);
+    if refusals::any_measured(mask, given) {
+        let weighed = refusals::with_weight(mask, given);
         given = weighed;
     }
     let found = search_from(mask, given, windows, first, budget);

@@ -8,12 +8,12 @@ use Rattle.model.specs.planning.Outcome.{Input, words, call}
 use Rattle.text.specs.Printed.{printed}
 
 -- at most 512 bytes are read
-abbrev pub jobOf : List ℕ → Input
-jobOf bytes = words (wordsOf (take 512 bytes))
+abbrev pub inputOf : List ℕ → Input
+inputOf bytes = words (wordsOf (take 512 bytes))
 
 -- the program's table has 8,192 cells, all 0
 abbrev pub lentTable : List ℤ
 lentTable = replicate 8192 (pos 0)
 
 unfoldable pub jobText : List ℕ → List ℕ
-jobText bytes = printed (call (jobOf bytes) lentTable)
+jobText bytes = printed (call (inputOf bytes) lentTable)

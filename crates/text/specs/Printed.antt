@@ -32,9 +32,9 @@ decimalDigits (suc k) n = elim (ltb n 10) [ true ↦ digit n | false ↦ decimal
 unfoldable pub decimal : ℕ → List ℕ
 decimal n = decimalDigits (suc n) n
 
-unfoldable pub signed : ℤ → List ℕ
-signed (pos n) = decimal n
-signed (negsuc n) = ascii "-" ++ decimal (suc n)
+unfoldable pub printedNumber : ℤ → List ℕ
+printedNumber (pos n) = decimal n
+printedNumber (negsuc n) = ascii "-" ++ decimal (suc n)
 
 -- a number after a label
 unfoldable pub labelled : List ℕ → ℕ → List ℕ
@@ -44,7 +44,7 @@ labelled label n = label ++ decimal n
 
 -- a cell, after the number before it
 unfoldable pub cellText : ℤ → List ℕ
-cellText z = ascii " " ++ signed z
+cellText z = ascii " " ++ printedNumber z
 
 abbrev pub cellsText : List ℤ → List ℕ
 cellsText cells = flatten (map cellText cells)
@@ -71,12 +71,12 @@ abbrev pub rowWidth : ℕ → ℕ
 rowWidth mask = 3 * length (setBits mask)
 
 -- row k of a table with w cells in a row
-abbrev pub rowAt : ℕ → List ℤ → ℕ → List ℕ
-rowAt w cells k = rowLine k (take w (drop (w * k) cells))
+abbrev pub printedRow : ℕ → List ℤ → ℕ → List ℕ
+printedRow w cells k = rowLine k (take w (drop (w * k) cells))
 
 -- the rows of ticks 0 to n
 abbrev pub rowLines : ℕ → List ℤ → ℕ → List ℕ
-rowLines w cells n = upTo (rowAt w cells) (suc n)
+rowLines w cells n = upTo (printedRow w cells) (suc n)
 
 -- an accepted job: its arrival and its rows
 abbrev pub tableLines : ℕ → ℕ → List ℤ → List ℕ

@@ -8,7 +8,7 @@ use mathlib.Core.List.{List, [], _∷_}
 use lib.ListN.{length, getD, take, drop}
 use lib.Seq.{drop-cons, drop-length, getD-take}
 use Rattle.model.specs.declared.Window.{Window}
-use Rattle.model.specs.planning.Windows.{fitsWindow, fitsOne, inOrderAfter, firstWrong}
+use Rattle.model.specs.planning.Windows.{fitsWindow, fitsOne, inOrderAfter, firstWrongWindow}
 
 abbrev pub noWindow : Window
 noWindow = record { opening = 0; closing = 0 }
@@ -32,19 +32,19 @@ module _ (list : List Window) (count i : ℕ) (h : i < length (take count list))
       ∙ ap (λ (b : Bool). elim b as (λ _. Bool) [ true ↦ true | false ↦ fitsOne n dwell (drop (i + 1) (take count list)) ]) e
 
   after : ℕ → Bool → Option ℕ
-  after k b = elim b [ true ↦ firstWrong k (getD list i noWindow .closing) (drop (i + 1) (take count list)) | false ↦ some i ]
+  after k b = elim b [ true ↦ firstWrongWindow k (getD list i noWindow .closing) (drop (i + 1) (take count list)) | false ↦ some i ]
 
-  pub wrong-here : (c : ℕ) → inOrderAfter c (getD list i noWindow) ≡ false → firstWrong i c (drop i (take count list)) ≡ some i
+  pub wrong-here : (c : ℕ) → inOrderAfter c (getD list i noWindow) ≡ false → firstWrongWindow i c (drop i (take count list)) ≡ some i
   unfolding after
-  wrong-here c e = ap (firstWrong i c) split ∙ ap (after (suc i)) e
+  wrong-here c e = ap (firstWrongWindow i c) split ∙ ap (after (suc i)) e
 
   pub wrong-later : (c : ℕ) → inOrderAfter c (getD list i noWindow) ≡ true
-      → firstWrong i c (drop i (take count list)) ≡ firstWrong (i + 1) (getD list i noWindow .closing) (drop (i + 1) (take count list))
+      → firstWrongWindow i c (drop i (take count list)) ≡ firstWrongWindow (i + 1) (getD list i noWindow .closing) (drop (i + 1) (take count list))
   unfolding after
   wrong-later c e =
-      ap (firstWrong i c) split
+      ap (firstWrongWindow i c) split
       ∙ ap (after (suc i)) e
-      ∙ ap (λ (k : ℕ). firstWrong k (getD list i noWindow .closing) (drop (i + 1) (take count list))) (sym (add-one i))
+      ∙ ap (λ (k : ℕ). firstWrongWindow k (getD list i noWindow .closing) (drop (i + 1) (take count list))) (sym (add-one i))
 
 -- after the last
 pub ended : (l : List Window) (i : ℕ) → i ≡ length l → drop i l ≡ []

@@ -8,11 +8,11 @@ use lib.Dec.{leb}
 use lib.ListN.{take}
 use borrow.Author.Tests.{eq-eqb, ne-eqb, le-leb, lt-leb}
 use Rattle.model.specs.declared.Window.{Window}
-use Rattle.model.specs.planning.Windows.{firstWrong, windowsRefused}
+use Rattle.model.specs.planning.Windows.{firstWrongWindow, windowsRefused}
 
 module _ (count : ℕ) (list : List Window) (dwell : ℕ) where
   by : Bool → Bool → Option ℕ
-  by a b = elim a [ true ↦ some 0 | false ↦ elim b [ true ↦ firstWrong 0 0 (take count list) | false ↦ some 32 ] ]
+  by a b = elim a [ true ↦ some 0 | false ↦ elim b [ true ↦ firstWrongWindow 0 0 (take count list) | false ↦ some 32 ] ]
 
   pub none-brought : count ≡ 0 → some 0 ≡ windowsRefused (record { given = true; dwell = dwell; count = count; list = list })
   unfolding by
@@ -33,6 +33,6 @@ module _ (count : ℕ) (list : List Window) (dwell : ℕ) where
     too-long h k = tested true false (le-leb count 32 h) (lt-leb dwell 4096 k)
 
     pub one-by-one : count ≤ 32 → dwell ≤ 4096
-        → firstWrong 0 0 (take count list) ≡ windowsRefused (record { given = true; dwell = dwell; count = count; list = list })
+        → firstWrongWindow 0 0 (take count list) ≡ windowsRefused (record { given = true; dwell = dwell; count = count; list = list })
     unfolding by
     one-by-one h k = tested true true (le-leb count 32 h) (le-leb dwell 4096 k)

@@ -6,7 +6,7 @@ ghost use Prim.Native.Nat.{_≤_};
 ghost use lib.ListN.{take};
 ghost use mathlib.Core.Bool.{true};
 ghost use mathlib.Core.Option.{none};
-ghost use Rattle.model.specs.planning.Windows.{noWindows, fitsWindow, fitsOne, inWindows, inOrderAfter, firstWrong, windowsRefused, refused13};
+ghost use Rattle.model.specs.planning.Windows.{noWindows, fitsWindow, fitsOne, inWindows, inOrderAfter, firstWrongWindow, windowsRefused, refused13};
 ghost use Rattle.windows.specs.Places.{placeOf};
 ghost use Rattle.windows.specs.Ticks.{firstTick, upTo, afterLast};
 
@@ -74,7 +74,7 @@ fn in_order_after(closed: u32, window: Window) -> bool
 // The first window that does not close after it opens, or that opens before the one before it closes.
 fn first_wrong(list: [Window; 32], count: usize) -> Place
     requires { ⌜ count ≤ 32 ⌝ }
-    ensures { λ r. ⌜ placeOf r ≡ firstWrong 0 0 (take count list) ⌝ }
+    ensures { λ r. ⌜ placeOf r ≡ firstWrongWindow 0 0 (take count list) ⌝ }
 {
     let mut closed: u32 = 0;
     let mut i: usize = 0;

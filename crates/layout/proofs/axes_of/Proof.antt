@@ -9,7 +9,7 @@ use lib.Seq.{set-getD, getD-set-other}
 use borrow.Author.Needs.{needs}
 use Rattle.model.specs.declared.Axis.{Axis}
 use Rattle.model.specs.planning.Job.{unsetAxis}
-use Rattle.layout.specs.Jobs.{axisOf, axesOf}
+use Rattle.layout.specs.Jobs.{axisFromC, axesFromC}
 use Rattle.layout.proofs.Named.{namedAt, is-named, not-named, namedFrom, named-next, named-all}
 use Rattle.layout.proofs.axes_of.Statement.{statement}
 use Rattle.layout.proofs.axes_of.Tie as tie
@@ -21,7 +21,7 @@ Inv-loop mask list axes₀ bits₀ i₀ axes bits i =
       six : length list ≡ 6;
       long : length axes ≡ 6;
       unset : (j : ℕ) → i ≤ j → j < 6 → getD axes j unsetAxis ≡ unsetAxis;
-      stored : namedFrom axisOf unsetAxis list i bits axes ≡ axesOf mask list;
+      stored : namedFrom axisFromC unsetAxis list i bits axes ≡ axesFromC mask list;
     }
 
 abbrev μ-loop : tie.MeasureT-loop
@@ -63,16 +63,16 @@ loop-less c = omega arith
 
 -- after a turn axis i is as its bit names it: stored, or unset as it was
 turned : (c : tie.Joined1 Inv-loop μ-loop)
-    → let h = c .before .before .loop in c .if1 .axes ≡ set (h .axes) (h .i) (namedAt axisOf unsetAxis (c .before .before .before .before .args .t2) (h .i) (h .bits))
+    → let h = c .before .before .loop in c .if1 .axes ≡ set (h .axes) (h .i) (namedAt axisFromC unsetAxis (c .before .before .before .before .args .t2) (h .i) (h .bits))
 turned c =
     let h = c .before .before .loop in
     let l = c .before .before .before .before .args .t2 in
     let put : Axis → List Axis = set (h .axes) (h .i) in
     ⊎-elim
-    (λ w. w .3 ∙ ap put (w .2 .ensures ∙ is-named axisOf unsetAxis l _ (h .i) (h .bits) (omega (arith, h .inv .six)) (omega arith)))
+    (λ w. w .3 ∙ ap put (w .2 .ensures ∙ is-named axisFromC unsetAxis l _ (h .i) (h .bits) (omega (arith, h .inv .six)) (omega arith)))
     (λ w. w .1
     ∙ sym (set-getD (h .axes) (h .i) unsetAxis)
-    ∙ ap put (h .inv .unset (h .i) (omega arith) (omega arith) ∙ not-named axisOf unsetAxis l (h .i) (h .bits) (λ e. omega arith)))
+    ∙ ap put (h .inv .unset (h .i) (omega arith) (omega arith) ∙ not-named axisFromC unsetAxis l (h .i) (h .bits) (λ e. omega arith)))
     (c .if1 .came)
 
 loop-again : tie.Need-loop-again Inv-loop μ-loop
@@ -88,15 +88,15 @@ loop-again c =
           ∙ getD-set-other (h .axes) (h .i) j _ unsetAxis (λ e. omega arith)
           ∙ h .inv .unset j (omega arith) k;
       stored =
-          ap (namedFrom axisOf unsetAxis l (h .i + 1) _) t
-          ∙ named-next axisOf unsetAxis l (h .i) (h .bits) (h .axes) (omega (arith, h .inv .six)) (omega (arith, h .inv .long))
+          ap (namedFrom axisFromC unsetAxis l (h .i + 1) _) t
+          ∙ named-next axisFromC unsetAxis l (h .i) (h .bits) (h .axes) (omega (arith, h .inv .six)) (omega (arith, h .inv .long))
           ∙ h .inv .stored;
     }
 
 returns : tie.Need-returns Inv-loop μ-loop
 returns c =
     let h = c .before .loop in
-    sym (named-all axisOf unsetAxis _ (h .i) (h .bits) (h .axes) (omega (arith, h .inv .six)) (omega (arith, h .inv .long))) ∙ h .inv .stored
+    sym (named-all axisFromC unsetAxis _ (h .i) (h .bits) (h .axes) (omega (arith, h .inv .six)) (omega (arith, h .inv .long))) ∙ h .inv .stored
 
 pub axes-of-spec : {M : Type 1} → statement M
 axes-of-spec =

@@ -1,6 +1,6 @@
 -- `axis_of` gives the axis that its struct stands for, field by field.
 use borrow.Author.Needs.{needs}
-use Rattle.layout.specs.Jobs.{axisOf}
+use Rattle.layout.specs.Jobs.{axisFromC}
 use Rattle.layout.proofs.axis_of.Statement.{statement}
 use Rattle.layout.proofs.axis_of.Tie as tie
 
@@ -17,7 +17,7 @@ target-of-requires : tie.Need-target-of-requires
 target-of-requires c κs = search needs
 
 returns : tie.Need-returns
-unfolding axisOf
+unfolding axisFromC
 returns c =
     let a = c .before .before .before .before .args .a in
     λ i.

@@ -8,7 +8,7 @@ use borrow.Author.Tests.{eq-eqb, ne-eqb}
 use Rattle.model.specs.declared.Weight.{Weight}
 use Rattle.model.specs.declared.Damping.the-variants.{Ratio, Peaks}
 use Rattle.model.specs.declared.Weight.the-variants.{Given, Measured}
-use Rattle.layout.specs.Jobs.{weightOf}
+use Rattle.layout.specs.Jobs.{weightFromC}
 use Rattle.layout.proofs.weight_of.Statement.{statement}
 use Rattle.layout.proofs.weight_of.Tie as tie
 
@@ -25,22 +25,22 @@ module _ (kind weight : ℕ) (ratio first second : Float) where
   by : Bool → Bool → Weight
   by s t = cond s given (cond t of-swings peaks)
 
-  by-hand : kind ≡ 0 → given ≡ weightOf kind weight ratio first second
-  unfolding weightOf by
-  by-hand e = sym (ap (λ (s : Bool). by s (eqb kind 1)) (eq-eqb kind 0 e))
+  with-weight : kind ≡ 0 → given ≡ weightFromC kind weight ratio first second
+  unfolding weightFromC by
+  with-weight e = sym (ap (λ (s : Bool). by s (eqb kind 1)) (eq-eqb kind 0 e))
 
-  of-ratio : (kind ≡ 0 → ⊥) → kind ≡ 1 → of-swings ≡ weightOf kind weight ratio first second
-  unfolding weightOf by
+  of-ratio : (kind ≡ 0 → ⊥) → kind ≡ 1 → of-swings ≡ weightFromC kind weight ratio first second
+  unfolding weightFromC by
   of-ratio n e = sym (λ i. by (ne-eqb kind 0 n i) (eq-eqb kind 1 e i))
 
-  of-peaks : (kind ≡ 0 → ⊥) → (kind ≡ 1 → ⊥) → peaks ≡ weightOf kind weight ratio first second
-  unfolding weightOf by
+  of-peaks : (kind ≡ 0 → ⊥) → (kind ≡ 1 → ⊥) → peaks ≡ weightFromC kind weight ratio first second
+  unfolding weightFromC by
   of-peaks n e = sym (λ i. by (ne-eqb kind 0 n i) (ne-eqb kind 1 e i))
 
 returns : tie.Need-returns
 returns c =
     let a = c .before .args in
-    by-hand (a .kind) (a .weight) (a .ratio) (a .first) (a .second) (c .if1 .taken)
+    with-weight (a .kind) (a .weight) (a .ratio) (a .first) (a .second) (c .if1 .taken)
 
 returns-2 : tie.Need-returns-2
 returns-2 c =

@@ -10,7 +10,7 @@ use Rattle.whole.proofs.Tests.{lt-or-le, lt-choice, le-choice}
 use Rattle.model.specs.declared.Report.the-variants.{Found, Spent, Nothing}
 use Rattle.model.specs.declared.SearchReport.{SearchReport}
 use Rattle.model.specs.planning.Outcome.{leastFrom}
-use Rattle.model.specs.calls.Search.{candidates, withinBudget, notFound, reported, searchFrom}
+use Rattle.model.specs.calls.Search.{candidates, withinBudget, notFound, reportOf, searchFrom}
 use Rattle.model.proofs.jobs.LeastTick.{least-is}
 
 -- ---- some candidates, and then those after them
@@ -72,9 +72,9 @@ module _ (test : ℕ → Bool) (first budget : ℕ) where
   pub whole-search : candidates first ≤ budget → searchFrom test first budget ≡ whole test first
   unfolding searchFrom
   whole-search h =
-      ap (λ (k : ℕ). reported first budget (leastFrom test first k)) (all h) ∙ go (leastFrom test first (candidates first))
+      ap (λ (k : ℕ). reportOf first budget (leastFrom test first k)) (all h) ∙ go (leastFrom test first (candidates first))
     where
-      go : (o : Option ℕ) → reported first budget o ≡ wholly first o
+      go : (o : Option ℕ) → reportOf first budget o ≡ wholly first o
       go (some n) = refl
       go none = ap (notFound first budget) (le-ltb budget (candidates first) h)
 
@@ -86,8 +86,8 @@ module _ (test : ℕ → Bool) (first budget : ℕ) where
       more : ℕ
       more = candidates (first + budget)
 
-      here : searchFrom test first budget ≡ reported first budget (leastFrom test first budget)
-      here = ap (λ (k : ℕ). reported first budget (leastFrom test first k)) (few h)
+      here : searchFrom test first budget ≡ reportOf first budget (leastFrom test first budget)
+      here = ap (λ (k : ℕ). reportOf first budget (leastFrom test first k)) (few h)
 
       parts : whole test first ≡ wholly first (orElse (leastFrom test first budget) (leastFrom test (first + budget) more))
       parts =
@@ -105,12 +105,12 @@ module _ (test : ℕ → Bool) (first budget : ℕ) where
 
       go : (o : Option ℕ) → leastFrom test first budget ≡ o → (searchFrom test first budget ≡ whole test first) ⊎ GoesOn test first budget
       go (some n) e =
-          inl (here ∙ ap (reported first budget) e ∙ sym (parts ∙ ap (λ (o : Option ℕ). wholly first (orElse o (leastFrom test (first + budget) more))) e))
+          inl (here ∙ ap (reportOf first budget) e ∙ sym (parts ∙ ap (λ (o : Option ℕ). wholly first (orElse o (leastFrom test (first + budget) more))) e))
       go none e =
           inr
           (record {
             left = omega arith;
-            is = here ∙ ap (reported first budget) e ∙ ap (notFound first budget) (lt-ltb budget (candidates first) h);
+            is = here ∙ ap (reportOf first budget) e ∙ ap (notFound first budget) (lt-ltb budget (candidates first) h);
             on = parts
                 ∙ ap (λ (o : Option ℕ). wholly first (orElse o (leastFrom test (first + budget) more))) e
                 ∙ from-next (leastFrom test (first + budget) more) refl;

@@ -18,7 +18,7 @@ use Rattle.model.specs.declared.Target.the-variants.{Fixed, Moving}
 use Rattle.model.specs.planning.Job.{Job}
 use Rattle.model.specs.planning.Quantities.{asMoving, accelerationLimit, finer}
 use Rattle.model.specs.planning.Motion.{Tick, reachable}
-use Rattle.model.specs.planning.Rows.{track, blend, blendBy, cells}
+use Rattle.model.specs.planning.Rows.{plannedAxis, blend, blendBy, cells}
 use Rattle.model.specs.planning.Refusals.{lastTick, restAllowed, limitsRefused, dampingRefused, blendRefused}
 use Rattle.model.specs.planning.Refusals.{swayRefused, valuesRefused, accelerationRefused, accelerationRefusedBy, flies}
 use Rattle.model.specs.planning.Outcome.{Outcome, refuse, tested, jobOutcomeBy}
@@ -71,16 +71,16 @@ module _ (n : ℕ) where
   unfolding movedTo finer
   reach-kept = kept (λ x. reachable x n) (λ x r. refl)
 
-  cells-kept : (k : ℕ) (x : Axis) → cells k (track n (convertedAxis n x)) ≡ cells k (track n x)
+  cells-kept : (k : ℕ) (x : Axis) → cells k (plannedAxis n (convertedAxis n x)) ≡ cells k (plannedAxis n x)
   unfolding movedTo finer
-  cells-kept k = kept (λ x. cells k (track n x)) (λ x r. cells-alike n k (withTarget x (movedTo r)) (withTarget x (Fixed r)) (blends x r) refl)
+  cells-kept k = kept (λ x. cells k (plannedAxis n x)) (λ x r. cells-alike n k (withTarget x (movedTo r)) (withTarget x (Fixed r)) (blends x r) refl)
     where
       by-sway : (x : Axis) (r : RestPoint) (f : Tick → ℤ) (s : SecondSway)
-          → blendBy s (track n (withTarget x (movedTo r))) k f ≡ blendBy s (track n (withTarget x (Fixed r))) k f
+          → blendBy s (plannedAxis n (withTarget x (movedTo r))) k f ≡ blendBy s (plannedAxis n (withTarget x (Fixed r))) k f
       by-sway x r f Absent = refl
       by-sway x r f (HalfPeriod d) = refl
 
-      blends : (x : Axis) (r : RestPoint) (f : Tick → ℤ) → blend (track n (withTarget x (movedTo r))) k f ≡ blend (track n (withTarget x (Fixed r))) k f
+      blends : (x : Axis) (r : RestPoint) (f : Tick → ℤ) → blend (plannedAxis n (withTarget x (movedTo r))) k f ≡ blend (plannedAxis n (withTarget x (Fixed r))) k f
       blends x r f = by-sway x r f (x .«second_sway»)
 
 -- an asked arrival: the same answer and the same table

@@ -12,7 +12,7 @@ use Rattle.model.specs.declared.Limit.{Limit}
 use Rattle.model.specs.declared.Limit.the-variants.{Acceleration, Speed}
 use Rattle.model.specs.planning.Quantities.{speedLimit, accelerationLimit, finer}
 use Rattle.model.specs.planning.Motion.{Reachable, reachable}
-use Rattle.model.specs.planning.Job.{byHand}
+use Rattle.model.specs.planning.Job.{withWeight}
 use Rattle.model.specs.planning.Outcome.{leastFrom}
 use Rattle.model.specs.planning.Refusals.{Passed}
 use Rattle.model.specs.calls.Raises.{limitOf, highest, withLimit, raiseOf, RaiseIs, raise, no-raise}
@@ -108,7 +108,7 @@ module _ (q : Limit) (x : Axis) (n : ℕ) (p : Passed x) where
 
 -- ---- damping as measured: the same raise with the number B given
 
-pub raise-by-hand : (q : Limit) (x : Axis) (n : ℕ) → raiseOf q (byHand x) n ≡ raiseOf q x n
+pub raise-with-weight : (q : Limit) (x : Axis) (n : ℕ) → raiseOf q (withWeight x) n ≡ raiseOf q x n
 unfolding raiseOf finer
-raise-by-hand Acceleration x n = refl
-raise-by-hand Speed x n = refl
+raise-with-weight Acceleration x n = refl
+raise-with-weight Speed x n = refl

@@ -1,4 +1,4 @@
--- Every call with damping as measured gives what it gives with each B entered by hand: `measured-is-by-hand`.
+-- Every call with damping as measured gives what it gives with each B entered by hand: `measured-is-given`.
 use Prim.Native.Nat.{ℕ, suc, _+_}
 use mathlib.Core.Path.{_≡_, refl, ap, _∙_}
 use mathlib.Core.Bool.{Bool, true, false}
@@ -20,7 +20,7 @@ use Rattle.model.specs.declared.TourSettings.{TourSettings}
 use Rattle.model.specs.planning.Quantities.{finer}
 use Rattle.model.specs.planning.Motion.{reachable}
 use Rattle.model.specs.planning.Windows.{noWindows, refused13}
-use Rattle.model.specs.planning.Job.{Job, JobAxis, axesOf, jobOf, byHand, axesByHand, jobByHand, typedByHand}
+use Rattle.model.specs.planning.Job.{Job, JobAxis, axesOf, jobOf, withWeight, axesWithWeight, jobWithWeight, typedWithWeight}
 use Rattle.model.specs.planning.Words.{goodMask}
 use Rattle.model.specs.planning.Refusals.{lastTick}
 use Rattle.model.specs.planning.Outcome.{Outcome, typed, call, callIn, ordered, refuse, admitted, axisRefusals, tested, jobOutcome, partOver, beforeTen, answerOf}
@@ -29,9 +29,9 @@ use Rattle.model.specs.calls.Raises.{raiseOf, raisesOf, raisesFrom, none
 use Rattle.model.specs.calls.Search.{searchFrom, refuseSearch, searchAnswer, firstAllowed, searchAdmitted, asking, searchJob, searchCall}
 use Rattle.model.specs.calls.Tour.{legAxis, legAxes, legJob, legAnswer, Legs, refusedLeg, legsFrom, afterLegs, arrivalsOver, refuseTour, firstLongDwell}
 use Rattle.model.specs.calls.Tour.{TourOutcome, tourOutcome, noStops, mostStops}
-use Rattle.model.specs.theorems.ByHand.{limitsByHand, settingsByHand, MeasuredIsByHand}
+use Rattle.model.specs.theorems.GivenWeights.{limitsWithWeight, settingsWithWeight, MeasuredIsGiven}
 use Rattle.model.proofs.jobs.Ordered.{answer-stays}
-use Rattle.model.proofs.jobs.ByHand.{set-by-hand, arrives-by-hand, admitted-by-hand, ordered-by-hand, part-by-hand, tests-by-hand}
+use Rattle.model.proofs.jobs.GivenWeights.{set-with-weight, arrives-with-weight, admitted-with-weight, ordered-with-weight, part-with-weight, tests-with-weight}
 
 -- ---- a table
 
@@ -42,35 +42,35 @@ module _ (j : Job) (lent : List ℤ) where
   abbrev by-mask : Job → Bool → Outcome
   by-mask i b = elim b [ true ↦ jobOutcome i lent | false ↦ refuse 1 0 0 0 lent ]
 
-  asked : (b : Bool) → (by-asked j b .number ≡ 12 → ⊥) → by-asked (jobByHand j) b ≡ by-asked j b
+  asked : (b : Bool) → (by-asked j b .number ≡ 12 → ⊥) → by-asked (jobWithWeight j) b ≡ by-asked j b
   asked true h =
-      tests-by-hand (λ n p. refuse n p 0 0 lent) (λ o. o .number) (λ n p. refl) (j .axes) (admitted j lent) (admitted (jobByHand j) lent)
-      (admitted-by-hand j lent) h
+      tests-with-weight (λ n p. refuse n p 0 0 lent) (λ o. o .number) (λ n p. refl) (j .axes) (admitted j lent) (admitted (jobWithWeight j) lent)
+      (admitted-with-weight j lent) h
   asked false h = refl
 
-  masked : (b : Bool) → (by-mask j b .number ≡ 12 → ⊥) → by-mask (jobByHand j) b ≡ by-mask j b
+  masked : (b : Bool) → (by-mask j b .number ≡ 12 → ⊥) → by-mask (jobWithWeight j) b ≡ by-mask j b
   masked true h = asked (leb (j .asked) lastTick) h
   masked false h = refl
 
 -- the job of the values by hand
-job-by-hand : (t : Typed.Job) → jobOf (typedByHand t) ≡ jobByHand (jobOf t)
-job-by-hand t =
-    ap (λ (l : List JobAxis). record { mask = t .mask; asked = t .asked; axes = l; windows = t .windows }) (set-by-hand 0 (t .mask) (t .axes))
+job-with-weight : (t : Typed.Job) → jobOf (typedWithWeight t) ≡ jobWithWeight (jobOf t)
+job-with-weight t =
+    ap (λ (l : List JobAxis). record { mask = t .mask; asked = t .asked; axes = l; windows = t .windows }) (set-with-weight 0 (t .mask) (t .axes))
 
-called : (t : Typed.Job) (lent : List ℤ) → (call (typed t) lent .number ≡ 12 → ⊥) → call (typed (typedByHand t)) lent ≡ call (typed t) lent
+called : (t : Typed.Job) (lent : List ℤ) → (call (typed t) lent .number ≡ 12 → ⊥) → call (typed (typedWithWeight t)) lent ≡ call (typed t) lent
 called t lent h =
-    ap (λ (j : Job). by-mask j lent j (goodMask (t .mask))) (job-by-hand t) ∙ masked (jobOf t) lent (goodMask (t .mask)) h
+    ap (λ (j : Job). by-mask j lent j (goodMask (t .mask))) (job-with-weight t) ∙ masked (jobOf t) lent (goodMask (t .mask)) h
 
 tables : (o : Order) (t : Typed.Job) (lent : List ℤ) → (callIn o (typed t) lent .number ≡ 12 → ⊥)
-    → callIn o (typed (typedByHand t)) lent ≡ callIn o (typed t) lent
+    → callIn o (typed (typedWithWeight t)) lent ≡ callIn o (typed t) lent
 tables o t lent h =
     let r = call (typed t) lent in
     let same = called t lent (λ e. h (ap (λ (a : Answer). a .number) (answer-stays (axesOf (jobOf t)) lent r o) ∙ e)) in
-    (λ i. ordered o (axesOf (job-by-hand t i)) lent (same i)) ∙ ordered-by-hand o (jobOf t) lent r
+    (λ i. ordered o (axesOf (job-with-weight t i)) lent (same i)) ∙ ordered-with-weight o (jobOf t) lent r
 
 -- ---- the answer before 10
 
-answered : (t : Typed.Job) → (answerOf (typed t) .number ≡ 12 → ⊥) → answerOf (typed (typedByHand t)) ≡ answerOf (typed t)
+answered : (t : Typed.Job) → (answerOf (typed t) .number ≡ 12 → ⊥) → answerOf (typed (typedWithWeight t)) ≡ answerOf (typed t)
 unfolding answerOf
 answered t h = ap (beforeTen (t .mask)) (called t [] (λ e. h (before (call (typed t) []) e)))
   where
@@ -86,28 +86,28 @@ answered t h = ap (beforeTen (t .mask)) (called t [] (λ e. h (before (call (typ
 
 -- ---- rows in parts
 
-axes-length : (l : List JobAxis) → length (map (λ x. x .axis) (axesByHand l)) ≡ length (map (λ x. x .axis) l)
+axes-length : (l : List JobAxis) → length (map (λ x. x .axis) (axesWithWeight l)) ≡ length (map (λ x. x .axis) l)
 axes-length [] = refl
 axes-length (x ∷ l) = ap suc (axes-length l)
 
-accepted-part : (j : Job) (a : Answer) (k : ℕ) (lent : List ℤ) → partAccepted a (axesOf (jobByHand j)) k lent ≡ partAccepted a (axesOf j) k lent
+accepted-part : (j : Job) (a : Answer) (k : ℕ) (lent : List ℤ) → partAccepted a (axesOf (jobWithWeight j)) k lent ≡ partAccepted a (axesOf j) k lent
 accepted-part j a k lent =
-    let xs = axesOf (jobByHand j) in
+    let xs = axesOf (jobWithWeight j) in
     let c : ℕ = partRows (length (axesOf j)) (a .arrival) k (length lent) in
     ap (λ (m : ℕ). record {
       answer = a;
       rows = partRows m (a .arrival) k (length lent);
       cells = partOver Forwards xs (a .arrival) k (partRows m (a .arrival) k (length lent)) lent;
     }) (axes-length (j .axes))
-    ∙ ap (λ (l : List ℤ). record { answer = a; rows = c; cells = l }) (part-by-hand Forwards j (a .arrival) k c lent)
+    ∙ ap (λ (l : List ℤ). record { answer = a; rows = c; cells = l }) (part-with-weight Forwards j (a .arrival) k c lent)
 
 parts : (t : Typed.Job) (k : ℕ) (lent : List ℤ) → (partCall (typed t) k lent .answer .number ≡ 12 → ⊥)
-    → partCall (typed (typedByHand t)) k lent ≡ partCall (typed t) k lent
+    → partCall (typed (typedWithWeight t)) k lent ≡ partCall (typed t) k lent
 unfolding partCall
 parts t k lent h =
     let a = answerOf (typed t) in
     let same = answered t (λ e. h (own a (axesOf (jobOf t)) ∙ e)) in
-    (λ i. partWith (same i) (axesOf (job-by-hand t i)) k lent)
+    (λ i. partWith (same i) (axesOf (job-with-weight t i)) k lent)
     ∙ (λ i. elim (eqb (a .number) 0) as (λ _. PartOutcome) [ true ↦ accepted-part (jobOf t) a k lent i | false ↦ partRefused a lent ])
   where
     own : (a : Answer) (xs : List Axis) → partWith a xs k lent .answer .number ≡ a .number
@@ -119,26 +119,26 @@ parts t k lent h =
 
 -- ---- raises
 
-raises-of : (x : Axis) (n : ℕ) → raisesOf (byHand x) n ≡ raisesOf x n
+raises-of : (x : Axis) (n : ℕ) → raisesOf (withWeight x) n ≡ raisesOf x n
 unfolding raiseOf finer
 raises-of x n = refl
 
-raises-from : (n : ℕ) (xs : List JobAxis) (l : List AxisRaises) → raisesFrom n (axesByHand xs) l ≡ raisesFrom n xs l
+raises-from : (n : ℕ) (xs : List JobAxis) (l : List AxisRaises) → raisesFrom n (axesWithWeight xs) l ≡ raisesFrom n xs l
 unfolding finer
 raises-from n [] l = refl
 raises-from n (x ∷ xs) l =
     λ i.
     elim (reachable (x .axis) n) as (λ _. List AxisRaises) [
       | true ↦ raises-from n xs l i
-      | false ↦ (ap (λ (r : AxisRaises). raisesFrom n (axesByHand xs) (set l (x .number) r)) (raises-of (x .axis) n)
+      | false ↦ (ap (λ (r : AxisRaises). raisesFrom n (axesWithWeight xs) (set l (x .number) r)) (raises-of (x .axis) n)
           ∙ raises-from n xs (set l (x .number) (raisesOf (x .axis) n))) i
     ]
 
-raises : (t : Typed.Job) → (raisesCall (typed t) .answer .number ≡ 12 → ⊥) → raisesCall (typed (typedByHand t)) ≡ raisesCall (typed t)
+raises : (t : Typed.Job) → (raisesCall (typed t) .answer .number ≡ 12 → ⊥) → raisesCall (typed (typedWithWeight t)) ≡ raisesCall (typed t)
 unfolding raisesCall
 raises t h =
     let a = answerOf (typed t) in
-    (λ i. raisesWith (answered t h i) (job-by-hand t i))
+    (λ i. raisesWith (answered t h i) (job-with-weight t i))
     ∙ (λ i. record {
       answer = a;
       axes = elim (eqb (a .number) 8) as (λ _. List AxisRaises) [ true ↦ raises-from (t .asked) (jobOf t .axes) noneRaised i | false ↦ noneRaised ];
@@ -148,44 +148,44 @@ raises t h =
 
 module _ (first budget : ℕ) where
   -- 13, then 18, then the search
-  admitted-search : (j : Job) → searchAdmitted (jobByHand j) first budget ≡ searchAdmitted j first budget
+  admitted-search : (j : Job) → searchAdmitted (jobWithWeight j) first budget ≡ searchAdmitted j first budget
   admitted-search j =
       λ i.
       elim (refused13 (j .windows)) as (λ _. SearchAnswer) [
         | some p ↦ refuseSearch 13 p
         | none ↦ elim (firstAllowed first) as (λ _. SearchAnswer) [
-          | true ↦ searchAnswer (j .mask) (searchFrom (λ n. arrives-by-hand j n i) first budget)
+          | true ↦ searchAnswer (j .mask) (searchFrom (λ n. arrives-with-weight j n i) first budget)
           | false ↦ refuseSearch 18 0
         ]
       ]
 
-  searched : (j : Job) → (searchJob j first budget .number ≡ 12 → ⊥) → searchJob (jobByHand j) first budget ≡ searchJob j first budget
+  searched : (j : Job) → (searchJob j first budget .number ≡ 12 → ⊥) → searchJob (jobWithWeight j) first budget ≡ searchJob j first budget
   searched j h =
-      tests-by-hand refuseSearch (λ a. a .number) (λ n p. refl) (j .axes) (searchAdmitted (asking 0 j) first budget)
-      (searchAdmitted (asking 0 (jobByHand j)) first budget) (admitted-search (asking 0 j)) h
+      tests-with-weight refuseSearch (λ a. a .number) (λ n p. refl) (j .axes) (searchAdmitted (asking 0 j) first budget)
+      (searchAdmitted (asking 0 (jobWithWeight j)) first budget) (admitted-search (asking 0 j)) h
 
   by-good : Job → Bool → SearchAnswer
   by-good j b = elim b [ true ↦ searchJob j first budget | false ↦ refuseSearch 1 0 ]
 
   searches : (t : Typed.Job) → (searchCall (typed t) first budget .number ≡ 12 → ⊥)
-      → searchCall (typed (typedByHand t)) first budget ≡ searchCall (typed t) first budget
+      → searchCall (typed (typedWithWeight t)) first budget ≡ searchCall (typed t) first budget
   unfolding searchCall by-good
-  searches t h = ap (λ (j : Job). by-good j (goodMask (t .mask))) (job-by-hand t) ∙ go (goodMask (t .mask)) h
+  searches t h = ap (λ (j : Job). by-good j (goodMask (t .mask))) (job-with-weight t) ∙ go (goodMask (t .mask)) h
     where
-      go : (b : Bool) → (by-good (jobOf t) b .number ≡ 12 → ⊥) → by-good (jobByHand (jobOf t)) b ≡ by-good (jobOf t) b
+      go : (b : Bool) → (by-good (jobOf t) b .number ≡ 12 → ⊥) → by-good (jobWithWeight (jobOf t)) b ≡ by-good (jobOf t) b
       go true h = searched (jobOf t) h
       go false h = refl
 
 -- ---- tours
 
-leg-axes : (ls : List AxisLimits) (ps qs : List ℤ) → legAxes (map limitsByHand ls) ps qs ≡ map byHand (legAxes ls ps qs)
+leg-axes : (ls : List AxisLimits) (ps qs : List ℤ) → legAxes (map limitsWithWeight ls) ps qs ≡ map withWeight (legAxes ls ps qs)
 leg-axes [] ps qs = refl
 leg-axes (l ∷ ls) [] qs = refl
 leg-axes (l ∷ ls) (p ∷ ps) [] = refl
-leg-axes (l ∷ ls) (p ∷ ps) (q ∷ qs) = ap (λ (r : List Axis). byHand (legAxis l p q) ∷ r) (leg-axes ls ps qs)
+leg-axes (l ∷ ls) (p ∷ ps) (q ∷ qs) = ap (λ (r : List Axis). withWeight (legAxis l p q) ∷ r) (leg-axes ls ps qs)
 
 module _ (t : TourSettings) where
-  leg-answer : (here there : List ℤ) → (legAnswer t here there .number ≡ 12 → ⊥) → legAnswer (settingsByHand t) here there ≡ legAnswer t here there
+  leg-answer : (here there : List ℤ) → (legAnswer t here there .number ≡ 12 → ⊥) → legAnswer (settingsWithWeight t) here there ≡ legAnswer t here there
   leg-answer here there h =
       ap (λ (xs : List Axis). answerOf (typed (record { mask = t .mask; asked = 0; axes = xs; windows = noWindows }))) (leg-axes (t .limits) here there)
       ∙ answered (legJob t here there) h
@@ -199,19 +199,19 @@ module _ (t : TourSettings) where
       ]
 
   legs : (ss : List Stop) (n : ℕ) (here : List ℤ) (l : List ℕ) → (legsFrom t ss n here l .number ≡ 12 → ⊥)
-      → legsFrom (settingsByHand t) ss n here l ≡ legsFrom t ss n here l
+      → legsFrom (settingsWithWeight t) ss n here l ≡ legsFrom t ss n here l
   unfolding on-leg
   legs [] n here l h = refl
   legs (s ∷ ss) n here l h =
       let a = legAnswer t here (s .positions) in
-      ap (λ (b : Answer). on-leg ss s n l (settingsByHand t) b (eqb (b .number) 0)) (leg-answer here (s .positions) (λ e. h (refused a e)))
+      ap (λ (b : Answer). on-leg ss s n l (settingsWithWeight t) b (eqb (b .number) 0)) (leg-answer here (s .positions) (λ e. h (refused a e)))
       ∙ go (λ m p k. legs ss m p k) a (eqb (a .number) 0) h
     where
       refused : (a : Answer) → a .number ≡ 12 → on-leg ss s n l t a (eqb (a .number) 0) .number ≡ 12
       refused a e = ap (λ (m : ℕ). on-leg ss s n l t a (eqb m 0) .number) e ∙ e
 
-      go : ((m : ℕ) (p : List ℤ) (k : List ℕ) → (legsFrom t ss m p k .number ≡ 12 → ⊥) → legsFrom (settingsByHand t) ss m p k ≡ legsFrom t ss m p k)
-          → (a : Answer) (b : Bool) → (on-leg ss s n l t a b .number ≡ 12 → ⊥) → on-leg ss s n l (settingsByHand t) a b ≡ on-leg ss s n l t a b
+      go : ((m : ℕ) (p : List ℤ) (k : List ℕ) → (legsFrom t ss m p k .number ≡ 12 → ⊥) → legsFrom (settingsWithWeight t) ss m p k ≡ legsFrom t ss m p k)
+          → (a : Answer) (b : Bool) → (on-leg ss s n l t a b .number ≡ 12 → ⊥) → on-leg ss s n l (settingsWithWeight t) a b ≡ on-leg ss s n l t a b
       go more a true h = more _ _ _ h
       go more a false h = refl
 
@@ -240,16 +240,16 @@ module _ (t : TourSettings) where
     same-tour false true none g f s h = ap (λ (k : Legs). afterLegs count k lent) (s (λ e. h (after g e)))
 
   tours : (stops : List Stop) (lent : List ℕ) → (tourOutcome t stops lent .number ≡ 12 → ⊥)
-      → tourOutcome (settingsByHand t) stops lent ≡ tourOutcome t stops lent
+      → tourOutcome (settingsWithWeight t) stops lent ≡ tourOutcome t stops lent
   unfolding by-dwell by-count by-stops
   tours stops lent h =
       same-tour lent (length stops) (eqb (length stops) 0) (leb (length stops) mostStops) (firstLongDwell 0 stops)
-      (legsFrom t stops 0 (t .start) []) (legsFrom (settingsByHand t) stops 0 (t .start) []) (legs stops 0 (t .start) []) h
+      (legsFrom t stops 0 (t .start) []) (legsFrom (settingsWithWeight t) stops 0 (t .start) []) (legs stops 0 (t .start) []) h
 
 -- ---- every call
 
-pub measured-is-by-hand : MeasuredIsByHand
-measured-is-by-hand =
+pub measured-is-given : MeasuredIsGiven
+measured-is-given =
     record {
       tables = tables;
       parts = parts;

@@ -15,7 +15,7 @@ use lib.Seq.{take-append-seam, drop-append-seam}
 use Rattle.whole.proofs.Tests.{T-true, choice-yes, lt-or-le}
 use Rattle.model.specs.declared.Axis.{Axis}
 use Rattle.model.specs.declared.Order.the-variants.{Forwards}
-use Rattle.model.specs.planning.Rows.{track, cells, row, tabulate, table, part}
+use Rattle.model.specs.planning.Rows.{plannedAxis, cells, row, tabulate, table, part}
 use Rattle.model.specs.planning.Job.{Job, jobOf, axesOf}
 use Rattle.model.specs.planning.Refusals.{AllPassed}
 use Rattle.model.specs.planning.Outcome.{Outcome, Input, words, typed, call, inputJob, inputAxes, cellsNeeded, allReach, answerOf}
@@ -157,10 +157,10 @@ module _ (q : Input) (z : answerOf q .number ≡ 0) where
   b = 3 * length xs
 
   abbrev f : ℕ → List ℤ
-  f i = row (map (track n) xs) i
+  f i = row (map (plannedAxis n) xs) i
 
   even : (i : ℕ) → length (f i) ≡ b
-  even i = blocks-length 3 (cells i) (λ t. refl) (map (track n) xs) ∙ ap (λ (l : ℕ). 3 * l) (length-map xs (track n))
+  even i = blocks-length 3 (cells i) (λ t. refl) (map (plannedAxis n) xs) ∙ ap (λ (l : ℕ). 3 * l) (length-map xs (plannedAxis n))
 
   -- how many rows a part has
   abbrev count : ℕ → List ℤ → ℕ

@@ -19,11 +19,11 @@ use Rattle.model.specs.planning.Refusals.{AllPassed}
 use Rattle.model.specs.planning.Outcome.{Outcome, refuse, accept, filled, arrived, arrives, leastFrom, cellsNeeded, tableOver, jobOutcome}
 use Rattle.model.specs.theorems.Verdict.{Arrives, Passing}
 use Rattle.model.specs.planning.Demand.{Demand3}
-use Rattle.model.specs.calls.Search.{candidates, withinBudget, notFound, reported, searchFrom, asking, SearchSays, found, spent, nothing, Planned}
+use Rattle.model.specs.calls.Search.{candidates, withinBudget, notFound, reportOf, searchFrom, asking, SearchSays, found, spent, nothing, Planned}
 use Rattle.model.proofs.jobs.LeastTick.{least-is, none-is}
 use Rattle.model.proofs.jobs.Verdict.{arrives-is, is-arrives}
 use Rattle.model.proofs.jobs.OutsideWindows.{goes-on}
-use Rattle.model.proofs.tables.Demand.{demanded, all-ready}
+use Rattle.model.proofs.tables.Demand.{demanded, all-plannable}
 use Rattle.model.proofs.calls.Budgets.{few, all}
 
 -- ---- the report
@@ -36,17 +36,17 @@ module _ (j : Job) (first budget : ℕ) (passed : AllPassed (j .axes)) (low : fi
   missed : (count : ℕ) → leastFrom (arrives j) first count ≡ none → (k : ℕ) → first ≤ k → k < first + count → Arrives j k → ⊥
   missed count e k a b r = none-is (arrives j) first count e k a b (T-true (arrives j k) (is-arrives j k passed r))
 
-  says-found : (count n : ℕ) → leastFrom (arrives j) first count ≡ some n → count ≤ budget → count ≤ candidates first → Says (reported first budget (some n))
+  says-found : (count n : ℕ) → leastFrom (arrives j) first count ≡ some n → count ≤ budget → count ≤ candidates first → Says (reportOf first budget (some n))
   says-found count n e b c =
       let l = least-is (arrives j) first count n e in
       found n (l .first) (omega (arith, l .last, l .first)) (omega (arith, l .last)) (arrives-is j n passed (true-T (l .passes)))
       (λ k a b r. l .least k a b (T-true (arrives j k) (is-arrives j k passed r)))
 
-  says-few : budget < candidates first → (o : Option ℕ) → leastFrom (arrives j) first budget ≡ o → Says (reported first budget o)
+  says-few : budget < candidates first → (o : Option ℕ) → leastFrom (arrives j) first budget ≡ o → Says (reportOf first budget o)
   says-few h (some n) e = says-found budget n e (omega arith) (omega arith)
   says-few h none e = subst (λ (b : Bool). Says (notFound first budget b)) (sym (lt-ltb budget (candidates first) h)) (spent (omega arith) (missed budget e))
 
-  says-all : candidates first ≤ budget → (o : Option ℕ) → leastFrom (arrives j) first (candidates first) ≡ o → Says (reported first budget o)
+  says-all : candidates first ≤ budget → (o : Option ℕ) → leastFrom (arrives j) first (candidates first) ≡ o → Says (reportOf first budget o)
   says-all h (some n) e = says-found (candidates first) n e h (omega arith)
   says-all h none e =
       subst (λ (b : Bool). Says (notFound first budget b)) (sym (le-ltb budget (candidates first) h))
@@ -56,11 +56,11 @@ module _ (j : Job) (first budget : ℕ) (passed : AllPassed (j .axes)) (low : fi
   unfolding searchFrom
   search-says = go (lt-or-le budget (candidates first))
     where
-      at : (k : ℕ) → withinBudget budget first ≡ k → Says (reported first budget (leastFrom (arrives j) first k))
-          → Says (reported first budget (leastFrom (arrives j) first (withinBudget budget first)))
-      at k e = subst (λ (m : ℕ). Says (reported first budget (leastFrom (arrives j) first m))) (sym e)
+      at : (k : ℕ) → withinBudget budget first ≡ k → Says (reportOf first budget (leastFrom (arrives j) first k))
+          → Says (reportOf first budget (leastFrom (arrives j) first (withinBudget budget first)))
+      at k e = subst (λ (m : ℕ). Says (reportOf first budget (leastFrom (arrives j) first m))) (sym e)
 
-      go : (budget < candidates first) ⊎ (candidates first ≤ budget) → Says (reported first budget (leastFrom (arrives j) first (withinBudget budget first)))
+      go : (budget < candidates first) ⊎ (candidates first ≤ budget) → Says (reportOf first budget (leastFrom (arrives j) first (withinBudget budget first)))
       go (inl h) = at budget (few (arrives j) first budget h) (says-few h (leastFrom (arrives j) first budget) refl)
       go (inr h) = at (candidates first) (all (arrives j) first budget h) (says-all h (leastFrom (arrives j) first (candidates first)) refl)
 
@@ -84,7 +84,7 @@ module _ (j : Job) (p : Passing (asking 0 j)) where
         demand3 = λ lent room.
             subst (λ (o : Outcome). Demand3 Forwards (axesOf j) n (o .cells)) (sym (is lent room))
             (demanded Forwards (axesOf j) n (tableOver Forwards (axesOf j) n lent) (drop (cellsNeeded (length (axesOf j)) n) lent) refl
-            (all-ready (asking n j) n (p .axes) (record { first = h; last = l; arrives = record { fits = a .fits; reached = a .reached }; asked = inl refl })));
+            (all-plannable (asking n j) n (p .axes) (record { first = h; last = l; arrives = record { fits = a .fits; reached = a .reached }; asked = inl refl })));
       }
     where
       is : (lent : List ℤ) → cellsNeeded (length (axesOf j)) n ≤ length lent → jobOutcome (asking n j) lent ≡ accept j n lent

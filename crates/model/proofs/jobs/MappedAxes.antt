@@ -15,13 +15,13 @@ use Rattle.model.specs.declared.Order.{Order}
 use Rattle.model.specs.declared.Order.the-variants.{Forwards}
 use Rattle.model.specs.planning.Windows.{inWindows, refused13}
 use Rattle.model.specs.planning.Motion.{Tick, reachable}
-use Rattle.model.specs.planning.Rows.{track, blend, divisor, row, rowAt, part, cells, tabulate}
+use Rattle.model.specs.planning.Rows.{plannedAxis, blend, divisor, row, rowAt, part, cells, tabulate}
 use Rattle.model.specs.planning.Job.{Job, JobAxis, axesOf, maskWhere}
 use Rattle.model.specs.planning.Outcome.{Outcome, refuse, allReach, arrives, cellsNeeded, partOver, filled, arrived, firstAxis, Tests, tested}
 
 -- two axes have the same cells where they have the same blends and the same divisor
-pub cells-alike : (n k : ℕ) (x y : Axis) → ((f : Tick → ℤ) → blend (track n x) k f ≡ blend (track n y) k f) → divisor x ≡ divisor y
-    → cells k (track n x) ≡ cells k (track n y)
+pub cells-alike : (n k : ℕ) (x y : Axis) → ((f : Tick → ℤ) → blend (plannedAxis n x) k f ≡ blend (plannedAxis n y) k f) → divisor x ≡ divisor y
+    → cells k (plannedAxis n x) ≡ cells k (plannedAxis n y)
 cells-alike n k x y b d =
     λ i.
     nearestQuotient (b (λ s. s .position) i) (2 * d i) ∷ nearestQuotient (b (λ s. s .velocity) i) (d i) ∷ nearestQuotient (b (λ s. s .acceleration) i) (d i) ∷ []
@@ -68,9 +68,9 @@ module _ (F : Axis → Axis) where
 
   -- ---- the table
 
-  module _ (n : ℕ) (same : (k : ℕ) (x : Axis) → cells k (track n (F x)) ≡ cells k (track n x)) where
+  module _ (n : ℕ) (same : (k : ℕ) (x : Axis) → cells k (plannedAxis n (F x)) ≡ cells k (plannedAxis n x)) where
     row-mapped : (l : List JobAxis) (k : ℕ)
-        → row (map (track n) (map (λ x. x .axis) (mapped l))) k ≡ row (map (track n) (map (λ x. x .axis) l)) k
+        → row (map (plannedAxis n) (map (λ x. x .axis) (mapped l))) k ≡ row (map (plannedAxis n) (map (λ x. x .axis) l)) k
     unfolding flatten
     row-mapped [] k = refl
     row-mapped (x ∷ l) k = ap₂ (λ (c r : List ℤ). c ++ r) (same k (x .axis)) (row-mapped l k)
@@ -96,7 +96,7 @@ module _ (F : Axis → Axis) where
             ]
 
   -- an arrival asked for
-  pub asked-mapped : (n : ℕ) → 1 ≤ n → Blind (λ x. reachable x n) → ((k : ℕ) (x : Axis) → cells k (track n (F x)) ≡ cells k (track n x))
+  pub asked-mapped : (n : ℕ) → 1 ≤ n → Blind (λ x. reachable x n) → ((k : ℕ) (x : Axis) → cells k (plannedAxis n (F x)) ≡ cells k (plannedAxis n x))
       → (j : Job) (lent : List ℤ) → arrived (mappedJob j) n lent ≡ arrived j n lent
   asked-mapped zero h reach same j lent = absurd (omega arith)
   asked-mapped (suc n) h reach same j lent =

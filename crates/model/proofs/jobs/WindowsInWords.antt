@@ -13,8 +13,8 @@ use Rattle.whole.proofs.Tests.{both, and, true-T}
 use Rattle.whole.proofs.Elements.{none-some}
 use Rattle.model.specs.declared.Window.{Window}
 use Rattle.model.specs.declared.Windows.{Windows}
-use Rattle.model.specs.planning.Windows.{fitsWindow, fitsOne, inWindows, FitsOne, inOrderAfter, firstWrong, windowsRefused, refused13}
-use Rattle.model.specs.planning.Windows.{brought, InOrder, FirstWrong, WindowsWrong, WindowsRight}
+use Rattle.model.specs.planning.Windows.{fitsWindow, fitsOne, inWindows, FitsOne, inOrderAfter, firstWrongWindow, windowsRefused, refused13}
+use Rattle.model.specs.planning.Windows.{brought, InOrder, FirstWrongWindow, WindowsWrong, WindowsRight}
 use Rattle.model.specs.planning.Windows.{empty, tooMany, longDwell, wrongWindow}
 
 -- ---- one window, the one before it having closed at tick c
@@ -102,23 +102,23 @@ in-order : (c : ℕ) (w : Window) (l : List Window) → Right c w → (k : ℕ) 
 in-order c w l r zero v e h = let s : w ≡ v = cc in subst (InOrder c (w ∷ l) 0) s (record { closes = r .0; follows = r .1 })
 in-order c w l r (suc k) v e h = let o = h k refl e in record { closes = o .closes; follows = o .follows }
 
-pub none-wrong : (i c : ℕ) (l : List Window) → firstWrong i c l ≡ none → (k : ℕ) (v : Window) → getElem? l k ≡ some v → InOrder c l k v
+pub none-wrong : (i c : ℕ) (l : List Window) → firstWrongWindow i c l ≡ none → (k : ℕ) (v : Window) → getElem? l k ≡ some v → InOrder c l k v
 none-wrong i c [] e = λ k v q. absurd (none-some q)
 none-wrong i c (w ∷ l) e = go (inOrderAfter c w) (right-is c w) e (none-wrong (suc i) (w .closing) l)
   where
     go : (b : Bool) → (b ≡ true → Right c w)
-        → _≡_ {A = Option ℕ} (elim b as (λ _. Option ℕ) [ true ↦ firstWrong (suc i) (w .closing) l | false ↦ some i ]) none
-        → (firstWrong (suc i) (w .closing) l ≡ none → (k : ℕ) (v : Window) → getElem? l k ≡ some v → InOrder (w .closing) l k v)
+        → _≡_ {A = Option ℕ} (elim b as (λ _. Option ℕ) [ true ↦ firstWrongWindow (suc i) (w .closing) l | false ↦ some i ]) none
+        → (firstWrongWindow (suc i) (w .closing) l ≡ none → (k : ℕ) (v : Window) → getElem? l k ≡ some v → InOrder (w .closing) l k v)
         → (k : ℕ) (v : Window) → getElem? (w ∷ l) k ≡ some v → InOrder c (w ∷ l) k v
     go true f e h = λ k v q. in-order c w l (f refl) k v q (λ m s p. h e m v p)
     go false f e h = absurd (none-some (sym e))
 
 -- the first wrong window of those from index i on, counted from there
-first-wrong : (i c : ℕ) (l : List Window) (p : ℕ) → firstWrong i c l ≡ some p → (q : ℕ) × ((p ≡ i + q) × FirstWrong c l q)
+first-wrong : (i c : ℕ) (l : List Window) (p : ℕ) → firstWrongWindow i c l ≡ some p → (q : ℕ) × ((p ≡ i + q) × FirstWrongWindow c l q)
 first-wrong i c [] p e = absurd (none-some e)
 first-wrong i c (w ∷ l) p e = go (inOrderAfter c w) (right-is c w) (wrong-is c w) e (first-wrong (suc i) (w .closing) l p)
   where
-    later : Right c w → (q : ℕ) → FirstWrong (w .closing) l q → FirstWrong c (w ∷ l) (suc q)
+    later : Right c w → (q : ℕ) → FirstWrongWindow (w .closing) l q → FirstWrongWindow c (w ∷ l) (suc q)
     later r q f =
         record {
           window = f .window;
@@ -128,9 +128,9 @@ first-wrong i c (w ∷ l) p e = go (inOrderAfter c w) (right-is c w) (wrong-is c
         }
 
     go : (b : Bool) → (b ≡ true → Right c w) → (b ≡ false → Wrong c w)
-        → _≡_ {A = Option ℕ} (elim b as (λ _. Option ℕ) [ true ↦ firstWrong (suc i) (w .closing) l | false ↦ some i ]) (some p)
-        → (firstWrong (suc i) (w .closing) l ≡ some p → (q : ℕ) × ((p ≡ suc i + q) × FirstWrong (w .closing) l q))
-        → (q : ℕ) × ((p ≡ i + q) × FirstWrong c (w ∷ l) q)
+        → _≡_ {A = Option ℕ} (elim b as (λ _. Option ℕ) [ true ↦ firstWrongWindow (suc i) (w .closing) l | false ↦ some i ]) (some p)
+        → (firstWrongWindow (suc i) (w .closing) l ≡ some p → (q : ℕ) × ((p ≡ suc i + q) × FirstWrongWindow (w .closing) l q))
+        → (q : ℕ) × ((p ≡ i + q) × FirstWrongWindow c (w ∷ l) q)
     go true f g e h = let r = h e in let s : p ≡ suc i + r .0 = r .1 .0 in (suc (r .0), (omega arith, later (f refl) (r .0) (r .1 .1)))
     go false f g e h =
         let s : i ≡ p = cc in
@@ -145,7 +145,7 @@ positive (suc n) h = omega arith
 module _ (w : Windows) where
   -- by the tests of the count and the dwell
   by : Bool → Bool → Option ℕ
-  by a b = elim a [ true ↦ some 0 | false ↦ elim b [ true ↦ firstWrong 0 0 (brought w) | false ↦ some 32 ] ]
+  by a b = elim a [ true ↦ some 0 | false ↦ elim b [ true ↦ firstWrongWindow 0 0 (brought w) | false ↦ some 32 ] ]
 
   wrong : (a b c : Bool) (p : ℕ) → eqb (w .count) 0 ≡ a → leb (w .count) 32 ≡ b → leb (w .dwell) 4096 ≡ c → by a (b && c) ≡ some p → WindowsWrong w p
   unfolding by

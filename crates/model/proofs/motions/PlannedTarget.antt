@@ -11,9 +11,9 @@ use Rattle.model.specs.planning.Quantities.{delay}
 use Rattle.model.specs.planning.Leg.{Meets, chosen, travelled}
 use Rattle.model.specs.planning.Motion.{Tick, run, leg, displacement, requiredSum, planned, earlier}
 use Rattle.model.specs.planning.Motion.{startPosition, startVelocity, landingTick, landingPosition, landingVelocity, landingAcceleration}
-use Rattle.model.specs.planning.Rows.{track, tickAt}
-use Rattle.model.specs.planning.Refusals.{Ready}
-use Rattle.model.proofs.jobs.ReadyAxis as R
+use Rattle.model.specs.planning.Rows.{plannedAxis, tickAt}
+use Rattle.model.specs.planning.Refusals.{Plannable}
+use Rattle.model.proofs.jobs.PlannableAxis as R
 use Rattle.model.proofs.legs.ChosenMeets.{chosen-meets, chosen-length}
 use Rattle.model.proofs.motions.PlannedMotion.{run-over, run-steady, steadyTick, distance-is, final-is, distance, final}
 
@@ -21,7 +21,7 @@ use Rattle.model.proofs.motions.PlannedMotion.{run-over, run-steady, st
 abbrev pub landed : Axis → ℕ → ℕ → Tick
 landed x n j = steadyTick (landingPosition x n) (landingVelocity x n) (landingAcceleration x n) j
 
-module _ (x : Axis) (n : ℕ) (r : Ready x n) where
+module _ (x : Axis) (n : ℕ) (r : Plannable x n) where
   some : 0 < landingTick x n
   some = omega (arith, R.after x n r)
 
@@ -57,5 +57,5 @@ module _ (x : Axis) (n : ℕ) (r : Ready x n) where
       ∙ ap₂ (λ (q v : ℤ). getD (run q v (replicate (suc (delay x)) (landingAcceleration x n))) j d) lands-position lands-velocity
       ∙ run-steady (landingPosition x n) (landingVelocity x n) (landingAcceleration x n) (suc (delay x)) j d (omega arith)
 
-  pub tick-landed : (j : ℕ) → j ≤ delay x → tickAt (track n x) (landingTick x n + j) ≡ landed x n j
+  pub tick-landed : (j : ℕ) → j ≤ delay x → tickAt (plannedAxis n x) (landingTick x n + j) ≡ landed x n j
   tick-landed j h = planned-landed j (earlier x 0) h

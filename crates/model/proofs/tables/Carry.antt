@@ -19,10 +19,10 @@ use Rattle.model.specs.planning.Quantities.{halfPeriod, secondWeight, se
 use Rattle.model.specs.planning.Leg.{chosen}
 use Rattle.model.specs.planning.Motion.{Tick, leg, requiredSum, earlier, changesFrom, accelerations}
 use Rattle.model.specs.planning.Motion.{startPosition, startVelocity, landingTick, landingAcceleration}
-use Rattle.model.specs.planning.Rows.{track, tickAt, tickBack, blendOnce}
-use Rattle.model.specs.planning.Refusals.{Ready}
+use Rattle.model.specs.planning.Rows.{plannedAxis, tickAt, tickBack, blendOnce}
+use Rattle.model.specs.planning.Refusals.{Plannable}
 use Rattle.model.proofs.tables.TwoBlends.{both, bothDivisor, both-some}
-use Rattle.model.proofs.jobs.ReadyAxis as R
+use Rattle.model.proofs.jobs.PlannableAxis as R
 use Rattle.model.proofs.tables.BlendTicks.{tick-start, tick-before, tick-after}
 use Rattle.model.proofs.motions.PlannedMotion.{Follows, run-follows}
 use Rattle.model.proofs.motions.PlannedTarget.{velocities-length}
@@ -85,7 +85,7 @@ changes-length : (v : ℤ) (ws : List ℤ) → length (changesFrom v ws) ≡ len
 changes-length v [] = refl
 changes-length v (w ∷ ws) = ap suc (changes-length w ws)
 
-module _ (x : Axis) (n : ℕ) (r : Ready x n) where
+module _ (x : Axis) (n : ℕ) (r : Plannable x n) where
   -- ---- the planned ticks of row k + 1 follow those of row k
 
   accelerations-length : length (accelerations x n) ≡ suc n
@@ -100,26 +100,26 @@ module _ (x : Axis) (n : ℕ) (r : Ready x n) where
       plain : (a b c : ℕ) → a + b ≡ c → a + suc b ≡ suc c
       plain a b c e = omega arith
 
-  now-follows : (k : ℕ) → k < n → Follows (tickAt (track n x) k) (tickAt (track n x) (suc k))
+  now-follows : (k : ℕ) → k < n → Follows (tickAt (plannedAxis n x) k) (tickAt (plannedAxis n x) (suc k))
   now-follows k q =
       run-follows (startPosition x) (startVelocity x) (accelerations x n) (earlier x 0) k
       (subst (λ (l : ℕ). suc k < l) (sym accelerations-length) (omega arith))
 
-  back-follows : (h k : ℕ) → k < n → Follows (tickBack (track n x) k h) (tickBack (track n x) (suc k) h)
+  back-follows : (h k : ℕ) → k < n → Follows (tickBack (plannedAxis n x) k h) (tickBack (plannedAxis n x) (suc k) h)
   back-follows h k q = ⊎-elim (λ a. ⊎-elim (λ b. before a b) (λ b. across a b) (lt-or-le (suc k) h)) within (lt-or-le k h)
     where
-      before : k < h → suc k < h → Follows (tickBack (track n x) k h) (tickBack (track n x) (suc k) h)
+      before : k < h → suc k < h → Follows (tickBack (plannedAxis n x) k h) (tickBack (plannedAxis n x) (suc k) h)
       before a b =
-          subst₂ Follows (sym (tick-before (track n x) k h a ∙ ap (earlier x) one-more)) (sym (tick-before (track n x) (suc k) h b))
+          subst₂ Follows (sym (tick-before (plannedAxis n x) k h a ∙ ap (earlier x) one-more)) (sym (tick-before (plannedAxis n x) (suc k) h b))
           (earlier-follows x (h - suc k))
         where
           one-more : h - k ≡ suc (h - suc k)
           one-more = omega arith
 
       -- tick 0 follows the uniform motion before it
-      across : k < h → h ≤ suc k → Follows (tickBack (track n x) k h) (tickBack (track n x) (suc k) h)
+      across : k < h → h ≤ suc k → Follows (tickBack (plannedAxis n x) k h) (tickBack (plannedAxis n x) (suc k) h)
       across a b =
-          subst₂ Follows (sym (tick-before (track n x) k h a ∙ ap (earlier x) one)) (sym (tick-after (track n x) (suc k) h 0 (omega arith)))
+          subst₂ Follows (sym (tick-before (plannedAxis n x) k h a ∙ ap (earlier x) one)) (sym (tick-after (plannedAxis n x) (suc k) h 0 (omega arith)))
           (record {
             position = tick-start x n .0 ∙ uniform (startPosition x) (startVelocity x);
             velocity = tick-start x n .1 ∙ sym (+ℤ-idr (startVelocity x));
@@ -131,9 +131,9 @@ module _ (x : Axis) (n : ℕ) (r : Ready x n) where
           uniform : (q v : ℤ) → q ≡ q -ℤ pos 2 *ℤ (pos 1 *ℤ v) +ℤ pos 2 *ℤ v +ℤ pos 0
           uniform q v = same (q ∷ v ∷ []) (search pol depth 20 fits 9000) tt
 
-      within : h ≤ k → Follows (tickBack (track n x) k h) (tickBack (track n x) (suc k) h)
+      within : h ≤ k → Follows (tickBack (plannedAxis n x) k h) (tickBack (plannedAxis n x) (suc k) h)
       within a =
-          subst₂ Follows (sym (tick-after (track n x) k h (k - h) (omega arith))) (sym (tick-after (track n x) (suc k) h (suc (k - h)) (omega arith)))
+          subst₂ Follows (sym (tick-after (plannedAxis n x) k h (k - h) (omega arith))) (sym (tick-after (plannedAxis n x) (suc k) h (suc (k - h)) (omega arith)))
           (now-follows (k - h) (omega arith))
 
   -- ---- so do their blends
@@ -146,7 +146,7 @@ module _ (x : Axis) (n : ℕ) (r : Ready x n) where
 
   -- one blend, d ticks back
   abbrev once : (Tick → ℤ) → ℕ → ℕ → ℤ
-  once f d k = blendOnce (track n x) k d f
+  once f d k = blendOnce (plannedAxis n x) k d f
 
   pub once-position : (d k : ℕ) → k < n
       → once (λ s. s .position) d (suc k) ≡ once (λ s. s .position) d k +ℤ pos 2 *ℤ once (λ s. s .velocity) d k +ℤ once (λ s. s .acceleration) d k
@@ -155,10 +155,10 @@ module _ (x : Axis) (n : ℕ) (r : Ready x n) where
       ∙ mixed A B (s .position) (s .velocity) (s .acceleration) (u .position) (u .velocity) (u .acceleration)
     where
       s : Tick
-      s = tickBack (track n x) k d
+      s = tickBack (plannedAxis n x) k d
 
       u : Tick
-      u = tickBack (track n x) k (d + halfPeriod x)
+      u = tickBack (plannedAxis n x) k (d + halfPeriod x)
 
       mixed : (A B q v a r w b : ℤ) → A *ℤ (q +ℤ pos 2 *ℤ v +ℤ a) +ℤ B *ℤ (r +ℤ pos 2 *ℤ w +ℤ b)
           ≡ A *ℤ q +ℤ B *ℤ r +ℤ pos 2 *ℤ (A *ℤ v +ℤ B *ℤ w) +ℤ (A *ℤ a +ℤ B *ℤ b)
@@ -170,23 +170,23 @@ module _ (x : Axis) (n : ℕ) (r : Ready x n) where
       ∙ mixed A B (s .velocity) (s .acceleration) (u .velocity) (u .acceleration)
     where
       s : Tick
-      s = tickBack (track n x) k d
+      s = tickBack (plannedAxis n x) k d
 
       u : Tick
-      u = tickBack (track n x) k (d + halfPeriod x)
+      u = tickBack (plannedAxis n x) k (d + halfPeriod x)
 
       mixed : (A B v a w b : ℤ) → A *ℤ (v +ℤ a) +ℤ B *ℤ (w +ℤ b) ≡ A *ℤ v +ℤ B *ℤ w +ℤ (A *ℤ a +ℤ B *ℤ b)
       mixed A B v a w b = same (A ∷ B ∷ v ∷ a ∷ w ∷ b ∷ []) (search pol depth 20 fits 9000) tt
 
   -- the two together
   abbrev position : ℕ → ℤ
-  position k = both (track n x) k (λ s. s .position)
+  position k = both (plannedAxis n x) k (λ s. s .position)
 
   abbrev velocity : ℕ → ℤ
-  velocity k = both (track n x) k (λ s. s .velocity)
+  velocity k = both (plannedAxis n x) k (λ s. s .velocity)
 
   abbrev acceleration : ℕ → ℤ
-  acceleration k = both (track n x) k (λ s. s .acceleration)
+  acceleration k = both (plannedAxis n x) k (λ s. s .acceleration)
 
   position-follows : (k : ℕ) → k < n → position (suc k) ≡ position k +ℤ pos 2 *ℤ velocity k +ℤ acceleration k
   position-follows k q =

@@ -19,11 +19,11 @@ use Rattle.model.specs.planning.Quantities.{finer, speedSteps, accelerat
 use Rattle.model.specs.planning.Leg.{Meets, chosen}
 use Rattle.model.specs.planning.Motion.{Tick, run, changesFrom, leg, displacement, requiredSum}
 use Rattle.model.specs.planning.Motion.{earlier, landingTick, startPosition, startVelocity, landingVelocity, landingAcceleration}
-use Rattle.model.specs.planning.Rows.{track, tickAt, tickBack, blendOnce}
-use Rattle.model.specs.planning.Refusals.{Ready}
+use Rattle.model.specs.planning.Rows.{plannedAxis, tickAt, tickBack, blendOnce}
+use Rattle.model.specs.planning.Refusals.{Plannable}
 use Rattle.model.proofs.tables.TwoBlends.{both, bothDivisor, both-some}
 use Rattle.model.proofs.jobs.PassedAxis.{target-acceleration}
-use Rattle.model.proofs.jobs.ReadyAxis as R
+use Rattle.model.proofs.jobs.PlannableAxis as R
 use Rattle.model.proofs.motions.Reaches.{reach-lands, reach-arrives}
 use Rattle.model.proofs.motions.PlannedTarget.{landed, tick-landed, velocities-length}
 use Rattle.model.proofs.motions.PlannedTarget as P
@@ -85,7 +85,7 @@ by-landing Q T k f g = go (ltb k T) (ltb→lt k T) (nltb→le k T)
     go true a c = f (a tt)
     go false a c = let h : T ≤ k = c tt in subst Q {x = T + (k - T)} {y = k} (omega arith) (g (k - T) (omega arith))
 
-module _ (x : Axis) (n : ℕ) (r : Ready x n) where
+module _ (x : Axis) (n : ℕ) (r : Plannable x n) where
   W : ℕ → ℤ
   W k = getD (startVelocity x ∷ chosen (leg x n) (requiredSum x n)) k (pos 0)
 
@@ -96,7 +96,7 @@ module _ (x : Axis) (n : ℕ) (r : Ready x n) where
   long : length (chosen (leg x n) (requiredSum x n)) ≡ landingTick x n
   long = velocities-length x n r
 
-  late : (j : ℕ) → j ≤ delay x → tickAt (track n x) (landingTick x n + j) ≡ landed x n j
+  late : (j : ℕ) → j ≤ delay x → tickAt (plannedAxis n x) (landingTick x n + j) ≡ landed x n j
   late j h = tick-landed x n r j h
 
   landing-acceleration : natAbs (landingAcceleration x n) ≤ accelerationSteps x
@@ -105,10 +105,10 @@ module _ (x : Axis) (n : ℕ) (r : Ready x n) where
       (mul-holds (pos fineSteps) (asMoving (x .target) n .acceleration) fineSteps (accelerationLimit x) (omega arith)
       (target-acceleration x (r .passed) n))
 
-  now-velocity : (k : ℕ) → k ≤ n → natAbs (tickAt (track n x) k .velocity) ≤ speedSteps x
+  now-velocity : (k : ℕ) → k ≤ n → natAbs (tickAt (plannedAxis n x) k .velocity) ≤ speedSteps x
   unfolding W
   now-velocity k h =
-      by-landing (λ k. k ≤ n → natAbs (tickAt (track n x) k .velocity) ≤ speedSteps x) (landingTick x n) k
+      by-landing (λ k. k ≤ n → natAbs (tickAt (plannedAxis n x) k .velocity) ≤ speedSteps x) (landingTick x n) k
       (λ q l.
       subst (λ (v : ℤ). natAbs v ≤ speedSteps x)
       (sym
@@ -123,53 +123,53 @@ module _ (x : Axis) (n : ℕ) (r : Ready x n) where
 
   -- before the landing
   pub planned-change : (k : ℕ) → k < landingTick x n
-      → tickAt (track n x) k .acceleration
+      → tickAt (plannedAxis n x) k .acceleration
       ≡ getD (startVelocity x ∷ chosen (leg x n) (requiredSum x n)) (suc k) (pos 0) -ℤ getD (startVelocity x ∷ chosen (leg x n) (requiredSum x n)) k (pos 0)
   planned-change k h =
       run-change (startPosition x) (startVelocity x) (chosen (leg x n) (requiredSum x n)) (replicate (suc (delay x)) (landingAcceleration x n)) (earlier x 0)
       k (omega (arith, long))
 
-  pub now-acceleration : (k : ℕ) → k ≤ n → natAbs (tickAt (track n x) k .acceleration) ≤ accelerationSteps x
+  pub now-acceleration : (k : ℕ) → k ≤ n → natAbs (tickAt (plannedAxis n x) k .acceleration) ≤ accelerationSteps x
   unfolding W
   now-acceleration k h =
-      by-landing (λ k. k ≤ n → natAbs (tickAt (track n x) k .acceleration) ≤ accelerationSteps x) (landingTick x n) k
+      by-landing (λ k. k ≤ n → natAbs (tickAt (plannedAxis n x) k .acceleration) ≤ accelerationSteps x) (landingTick x n) k
       (λ q l.
       subst (λ (v : ℤ). natAbs v ≤ accelerationSteps x) (sym (planned-change k q)) (meets .changes k q))
       (λ j e l. subst (λ (t : Tick). natAbs (t .acceleration) ≤ accelerationSteps x) (sym (late j (omega arith))) landing-acceleration)
       h
 
   -- a cell of what is at most c fine steps in size before tick 0 and at every tick
-  cell : (f : Tick → ℤ) (c : ℕ) → ((j : ℕ) → natAbs (f (earlier x j)) ≤ finer x * c) → ((k : ℕ) → k ≤ n → natAbs (f (tickAt (track n x) k)) ≤ finer x * c)
-      → (k : ℕ) → k ≤ n → natAbs (nearestQuotient (both (track n x) k f) (bothDivisor x)) ≤ c
-  cell f c a b k h = half-size c (both-some x) total (nearest-half (both (track n x) k f) (bothDivisor x) (both-some x))
+  cell : (f : Tick → ℤ) (c : ℕ) → ((j : ℕ) → natAbs (f (earlier x j)) ≤ finer x * c) → ((k : ℕ) → k ≤ n → natAbs (f (tickAt (plannedAxis n x) k)) ≤ finer x * c)
+      → (k : ℕ) → k ≤ n → natAbs (nearestQuotient (both (plannedAxis n x) k f) (bothDivisor x)) ≤ c
+  cell f c a b k h = half-size c (both-some x) total (nearest-half (both (plannedAxis n x) k f) (bothDivisor x) (both-some x))
     where
-      back : (d : ℕ) → natAbs (f (tickBack (track n x) k d)) ≤ finer x * c
+      back : (d : ℕ) → natAbs (f (tickBack (plannedAxis n x) k d)) ≤ finer x * c
       back d = go (ltb k d)
         where
-          go : (t : Bool) → natAbs (f (elim t as (λ y. Tick) [ true ↦ earlier x (d - k) | false ↦ tickAt (track n x) (k - d) ])) ≤ finer x * c
+          go : (t : Bool) → natAbs (f (elim t as (λ y. Tick) [ true ↦ earlier x (d - k) | false ↦ tickAt (plannedAxis n x) (k - d) ])) ≤ finer x * c
           go true = a (d - k)
           go false = b (k - d) (omega arith)
 
-      once : (d : ℕ) → natAbs (blendOnce (track n x) k d f) ≤ 256 * (finer x * c)
+      once : (d : ℕ) → natAbs (blendOnce (plannedAxis n x) k d f) ≤ 256 * (finer x * c)
       once d =
-          blend-within (secondWeight x) (f (tickBack (track n x) k d)) (f (tickBack (track n x) k (d + halfPeriod x))) (finer x * c)
+          blend-within (secondWeight x) (f (tickBack (plannedAxis n x) k d)) (f (tickBack (plannedAxis n x) k (d + halfPeriod x))) (finer x * c)
           (R.weight-range x n r) (back d) (back (d + halfPeriod x))
 
       sized : (f c : ℕ) → 256 * (f * c) + 256 * (f * c) ≡ 512 * f * c
       sized f c = omega arith
 
-      total : natAbs (both (track n x) k f) ≤ bothDivisor x * c
+      total : natAbs (both (plannedAxis n x) k f) ≤ bothDivisor x * c
       total =
-          subst (λ (m : ℕ). natAbs (both (track n x) k f) ≤ m) (sized (finer x) c)
-          (add-holds (blendOnce (track n x) k 0 f) (blendOnce (track n x) k (secondHalfPeriod x) f) (256 * (finer x * c)) (256 * (finer x * c)) (once 0)
+          subst (λ (m : ℕ). natAbs (both (plannedAxis n x) k f) ≤ m) (sized (finer x) c)
+          (add-holds (blendOnce (plannedAxis n x) k 0 f) (blendOnce (plannedAxis n x) k (secondHalfPeriod x) f) (256 * (finer x * c)) (256 * (finer x * c)) (once 0)
           (once (secondHalfPeriod x)))
 
   start-speed : natAbs (startVelocity x) ≤ speedSteps x
   unfolding W
   start-speed = meets .speeds 0 (omega arith)
 
-  pub velocity-cell : (k : ℕ) → k ≤ n → natAbs (nearestQuotient (both (track n x) k (λ s. s .velocity)) (bothDivisor x)) ≤ 256 * speedLimit x
+  pub velocity-cell : (k : ℕ) → k ≤ n → natAbs (nearestQuotient (both (plannedAxis n x) k (λ s. s .velocity)) (bothDivisor x)) ≤ 256 * speedLimit x
   velocity-cell = cell (λ s. s .velocity) (256 * speedLimit x) (λ j. start-speed) now-velocity
 
-  pub acceleration-cell : (k : ℕ) → k ≤ n → natAbs (nearestQuotient (both (track n x) k (λ s. s .acceleration)) (bothDivisor x)) ≤ 256 * accelerationLimit x
+  pub acceleration-cell : (k : ℕ) → k ≤ n → natAbs (nearestQuotient (both (plannedAxis n x) k (λ s. s .acceleration)) (bothDivisor x)) ≤ 256 * accelerationLimit x
   acceleration-cell = cell (λ s. s .acceleration) (256 * accelerationLimit x) (λ j. omega arith) now-acceleration

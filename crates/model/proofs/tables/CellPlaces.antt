@@ -12,7 +12,7 @@ use Rattle.whole.proofs.Elements.{none-some, at-below, map-at}
 use Rattle.model.specs.declared.Axis.{Axis}
 use Rattle.model.specs.declared.Order.{Order}
 use Rattle.model.specs.declared.Order.the-variants.{Forwards, Backwards}
-use Rattle.model.specs.planning.Rows.{Track, track, cells, tabulate, row, rowAt, table}
+use Rattle.model.specs.planning.Rows.{PlannedAxis, plannedAxis, cells, tabulate, row, rowAt, table}
 
 -- ---- lists of blocks of one length
 
@@ -91,12 +91,12 @@ row-back Backwards n k h = omega arith
 -- ---- the table
 
 module _ (o : Order) (xs : List Axis) (n : ℕ) where
-  ts : List Track
-  ts = map (track n) xs
+  ts : List PlannedAxis
+  ts = map (plannedAxis n) xs
 
   row-length : (k : ℕ) → length (row ts k) ≡ 3 * length xs
   unfolding ts
-  row-length k = blocks-length 3 (cells k) (λ t. refl) ts ∙ ap (λ (l : ℕ). 3 * l) (length-map xs (track n))
+  row-length k = blocks-length 3 (cells k) (λ t. refl) ts ∙ ap (λ (l : ℕ). 3 * l) (length-map xs (plannedAxis n))
 
   rowFrom : ℕ → List ℤ
   rowFrom j = row ts (rowAt o n j)
@@ -110,14 +110,14 @@ module _ (o : Order) (xs : List Axis) (n : ℕ) where
   table-length = rows-length (3 * length xs) rowFrom row-from-length 0 (suc n)
 
   pub table-at : (i j k : ℕ) (x : Axis) (d : ℤ) → getElem? xs i ≡ some x → j < 3 → k ≤ n
-      → getD (table o xs n) (3 * (length xs * rowAt o n k + i) + j) d ≡ getD (cells k (track n x)) j d
+      → getD (table o xs n) (3 * (length xs * rowAt o n k + i) + j) d ≡ getD (cells k (plannedAxis n x)) j d
   unfolding ts rowFrom
   table-at i j k x d e hj hk =
       ap (λ (z : ℕ). getD (table o xs n) z d) (place (rowAt o n k))
       ∙ rows-at (3 * length xs) rowFrom row-from-length 0 (suc n) (rowAt o n k) (3 * i + j) d (within (row-place o n k hk)) (omega (arith, at-below xs i x e))
       ∙ ap (λ (z : ℕ). getD (row ts (rowAt o n z)) (3 * i + j) d) (zero-add (rowAt o n k))
       ∙ ap (λ (z : ℕ). getD (row ts z) (3 * i + j) d) (row-back o n k hk)
-      ∙ blocks-at 3 (cells k) (λ t. refl) ts i j d (track n x) (map-at (track n) xs i x e) hj
+      ∙ blocks-at 3 (cells k) (λ t. refl) ts i j d (plannedAxis n x) (map-at (plannedAxis n) xs i x e) hj
     where
       place : (r : ℕ) → 3 * (length xs * r + i) + j ≡ 3 * length xs * r + (3 * i + j)
       place r = omega (arith, mul-assoc 3 (length xs) r)

@@ -15,7 +15,7 @@ use Rattle.model.specs.declared.Answer.{Answer}
 use Rattle.model.specs.declared.Order.{Order}
 use Rattle.model.specs.declared.Order.the-variants.{Forwards, Backwards}
 use Rattle.whole.specs.Integers.{nearestQuotient}
-use Rattle.model.specs.planning.Rows.{track, blend, divisor, cells, rowAt, table, fromLanding}
+use Rattle.model.specs.planning.Rows.{plannedAxis, blend, divisor, cells, rowAt, table, fromLanding}
 use Rattle.model.specs.planning.Job.{Job, JobAxis, axesOf}
 use Rattle.model.specs.planning.Motion.{reachable}
 use Rattle.model.specs.planning.Demand.{tableIn, cellAt, positionCell, velocityCell, accelerationCell, Lands, Carries, SwayCancelled}
@@ -25,7 +25,7 @@ use Rattle.model.specs.planning.Outcome.{Outcome, Input, call, callIn, i
 use Rattle.whole.proofs.Tests.{T-true}
 use Rattle.whole.proofs.Elements.{at-below, element}
 use Rattle.model.proofs.tables.CellPlaces.{row-place, table-length, table-at}
-use Rattle.model.specs.planning.Refusals.{Ready, AllPassed}
+use Rattle.model.specs.planning.Refusals.{Plannable, AllPassed}
 use Rattle.model.specs.theorems.Verdict.{Among, IsArrival, Refuses, Verdict, CallVerdict}
 use Rattle.model.specs.theorems.Verdict.{accepted, refused3, refused4, refused12, refused5, refused15, refused6, refused16, refused17}
 use Rattle.model.specs.theorems.Verdict.{refused13, refused8, refused9, refused10}
@@ -44,7 +44,7 @@ use Rattle.model.proofs.jobs.Ordered.{answer-stays, rows-turn}
 use Rattle.model.proofs.tables.SwayCancelled.{left-exact, left-rounded, cancelled-exact, cancelled-rounded}
 
 module _ (o : Order) (xs : List Axis) (n : ℕ) (lent rest : List ℤ) (is : lent ≡ table o xs n ++ rest)
-    (ready : (i : ℕ) (x : Axis) → getElem? xs i ≡ some x → Ready x n) where
+    (plannable : (i : ℕ) (x : Axis) → getElem? xs i ≡ some x → Plannable x n) where
   -- the place of cell j of axis i in the row at place r
   abbrev placeOf : ℕ → ℕ → ℕ → ℕ
   placeOf i j r = 3 * (length xs * r + i) + j
@@ -54,7 +54,7 @@ module _ (o : Order) (xs : List Axis) (n : ℕ) (lent rest : List ℤ) (is : len
       omega (arith, at-below xs i x e, N.mul-assoc 3 (length xs) (suc n), N.mul-suc (length xs) n, N.mul-le-mul-left (length xs) h)
 
   -- a cell of the row of tick k
-  cell-is : (i j k : ℕ) (x : Axis) → getElem? xs i ≡ some x → j < 3 → k ≤ n → cellAt (tableIn o xs n lent) i j k ≡ getD (cells k (track n x)) j (pos 0)
+  cell-is : (i j k : ℕ) (x : Axis) → getElem? xs i ≡ some x → j < 3 → k ≤ n → cellAt (tableIn o xs n lent) i j k ≡ getD (cells k (plannedAxis n x)) j (pos 0)
   cell-is i j k x e hj hk =
       let at : ℕ = placeOf i j (rowAt o n k) in
       let inside : at < cellsNeeded (length xs) n = place-inside i j (rowAt o n k) x e hj (row-place o n k hk) in
@@ -64,30 +64,30 @@ module _ (o : Order) (xs : List Axis) (n : ℕ) (lent rest : List ℤ) (is : len
       ∙ table-at o xs n i j k x (pos 0) e hj hk
 
   module _ (i : ℕ) (x : Axis) (e : getElem? xs i ≡ some x) where
-    g : Ready x n
-    g = ready i x e
+    g : Plannable x n
+    g = plannable i x e
 
     -- the cells of row k, from the two blends
     p : ℕ → ℤ
-    p k = nearestQuotient (both (track n x) k (λ s. s .position)) (2 * bothDivisor x)
+    p k = nearestQuotient (both (plannedAxis n x) k (λ s. s .position)) (2 * bothDivisor x)
 
     v : ℕ → ℤ
-    v k = nearestQuotient (both (track n x) k (λ s. s .velocity)) (bothDivisor x)
+    v k = nearestQuotient (both (plannedAxis n x) k (λ s. s .velocity)) (bothDivisor x)
 
     a : ℕ → ℤ
-    a k = nearestQuotient (both (track n x) k (λ s. s .acceleration)) (bothDivisor x)
+    a k = nearestQuotient (both (plannedAxis n x) k (λ s. s .acceleration)) (bothDivisor x)
 
     position-is : (k : ℕ) → k ≤ n → positionCell (tableIn o xs n lent) i k ≡ p k
     unfolding p
-    position-is k h = cell-is i 0 k x e (omega arith) h ∙ position-both (track n x) k (λ s. s .position)
+    position-is k h = cell-is i 0 k x e (omega arith) h ∙ position-both (plannedAxis n x) k (λ s. s .position)
 
     velocity-is : (k : ℕ) → k ≤ n → velocityCell (tableIn o xs n lent) i k ≡ v k
     unfolding v
-    velocity-is k h = cell-is i 1 k x e (omega arith) h ∙ cell-both (track n x) k (λ s. s .velocity)
+    velocity-is k h = cell-is i 1 k x e (omega arith) h ∙ cell-both (plannedAxis n x) k (λ s. s .velocity)
 
     acceleration-is : (k : ℕ) → k ≤ n → accelerationCell (tableIn o xs n lent) i k ≡ a k
     unfolding a
-    acceleration-is k h = cell-is i 2 k x e (omega arith) h ∙ cell-both (track n x) k (λ s. s .acceleration)
+    acceleration-is k h = cell-is i 2 k x e (omega arith) h ∙ cell-both (plannedAxis n x) k (λ s. s .acceleration)
 
     p-is : (k : ℕ) → k ≤ n → p k ≡ positionCell (tableIn o xs n lent) i k
     p-is k h = sym (position-is k h)
@@ -167,17 +167,17 @@ module _ (o : Order) (xs : List Axis) (n : ℕ) (lent rest : List ℤ) (is : len
   limited =
       record {
         velocities = λ i k x e h.
-            subst (λ (z : ℤ). natAbs z ≤ 256 * speedLimit x) (sym (velocity-is i x e k h)) (L.velocity-cell x n (ready i x e) k h);
+            subst (λ (z : ℤ). natAbs z ≤ 256 * speedLimit x) (sym (velocity-is i x e k h)) (L.velocity-cell x n (plannable i x e) k h);
         accelerations = λ i k x e h.
-            subst (λ (z : ℤ). natAbs z ≤ 256 * accelerationLimit x) (sym (acceleration-is i x e k h)) (L.acceleration-cell x n (ready i x e) k h);
+            subst (λ (z : ℤ). natAbs z ≤ 256 * accelerationLimit x) (sym (acceleration-is i x e k h)) (L.acceleration-cell x n (plannable i x e) k h);
       }
 
   started : ExactStart o xs n lent
   unfolding p v
   started =
       record {
-        positions = λ i x e. position-is i x e 0 (omega arith) ∙ S.start-position x n (ready i x e);
-        velocities = λ i x e. velocity-is i x e 0 (omega arith) ∙ S.start-velocity x n (ready i x e);
+        positions = λ i x e. position-is i x e 0 (omega arith) ∙ S.start-position x n (plannable i x e);
+        velocities = λ i x e. velocity-is i x e 0 (omega arith) ∙ S.start-velocity x n (plannable i x e);
       }
 
 -- an axis of a job without its number
@@ -187,11 +187,11 @@ unnumbered (y ∷ l) zero x e = (y, ((zero, refl), cc))
 unnumbered (y ∷ l) (suc i) x e = let r = unnumbered l i x e in (r .0, ((suc (r .1 .0 .0), r .1 .0 .1), r .1 .1))
 
 -- an accepted job's axes can all be planned
-pub all-ready : (j : Job) (n : ℕ) → AllPassed (j .axes) → IsArrival j n → (i : ℕ) (x : Axis) → getElem? (axesOf j) i ≡ some x → Ready x n
-all-ready j n p a i x q =
+pub all-plannable : (j : Job) (n : ℕ) → AllPassed (j .axes) → IsArrival j n → (i : ℕ) (x : Axis) → getElem? (axesOf j) i ≡ some x → Plannable x n
+all-plannable j n p a i x q =
     let y = unnumbered (j .axes) i x q in
     let g = passed-among (j .axes) p (y .0) (y .1 .0) in
-    subst (λ (x : Axis). Ready x n) (y .1 .1)
+    subst (λ (x : Axis). Plannable x n) (y .1 .1)
     (record {
       passed = g;
       tick = a .last;
@@ -201,12 +201,12 @@ all-ready j n p a i x q =
 -- what holds of the forward table of every job that can be planned holds of every accepted forward call
 module _ (Claim : List Axis → ℕ → List ℤ → Type 0)
     (holds : (xs : List Axis) (n : ℕ) (lent rest : List ℤ) → lent ≡ table Forwards xs n ++ rest
-    → ((i : ℕ) (x : Axis) → getElem? xs i ≡ some x → Ready x n) → Claim xs n lent) where
+    → ((i : ℕ) (x : Axis) → getElem? xs i ≡ some x → Plannable x n) → Claim xs n lent) where
   -- only an accepted job has number 0
   by-verdict : (j : Job) (lent : List ℤ) (o : Outcome) → Verdict Forwards j lent o → o .number ≡ 0 → Claim (axesOf j) (o .arrival) (o .cells)
   by-verdict j lent o (accepted n p w a room e) z =
       subst (λ (m : ℕ). Claim (axesOf j) m (o .cells)) (sym (e .arrival))
-      (holds (axesOf j) n (o .cells) (drop (cellsNeeded (length (axesOf j)) n) lent) (e .cells) (all-ready j n p a))
+      (holds (axesOf j) n (o .cells) (drop (cellsNeeded (length (axesOf j)) n) lent) (e .cells) (all-plannable j n p a))
   by-verdict j lent o (refused3 a e) z = absurd (let n = e .number in omega arith)
   by-verdict j lent o (refused4 i a b e) z = absurd (let n = e .number in omega arith)
   by-verdict j lent o (refused12 i a b c e) z = absurd (let n = e .number in omega arith)
@@ -231,10 +231,10 @@ module _ (Claim : List Axis → ℕ → List ℤ → Type 0)
 
 -- an accepted call's axes can all be planned
 abbrev pub Planned : List Axis → ℕ → Type 0
-Planned xs n = (i : ℕ) (x : Axis) → getElem? xs i ≡ some x → Ready x n
+Planned xs n = (i : ℕ) (x : Axis) → getElem? xs i ≡ some x → Plannable x n
 
 planned-axes : (q : Input) (lent : List ℤ) → call q lent .number ≡ 0 → Planned (inputAxes q) (call q lent .arrival)
-planned-axes = of-forward-calls (λ xs n cells. Planned xs n) (λ xs n lent rest is ready. ready)
+planned-axes = of-forward-calls (λ xs n cells. Planned xs n) (λ xs n lent rest is plannable. plannable)
 
 -- the same in either order
 module _ (Claim : Order → List Axis → ℕ → List ℤ → Type 0)
@@ -249,8 +249,8 @@ module _ (Claim : Order → List Axis → ℕ → List ℤ → Type 0)
       subst (λ (s : Outcome). Claim Backwards xs (s .arrival) (s .cells)) (rows-turn xs lent r zero)
       (holds Backwards xs (r .arrival) _ (drop (cellsNeeded (length xs) (r .arrival)) lent) refl (planned-axes q lent zero))
 
-pub ready-axes : (o : Order) (q : Input) (lent : List ℤ) → callIn o q lent .number ≡ 0 → Planned (inputAxes q) (callIn o q lent .arrival)
-ready-axes = of-calls (λ o xs n lent. Planned xs n) (λ o xs n lent rest is ready. ready)
+pub plannable-axes : (o : Order) (q : Input) (lent : List ℤ) → callIn o q lent .number ≡ 0 → Planned (inputAxes q) (callIn o q lent .arrival)
+plannable-axes = of-calls (λ o xs n lent. Planned xs n) (λ o xs n lent rest is plannable. plannable)
 
 pub demand3 : Demand3Holds
 demand3 = of-calls Demand3 demanded
@@ -268,7 +268,7 @@ sway-left = of-calls (λ o xs n lent. (i : ℕ) (x : Axis) → getElem? xs i ≡
 
 abbrev CellsByTick : Order → List Axis → ℕ → List ℤ → Type 0
 CellsByTick o xs n lent =
-    (i j k : ℕ) (x : Axis) → getElem? xs i ≡ some x → j < 3 → k ≤ n → cellAt (tableIn o xs n lent) i j k ≡ getD (cells k (track n x)) j (pos 0)
+    (i j k : ℕ) (x : Axis) → getElem? xs i ≡ some x → j < 3 → k ≤ n → cellAt (tableIn o xs n lent) i j k ≡ getD (cells k (plannedAxis n x)) j (pos 0)
 
 cells-by-tick : (o : Order) (q : Input) (lent : List ℤ) → callIn o q lent .number ≡ 0
     → CellsByTick o (inputAxes q) (callIn o q lent .arrival) (callIn o q lent .cells)
@@ -291,11 +291,11 @@ FromLanding o xs n lent =
     (i k : ℕ) (x : Axis) → getElem? xs i ≡ some x → k ≤ n → positionCell (tableIn o xs n lent) i k ≡ nearestQuotient (fromLanding x n (n - k)) (2 * divisor x)
 
 from-landing : (o : Order) (xs : List Axis) (n : ℕ) (lent rest : List ℤ) → lent ≡ table o xs n ++ rest → Planned xs n → FromLanding o xs n lent
-from-landing o xs n lent rest is ready i k x e h =
+from-landing o xs n lent rest is plannable i k x e h =
     let back : n - (n - k) ≡ k = omega (arith, h) in
-    cell-is o xs n lent rest is ready i 0 k x e (omega arith) h
+    cell-is o xs n lent rest is plannable i 0 k x e (omega arith) h
     ∙ ap (λ (z : ℤ). nearestQuotient z (2 * divisor x))
-    (sym (sums-from-landing x n (ready i x e) (n - k) (omega arith) ∙ ap (λ (j : ℕ). blend (track n x) j (λ s. s .position)) back))
+    (sym (sums-from-landing x n (plannable i x e) (n - k) (omega arith) ∙ ap (λ (j : ℕ). blend (plannedAxis n x) j (λ s. s .position)) back))
 
 pub cells-from-landing : CellsFromLanding
 cells-from-landing = of-calls FromLanding from-landing

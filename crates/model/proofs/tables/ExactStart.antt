@@ -12,14 +12,14 @@ use Rattle.whole.proofs.Rounding.{nearest-whole}
 use Rattle.model.specs.declared.Axis.{Axis}
 use Rattle.model.specs.planning.Quantities.{halfPeriod, secondWeight, secondHalfPeriod, finer}
 use Rattle.model.specs.planning.Motion.{Tick, earlier, startPosition, startVelocity}
-use Rattle.model.specs.planning.Rows.{track, tickAt, tickBack}
-use Rattle.model.specs.planning.Refusals.{Ready}
+use Rattle.model.specs.planning.Rows.{plannedAxis, tickAt, tickBack}
+use Rattle.model.specs.planning.Refusals.{Plannable}
 use Rattle.model.proofs.tables.TwoBlends.{both, bothDivisor, both-some}
-use Rattle.model.proofs.jobs.ReadyAxis as R
+use Rattle.model.proofs.jobs.PlannableAxis as R
 use Rattle.model.proofs.tables.BlendTicks.{tick-start}
 use Rattle.model.proofs.tables.Landing.{weights}
 
-module _ (x : Axis) (n : ℕ) (r : Ready x n) where
+module _ (x : Axis) (n : ℕ) (r : Plannable x n) where
   abbrev h : ℕ
   h = halfPeriod x
 
@@ -33,18 +33,18 @@ module _ (x : Axis) (n : ℕ) (r : Ready x n) where
   abbrev earlierPosition : ℕ → ℤ
   earlierPosition d = startPosition x -ℤ pos 2 *ℤ (pos d *ℤ startVelocity x)
 
-  before-start : (d : ℕ) → (tickBack (track n x) 0 d .position ≡ earlierPosition d) × (tickBack (track n x) 0 d .velocity ≡ startVelocity x)
+  before-start : (d : ℕ) → (tickBack (plannedAxis n x) 0 d .position ≡ earlierPosition d) × (tickBack (plannedAxis n x) 0 d .velocity ≡ startVelocity x)
   before-start d = go (ltb 0 d) (nltb→le 0 d)
     where
       none : (q v : ℤ) → q ≡ q -ℤ pos 2 *ℤ (pos 0 *ℤ v)
       none q v = same (q ∷ v ∷ []) (search pol depth 20 fits 9000) tt
 
-      at-zero : d ≤ 0 → tickAt (track n x) (0 - d) ≡ tickAt (track n x) 0
-      at-zero z = ap (tickAt (track n x)) {x = 0 - d} {y = 0} (omega arith)
+      at-zero : d ≤ 0 → tickAt (plannedAxis n x) (0 - d) ≡ tickAt (plannedAxis n x) 0
+      at-zero z = ap (tickAt (plannedAxis n x)) {x = 0 - d} {y = 0} (omega arith)
 
       go : (t : Bool) → (T (not t) → d ≤ 0)
-          → ((elim t as (λ y. Tick) [ true ↦ earlier x (d - 0) | false ↦ tickAt (track n x) (0 - d) ]) .position ≡ earlierPosition d)
-          × ((elim t as (λ y. Tick) [ true ↦ earlier x (d - 0) | false ↦ tickAt (track n x) (0 - d) ]) .velocity ≡ startVelocity x)
+          → ((elim t as (λ y. Tick) [ true ↦ earlier x (d - 0) | false ↦ tickAt (plannedAxis n x) (0 - d) ]) .position ≡ earlierPosition d)
+          × ((elim t as (λ y. Tick) [ true ↦ earlier x (d - 0) | false ↦ tickAt (plannedAxis n x) (0 - d) ]) .velocity ≡ startVelocity x)
       go true f = (ap earlierPosition {x = d - 0} {y = d} (omega arith), refl)
       go false f =
           let z : d ≤ 0 = f tt in (
@@ -56,14 +56,14 @@ module _ (x : Axis) (n : ℕ) (r : Ready x n) where
           )
 
   -- the two blends there, with A written 256 − B
-  blended : (f : Tick → ℤ) (u : ℕ → ℤ) → ((d : ℕ) → f (tickBack (track n x) 0 d) ≡ u d)
-      → both (track n x) 0 f ≡ (pos 256 -ℤ pos b) *ℤ u 0 +ℤ pos b *ℤ u (0 + h) +ℤ ((pos 256 -ℤ pos b) *ℤ u s +ℤ pos b *ℤ u (s + h))
+  blended : (f : Tick → ℤ) (u : ℕ → ℤ) → ((d : ℕ) → f (tickBack (plannedAxis n x) 0 d) ≡ u d)
+      → both (plannedAxis n x) 0 f ≡ (pos 256 -ℤ pos b) *ℤ u 0 +ℤ pos b *ℤ u (0 + h) +ℤ ((pos 256 -ℤ pos b) *ℤ u s +ℤ pos b *ℤ u (s + h))
   blended f u p =
       ap₂ (λ (y z : ℤ). y +ℤ z) (ap₂ (λ (y z : ℤ). pos (256 - b) *ℤ y +ℤ pos b *ℤ z) (p 0) (p (0 + h)))
       (ap₂ (λ (y z : ℤ). pos (256 - b) *ℤ y +ℤ pos b *ℤ z) (p s) (p (s + h)))
       ∙ ap (λ (a : ℤ). a *ℤ u 0 +ℤ pos b *ℤ u (0 + h) +ℤ (a *ℤ u s +ℤ pos b *ℤ u (s + h))) (weights b (R.weight-range x n r))
 
-  pub start-position : nearestQuotient (both (track n x) 0 (λ s. s .position)) (2 * bothDivisor x) ≡ pos 256 *ℤ x .start .position
+  pub start-position : nearestQuotient (both (plannedAxis n x) 0 (λ s. s .position)) (2 * bothDivisor x) ≡ pos 256 *ℤ x .start .position
   start-position =
       ap (λ (z : ℤ). nearestQuotient z (2 * bothDivisor x))
       (blended (λ s. s .position) earlierPosition (λ d. before-start d .0)
@@ -78,7 +78,7 @@ module _ (x : Axis) (n : ℕ) (r : Ready x n) where
           ≡ pos 2 *ℤ (pos 512 *ℤ f) *ℤ (pos 256 *ℤ p)
       taken-back f b h s p v = same (f ∷ b ∷ h ∷ s ∷ p ∷ v ∷ []) (search pol depth 30 fits 9000) tt
 
-  pub start-velocity : nearestQuotient (both (track n x) 0 (λ s. s .velocity)) (bothDivisor x) ≡ pos 256 *ℤ x .start .velocity
+  pub start-velocity : nearestQuotient (both (plannedAxis n x) 0 (λ s. s .velocity)) (bothDivisor x) ≡ pos 256 *ℤ x .start .velocity
   start-velocity =
       ap (λ (z : ℤ). nearestQuotient z (bothDivisor x))
       (blended (λ s. s .velocity) (λ d. startVelocity x) (λ d. before-start d .1) ∙ as-one (pos (finer x)) (pos b) (x .start .velocity))

@@ -9,30 +9,30 @@ use Rattle.model.specs.declared.Axis.{Axis}
 use Rattle.model.specs.declared.SecondSway.{SecondSway}
 use Rattle.model.specs.declared.SecondSway.the-variants.{Absent, HalfPeriod}
 use Rattle.model.specs.planning.Motion.{Tick}
-use Rattle.model.specs.planning.Rows.{track, blendOnce, blendBy, blend, fromLanding}
-use Rattle.model.specs.planning.Refusals.{Ready}
+use Rattle.model.specs.planning.Rows.{plannedAxis, blendOnce, blendBy, blend, fromLanding}
+use Rattle.model.specs.planning.Refusals.{Plannable}
 use Rattle.model.specs.planning.Demand.{SumsFromLanding}
 use Rattle.model.proofs.tables.Landing.{exact-blend}
 use Rattle.model.proofs.tables.Carry.{once-position, once-velocity}
 
-module _ (x : Axis) (n : ℕ) (r : Ready x n) where
+module _ (x : Axis) (n : ℕ) (r : Plannable x n) where
   abbrev position : ℕ → ℤ
-  position k = blend (track n x) k (λ s. s .position)
+  position k = blend (plannedAxis n x) k (λ s. s .position)
 
   abbrev velocity : ℕ → ℤ
-  velocity k = blend (track n x) k (λ s. s .velocity)
+  velocity k = blend (plannedAxis n x) k (λ s. s .velocity)
 
   -- one tick goes on by the velocities at its two ends
   once-ends : (d k : ℕ) → k < n
-      → blendOnce (track n x) (suc k) d (λ s. s .position)
-      ≡ blendOnce (track n x) k d (λ s. s .position) +ℤ blendOnce (track n x) k d (λ s. s .velocity) +ℤ blendOnce (track n x) (suc k) d (λ s. s .velocity)
+      → blendOnce (plannedAxis n x) (suc k) d (λ s. s .position)
+      ≡ blendOnce (plannedAxis n x) k d (λ s. s .position) +ℤ blendOnce (plannedAxis n x) k d (λ s. s .velocity) +ℤ blendOnce (plannedAxis n x) (suc k) d (λ s. s .velocity)
   once-ends d k q =
       once-position x n r d k q
       ∙ parted (once (λ s. s .position)) (once (λ s. s .velocity)) (once (λ s. s .acceleration))
       ∙ ap (λ (z : ℤ). once (λ s. s .position) +ℤ once (λ s. s .velocity) +ℤ z) (sym (once-velocity x n r d k q))
     where
       once : (Tick → ℤ) → ℤ
-      once f = blendOnce (track n x) k d f
+      once f = blendOnce (plannedAxis n x) k d f
 
       parted : (q v a : ℤ) → q +ℤ pos 2 *ℤ v +ℤ a ≡ q +ℤ v +ℤ (v +ℤ a)
       parted q v a = same (q ∷ v ∷ a ∷ []) (search pol depth 20 fits 9000) tt
@@ -44,10 +44,10 @@ module _ (x : Axis) (n : ℕ) (r : Ready x n) where
       sorted q v w r y z = same (q ∷ v ∷ w ∷ r ∷ y ∷ z ∷ []) (search pol depth 20 fits 9000) tt
 
       at : ℕ → ℕ → (Tick → ℤ) → ℤ
-      at j d f = blendOnce (track n x) j d f
+      at j d f = blendOnce (plannedAxis n x) j d f
 
-      go : (s : SecondSway) → blendBy s (track n x) (suc k) (λ t. t .position)
-          ≡ blendBy s (track n x) k (λ t. t .position) +ℤ blendBy s (track n x) k (λ t. t .velocity) +ℤ blendBy s (track n x) (suc k) (λ t. t .velocity)
+      go : (s : SecondSway) → blendBy s (plannedAxis n x) (suc k) (λ t. t .position)
+          ≡ blendBy s (plannedAxis n x) k (λ t. t .position) +ℤ blendBy s (plannedAxis n x) k (λ t. t .velocity) +ℤ blendBy s (plannedAxis n x) (suc k) (λ t. t .velocity)
       go Absent = once-ends 0 k q
       go (HalfPeriod d) =
           ap₂ (λ (y z : ℤ). y +ℤ z) (once-ends 0 k q) (once-ends d k q)

@@ -12,12 +12,12 @@ use Rattle.model.specs.declared.Axis.{Axis}
 use Rattle.model.specs.declared.State.{State}
 use Rattle.model.specs.planning.Quantities.{halfPeriod, secondWeight, swayDelay, secondHalfPeriod, asMoving, twicePositionAt, velocityAt, finestSteps, finer}
 use Rattle.model.specs.planning.Motion.{Tick, landingTick}
-use Rattle.model.specs.planning.Rows.{track, tickBack, blend, divisor}
-use Rattle.model.specs.planning.Refusals.{Passed, Ready}
+use Rattle.model.specs.planning.Rows.{plannedAxis, tickBack, blend, divisor}
+use Rattle.model.specs.planning.Refusals.{Passed, Plannable}
 use Rattle.model.proofs.motions.Grid.{Grid, twoSways, still, unblended, undamped, corrected, grid}
 use Rattle.model.proofs.tables.TwoBlends.{both, bothDivisor, both-some, blend-of-both}
 use Rattle.model.proofs.jobs.PassedAxis.{second-still}
-use Rattle.model.proofs.jobs.ReadyAxis as R
+use Rattle.model.proofs.jobs.PlannableAxis as R
 use Rattle.model.proofs.tables.BlendTicks.{tick-after}
 use Rattle.model.proofs.motions.PlannedTarget.{landed, tick-landed}
 
@@ -109,7 +109,7 @@ no-leftover x n p = go (grid x)
     go (undamped e y z) = ap₂ (λ (j k : ℕ). leftover F (pos j) h (pos k) a) z (ap swayDelay y) ∙ equal F h a
     go (corrected e y) = ap₂ (λ (j k : ℕ). leftover (pos j) b h (pos k) a) e (ap swayDelay y) ∙ finer-grid b h a
 
-module _ (x : Axis) (n : ℕ) (r : Ready x n) where
+module _ (x : Axis) (n : ℕ) (r : Plannable x n) where
   abbrev h : ℕ
   h = halfPeriod x
 
@@ -132,12 +132,12 @@ module _ (x : Axis) (n : ℕ) (r : Ready x n) where
   at j = landed x n j
 
   -- the planned tick d before N
-  back-N : (d j : ℕ) → d + j ≡ h + s → tickBack (track n x) n d ≡ at j
-  back-N d j e = tick-after (track n x) n d (landingTick x n + j) (omega (arith, arrival)) ∙ tick-landed x n r j (omega arith)
+  back-N : (d j : ℕ) → d + j ≡ h + s → tickBack (plannedAxis n x) n d ≡ at j
+  back-N d j e = tick-after (plannedAxis n x) n d (landingTick x n + j) (omega (arith, arrival)) ∙ tick-landed x n r j (omega arith)
 
   -- the planned ticks of row N
   row-N : (f : Tick → ℤ)
-      → both (track n x) n f ≡ (pos 256 -ℤ B) *ℤ f (at (h + s)) +ℤ B *ℤ f (at s) +ℤ ((pos 256 -ℤ B) *ℤ f (at h) +ℤ B *ℤ f (at 0))
+      → both (plannedAxis n x) n f ≡ (pos 256 -ℤ B) *ℤ f (at (h + s)) +ℤ B *ℤ f (at s) +ℤ ((pos 256 -ℤ B) *ℤ f (at h) +ℤ B *ℤ f (at 0))
   row-N f =
       ap (λ (a : ℤ). a *ℤ f (back 0) +ℤ B *ℤ f (back (0 + h)) +ℤ (a *ℤ f (back s) +ℤ B *ℤ f (back (s + h))))
       (weights (secondWeight x) (R.weight-range x n r))
@@ -147,38 +147,38 @@ module _ (x : Axis) (n : ℕ) (r : Ready x n) where
       (back-N s h (omega arith)) (back-N (s + h) 0 (omega arith))
     where
       back : ℕ → Tick
-      back d = tickBack (track n x) n d
+      back d = tickBack (plannedAxis n x) n d
 
-  pub exact-acceleration : both (track n x) n (λ s. s .acceleration) ≡ pos (bothDivisor x) *ℤ (pos 256 *ℤ m .acceleration)
+  pub exact-acceleration : both (plannedAxis n x) n (λ s. s .acceleration) ≡ pos (bothDivisor x) *ℤ (pos 256 *ℤ m .acceleration)
   exact-acceleration = row-N (λ s. s .acceleration) ∙ blended-acceleration F B (m .acceleration)
 
-  pub lands-acceleration : nearestQuotient (both (track n x) n (λ s. s .acceleration)) (bothDivisor x) ≡ pos 256 *ℤ m .acceleration
+  pub lands-acceleration : nearestQuotient (both (plannedAxis n x) n (λ s. s .acceleration)) (bothDivisor x) ≡ pos 256 *ℤ m .acceleration
   lands-acceleration =
       ap (λ (z : ℤ). nearestQuotient z (bothDivisor x)) exact-acceleration ∙ nearest-whole (bothDivisor x) (pos 256 *ℤ m .acceleration) (both-some x)
 
   pos-N : pos (landingTick x n) +ℤ (pos h +ℤ pos s) ≡ pos n
   pos-N = ap pos arrival
 
-  pub lands-velocity : nearestQuotient (both (track n x) n (λ s. s .velocity)) (bothDivisor x) ≡ pos 256 *ℤ velocityAt m (pos n)
+  pub lands-velocity : nearestQuotient (both (plannedAxis n x) n (λ s. s .velocity)) (bothDivisor x) ≡ pos 256 *ℤ velocityAt m (pos n)
   lands-velocity = ap (λ (z : ℤ). nearestQuotient z (bothDivisor x)) exact ∙ nearest-whole (bothDivisor x) (pos 256 *ℤ velocityAt m (pos n)) (both-some x)
     where
-      exact : both (track n x) n (λ s. s .velocity) ≡ pos (bothDivisor x) *ℤ (pos 256 *ℤ velocityAt m (pos n))
+      exact : both (plannedAxis n x) n (λ s. s .velocity) ≡ pos (bothDivisor x) *ℤ (pos 256 *ℤ velocityAt m (pos n))
       exact =
           row-N (λ s. s .velocity)
           ∙ blended-velocity F B (pos h) (pos s) (m .position) (m .velocity) (m .acceleration) (pos (landingTick x n)) (m .tick)
           ∙ ap (λ (z : ℤ). pos (bothDivisor x) *ℤ (pos 256 *ℤ velocityAt m z)) pos-N
 
-  exact-position : both (track n x) n (λ s. s .position) ≡ pos (2 * bothDivisor x) *ℤ (pos 128 *ℤ twicePositionAt m (pos n))
+  exact-position : both (plannedAxis n x) n (λ s. s .position) ≡ pos (2 * bothDivisor x) *ℤ (pos 128 *ℤ twicePositionAt m (pos n))
   exact-position =
       row-N (λ s. s .position)
       ∙ blended-position F B (pos h) (pos s) (m .position) (m .velocity) (m .acceleration) (pos (landingTick x n)) (m .tick)
       ∙ ap₂ (λ (k z : ℤ). pos (2 * bothDivisor x) *ℤ (pos 128 *ℤ twicePositionAt m k) +ℤ z) pos-N (no-leftover x n (r .passed))
       ∙ +ℤ-idr (pos (2 * bothDivisor x) *ℤ (pos 128 *ℤ twicePositionAt m (pos n)))
 
-  pub exact-blend : blend (track n x) n (λ s. s .position) ≡ pos (2 * divisor x) *ℤ (pos 128 *ℤ twicePositionAt m (pos n))
-  exact-blend = blend-of-both (track n x) n (λ s. s .position) (pos 128 *ℤ twicePositionAt m (pos n)) exact-position
+  pub exact-blend : blend (plannedAxis n x) n (λ s. s .position) ≡ pos (2 * divisor x) *ℤ (pos 128 *ℤ twicePositionAt m (pos n))
+  exact-blend = blend-of-both (plannedAxis n x) n (λ s. s .position) (pos 128 *ℤ twicePositionAt m (pos n)) exact-position
 
-  pub lands-position : nearestQuotient (both (track n x) n (λ s. s .position)) (2 * bothDivisor x) ≡ pos 128 *ℤ twicePositionAt m (pos n)
+  pub lands-position : nearestQuotient (both (plannedAxis n x) n (λ s. s .position)) (2 * bothDivisor x) ≡ pos 128 *ℤ twicePositionAt m (pos n)
   lands-position =
       ap (λ (z : ℤ). nearestQuotient z (2 * bothDivisor x)) exact-position
       ∙ nearest-whole (2 * bothDivisor x) (pos 128 *ℤ twicePositionAt m (pos n)) (omega (arith, both-some x))

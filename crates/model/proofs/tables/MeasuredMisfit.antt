@@ -15,7 +15,7 @@ use Rattle.model.specs.declared.Axis.{Axis}
 use Rattle.model.specs.declared.SecondSway.{SecondSway}
 use Rattle.model.specs.declared.SecondSway.the-variants.{Absent, HalfPeriod}
 use Rattle.model.specs.planning.Quantities.{halfPeriod, secondWeight, swayDelay, secondHalfPeriod, delay}
-use Rattle.model.specs.planning.Rows.{track, blend, divisor}
+use Rattle.model.specs.planning.Rows.{plannedAxis, blend, divisor}
 use Rattle.model.specs.planning.Demand.{CellTable, accelerationCell, sway}
 use Rattle.model.proofs.tables.SwayExact.{sway-weighted}
 use Rattle.model.specs.theorems.Misfit.{misfitOnce, misfitBy, misfit, Misfits, Entries, apart, Gentle, TruePole, weights, SwayOf, weighted}
@@ -202,7 +202,7 @@ module _ (most : Axis → ℕ → ℕ) (x : Axis) (weight : secondWeight x ≤ 2
   by-misfits : (t : TruePole) (m G D E : ℕ) (u : ℕ → ℤ) → n ≤ m → SwayOf t m G D u → Misfits x n m E (weighted t u) → PoleLeft x k n g t m G (most x n * E) u
   by-misfits t m G D E u q is f =
       record {
-        exact = subst (λ (z : ℕ). z ≤ most x n * E) (times (λ k. blend (track n x) k (λ s. s .acceleration))) (left .exact m E (weighted t u) q f);
+        exact = subst (λ (z : ℕ). z ≤ most x n * E) (times (λ k. blend (plannedAxis n x) k (λ s. s .acceleration))) (left .exact m E (weighted t u) q f);
         rounded = subst (λ (z : ℕ). divisor x * z ≤ most x n * E + divisor x * roundingLeft n (weights t * G)) (times (accelerationCell g k))
             (left .rounded m E (weights t * G) (weighted t u) q f entries);
       }

@@ -18,8 +18,8 @@ use Rattle.model.specs.declared.Target.{Target}
 use Rattle.model.specs.declared.Target.the-variants.{Fixed, Moving}
 use Rattle.model.specs.planning.Quantities.{halfPeriod, secondWeight, accelerates, damped, finer, finerBy}
 use Rattle.model.specs.planning.Motion.{Tick, earlier, shift}
-use Rattle.model.specs.planning.Rows.{Track, tickAt, tickBack, blendOnce, blendBy, weightsBy, blend}
-use Rattle.model.specs.theorems.Mirror.{negatedTick, negatedTarget, negatedAxis, negatedTrack, Mirrored}
+use Rattle.model.specs.planning.Rows.{PlannedAxis, tickAt, tickBack, blendOnce, blendBy, weightsBy, blend}
+use Rattle.model.specs.theorems.Mirror.{negatedTick, negatedTarget, negatedAxis, negatedPlan, Mirrored}
 use Rattle.model.proofs.tables.TwoBlends.{divisor-some}
 
 map-getD : (l : List Tick) (k : ℕ) (d : Tick) → getD (map negatedTick l) k (negatedTick d) ≡ negatedTick (getD l k d)
@@ -58,39 +58,39 @@ earlier-negated x j =
     speed : (f v : ℤ) → f *ℤ (pos 256 *ℤ negℤ v) ≡ negℤ (f *ℤ (pos 256 *ℤ v))
     speed f v = same (f ∷ v ∷ []) (search pol depth 20 fits 9000) tt
 
-module _ (t : Track) where
-  now-negated : (k : ℕ) → tickAt (negatedTrack t) k ≡ negatedTick (tickAt t k)
+module _ (t : PlannedAxis) where
+  now-negated : (k : ℕ) → tickAt (negatedPlan t) k ≡ negatedTick (tickAt t k)
   now-negated k =
       ap (λ (d : Tick). getD (map negatedTick (t .ticks)) k d) (earlier-negated (t .axis) 0) ∙ map-getD (t .ticks) k (earlier (t .axis) 0)
 
-  back-negated : (k h : ℕ) → tickBack (negatedTrack t) k h ≡ negatedTick (tickBack t k h)
+  back-negated : (k h : ℕ) → tickBack (negatedPlan t) k h ≡ negatedTick (tickBack t k h)
   back-negated k h = go (ltb k h)
     where
-      go : (b : Bool) → (elim b as (λ _. Tick) [ true ↦ earlier (negatedAxis (t .axis)) (h - k) | false ↦ tickAt (negatedTrack t) (k - h) ])
+      go : (b : Bool) → (elim b as (λ _. Tick) [ true ↦ earlier (negatedAxis (t .axis)) (h - k) | false ↦ tickAt (negatedPlan t) (k - h) ])
           ≡ negatedTick (elim b as (λ _. Tick) [ true ↦ earlier (t .axis) (h - k) | false ↦ tickAt t (k - h) ])
       go true = earlier-negated (t .axis) (h - k)
       go false = now-negated (k - h)
 
   module _ (k : ℕ) (f : Tick → ℤ) (odd : (s : Tick) → f (negatedTick s) ≡ negℤ (f s)) where
-    once-negated : (d : ℕ) → blendOnce (negatedTrack t) k d f ≡ negℤ (blendOnce t k d f)
+    once-negated : (d : ℕ) → blendOnce (negatedPlan t) k d f ≡ negℤ (blendOnce t k d f)
     once-negated d =
         ap₂ (λ (y z : ℤ). pos (256 - secondWeight (t .axis)) *ℤ y +ℤ pos (secondWeight (t .axis)) *ℤ z) (at d) (at (d + halfPeriod (t .axis)))
         ∙ turned (pos (256 - secondWeight (t .axis))) (pos (secondWeight (t .axis))) (f (tickBack t k d)) (f (tickBack t k (d + halfPeriod (t .axis))))
       where
-        at : (d : ℕ) → f (tickBack (negatedTrack t) k d) ≡ negℤ (f (tickBack t k d))
+        at : (d : ℕ) → f (tickBack (negatedPlan t) k d) ≡ negℤ (f (tickBack t k d))
         at d = ap f (back-negated k d) ∙ odd (tickBack t k d)
 
         turned : (a b y z : ℤ) → a *ℤ negℤ y +ℤ b *ℤ negℤ z ≡ negℤ (a *ℤ y +ℤ b *ℤ z)
         turned a b y z = same (a ∷ b ∷ y ∷ z ∷ []) (search pol depth 20 fits 9000) tt
 
-    blend-negated : blend (negatedTrack t) k f ≡ negℤ (blend t k f)
+    blend-negated : blend (negatedPlan t) k f ≡ negℤ (blend t k f)
     blend-negated = go (t .axis .«second_sway»)
       where
-        go : (s : SecondSway) → blendBy s (negatedTrack t) k f ≡ negℤ (blendBy s t k f)
+        go : (s : SecondSway) → blendBy s (negatedPlan t) k f ≡ negℤ (blendBy s t k f)
         go Absent = once-negated 0
         go (HalfPeriod d) = ap₂ (λ (y z : ℤ). y +ℤ z) (once-negated 0) (once-negated d) ∙ sym (negℤ-+ℤ (blendOnce t k 0 f) (blendOnce t k d f))
 
-    cell-negated : (d : ℕ) → 0 < d → nearestQuotient (blend (negatedTrack t) k f) d ≡ negℤ (nearestQuotient (blend t k f) d)
+    cell-negated : (d : ℕ) → 0 < d → nearestQuotient (blend (negatedPlan t) k f) d ≡ negℤ (nearestQuotient (blend t k f) d)
     cell-negated d h = ap (λ (z : ℤ). nearestQuotient z d) blend-negated ∙ nearest-neg (blend t k f) d h
 
 pub mirrored : Mirrored
@@ -101,7 +101,7 @@ mirrored t k =
     ∷ []
   where
     -- the divisor is one of the grid
-    cell : (t : Track) (f : Tick → ℤ) → ((s : Tick) → f (negatedTick s) ≡ negℤ (f s)) → (d : ℕ → ℕ) → 0 < d (finer (t .axis))
-        → nearestQuotient (blend (negatedTrack t) k f) (d (finer (negatedAxis (t .axis)))) ≡ negℤ (nearestQuotient (blend t k f) (d (finer (t .axis))))
+    cell : (t : PlannedAxis) (f : Tick → ℤ) → ((s : Tick) → f (negatedTick s) ≡ negℤ (f s)) → (d : ℕ → ℕ) → 0 < d (finer (t .axis))
+        → nearestQuotient (blend (negatedPlan t) k f) (d (finer (negatedAxis (t .axis)))) ≡ negℤ (nearestQuotient (blend t k f) (d (finer (t .axis))))
     cell t f odd d h =
-        ap (λ (g : ℕ). nearestQuotient (blend (negatedTrack t) k f) (d g)) (finer-negated (t .axis)) ∙ cell-negated t k f odd (d (finer (t .axis))) h
+        ap (λ (g : ℕ). nearestQuotient (blend (negatedPlan t) k f) (d g)) (finer-negated (t .axis)) ∙ cell-negated t k f odd (d (finer (t .axis))) h

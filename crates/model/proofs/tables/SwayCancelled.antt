@@ -18,10 +18,10 @@ use Rattle.model.specs.declared.SecondSway.{SecondSway}
 use Rattle.model.specs.declared.SecondSway.the-variants.{Absent, HalfPeriod}
 use Rattle.model.specs.planning.Quantities.{halfPeriod, secondWeight, swayDelay, secondHalfPeriod, asMoving, finer}
 use Rattle.model.specs.planning.Motion.{Tick, earlier, landingTick, landingAcceleration}
-use Rattle.model.specs.planning.Rows.{track, tickAt, tickBack, blend, divisor}
-use Rattle.model.specs.planning.Refusals.{Ready}
+use Rattle.model.specs.planning.Rows.{plannedAxis, tickAt, tickBack, blend, divisor}
+use Rattle.model.specs.planning.Refusals.{Plannable}
 use Rattle.model.proofs.tables.TwoBlends.{both, bothDivisor, both-some, both-is, timesBy, times, times-some, weights-times, divisor-some}
-use Rattle.model.proofs.jobs.ReadyAxis as R
+use Rattle.model.proofs.jobs.PlannableAxis as R
 use Rattle.model.specs.planning.Demand.{Swing, first, second, Bounded, sway}
 use Rattle.model.specs.theorems.Misfit.{misfitOnce, misfitBy, misfit, Misfits, Entries, variation, plannedVariation, roundingLeft}
 use Rattle.model.proofs.tables.Landing.{exact-acceleration, lands-acceleration}
@@ -30,7 +30,7 @@ use Rattle.model.proofs.tables.SwayExact.{sway-same, sway-times, back, 
 use Rattle.model.proofs.tables.SwayRounded.{sway-rounded}
 use Rattle.model.proofs.tables.MeasuredMisfit.{second-misfit}
 
-module _ (x : Axis) (n : ℕ) (r : Ready x n) where
+module _ (x : Axis) (n : ℕ) (r : Plannable x n) where
   abbrev h : ℕ
   h = halfPeriod x
 
@@ -48,18 +48,18 @@ module _ (x : Axis) (n : ℕ) (r : Ready x n) where
 
   -- the exact acceleration of row k times the divisor, and the planned one of tick k
   abbrev exact : ℕ → ℤ
-  exact k = both (track n x) k (λ s. s .acceleration)
+  exact k = both (plannedAxis n x) k (λ s. s .acceleration)
 
   α : ℕ → ℤ
-  α k = tickAt (track n x) k .acceleration
+  α k = tickAt (plannedAxis n x) k .acceleration
 
   -- before tick 0 the planned acceleration is 0
-  back-acceleration : (d k : ℕ) → tickBack (track n x) k d .acceleration ≡ back α d k
+  back-acceleration : (d k : ℕ) → tickBack (plannedAxis n x) k d .acceleration ≡ back α d k
   unfolding α
   back-acceleration d k = go (ltb k d)
     where
-      go : (b : Bool) → (elim b as (λ y. Tick) [ true ↦ earlier x (d - k) | false ↦ tickAt (track n x) (k - d) ]) .acceleration
-          ≡ (elim b as (λ y. ℤ) [ true ↦ pos 0 | false ↦ tickAt (track n x) (k - d) .acceleration ])
+      go : (b : Bool) → (elim b as (λ y. Tick) [ true ↦ earlier x (d - k) | false ↦ tickAt (plannedAxis n x) (k - d) ]) .acceleration
+          ≡ (elim b as (λ y. ℤ) [ true ↦ pos 0 | false ↦ tickAt (plannedAxis n x) (k - d) .acceleration ])
       go true = refl
       go false = refl
 
@@ -152,16 +152,16 @@ module _ (x : Axis) (n : ℕ) (r : Ready x n) where
 
   -- the blend is a part of the two
   pub left-exact : (m E : ℕ) (w : ℕ → ℤ) → n ≤ m → Misfits x n m E w
-      → natAbs (sway (λ k. blend (track n x) k (λ s. s .acceleration)) w m n) ≤ plannedVariation x n * E
+      → natAbs (sway (λ k. blend (plannedAxis n x) k (λ s. s .acceleration)) w m n) ≤ plannedVariation x n * E
   left-exact m E w q f =
       le-of-mul-le-mul-left {k = times x} (subst (λ (k : ℕ). k ≤ times x * (plannedVariation x n * E)) part (both-left m E w q f)) (times-some x)
     where
-      part : natAbs (sway exact w m n) ≡ times x * natAbs (sway (λ k. blend (track n x) k (λ s. s .acceleration)) w m n)
+      part : natAbs (sway exact w m n) ≡ times x * natAbs (sway (λ k. blend (plannedAxis n x) k (λ s. s .acceleration)) w m n)
       part =
           ap natAbs
-          (sway-same exact (λ k. pos (times x) *ℤ blend (track n x) k (λ s. s .acceleration)) w m n (λ k l. both-is (track n x) k (λ s. s .acceleration))
-          ∙ sway-times (pos (times x)) (λ k. blend (track n x) k (λ s. s .acceleration)) w m n)
-          ∙ natAbs-* (pos (times x)) (sway (λ k. blend (track n x) k (λ s. s .acceleration)) w m n)
+          (sway-same exact (λ k. pos (times x) *ℤ blend (plannedAxis n x) k (λ s. s .acceleration)) w m n (λ k l. both-is (plannedAxis n x) k (λ s. s .acceleration))
+          ∙ sway-times (pos (times x)) (λ k. blend (plannedAxis n x) k (λ s. s .acceleration)) w m n)
+          ∙ natAbs-* (pos (times x)) (sway (λ k. blend (plannedAxis n x) k (λ s. s .acceleration)) w m n)
 
   last-whole : pos (bothDivisor x) *ℤ nearestQuotient (exact n) (bothDivisor x) -ℤ exact n ≡ pos 0
   last-whole =
@@ -214,9 +214,9 @@ module _ (x : Axis) (n : ℕ) (r : Ready x n) where
           ∙ ap₂ (λ (y z : ℤ). A *ℤ y +ℤ B *ℤ z) (fits (i + h) (omega arith)) (fits i (omega arith))
           ∙ none A B
 
-  pub cancelled-exact : (m : ℕ) (w : ℕ → ℤ) → n ≤ m → Swing x m w → sway (λ k. blend (track n x) k (λ s. s .acceleration)) w m n ≡ pos 0
+  pub cancelled-exact : (m : ℕ) (w : ℕ → ℤ) → n ≤ m → Swing x m w → sway (λ k. blend (plannedAxis n x) k (λ s. s .acceleration)) w m n ≡ pos 0
   cancelled-exact m w q g =
-      natAbs-zero (sway (λ k. blend (track n x) k (λ s. s .acceleration)) w m n)
+      natAbs-zero (sway (λ k. blend (plannedAxis n x) k (λ s. s .acceleration)) w m n)
       (le-antisymm (le-trans (left-exact m 0 w q (none-left m w g)) (omega arith)) (omega arith))
 
   pub cancelled-rounded : (m G : ℕ) (w : ℕ → ℤ) → n ≤ m → Swing x m w → Bounded m G w

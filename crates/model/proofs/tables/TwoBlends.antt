@@ -14,10 +14,10 @@ use Rattle.model.specs.declared.SecondSway.{SecondSway}
 use Rattle.model.specs.declared.SecondSway.the-variants.{Absent, HalfPeriod}
 use Rattle.model.specs.planning.Quantities.{swayDelay, secondHalfPeriod, finer}
 use Rattle.model.specs.planning.Motion.{Tick}
-use Rattle.model.specs.planning.Rows.{Track, blendOnce, blendBy, weightsBy, blend, divisor}
+use Rattle.model.specs.planning.Rows.{PlannedAxis, blendOnce, blendBy, weightsBy, blend, divisor}
 use Rattle.model.proofs.motions.Grid.{finer-range}
 
-abbrev pub both : Track → ℕ → (Tick → ℤ) → ℤ
+abbrev pub both : PlannedAxis → ℕ → (Tick → ℤ) → ℤ
 both t k f = blendOnce t k 0 f +ℤ blendOnce t k (secondHalfPeriod (t .axis)) f
 
 abbrev pub bothDivisor : Axis → ℕ
@@ -38,7 +38,7 @@ times-some x = go (x .«second_sway»)
     go Absent = omega arith
     go (HalfPeriod d) = omega arith
 
-pub both-is : (t : Track) (k : ℕ) (f : Tick → ℤ) → both t k f ≡ pos (times (t .axis)) *ℤ blend t k f
+pub both-is : (t : PlannedAxis) (k : ℕ) (f : Tick → ℤ) → both t k f ≡ pos (times (t .axis)) *ℤ blend t k f
 both-is t k f = go (t .axis .«second_sway»)
   where
     twice : (z : ℤ) → z +ℤ z ≡ pos 2 *ℤ z
@@ -66,7 +66,7 @@ divisor-some x = go (x .«second_sway»)
     go (HalfPeriod d) = omega (arith, finer-range x .0)
 
 -- a cell in the one form
-module _ (t : Track) (k : ℕ) (f : Tick → ℤ) where
+module _ (t : PlannedAxis) (k : ℕ) (f : Tick → ℤ) where
   pub cell-both : nearestQuotient (blend t k f) (divisor (t .axis)) ≡ nearestQuotient (both t k f) (bothDivisor (t .axis))
   cell-both =
       sym (nearest-times (times (t .axis)) (blend t k f) (divisor (t .axis)) (times-some (t .axis)) (divisor-some (t .axis)))
@@ -82,7 +82,7 @@ module _ (t : Track) (k : ℕ) (f : Tick → ℤ) where
       doubled c d = omega arith
 
 -- what both are exactly, the blend is
-pub blend-of-both : (t : Track) (k : ℕ) (f : Tick → ℤ) (w : ℤ)
+pub blend-of-both : (t : PlannedAxis) (k : ℕ) (f : Tick → ℤ) (w : ℤ)
     → both t k f ≡ pos (2 * bothDivisor (t .axis)) *ℤ w → blend t k f ≡ pos (2 * divisor (t .axis)) *ℤ w
 blend-of-both t k f w e = go (t .axis .«second_sway») (blend t k f) (finer (t .axis)) (sym (both-is t k f) ∙ e)
   where

@@ -19,7 +19,7 @@ use Rattle.model.specs.declared.Target.the-variants.{Fixed, Moving}
 use Rattle.model.specs.declared.Weight.{Weight}
 use Rattle.model.specs.declared.Windows.{Windows}
 use Rattle.model.specs.planning.Quantities.{speedLimit, accelerationLimit, halfPeriod, secondWeight}
-use Rattle.model.specs.planning.Job.{Job, JobAxis, setBits, byHand}
+use Rattle.model.specs.planning.Job.{Job, JobAxis, setBits, withWeight}
 use Rattle.model.specs.planning.Words.{kind, payload, fitsWord, firstBadLong}
 use Rattle.model.specs.planning.Words.{Reading, got, wrong, Reader, _>>=_, give, field, signed, next, position, swayBy, secondSway, target, axis, axes}
 use Rattle.model.specs.planning.Words.{ending, readJob, afterMask, goodMask, Decoded, noMask, job, spelled, decided, decode}
@@ -131,8 +131,8 @@ target-velocity (Fixed r) h = h .velocity
 target-velocity (Moving m) h = h .velocity
 
 -- with the number B of its weight given
-by-hand-is : (x : Axis) → AxisInWords x → byHand x ≡ x
-by-hand-is x h =
+with-weight-is : (x : Axis) → AxisInWords x → withWeight x ≡ x
+with-weight-is x h =
     ap
     (λ (w : Weight). record {
       start = x .start;
@@ -174,7 +174,7 @@ module _ (x : Axis) (h : AxisInWords x) (vs : List ℕ) (o : Other 11 vs) where
   unfolding front
   axis-reads =
       subst (λ (ws : List ℕ). Reads axis x ws vs) words-are
-      (subst (λ (y : Axis). Reads axis y from3 vs) (by-hand-is x h)
+      (subst (λ (y : Axis). Reads axis y from3 vs) (with-weight-is x h)
       (then (position 3) _ (x .start .position) _ _ _ vs (position-reads 3 (x .start .position) _ (λ e. omega (arith, e)) (h .position))
       (then (signed 4) _ (x .start .velocity) _ _ _ vs (signed-reads 4 (x .start .velocity) _ (λ e. omega (arith, e)) (h .velocity))
       (then (field 5) _ (speedLimit x) _ _ _ vs (field-reads 5 (speedLimit x) _ (λ e. omega (arith, e)) (h .speed))

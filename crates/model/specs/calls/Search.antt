@@ -39,13 +39,13 @@ notFound first budget true = record { report = Spent (first + budget); tried = b
 notFound first budget false = record { report = Nothing; tried = candidates first }
 
 -- the tick found less the first plus one were tried
-abbrev pub reported : ℕ → ℕ → Option ℕ → SearchReport
-reported first budget (some n) = record { report = Found n; tried = n - first + 1 }
-reported first budget none = notFound first budget (ltb budget (candidates first))
+abbrev pub reportOf : ℕ → ℕ → Option ℕ → SearchReport
+reportOf first budget (some n) = record { report = Found n; tried = n - first + 1 }
+reportOf first budget none = notFound first budget (ltb budget (candidates first))
 
 -- the least from the first on, up to 4,096 and within the budget
 unfoldable pub searchFrom : (ℕ → Bool) → ℕ → ℕ → SearchReport
-searchFrom test first budget = reported first budget (leastFrom test first (withinBudget budget first))
+searchFrom test first budget = reportOf first budget (leastFrom test first (withinBudget budget first))
 
 -- ---- the call
 

@@ -11,8 +11,8 @@ use Rattle.model.specs.declared.Order.{Order}
 use Rattle.model.specs.declared.Order.the-variants.{Forwards, Backwards}
 use Rattle.model.specs.planning.Quantities.{speedLimit, accelerationLimit, halfPeriod, secondWeight, asMoving, twicePositionAt, velocityAt}
 use Rattle.whole.specs.Integers.{nearestQuotient}
-use Rattle.model.specs.planning.Rows.{track, blend, divisor, rowAt, fromLanding}
-use Rattle.model.specs.planning.Refusals.{Ready}
+use Rattle.model.specs.planning.Rows.{plannedAxis, blend, divisor, rowAt, fromLanding}
+use Rattle.model.specs.planning.Refusals.{Plannable}
 use Rattle.model.specs.planning.Outcome.{Input, call, callIn, inputAxes, cellsNeeded}
 
 -- ---- the cells of a table of `axes` axes, with the rows of ticks 0 to `last` in an order: axis i of row k, by tick
@@ -80,8 +80,8 @@ pub record Carries (i k : ℕ) (g : CellTable) : Type 0 where
 -- Each acceleration cell is an exact blend over the divisor, rounded once. The divisor times the sway left before that rounding is 0, and as rounded it is
 -- at most N × G.
 pub record SwayCancelled (x : Axis) (i n : ℕ) (g : CellTable) : Type 0 where
-  pub once : (k : ℕ) → k ≤ n → accelerationCell g i k ≡ nearestQuotient (blend (track n x) k (λ s. s .acceleration)) (divisor x)
-  pub exact : (m : ℕ) (w : ℕ → ℤ) → n ≤ m → Swing x m w → sway (λ k. blend (track n x) k (λ s. s .acceleration)) w m n ≡ pos 0
+  pub once : (k : ℕ) → k ≤ n → accelerationCell g i k ≡ nearestQuotient (blend (plannedAxis n x) k (λ s. s .acceleration)) (divisor x)
+  pub exact : (m : ℕ) (w : ℕ → ℤ) → n ≤ m → Swing x m w → sway (λ k. blend (plannedAxis n x) k (λ s. s .acceleration)) w m n ≡ pos 0
   pub rounded : (m G : ℕ) (w : ℕ → ℤ) → n ≤ m → Swing x m w → Bounded m G w → natAbs (sway (accelerationCell g i) w m n) ≤ n * G
 
 -- ---- the claim
@@ -131,7 +131,7 @@ SameRows =
 -- ---- the position sums taken from the landing end are those taken from the start, of every axis that can be planned for arrival n and every row
 
 abbrev pub SumsFromLanding : Type 0
-SumsFromLanding = (x : Axis) (n : ℕ) → Ready x n → (i : ℕ) → i ≤ n → fromLanding x n i ≡ blend (track n x) (n - i) (λ s. s .position)
+SumsFromLanding = (x : Axis) (n : ℕ) → Plannable x n → (i : ℕ) → i ≤ n → fromLanding x n i ≡ blend (plannedAxis n x) (n - i) (λ s. s .position)
 
 -- so each position cell, in either order, is the sum from the landing end rounded once
 abbrev pub CellsFromLanding : Type 0

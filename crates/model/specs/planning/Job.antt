@@ -67,8 +67,8 @@ abbrev pub typedJob : ℕ → ℕ → List Axis → Job
 typedJob m asked six = jobWith m asked six noWindows
 
 -- the same axis with the number B given
-abbrev pub byHand : Axis → Axis
-byHand x =
+abbrev pub withWeight : Axis → Axis
+withWeight x =
     record {
       start = x .start;
       «speed_limit» = x .«speed_limit»;
@@ -80,15 +80,15 @@ byHand x =
     }
 
 -- the same job with the number B of each axis given
-abbrev pub axesByHand : List JobAxis → List JobAxis
-axesByHand xs = map (λ x. record { number = x .number; axis = byHand (x .axis) }) xs
+abbrev pub axesWithWeight : List JobAxis → List JobAxis
+axesWithWeight xs = map (λ x. record { number = x .number; axis = withWeight (x .axis) }) xs
 
-abbrev pub jobByHand : Job → Job
-jobByHand j = record { mask = j .mask; asked = j .asked; axes = axesByHand (j .axes); windows = j .windows }
+abbrev pub jobWithWeight : Job → Job
+jobWithWeight j = record { mask = j .mask; asked = j .asked; axes = axesWithWeight (j .axes); windows = j .windows }
 
 -- the same job of typed values
-abbrev pub typedByHand : Typed.Job → Typed.Job
-typedByHand t = record { mask = t .mask; asked = t .asked; axes = map byHand (t .axes); windows = t .windows }
+abbrev pub typedWithWeight : Typed.Job → Typed.Job
+typedWithWeight t = record { mask = t .mask; asked = t .asked; axes = map withWeight (t .axes); windows = t .windows }
 
 -- what stands where the mask names no axis: zero in every field, and no second sway
 abbrev pub unsetAxis : Axis

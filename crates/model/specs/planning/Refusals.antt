@@ -108,7 +108,7 @@ AllPassed [] = Unit
 AllPassed (x ∷ xs) = Passed (x .axis) × AllPassed xs
 
 -- an axis that can be planned for arrival n
-pub record Ready (x : Axis) (n : ℕ) : Type 0 where
+pub record Plannable (x : Axis) (n : ℕ) : Type 0 where
   pub passed : Passed x
   pub tick : n ≤ lastTick
   pub reach : reachable x n ≡ true

@@ -52,15 +52,15 @@ pub record FitsOne (n dwell : ℕ) (l : List Window) : Type 0 where
 abbrev pub inOrderAfter : ℕ → Window → Bool
 inOrderAfter c w = ltb (w .opening) (w .closing) && leb c (w .opening)
 
-abbrev pub firstWrong : ℕ → ℕ → List Window → Option ℕ
-firstWrong i c [] = none
-firstWrong i c (w ∷ ws) = elim (inOrderAfter c w) [ true ↦ firstWrong (suc i) (w .closing) ws | false ↦ some i ]
+abbrev pub firstWrongWindow : ℕ → ℕ → List Window → Option ℕ
+firstWrongWindow i c [] = none
+firstWrongWindow i c (w ∷ ws) = elim (inOrderAfter c w) [ true ↦ firstWrongWindow (suc i) (w .closing) ws | false ↦ some i ]
 
 abbrev pub windowsRefused : Windows → Option ℕ
 windowsRefused w =
     elim (eqb (w .count) 0) [
       | true ↦ some 0
-      | false ↦ elim (leb (w .count) mostWindows && leb (w .dwell) longestDwell) [ true ↦ firstWrong 0 0 (brought w) | false ↦ some mostWindows ]
+      | false ↦ elim (leb (w .count) mostWindows && leb (w .dwell) longestDwell) [ true ↦ firstWrongWindow 0 0 (brought w) | false ↦ some mostWindows ]
     ]
 
 -- the place that 13 names, of a job that brings windows
@@ -79,7 +79,7 @@ pub record InOrder (c : ℕ) (l : List Window) (k : ℕ) (v : Window) : Type 0 w
   pub follows : closedBefore c l k ≤ v .opening
 
 -- window i is the first whose closing is not above its opening or that opens before the previous one closes
-pub record FirstWrong (c : ℕ) (l : List Window) (i : ℕ) : Type 0 where
+pub record FirstWrongWindow (c : ℕ) (l : List Window) (i : ℕ) : Type 0 where
   pub window : Window
   pub here : getElem? l i ≡ some window
   pub wrong : (window .closing ≤ window .opening) ⊎ (window .opening < closedBefore c l i)
@@ -90,7 +90,7 @@ pub data WindowsWrong (w : Windows) : ℕ → Type 0 where
   empty : w .count ≡ 0 → WindowsWrong w 0
   tooMany : 32 < w .count → WindowsWrong w 32
   longDwell : 1 ≤ w .count → w .count ≤ 32 → 4096 < w .dwell → WindowsWrong w 32
-  wrongWindow : (i : ℕ) → 1 ≤ w .count → w .count ≤ 32 → w .dwell ≤ 4096 → FirstWrong 0 (brought w) i → WindowsWrong w i
+  wrongWindow : (i : ℕ) → 1 ≤ w .count → w .count ≤ 32 → w .dwell ≤ 4096 → FirstWrongWindow 0 (brought w) i → WindowsWrong w i
 
 -- what it lets pass
 pub record WindowsRight (w : Windows) : Type 0 where

@@ -8,7 +8,7 @@ use Rattle.model.specs.declared.RestPoint.{RestPoint}
 use Rattle.model.specs.declared.Target.{Target}
 use Rattle.model.specs.declared.Target.the-variants.{Fixed, Moving}
 use Rattle.model.specs.planning.Motion.{Tick}
-use Rattle.model.specs.planning.Rows.{Track, cells}
+use Rattle.model.specs.planning.Rows.{PlannedAxis, cells}
 
 abbrev pub negatedTick : Tick → Tick
 negatedTick s = record { position = negℤ (s .position); velocity = negℤ (s .velocity); acceleration = negℤ (s .acceleration) }
@@ -35,9 +35,9 @@ negatedAxis x =
     }
 
 -- every tick negated, and through the start those before tick 0
-abbrev pub negatedTrack : Track → Track
-negatedTrack t = record { axis = negatedAxis (t .axis); ticks = map negatedTick (t .ticks) }
+abbrev pub negatedPlan : PlannedAxis → PlannedAxis
+negatedPlan t = record { axis = negatedAxis (t .axis); ticks = map negatedTick (t .ticks) }
 
 -- of every axis and every list of ticks, planned or not
 abbrev pub Mirrored : Type 0
-Mirrored = (t : Track) (k : ℕ) → cells k (negatedTrack t) ≡ map negℤ (cells k t)
+Mirrored = (t : PlannedAxis) (k : ℕ) → cells k (negatedPlan t) ≡ map negℤ (cells k t)

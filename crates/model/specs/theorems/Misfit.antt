@@ -11,7 +11,7 @@ use Rattle.model.specs.declared.SecondSway.the-variants.{Absent, HalfPer
 use Rattle.model.specs.declared.Order.{Order}
 use Rattle.model.specs.planning.Quantities.{halfPeriod, secondWeight, delay}
 use Rattle.model.specs.planning.Motion.{landingTick}
-use Rattle.model.specs.planning.Rows.{track, tickAt, blend, divisor}
+use Rattle.model.specs.planning.Rows.{plannedAxis, tickAt, blend, divisor}
 use Rattle.model.specs.planning.Outcome.{Input, callIn, inputAxes}
 use Rattle.model.specs.planning.Demand.{CellTable, tableIn, accelerationCell, Swings, Bounded, accelerationChange, sway}
 
@@ -104,7 +104,7 @@ variation a (suc n) = variation a n + natAbs (accelerationChange a (suc n))
 
 -- up to the landing; from there on nothing changes
 abbrev pub plannedVariation : Axis → ℕ → ℕ
-plannedVariation x n = variation (λ k. tickAt (track n x) k .acceleration) (landingTick x n)
+plannedVariation x n = variation (λ k. tickAt (plannedAxis n x) k .acceleration) (landingTick x n)
 
 -- ---- the claim, of one axis whose planned accelerations change by at most `most` in all: x is axis i of the table g, and N the arrival
 
@@ -115,7 +115,7 @@ roundingLeft n G = n * G
 -- the divisor times the sway left is at most `most` × E before rounding, and as rounded at most divisor × N × G more
 pub record SwayLeft (most : Axis → ℕ → ℕ) (x : Axis) (i n : ℕ) (g : CellTable) : Type 0 where
   pub exact : (m E : ℕ) (w : ℕ → ℤ) → n ≤ m → Misfits x n m E w
-      → natAbs (sway (λ k. blend (track n x) k (λ s. s .acceleration)) w m n) ≤ most x n * E
+      → natAbs (sway (λ k. blend (plannedAxis n x) k (λ s. s .acceleration)) w m n) ≤ most x n * E
   pub rounded : (m E G : ℕ) (w : ℕ → ℤ) → n ≤ m → Misfits x n m E w → Entries n m G w
       → divisor x * natAbs (sway (accelerationCell g i) w m n) ≤ most x n * E + divisor x * roundingLeft n G
 
@@ -123,7 +123,7 @@ pub record SwayLeft (most : Axis → ℕ → ℕ) (x : Axis) (i n : ℕ) (g : Ce
 
 -- the weights of the pole, times the divisor, times the sway left
 pub record PoleLeft (x : Axis) (i n : ℕ) (g : CellTable) (t : TruePole) (m G most : ℕ) (u : ℕ → ℤ) : Type 0 where
-  pub exact : weights t * natAbs (sway (λ k. blend (track n x) k (λ s. s .acceleration)) (byTick t u) m n) ≤ most
+  pub exact : weights t * natAbs (sway (λ k. blend (plannedAxis n x) k (λ s. s .acceleration)) (byTick t u) m n) ≤ most
   pub rounded : divisor x * (weights t * natAbs (sway (accelerationCell g i) (byTick t u) m n)) ≤ most + divisor x * roundingLeft n (weights t * G)
 
 pub record MeasuredLeft (most : Axis → ℕ → ℕ) (x : Axis) (i n : ℕ) (g : CellTable) : Type 0 where

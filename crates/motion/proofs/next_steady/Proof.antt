@@ -11,8 +11,8 @@ use Rattle.model.specs.planning.Motion.{startPosition, leg, requiredSum, reacha
 use Rattle.model.specs.planning.Quantities.{delay}
 use Rattle.profile.specs.declared.Profile.{Profile}
 use Rattle.profile.specs.Profiles.{legOf}
-use Rattle.running.specs.Running.{Next, betweenAt}
-use Rattle.running.specs.Skips.{Lasting}
+use Rattle.envelopes.specs.Sums.{Next, betweenAt}
+use Rattle.envelopes.specs.Skips.{Lasting}
 use Rattle.motion.specs.Motions.{drift}
 use Rattle.motion.proofs.PassedRanges.{ranges-of}
 use Rattle.motion.proofs.Steady.{start-slow, landing-slow, speed-slow, lasts, none-after, next-arrival}

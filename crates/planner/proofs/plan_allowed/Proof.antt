@@ -2,9 +2,9 @@ use native.Mathlib.Omega.{arith}
 use mathlib.Core.Path.{_≡_, refl, sym, _∙_}
 use mathlib.Core.Logic.{⊎-elim}
 use Rattle.model.specs.planning.Job.{Job, jobWith}
-use Rattle.checks.specs.Checks.{Checked, namedByHand}
-use Rattle.checks.proofs.Checks.{asked-late, asked-in-time}
-use Rattle.checks.proofs.Weights.{given-are, given-passed}
+use Rattle.refusals.specs.Checks.{Checked, namedWithWeight}
+use Rattle.refusals.proofs.Checks.{asked-late, asked-in-time}
+use Rattle.refusals.proofs.Weights.{given-are, given-passed}
 use Rattle.planner.proofs.Stages.{refuses, onward, checks-refuse, checks-pass, checks-not-ten, given-arrives}
 use borrow.Author.Needs.{needs}
 use Rattle.planner.proofs.plan_allowed.Statement.{statement}
@@ -46,12 +46,12 @@ returns-2 c =
 any-measured-requires : tie.Need-any-measured-requires
 any-measured-requires c κs = search needs
 
-by-hand-requires : tie.Need-by-hand-requires
-by-hand-requires c κs = search needs
+with-weight-requires : tie.Need-with-weight-requires
+with-weight-requires c κs = search needs
 
 -- worked out, or given already
-by-hand : (c : tie.Joined3) → let a = c .before .before .before .before .before .before .args in c .if3 .given ≡ namedByHand (a .mask) (a .axes)
-by-hand c =
+with-weight : (c : tie.Joined3) → let a = c .before .before .before .before .before .before .args in c .if3 .given ≡ namedWithWeight (a .mask) (a .axes)
+with-weight c =
     let a = c .before .before .before .before .before .before .args in
     ⊎-elim
     (λ w. w .2 ∙ w .1 .ensures)
@@ -66,7 +66,7 @@ plan-checked-requires c κs =
     let a = s .args in
     let zero = g .before .before .if2 .left in
     let k = checked d in
-    let passed = given-passed (a .mask) (a .axes) (g .if3 .given) (by-hand g) (k .passed zero) in
+    let passed = given-passed (a .mask) (a .axes) (g .if3 .given) (with-weight g) (k .passed zero) in
     (s .pre .0, (s .pre .1, (k .asked zero, (passed, k .windows zero))))
 
 same-length : tie.Need-same-length
@@ -82,7 +82,7 @@ returns-3 c =
     let lent = a .table .now in
     let exit = w .last .1 .1 .1 .1 .1 .0 in
     onward (a .mask) _ lent (a .wanted) _ _ (w .result) exit (checks-pass (job s) lent (d .check .result) (checked d .is) (g .before .before .if2 .left))
-    (given-arrives (a .mask) (a .asked) (a .axes) (g .if3 .given) (a .windows) (by-hand g) lent (w .result) exit (a .wanted) (w .ensures))
+    (given-arrives (a .mask) (a .asked) (a .axes) (g .if3 .given) (a .windows) (with-weight g) lent (w .result) exit (a .wanted) (w .ensures))
 
 pub plan-allowed-spec : {M : Type 1} → statement M
 plan-allowed-spec =
@@ -94,7 +94,7 @@ plan-allowed-spec =
     refused-requires-2
     returns-2
     any-measured-requires
-    by-hand-requires
+    with-weight-requires
     plan-checked-requires
     same-length
     returns-3)

@@ -34,8 +34,8 @@ regions-are : (c : tie.After-regions-of)
     → let p = c .before .before .args .p in c .regions-of .result ≡ regionsOf (legOf p) (pos (p .«speed_limit»)) 0
 regions-are c = c .regions-of .ensures ∙ (λ i. regionsOf (legOf (c .before .before .args .p)) (cruise-is (c .before) i) 0)
 
-ready : (c : tie.After-regions-of) → RegionsRanged (c .regions-of .result) × (0 < c .regions-of .result .ticks)
-ready c =
+plannable : (c : tie.After-regions-of) → RegionsRanged (c .regions-of .result) × (0 < c .regions-of .result .ticks)
+plannable c =
     let a = c .before .before in
     let j = a .pre in
     let g = legOf (a .args .p) in
@@ -43,10 +43,10 @@ ready c =
     subst (λ (x : Regions). RegionsRanged x × (0 < x .ticks)) (sym (regions-are c)) (r _ 0 (small (c .before)), j .some)
 
 area-of-requires : tie.Need-area-of-requires
-area-of-requires c κs = ready c
+area-of-requires c κs = plannable c
 
 parts-of-requires : tie.Need-parts-of-requires
-parts-of-requires c κs = ready (c .before) .1
+parts-of-requires c κs = plannable (c .before) .1
 
 returns : tie.Need-returns
 returns c =

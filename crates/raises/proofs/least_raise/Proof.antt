@@ -3,9 +3,9 @@ use mathlib.Core.Path.{ap, subst, _∙_}
 use native.Mathlib.Omega.{arith}
 use borrow.Author.Needs.{needs}
 use Rattle.model.specs.calls.Raises as model
-use Rattle.running.specs.Running.{Next}
-use Rattle.limits.specs.Limits.{limitIn, enoughWith}
-use Rattle.limits.proofs.FallsShort.{limit-range, highest-small}
+use Rattle.envelopes.specs.Sums.{Next}
+use Rattle.least_limit.specs.Limits.{limitIn, enoughWith}
+use Rattle.least_limit.proofs.FallsShort.{limit-range, highest-small}
 use Rattle.raises.specs.Promise.{orNone}
 use Rattle.raises.proofs.LeastRaises.{found, not-found}
 use Rattle.raises.proofs.least_raise.Statement.{statement}

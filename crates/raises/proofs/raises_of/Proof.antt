@@ -8,30 +8,30 @@ use Rattle.model.specs.declared.Axis.{Axis}
 use Rattle.model.specs.declared.Limit.{Limit}
 use Rattle.model.specs.declared.Limit.the-variants.{Acceleration, Speed}
 use Rattle.model.specs.planning.Quantities.{delay, finer}
-use Rattle.model.specs.planning.Job.{byHand}
+use Rattle.model.specs.planning.Job.{withWeight}
 use Rattle.model.specs.planning.Refusals.{Passed}
 use Rattle.model.specs.calls.Raises.{raiseOf, inOrder}
-use Rattle.model.proofs.jobs.ByHand.{passed-by-hand}
-use Rattle.model.proofs.calls.LeastRaise.{raise-by-hand}
+use Rattle.model.proofs.jobs.GivenWeights.{passed-with-weight}
+use Rattle.model.proofs.calls.LeastRaise.{raise-with-weight}
 use Rattle.motion.proofs.PassedRanges.{ranges-of}
 use Rattle.raises.proofs.LeastRaises.{too-early, of-task}
 use Rattle.raises.proofs.raises_of.Statement.{statement}
 use Rattle.raises.proofs.raises_of.Tie as tie
 
 -- the axis with the number B given passes too
-given-passed : (x g : Axis) → g ≡ byHand x → Passed x → Passed g
+given-passed : (x g : Axis) → g ≡ withWeight x → Passed x → Passed g
 unfolding finer
-given-passed x g e p = subst Passed (sym e) (passed-by-hand (record { number = 0; axis = x } ∷ []) (p, tt) .0)
+given-passed x g e p = subst Passed (sym e) (passed-with-weight (record { number = 0; axis = x } ∷ []) (p, tt) .0)
 
-passed : (c : tie.After-by-hand) → Passed (c .by-hand .result)
-passed c = given-passed (c .before .args .x) (c .by-hand .result) (c .by-hand .ensures) (c .before .pre .0)
+passed : (c : tie.After-with-weight) → Passed (c .with-weight .result)
+passed c = given-passed (c .before .args .x) (c .with-weight .result) (c .with-weight .ensures) (c .before .pre .0)
 
 -- its raises are those of the axis
-given-raise : (c : tie.After-by-hand) (q : Limit) → raiseOf q (c .by-hand .result) (c .before .args .n) ≡ raiseOf q (c .before .args .x) (c .before .args .n)
-given-raise c q = ap (λ (g : Axis). raiseOf q g (c .before .args .n)) (c .by-hand .ensures) ∙ raise-by-hand q (c .before .args .x) (c .before .args .n)
+given-raise : (c : tie.After-with-weight) (q : Limit) → raiseOf q (c .with-weight .result) (c .before .args .n) ≡ raiseOf q (c .before .args .x) (c .before .args .n)
+given-raise c q = ap (λ (g : Axis). raiseOf q g (c .before .args .n)) (c .with-weight .ensures) ∙ raise-with-weight q (c .before .args .x) (c .before .args .n)
 
-by-hand-requires : tie.Need-by-hand-requires
-by-hand-requires c κs = search needs
+with-weight-requires : tie.Need-with-weight-requires
+with-weight-requires c κs = search needs
 
 delay-of-requires : tie.Need-delay-of-requires
 delay-of-requires c κs = ranges-of (passed c)
@@ -42,9 +42,9 @@ pair-requires c κs = search needs
 returns : tie.Need-returns
 returns c =
     let g = c .before .before .before in
-    let early : g .before .args .n ≤ delay (g .by-hand .result) = omega (arith, c .before .before .delay-of .ensures, c .before .if1 .taken) in
+    let early : g .before .args .n ≤ delay (g .with-weight .result) = omega (arith, c .before .before .delay-of .ensures, c .before .if1 .taken) in
     let missing : (q : Limit) → none ≡ raiseOf q (g .before .args .x) (g .before .args .n) =
-    λ q. sym (too-early q (g .by-hand .result) (g .before .args .n) (passed g) early) ∙ given-raise g q in
+    λ q. sym (too-early q (g .with-weight .result) (g .before .args .n) (passed g) early) ∙ given-raise g q in
     c .pair .ensures ∙ (λ i. inOrder (missing Acceleration i) (missing Speed i))
 
 task-of-requires : tie.Need-task-of-requires
@@ -65,7 +65,7 @@ returns-2 c =
     let k = c .before .before .before in
     let g = k .before .before .before in
     let raise : (q : Limit) → _ ≡ raiseOf q (g .before .args .x) (g .before .args .n) =
-    λ q. of-task q (g .by-hand .result) (g .before .args .n) (passed g) (k .task-of .result) (k .task-of .ensures) ∙ given-raise g q in
+    λ q. of-task q (g .with-weight .result) (g .before .args .n) (passed g) (k .task-of .result) (k .task-of .ensures) ∙ given-raise g q in
     let m = c .before .before .least-raise .ensures ∙ raise Acceleration in
     let l = c .before .least-raise2 .ensures ∙ raise Speed in
     c .in-order .ensures ∙ (λ i. inOrder (m i) (l i))
@@ -74,7 +74,7 @@ pub raises-of-spec : {M : Type 1} → statement M
 raises-of-spec =
     tie.close
     (tie.spec
-    by-hand-requires
+    with-weight-requires
     delay-of-requires
     pair-requires
     returns

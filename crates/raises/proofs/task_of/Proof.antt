@@ -12,8 +12,8 @@ use Rattle.model.specs.declared.Axis.{Axis}
 use Rattle.model.specs.planning.Quantities.{delay}
 use Rattle.model.specs.planning.Motion.{startPosition, startVelocity, landingVelocity, landingAcceleration, arrivalVelocity, landingTick, displacement}
 use Rattle.motion.proofs.PassedRanges.{ranges-of}
-use Rattle.limits.specs.Tasks.{taskWith, fastestOf, TaskIs}
-use Rattle.limits.proofs.Decisions.{task-ahead, task-behind}
+use Rattle.least_limit.specs.Tasks.{taskWith, fastestOf, TaskIs}
+use Rattle.least_limit.proofs.Decisions.{task-ahead, task-behind}
 use Rattle.raises.proofs.task_of.Statement.{statement}
 use Rattle.raises.proofs.task_of.Tie as tie
 

@@ -9,9 +9,9 @@ use lib.ListN.{length, getD, set, take, drop, length-set, length-map, getD-repli
 use lib.Seq.{length-take-le, getD-set-other}
 use Rattle.model.specs.declared.Axis.{Axis}
 use Rattle.model.specs.planning.Job.{setAxes}
-use Rattle.tracks.specs.declared.AxisPlan.{AxisPlan}
+use Rattle.blended.specs.declared.AxisPlan.{AxisPlan}
 use Rattle.rows.specs.Plans.{unsetPlan, plansFor}
-use Rattle.rows.proofs.ReadyAxes.{AllReady, all-ready, ready-here, ready-next}
+use Rattle.rows.proofs.PlannableAxes.{AllPlannable, all-plannable, plannable-here, plannable-next}
 use Rattle.rows.proofs.FrontPlans.{plansFrom, plan-put, plan-left-out, plans-put}
 use Rattle.rows.proofs.plan_for.Statement.{statement}
 use Rattle.rows.proofs.plan_for.Tie as tie
@@ -25,7 +25,7 @@ Inv-loop mask n axes plans₀ count₀ rest₀ i₀ plans count rest i =
       six : length axes ≡ 6;
       long : length plans ≡ 6;
       unset : (j : ℕ) → count ≤ j → j < 6 → getD plans j unsetPlan ≡ unsetPlan;
-      ready : AllReady n (setAxes i rest (drop i axes));
+      plannable : AllPlannable n (setAxes i rest (drop i axes));
       done : take count plans ++ plansFrom n i rest axes ≡ plansFor n (setAxes 0 mask axes);
     }
 
@@ -44,7 +44,7 @@ loop-holds c =
       six = omega arith;
       long = refl;
       unset = λ j h l. getD-replicate 6 j _ unsetPlan l ∙ c .unset-plan .ensures;
-      ready = all-ready (a .args .n) (setAxes 0 (a .args .mask) (a .args .t2)) (a .pre .0) (a .pre .1 .0) (a .pre .1 .1);
+      plannable = all-plannable (a .args .n) (setAxes 0 (a .args .mask) (a .args .t2)) (a .pre .0) (a .pre .1 .0) (a .pre .1 .1);
       done = refl;
     }
 
@@ -59,7 +59,7 @@ axis-plan-requires c κs =
     let d = c .before .before in
     let a = d .before .before .before in
     let h = d .before .loop in
-    ready-here (a .args .n) (h .i) (h .rest) (a .args .t2) (omega (arith, h .inv .six)) (h .inv .ready) (eq-eqb (h .rest % 2) 1 (c .before .if1 .taken))
+    plannable-here (a .args .n) (h .i) (h .rest) (a .args .t2) (omega (arith, h .inv .six)) (h .inv .plannable) (eq-eqb (h .rest % 2) 1 (c .before .if1 .taken))
 
 mul-plans : tie.Need-mul-plans Inv-loop μ-loop
 mul-plans c = search needs
@@ -125,7 +125,7 @@ loop-again c =
       six = h .inv .six;
       long = t .long ∙ h .inv .long;
       unset = t .unset;
-      ready = ready-next (a .n) (h .i) (h .rest) (a .t2) (omega (arith, h .inv .six)) (h .inv .ready);
+      plannable = plannable-next (a .n) (h .i) (h .rest) (a .t2) (omega (arith, h .inv .six)) (h .inv .plannable);
       done = t .done ∙ h .inv .done;
     }
 

@@ -5,9 +5,9 @@ use borrow.Author.Needs.{needs}
 use borrow.Author.Tests.{not-true, not-false}
 use Rattle.model.specs.calls.Search.{searchAnswer}
 use Rattle.model.specs.planning.Job.{jobWith}
-use Rattle.checks.specs.Checks.{namedByHand}
-use Rattle.checks.proofs.Checks.{checked}
-use Rattle.checks.proofs.Weights.{given-are, given-passed}
+use Rattle.refusals.specs.Checks.{namedWithWeight}
+use Rattle.refusals.proofs.Checks.{checked}
+use Rattle.refusals.proofs.Weights.{given-are, given-passed}
 use Rattle.search.proofs.Ways.{checks-refuse, first-range, first-refused, searched}
 use Rattle.search.proofs.search_allowed.Statement.{statement}
 use Rattle.search.proofs.search_allowed.Tie as tie
@@ -43,12 +43,12 @@ returns-2 c =
 any-measured-requires : tie.Need-any-measured-requires
 any-measured-requires c κs = search needs
 
-by-hand-requires : tie.Need-by-hand-requires
-by-hand-requires c κs = search needs
+with-weight-requires : tie.Need-with-weight-requires
+with-weight-requires c κs = search needs
 
 -- worked out, or given already
-by-hand : (c : tie.Joined3) → let a = c .before .before .before .before .before .before .before .args in c .if3 .given ≡ namedByHand (a .mask) (a .axes)
-by-hand c =
+with-weight : (c : tie.Joined3) → let a = c .before .before .before .before .before .before .before .args in c .if3 .given ≡ namedWithWeight (a .mask) (a .axes)
+with-weight c =
     let a = c .before .before .before .before .before .before .before .args in
     ⊎-elim
     (λ w. w .2 ∙ w .1 .ensures)
@@ -62,7 +62,7 @@ search-from-requires c κs =
     let r = b .before .before .check in
     let k = checked (jobWith (a .mask) 0 (a .axes) (a .windows)) (r .result) (r .ensures) in
     let zero = b .if1 .left in
-    let given = given-passed (a .mask) (a .axes) (c .if3 .given) (by-hand c) in
+    let given = given-passed (a .mask) (a .axes) (c .if3 .given) (with-weight c) in
     let range = first-range (a .first) (sym (c .before .before .before .first-allowed .ensures) ∙ not-false _ (c .before .before .if2 .left)) in
     (given (k .passed zero), (k .windows zero, (range .0, omega (arith, range .1))))
 
@@ -78,7 +78,7 @@ returns-3 c =
     let allowed = sym (g .before .before .before .first-allowed .ensures) ∙ not-false _ (g .before .before .if2 .left) in
     c .answered .ensures
     ∙ ap (searchAnswer (a .mask)) (c .before .search-from .ensures)
-    ∙ searched (a .mask) (a .axes) (a .windows) (a .first) (a .budget) (k .result) (k .ensures) (b .if1 .left) allowed (g .if3 .given) (by-hand g)
+    ∙ searched (a .mask) (a .axes) (a .windows) (a .first) (a .budget) (k .result) (k .ensures) (b .if1 .left) allowed (g .if3 .given) (with-weight g)
 
 pub search-allowed-spec : {M : Type 1} → statement M
 search-allowed-spec =
@@ -91,7 +91,7 @@ search-allowed-spec =
     refused-requires-2
     returns-2
     any-measured-requires
-    by-hand-requires
+    with-weight-requires
     search-from-requires
     answered-requires
     returns-3)

@@ -15,7 +15,7 @@ use mir.ValLaws.{toZ-ofZ}
 use Rattle.whole.specs.Lists.{upTo, Room, Written, WrittenWithin}
 use Rattle.whole.proofs.Lists.{flatten-upTo, turn-within, written-within, written-one, written-then, room-front, room-then, room-on}
 use Rattle.model.specs.planning.Refusals.{lastTick}
-use Rattle.text.specs.Printed.{ascii, decimal, signed, labelled, cellText, cellsText, rowLine, rowAt, arrivalLine, refusalLine}
+use Rattle.text.specs.Printed.{ascii, decimal, printedNumber, labelled, cellText, cellsText, rowLine, printedRow, arrivalLine, refusalLine}
 use Rattle.text.specs.Enough.{refusalBytes, cellsBytes, rowBytes}
 use Rattle.text.proofs.numbers.Laws.{decimal-most, signed-below, signed-from}
 
@@ -97,8 +97,8 @@ module _ (number place mask arrival : ℕ) {t : List ℕ} {i : ℕ} (h : Room t 
 
 -- ---- a cell
 
-signed-most : (z : ℤ) → SFits w64 z → length (signed z) ≤ 20
-unfolding signed
+signed-most : (z : ℤ) → SFits w64 z → length (printedNumber z) ≤ 20
+unfolding printedNumber
 signed-most (pos n) f = omega (arith, decimal-most 18 n (omega (arith, f .sfits)))
 signed-most (negsuc n) f = omega (arith, decimal-most 18 (suc n) (omega (arith, f .sfits)))
 
@@ -222,7 +222,7 @@ part-ends w first k n l e q h = omega (arith, mul-add w k 1, mul-le-mul-left {m 
 pub part-next : (w first k : ℕ) → first ≡ w * k → first + w ≡ w * (k + 1)
 part-next w first k e = omega (arith, mul-add w k 1)
 
-row-is : (w first k : ℕ) (cells : List ℤ) → first ≡ w * k → rowLine k (rowPart w first cells) ≡ rowAt w cells k
+row-is : (w first k : ℕ) (cells : List ℤ) → first ≡ w * k → rowLine k (rowPart w first cells) ≡ printedRow w cells k
 row-is w first k cells e =
     ap (λ (n : ℕ). rowLine k (take n (drop first cells))) (only w first)
     ∙ ap (λ (n : ℕ). rowLine k (take w (drop n cells))) e
@@ -231,17 +231,17 @@ row-is w first k cells e =
     only w first = omega arith
 
 module _ (w n : ℕ) (cells : List ℤ) {t u : List ℕ} {i j k first : ℕ} (h : i + rowBytes w * suc n ≤ length t) (q : k ≤ n)
-    (x : WrittenWithin (rowBytes w * k) t i (upTo (rowAt w cells) k) u j) (m : w * suc n ≤ length cells) (e : first ≡ w * k) where
+    (x : WrittenWithin (rowBytes w * k) t i (upTo (printedRow w cells) k) u j) (m : w * suc n ≤ length cells) (e : first ≡ w * k) where
   part-is : length (rowPart w first cells) ≡ w
   part-is = part-length w first cells (part-ends w first k n (length cells) e q m)
 
   pub row-room : length u ≡ length t → j + rowBytes (length (rowPart w first cells)) ≤ length u
-  row-room l = rw part-is (turn-within (rowAt w cells) (rowBytes w) (suc n) h (omega arith) x l)
+  row-room l = rw part-is (turn-within (printedRow w cells) (rowBytes w) (suc n) h (omega arith) x l)
 
   pub row-turn : {v : List ℕ} {r : ℕ}
       → WrittenWithin (rowBytes (length (rowPart w first cells))) u j (rowLine k (rowPart w first cells)) v r
-      → WrittenWithin (rowBytes w * (k + 1)) t i (upTo (rowAt w cells) (k + 1)) v r
+      → WrittenWithin (rowBytes w * (k + 1)) t i (upTo (printedRow w cells) (k + 1)) v r
   row-turn {v} {r} y =
-      written-within (rowAt w cells) (rowBytes w) (suc n) h (omega arith) x
+      written-within (printedRow w cells) (rowBytes w) (suc n) h (omega arith) x
       (subst (λ (l : List ℕ). WrittenWithin (rowBytes w) u j l v r) (row-is w first k cells e)
       (subst (λ (z : ℕ). WrittenWithin (rowBytes z) u j (rowLine k (rowPart w first cells)) v r) part-is y))

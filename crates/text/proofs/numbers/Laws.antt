@@ -17,7 +17,7 @@ use mir.Val.{SFits, toZ, ofZ}
 use mir.ValLaws.{toZ-ofZ}
 use Rattle.whole.specs.Lists.{Room, Written}
 use Rattle.whole.proofs.Lists.{written-nil, written-one, written-then, written-copy, room-front, room-then}
-use Rattle.text.specs.Printed.{ascii, digit, decimalDigits, decimal, signed, labelled}
+use Rattle.text.specs.Printed.{ascii, digit, decimalDigits, decimal, printedNumber, labelled}
 
 by-size : ℕ → ℕ → Bool → List ℕ
 by-size k n b = elim b [ true ↦ digit n | false ↦ decimalDigits k (n / 10) ++ digit (n % 10) ]
@@ -55,25 +55,25 @@ decimal-most (suc k) n h = go (decLe 10 n) (decimal-most k (n / 10) shorter)
     go (no t) i = omega (arith, ap length (decimal-digit n (omega arith)))
     go (yes t) i = omega (arith, ap length (decimal-more n t), length-append (decimal (n / 10)) (digit (n % 10)))
 
-signed-negative : (z : ℤ) → ltZ z (pos 0) ≡ true → signed z ≡ labelled (ascii "-") (natAbs z)
-unfolding signed labelled
+signed-negative : (z : ℤ) → ltZ z (pos 0) ≡ true → printedNumber z ≡ labelled (ascii "-") (natAbs z)
+unfolding printedNumber labelled
 signed-negative (pos n) e = absurd (let h = ltb-true n 0 e in omega arith)
 signed-negative (negsuc n) e = refl
 
-signed-natural : (z : ℤ) → ltZ z (pos 0) ≡ false → signed z ≡ decimal (natAbs z)
-unfolding signed
+signed-natural : (z : ℤ) → ltZ z (pos 0) ≡ false → printedNumber z ≡ decimal (natAbs z)
+unfolding printedNumber
 signed-natural (pos n) e = refl
 signed-natural (negsuc n) e = absurd (mathlib.Core.Bool.true≢false e)
 
 -- its text by its size n
 pub signed-below : (x : ℤ) {n : ℕ} → SFits w64 x → ltZ (toZ w64 (ofZ w64 x)) (pos 0) ≡ true → n ≡ natAbs (toZ w64 (ofZ w64 x))
-    → signed x ≡ labelled (ascii "-") n
+    → printedNumber x ≡ labelled (ascii "-") n
 signed-below x {n} f t e =
     let y : toZ w64 (ofZ w64 x) ≡ x = toZ-ofZ w64 x f in
     signed-negative x (ap (λ (z : ℤ). ltZ z (pos 0)) (sym y) ∙ t) ∙ ap (labelled (ascii "-")) (sym (e ∙ ap (λ (z : ℤ). natAbs z) y))
 
 pub signed-from : (x : ℤ) {n : ℕ} → SFits w64 x → ltZ (toZ w64 (ofZ w64 x)) (pos 0) ≡ false → n ≡ natAbs (toZ w64 (ofZ w64 x))
-    → signed x ≡ decimal n
+    → printedNumber x ≡ decimal n
 signed-from x {n} f t e =
     let y : toZ w64 (ofZ w64 x) ≡ x = toZ-ofZ w64 x f in
     signed-natural x (ap (λ (z : ℤ). ltZ z (pos 0)) (sym y) ∙ t) ∙ ap decimal (sym (e ∙ ap (λ (z : ℤ). natAbs z) y))

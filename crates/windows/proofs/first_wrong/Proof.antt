@@ -7,7 +7,7 @@ use lib.Seq.{length-take-le}
 use borrow.Author.Needs.{needs}
 use borrow.Author.Tests.{not-true, not-false}
 use Rattle.model.specs.declared.Window.{Window}
-use Rattle.model.specs.planning.Windows.{firstWrong}
+use Rattle.model.specs.planning.Windows.{firstWrongWindow}
 use Rattle.windows.proofs.Listed.{wrong-here, wrong-later, ended}
 use Rattle.windows.proofs.first_wrong.Statement.{statement}
 use Rattle.windows.proofs.first_wrong.Tie as tie
@@ -15,7 +15,7 @@ use Rattle.windows.proofs.first_wrong.Tie as tie
 abbrev Inv-loop : tie.InvT-loop
 Inv-loop count list closed₀ i₀ closed i =
     record {
-      rest : firstWrong i closed (drop i (take count list)) ≡ firstWrong 0 0 (take count list);
+      rest : firstWrongWindow i closed (drop i (take count list)) ≡ firstWrongWindow 0 0 (take count list);
       low : i ≤ count;
       long : length (take count list) ≡ count;
     }
@@ -63,7 +63,7 @@ returns-2 : tie.Need-returns-2 Inv-loop μ-loop
 returns-2 c =
     let l = c .before .loop in
     let a = c .before .before .args in
-    sym (ap (λ (r : List Window). firstWrong (l .i) (l .closed) r) (ended (take (a .count) (a .t1)) (l .i) (omega (arith, l .inv .long)))) ∙ l .inv .rest
+    sym (ap (λ (r : List Window). firstWrongWindow (l .i) (l .closed) r) (ended (take (a .count) (a .t1)) (l .i) (omega (arith, l .inv .long)))) ∙ l .inv .rest
 
 pub first-wrong-spec : {M : Type 1} → statement M
 first-wrong-spec =

@@ -5,7 +5,7 @@ use lib.ListN.{length}
 use borrow.Author.Needs.{needs}
 use Rattle.whole.specs.Lists.{upTo, WrittenWithin}
 use Rattle.whole.proofs.Lists.{within-nil}
-use Rattle.text.specs.Printed.{rowAt}
+use Rattle.text.specs.Printed.{printedRow}
 use Rattle.text.specs.Enough.{rowBytes}
 use Rattle.text.proofs.lines.Laws.{part-ends, part-next, row-room, row-turn}
 use Rattle.text.proofs.lines.put_rows.Statement.{statement}
@@ -17,7 +17,7 @@ Inv-loop out₀ at n width table next₀ first₀ k₀ out next first k =
       low : k ≤ suc n;
       place : first ≡ width * k;
       long : length out ≡ length out₀;
-      text : WrittenWithin (rowBytes width * k) out₀ at (upTo (rowAt width table) k) out next;
+      text : WrittenWithin (rowBytes width * k) out₀ at (upTo (printedRow width table) k) out next;
     }
 
 abbrev μ-loop : tie.MeasureT-loop
@@ -39,7 +39,7 @@ loop-holds c =
       low = omega arith;
       place = omega arith;
       long = refl;
-      text = within-nil (rowAt (s .args .width) (s .args .table .now)) (rowBytes (s .args .width)) (omega (arith, s .pre .1 .1));
+      text = within-nil (printedRow (s .args .width) (s .args .table .now)) (rowBytes (s .args .width)) (omega (arith, s .pre .1 .1));
     }
 
 add-end : tie.Need-add-end Inv-loop μ-loop
@@ -96,7 +96,7 @@ returns : tie.Need-returns Inv-loop μ-loop
 returns c =
     let a = c .before .before .before .args in
     let l = c .before .loop in
-    let f = rowAt (a .width) (a .table .now) in
+    let f = printedRow (a .width) (a .table .now) in
     subst (λ (m : ℕ). WrittenWithin (rowBytes (a .width) * m) (a .out .now) (a .at) (upTo f m) (l .out) (l .next)) (omega arith) (l .inv .text)
 
 pub put-rows-spec : {M : Type 1} → statement M

@@ -1,0 +1,9 @@
+pub mod Blend
+pub mod Scale
+pub mod Velocities
+pub mod PlannedSegments
+pub mod Ranges
+pub mod Sums
+pub mod PlannedTicks
+pub mod BlendedTicks
+pub mod PlannableAxis

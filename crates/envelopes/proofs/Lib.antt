@@ -1,0 +1,4 @@
+pub mod EnvelopeSums
+pub mod NextTicks
+pub mod RoundedUp
+pub mod Skipping

@@ -1,0 +1,132 @@
+use Prim.Native.Nat.{ℕ, _-_, _≤_}
+use mathlib.Core.Path.{_≡_, sym, subst, subst₂}
+use mathlib.Core.Bool.{Bool}
+use native.Mathlib.Omega.{arith}
+use lib.IntN.{ℤ, pos, _+ℤ_, _*ℤ_}
+use mir.Syntax.{w64}
+use mir.Val.{toZ, ofZ}
+use Rattle.whole.specs.Ranges.{Is}
+use Rattle.whole.proofs.Bounds.{sfits, within, exactly, exact, cast-small}
+use Rattle.profile.specs.declared.Profile.{Profile}
+use Rattle.profile.specs.Profiles.{legOf, Joinable}
+use Rattle.profile.proofs.FeasibleParts.{joined-ends, ends-joined}
+use Rattle.envelopes.specs.Sums.{Next, betweenAt, withTicks}
+use Rattle.envelopes.specs.Skips.{Skips, Lasting, lengthened}
+use Rattle.envelopes.proofs.EnvelopeSums.{more-ticks}
+use Rattle.envelopes.proofs.Skipping.{next-past, next-skipped}
+use borrow.Author.Needs.{needs}
+use Rattle.envelopes.proofs.next_lasting.Statement.{statement}
+use Rattle.envelopes.proofs.next_lasting.Tie as tie
+
+-- the numbers as the code has them
+sum-is : (a : tie.Start) → toZ w64 (ofZ w64 (a .args .sum)) ≡ a .args .sum
+sum-is a = exactly (search exact depth 9) tt
+
+change-is : (a : tie.Start) → toZ w64 (ofZ w64 (a .args .change)) ≡ a .args .change
+change-is a = exactly (search exact depth 9) tt
+
+on : (a : tie.Start) → Lasting (betweenAt (legOf (a .args .p)) (toZ w64 (ofZ w64 (a .args .sum))) (toZ w64 (ofZ w64 (a .args .change)))) (a .args .p .ticks)
+on a = subst₂ (λ (x y : ℤ). Lasting (betweenAt (legOf (a .args .p)) x y) (a .args .p .ticks)) (sym (sum-is a)) (sym (change-is a)) (a .pre .1 .1 .1 .1 .1)
+
+skip-missed-requires : tie.Need-skip-missed-requires
+skip-missed-requires c κs = (
+  c .pre .0,
+  (
+    within (search exact depth 9) tt,
+    (within (search exact depth 9) tt, (c .pre .1 .1 .1 .0, (c .pre .1 .1 .1 .1 .0, on c))),
+  ),
+)
+
+skipped : (c : tie.After-skip-missed) → Skips (betweenAt (legOf (c .before .args .p)) (c .before .args .sum) (c .before .args .change)) (c .before .args .p .ticks) (c .before .args .last) (c .skip-missed .result)
+skipped c =
+    let a = c .before in
+    subst₂ (λ (x y : ℤ). Skips (betweenAt (legOf (a .args .p)) x y) (a .args .p .ticks) (a .args .last) (c .skip-missed .result)) (sum-is a) (change-is a)
+    (c .skip-missed .ensures)
+
+returns : tie.Need-returns
+returns c =
+    let a = c .before .before in
+    next-past (legOf (a .args .p)) (a .args .sum) (a .args .change) (a .args .last) (a .pre .1 .1 .1 .1 .1) (c .before .skip-missed .result) (c .if1 .taken) (skipped (c .before))
+
+sub-later : tie.Need-sub-later
+sub-later c = search needs
+
+cast-later : tie.Need-cast-later
+cast-later c = search needs
+
+with-ticks-requires : tie.Need-with-ticks-requires
+with-ticks-requires c κs = search needs
+
+abbrev start : tie.Else1 → tie.Start
+start c = c .before .before
+
+-- how many ticks were passed over
+later-is : (c : tie.Else1) → Is 4096 (toZ w64 (c .before .skip-missed .result - start c .args .p .ticks)) (pos (c .before .skip-missed .result - start c .args .p .ticks))
+later-is c = cast-small 4096 (c .before .skip-missed .result - start c .args .p .ticks) (omega (arith, c .if1 .left, start c .pre .1 .1 .1 .1 .0)) tt
+
+longer : (c : tie.Else1) → Joinable (lengthened (start c .args .p) (c .before .skip-missed .result))
+longer c =
+    let j = start c .pre .0 in
+    let w = skipped (c .before) in
+    let g = legOf (start c .args .p) in
+    record {
+      ranged =
+          record {
+            «speed_limit» = j .ranged .«speed_limit»;
+            «acceleration_limit» = j .ranged .«acceleration_limit»;
+            ticks = omega (arith, c .if1 .left, start c .pre .1 .1 .1 .1 .0);
+            start = j .ranged .start;
+            end = j .ranged .end;
+          };
+      acceleration = j .acceleration;
+      some = omega (arith, j .some, w .low);
+      ends = joined-ends (legOf (lengthened (start c .args .p) (c .before .skip-missed .result))) (more-ticks g (c .before .skip-missed .result) (ends-joined g (j .ends)) (w .low));
+    }
+
+mul-next-between : tie.Need-mul-next-between
+mul-next-between c = let l = later-is (c .before .before) in sfits (search exact depth 9) tt
+
+add-next-between : tie.Need-add-next-between
+add-next-between c = let l = later-is (c .before .before) in sfits (search exact depth 20) tt
+
+next-between-requires : tie.Need-next-between-requires
+next-between-requires c κs =
+    let b = c .before .before in
+    let l = later-is b in
+    let e = c .with-ticks .ensures in (
+      subst Joinable (sym e) (longer b),
+      (
+        within (search exact depth 20) tt,
+        (within (search exact depth 9) tt, (subst (λ (p : Profile). p .ticks ≤ start b .args .last) (sym e) (b .if1 .left), start b .pre .1 .1 .1 .1 .0)),
+      ),
+    )
+
+returns-2 : tie.Need-returns-2
+returns-2 c =
+    let b = c .before .before .before in
+    let a = start b in
+    let l = later-is b in
+    let r = b .before .skip-missed .result in
+    let change : toZ w64 (ofZ w64 (a .args .change)) ≡ a .args .change = exactly (search exact depth 9) tt in
+    let code : ℤ =
+    toZ w64 (ofZ w64 (toZ w64 (ofZ w64 (a .args .sum)) +ℤ toZ w64 (ofZ w64 (toZ w64 (r - a .args .p .ticks) *ℤ toZ w64 (ofZ w64 (a .args .change)))))) in
+    let sum : code ≡ a .args .sum +ℤ pos (r - a .args .p .ticks) *ℤ a .args .change = exactly (search exact depth 20) tt in
+    next-skipped (legOf (a .args .p)) (a .args .sum) (a .args .change) (a .args .last) (a .pre .1 .1 .1 .1 .1) r (c .next-between .result) (skipped (b .before))
+    (subst (λ (f : ℕ → Bool). Next f r (a .args .last) (c .next-between .result))
+    (λ i. betweenAt (withTicks (legOf (a .args .p)) r) (sum i) (change i))
+    (subst (λ (p : Profile). Next (betweenAt (legOf p) code (toZ w64 (ofZ w64 (a .args .change)))) (p .ticks) (a .args .last) (c .next-between .result))
+    (c .before .with-ticks .ensures) (c .next-between .ensures)))
+
+pub next-lasting-spec : {M : Type 1} → statement M
+next-lasting-spec =
+    tie.close
+    (tie.spec
+    skip-missed-requires
+    returns
+    sub-later
+    cast-later
+    with-ticks-requires
+    mul-next-between
+    add-next-between
+    next-between-requires
+    returns-2)

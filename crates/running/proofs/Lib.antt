@@ -1,4 +1,0 @@
-pub mod RunningSums
-pub mod NextTicks
-pub mod RoundedUp
-pub mod Skipping

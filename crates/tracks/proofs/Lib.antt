@@ -1,9 +1,0 @@
-pub mod Blend
-pub mod Scale
-pub mod Velocities
-pub mod PlannedPaces
-pub mod Ranges
-pub mod Sums
-pub mod PlannedTicks
-pub mod BlendedTicks
-pub mod ReadyAxis
