@@ -1,7 +1,17 @@
 -- Cases that the proofs compute.
 
--- The starred field cases, windows, a second sway, raises and the converter.
-pub mod Cases
+-- What a case is, and what cases share.
+pub mod Case
+-- The starred field cases.
+pub mod FieldCases
+-- Windows, and arrivals that end.
+pub mod WindowCases
+-- A second sway.
+pub mod SwayCases
+-- Raises.
+pub mod RaisesCases
+-- The converter.
+pub mod ConverterCases
 -- Positions past 28 bits.
 pub mod LongCases
 -- Searches with a budget.

@@ -7,7 +7,7 @@ use Rattle.whole.specs.Lists.{upTo}
 use Rattle.model.specs.planning.Quantities.{finer}
 use Rattle.model.specs.planning.Leg.{cruise}
 use Rattle.model.specs.planning.Outcome.{words, call}
-use Rattle.model.specs.cases.Cases.{wordsC, oneAxis, restTo}
+use Rattle.model.specs.cases.Case.{wordsC, oneAxis, restTo}
 use Rattle.text.specs.Printed.{ascii, decimal, printedNumber, labelled, cellText, rowLine, arrivalLine, refusalLine, printed}
 
 pub printed-C : printed (call (words wordsC) (replicate 8192 (pos 0)))

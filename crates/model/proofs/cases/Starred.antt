@@ -5,7 +5,11 @@ use Rattle.model.specs.planning.Quantities.{finer}
 use Rattle.model.specs.planning.Leg.{cruise}
 use Rattle.model.specs.planning.Outcome.{answerOf}
 use Rattle.model.specs.calls.Raises.{raiseOf, raisesCall}
-use Rattle.model.specs.cases.Cases.{Starred, WindowCasesHold, SwayCasesHold, RaisesCasesHold, ConversionsHold, RunCasesHold}
+use Rattle.model.specs.cases.FieldCases.{Starred}
+use Rattle.model.specs.cases.WindowCases.{WindowCasesHold, RunCasesHold}
+use Rattle.model.specs.cases.SwayCases.{SwayCasesHold}
+use Rattle.model.specs.cases.RaisesCases.{RaisesCasesHold}
+use Rattle.model.specs.cases.ConverterCases.{ConversionsHold}
 
 pub starred : Starred
 unfolding cruise finer flatten

@@ -6,7 +6,7 @@ use mathlib.Core.List.{List, [], _∷_, _++_, map}
 use lib.IntN.{pos, negsuc}
 use Rattle.model.specs.planning.Outcome.{Input, words}
 use Rattle.model.specs.theorems.Spelling.{word}
-use Rattle.model.specs.cases.Cases.{Case, case, positions, found, accepted, refused}
+use Rattle.model.specs.cases.Case.{Case, case, positions, found, accepted, refused}
 
 -- one axis, from its words of kinds 3 and 9 and the words after kind 10
 abbrev pub rail : ℕ → List ℕ → List ℕ → List ℕ → Input

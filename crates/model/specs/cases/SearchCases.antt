@@ -8,7 +8,7 @@ use Rattle.model.specs.declared.Report.the-variants.{Found, Spent, Nothi
 use Rattle.model.specs.declared.SearchAnswer.{SearchAnswer}
 use Rattle.model.specs.planning.Outcome.{Input, words}
 use Rattle.model.specs.calls.Search.{refuseSearch, searchAnswer, searchCall}
-use Rattle.model.specs.cases.Cases.{restTo, oneAxis, wordsC, inside, window}
+use Rattle.model.specs.cases.Case.{restTo, oneAxis, wordsC, inside, window}
 
 pub record SearchCase : Type 0 where
   pub input : Input
