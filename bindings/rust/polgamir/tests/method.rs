@@ -2,6 +2,7 @@
 
 mod common;
 
+use std::collections::HashSet;
 use std::fs;
 use std::path::{Path, PathBuf};
 
@@ -11,6 +12,11 @@ use polgamir::{plan_words, Axis, Damping, Job, Limit, Plan, Refusal, Report, Res
 /// The page.
 fn page() -> String {
     fs::read_to_string(folder("docs").join("METHOD.md")).expect("docs/METHOD.md")
+}
+
+/// The page with each run of white space as one space: what it says, wherever its lines end.
+fn words_of_page() -> String {
+    page().split_whitespace().collect::<Vec<_>>().join(" ")
 }
 
 /// The printed tables of the page: each begins with an arrival line.
@@ -73,7 +79,8 @@ fn the_planned_motion_is_the_planner_s() {
 fn the_swing_list_leaves_what_is_said() {
     let list = [125, 0, 0, -75, 0, 0, 45, 0, 0, -27, 0, 0];
     assert!(
-        page().contains("125 0 0 −75 0 0 45 0 0 −27 0 0") && page().contains("and it is −3, where 5.1 allows 11 × 125")
+        words_of_page().contains("125 0 0 −75 0 0 45 0 0 −27 0 0")
+            && words_of_page().contains("and it is −3, where 5.1 allows 11 × 125")
     );
     assert!((0..9).all(|i| 160 * list[i + 3] + 96 * list[i] == 0));
     let plan = Job::earliest().with_axis(0, example()).plan().expect("the worked example");
@@ -82,9 +89,9 @@ fn the_swing_list_leaves_what_is_said() {
     assert_eq!((0..=11).map(|k| change(k) * list[11 - k]).sum::<i64>(), -3);
 }
 
-/// The examples of the sections on damping, rounding, windows and accelerating targets.
+/// The examples of damping as measured, of rounding and of accelerating targets.
 #[test]
-fn examples_of_the_sections_are_the_planner_s() {
+fn examples_of_damping_and_cells_are_the_planner_s() {
     assert_eq!(Damping::Peaks { first: 97.0, second: 31.0 }.weight(), Some(61));
     let left = Job::arriving_at(4).with_axis(0, field_axis(Target::still(-1))).plan().expect("C to the left");
     let column = |plan: &Plan, quantity: usize| -> Vec<i64> { plan.rows().map(|row| row.cells()[quantity]).collect() };
@@ -97,14 +104,15 @@ fn examples_of_the_sections_are_the_planner_s() {
     assert_eq!([row(0), row(1), row(2)].concat(), [0, 0, 11, 5, 11, 0, 16, 11, 7]);
     assert_eq!([row(18), row(19), row(20)].concat(), [148, -183, 127, 28, -56, 56, 0, 0, 256]);
     assert!(
-        axis.start == RestPoint { position: 0, velocity: 0 } && page().contains("148 −183 127, 28 −56 56, 0 0 256")
+        axis.start == RestPoint { position: 0, velocity: 0 }
+            && words_of_page().contains("148 −183 127, 28 −56 56, 0 0 256")
     );
 }
 
-/// The examples of the sections on positions past 28 bits, on a second sway and on raises.
+/// The examples of positions past 28 bits, of a second sway and of raises.
 #[test]
-fn later_examples_are_the_planner_s() {
-    let page = page();
+fn examples_of_words_and_raises_are_the_planner_s() {
+    let page = words_of_page();
     let pairs = "(high, low) = (0, 2²⁷) passes, (0, 2²⁷ − 1) is 14, (−1, 2²⁷ − 1) passes, (−1, 2²⁷) is 14, (64, 0) and (−65, 0) are 14.";
     assert!(page.contains(pairs));
     for (high, low, passes) in [
@@ -143,13 +151,13 @@ fn later_examples_are_the_planner_s() {
     assert_eq!(raises(3, Axis { half_period: 3, ..to(10, 4) }), []);
 }
 
-/// What sections 20 to 22 say of some jobs.
+/// What is said of a target that grows too fast, of searches where nothing is reached, and of rows backwards.
 #[test]
-fn examples_of_the_last_sections_are_the_planner_s() {
+fn examples_of_reach_and_search_are_the_planner_s() {
     let target = Target::Moving(State { position: 8, velocity: -1, acceleration: 1, tick: 0 });
     let met = |tick: &u32| Job::arriving_at(*tick).with_axis(0, field_axis(target)).arrival_found().is_ok();
     assert_eq!((1..=4096).filter(met).collect::<Vec<u32>>(), [9, 10, 11]);
-    assert!(page().contains("is met at ticks 9, 10 and 11 only"));
+    assert!(words_of_page().contains("is met at ticks 9, 10 and 11 only"));
     let nowhere = Job::earliest().with_axis(0, Axis { speed_limit: 1, ..field_axis(Target::still(100_000_000)) });
     let reports =
         [(4096, 1), (4096, 0), (1, 4095)].map(|(first, budget)| nowhere.search(first, budget).expect("a report"));
@@ -161,14 +169,21 @@ fn examples_of_the_last_sections_are_the_planner_s() {
     assert_eq!(backwards.cells()[..6], [256, 0, 0, 214, 85, -85]);
 }
 
-/// Sections are numbered without a gap, each heading has its link in the page's list, and every picture is there.
+/// Sections and their parts are numbered without a gap, each link leads to a heading, and every picture is there.
 #[test]
 fn sections_are_numbered() {
     let page = page();
     let numbered =
         page.lines().filter_map(|line| line.strip_prefix("## ")).map(|line| line.split(' ').next().unwrap_or_default());
     let numbered: Vec<usize> = numbered.map(|number| number.parse().expect("a numbered section")).collect();
-    assert!(numbered.iter().copied().eq(1..=numbered.len()) && numbered.len() >= 16, "{numbered:?}");
+    assert!(numbered.iter().copied().eq(1..=numbered.len()) && numbered.len() >= 10, "{numbered:?}");
+    for section in numbered {
+        let parts = page.lines().filter_map(|line| line.strip_prefix(&format!("### {section}.")));
+        let parts: Vec<usize> = parts
+            .map(|line| line.split(' ').next().and_then(|part| part.parse().ok()).expect("a numbered part"))
+            .collect();
+        assert!(parts.iter().copied().eq(1..=parts.len()), "{section}: {parts:?}");
+    }
     for link in page.split("](").skip(1).filter_map(|rest| rest.split(')').next()) {
         match link.strip_prefix('#') {
             Some(anchor) => {
@@ -223,17 +238,50 @@ fn cited_sections_are_there() {
     for file in files_of(&folder("crates"), &["antt", "rt"]) {
         let text = fs::read_to_string(&file).expect("a source");
         for cited in text.split("docs/METHOD.md, ").skip(1) {
-            let cited = cited.split(')').next().unwrap_or_default();
-            let cited = cited.trim_start_matches("sections ").trim_start_matches("section ");
-            let number: String = cited.chars().take_while(|c| c.is_ascii_digit() || *c == '.').collect();
-            if number.is_empty() {
-                continue; // the whole page
+            for number in numbers_cited(cited) {
+                assert!(is_there(&number), "{}: {number} of '{}'", file.display(), cited.lines().next().unwrap_or_default());
+                count += 1;
             }
-            assert!(is_there(number.trim_end_matches('.')), "{}: {cited}", file.display());
-            count += 1;
         }
     }
     assert!(count > 50, "{count}");
+}
+
+/// The numbers at the head of a citation, as in 'section 6', '3.7' and 'sections 6, 6.3 and 2.5'; none where the whole page is cited.
+fn numbers_cited(cited: &str) -> Vec<String> {
+    let several = cited.strip_prefix("sections ");
+    let cited = several.or(cited.strip_prefix("section ")).unwrap_or(cited);
+    let is_number = |word: &&str| word.starts_with(|c: char| c.is_ascii_digit());
+    let words = cited.split_whitespace().filter(|word| *word != "and").take_while(is_number);
+    let numbers = words.map(|word| {
+        let number: String = word.chars().take_while(|c| c.is_ascii_digit() || *c == '.').collect();
+        number.trim_end_matches('.').to_string()
+    });
+    numbers.take(if several.is_some() { usize::MAX } else { 1 }).collect()
+}
+
+/// Every name that the glossary gives for a word stands in the code or in the definitions.
+#[test]
+fn names_of_the_glossary_are_there() {
+    let page = page();
+    let glossary = page.split("\n## 10 Glossary\n").nth(1).expect("a glossary");
+    let rows: Vec<Vec<&str>> = glossary
+        .lines()
+        .filter(|line| line.starts_with("| ") && line.matches('|').count() == 5)
+        .map(|line| line.trim_matches('|').split('|').collect())
+        .collect();
+    let sources = files_of(&folder("crates"), &["antt", "rt"]);
+    let names: HashSet<String> = sources
+        .iter()
+        .flat_map(|file| {
+            let text = fs::read_to_string(file).expect("a source");
+            let words = text.split(|c: char| !c.is_alphanumeric() && c != '_').map(str::to_string);
+            words.collect::<Vec<_>>()
+        })
+        .collect();
+    let told: Vec<&str> = rows.iter().skip(1).flat_map(|row| row[3].split('`').skip(1).step_by(2)).collect();
+    let missing: Vec<&&str> = told.iter().filter(|name| !names.contains(**name)).collect();
+    assert!(missing.is_empty() && told.len() > 100, "{} names, missing {missing:?}", told.len());
 }
 
 /// The rows of a page's table of refusals: number, named case, place, and what else is said.
