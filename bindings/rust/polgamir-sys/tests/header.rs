@@ -104,7 +104,8 @@ fn calls_are_the_header_s() {
 fn constants_are_the_header_s() {
     let header = header();
     let defined = header.lines().filter_map(|line| line.strip_prefix("#define POLGAMIR_")?.split_once(' '));
-    let macros: BTreeMap<&str, i64> = defined.filter_map(|(name, value)| Some((name, value.parse().ok()?))).collect();
+    let macros: BTreeMap<&str, i64> =
+        defined.filter_map(|(name, value)| Some((name, value.trim().parse().ok()?))).collect();
     let version = 1_000_000 * macros["VERSION_MAJOR"] + 1_000 * macros["VERSION_MINOR"] + macros["VERSION_PATCH"];
     assert_eq!(i64::from(POLGAMIR_VERSION), version);
     // SAFETY: the call takes nothing and has no state.

@@ -301,8 +301,27 @@ fn refusals_are_told_once() {
     let refusals = refusals_of(&page(), 5);
     let numbers: Vec<&str> = refusals.iter().map(|row| row[0].as_str()).collect();
     assert_eq!(numbers.join(" "), "11 1 2 14 3 4 12 5 15 6 16 17 13 18 8 9 10");
+    assert_eq!(of_header(), refusals.iter().map(|row| (row[0].clone(), sentence(row))).collect::<Vec<_>>());
+}
+
+/// The numbers of the header, each with the sentence that stands beside it.
+fn of_header() -> Vec<(String, String)> {
     let header = fs::read_to_string(folder("include").join("polgamir.h")).expect("the header");
-    let of_header =
-        header.lines().filter_map(|line| line.trim_start().strip_prefix("POLGAMIR_REFUSED_")?.split_once(" = "));
-    assert_eq!(numbers, of_header.map(|(_, number)| number.trim_end_matches(',')).collect::<Vec<_>>());
+    let members =
+        header.split_once("enum polgamir_number {").expect("the numbers").1.split_once("};").expect("their end").0;
+    let refused = members.split("POLGAMIR_REFUSED_").skip(1).map(|member| {
+        let number = member.split_once(" = ").expect("a number").1;
+        let digits = number.chars().take_while(char::is_ascii_digit).collect();
+        let beside = number.split_once("/*").expect("a sentence").1.split_once("*/").expect("its end").0;
+        let lines = beside.lines().map(|line| line.trim_start().trim_start_matches("* "));
+        (digits, lines.collect::<Vec<_>>().join(" ").trim().to_lowercase())
+    });
+    refused.collect()
+}
+
+/// A row of the list as the header says it: the named case, the place where it is not 0, and what else is said.
+fn sentence(row: &[String]) -> String {
+    let place = if row[2] == "0" { String::new() } else { format!(" place: {}.", row[2]) };
+    let also = if row[3].is_empty() { String::new() } else { format!(" {}.", row[3]) };
+    format!("{}.{place}{also}", row[1]).replace('−', "-").replace('×', "*").to_lowercase()
 }
