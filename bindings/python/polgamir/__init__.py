@@ -1,27 +1,50 @@
 """Motion tables for a scanner head on a swaying pole, planned by a proved library.
 
-A `Job` says for each axis where it starts, what it is to land on, its limits, and the half periods and damping
-of the pole under it. `Job.plan` gives a `Plan` with a table of position, velocity and acceleration for each
-tick that lands every axis exactly on its target at one common tick with the sway cancelled, or raises a
-`Refusal`. What the library promises of its answers is proved for every job; this package is a thin layer above
-it, with no planning of its own and no dependency.
+A `Job` says for each axis where it starts, what it is to land on, its limits, and the half period
+and damping of the pole under it. `Job.plan` gives a `Plan`: a table of position, velocity and
+acceleration, a row a tick. Every axis lands exactly on its target, all at one tick, and the pole
+stands still. A job that cannot be planned raises a `Refusal`, which says why.
 
-    >>> from polgamir import Axis, Fixed, Job, RestPoint, Weight
-    >>> pan = Axis(start=RestPoint(0), speed_limit=10, acceleration_limit=1, half_period=1, damping=Weight(128),
-    ...            target=Fixed(1))
+    >>> from polgamir import Axis, Fixed, Job, Ratio, Refusal, RestPoint
+    >>> pan = Axis(start=RestPoint(0), target=Fixed(6), speed_limit=10, acceleration_limit=1,
+    ...            half_period=3, damping=Ratio(0.5))
     >>> plan = Job({0: pan}).plan()
     >>> plan.arrival
-    3
-    >>> plan.positions(0).tolist()
-    [0, 64, 192, 256]
+    8
+    >>> plan.positions(0).tolist()  # in fine steps, 1/256 unit
+    [0, 86, 342, 684, 983, 1196, 1366, 1494, 1536]
+    >>> try:
+    ...     Job({0: pan}, arrival=5).plan()
+    ... except Refusal as refusal:
+    ...     print(int(refusal.number), refusal.axes, refusal.text)
+    8 (0,) not every axis can arrive at the asked tick, or it fits no window
 
-Time is a whole number of ticks. Inputs are whole units, units per tick and units per tick squared. The cells
-of a table are whole fine steps, 1/256 unit. `plan.table` is a buffer with the shape (rows, axes, 3) that
-`numpy.asarray` takes without a copy.
+By subject; `help(polgamir.Job)` and so on say more:
 
-The library is `libpolgamir.so` for x86-64 Linux. A wheel brings it; the variable POLGAMIR_LIBRARY names
-another file; in the repository `tools/library` proves and builds it, and `tools/install` installs it. Calls
-have no state and release the interpreter's lock: any number of threads may plan at the same time.
+    a job       Job of Axis: start RestPoint, target Fixed or Moving, damping Weight, Ratio or Peaks
+                Windows of Window: when it may arrive
+    its table   Job.plan, Job.plan_backwards: a Plan, with Row and Motion
+                Job.part, Job.rows_in_parts: some rows at a time
+    arrival     Job.arrival_found; Job.search: a few candidates a call, a Searched
+    refused     Refusal with a Number; Job.raises: what to raise, Raises of Raise of a Limit
+    a tour      Tour of TourAxis and Stop: its Schedule
+    sway        sway_bound, second_sway_bound: the most that a pole measured wrongly leaves
+                sway_left, misfit_bound, acceleration_changes: for a sway of your own; SwayLeft
+    job words   plan_words, plan_words_backwards, plan_words_part, raises_words, search_words,
+                convert_words
+
+Units: time is a whole number of ticks. Inputs are whole units, units per tick and units per tick
+squared. Cells are whole fine steps, 1/256 unit: `in_units` turns them back.
+
+A value of a wrong type is a TypeError, and a number that its field cannot hold a ValueError. Both
+name the field. Every other wrong job is the planner's to refuse.
+
+The library is `libpolgamir.so` for x86-64 Linux. A wheel brings it. The variable POLGAMIR_LIBRARY
+names another file. In the repository `tools/library` proves and builds it. A `LibraryError` says
+that none was found, or one of another version. Calls have no state and release the interpreter's
+lock: any number of threads may plan at the same time.
+
+What is proved, and the method: docs/BUYERS.md and docs/METHOD.md.
 """
 
 from ._loader import LibraryError, version

@@ -1,5 +1,5 @@
-"""Values of the API as structs of the header. A value of a wrong type, or one that its field cannot hold, is
-an error that names the field, as `axes[0].target.position`."""
+"""Values of the API as structs of the header. A value of a wrong type, or one that its field cannot
+hold, is an error that names the field, as `axes[0].target.position`."""
 
 from __future__ import annotations
 
@@ -58,7 +58,8 @@ def _set_axis(fields: _structs.Axis, axis: Axis, name: str) -> None:
 
 
 def checked_axis(axis: Axis) -> None:
-    """An axis on its own: an error names what is of a wrong type, or outside what its field can hold."""
+    """An axis on its own: an error names what is of a wrong type, or outside what its field can
+    hold."""
     _set_axis(_structs.Axis(), axis, "axis")
 
 

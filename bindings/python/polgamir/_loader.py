@@ -1,11 +1,13 @@
-"""Finds and loads the shared library, once, and looks whether it is of this package's version: patches of one
-minor version fit each other, as the header promises.
+"""Finds and loads the shared library, once, and looks whether it is of this package's version:
+patches of one minor version fit each other, as the header promises.
 
 The first of these that there is:
 
-1. the file that the variable POLGAMIR_LIBRARY names, or `libpolgamir.so` in the folder that POLGAMIR_LIB_DIR names;
+1. the file that the variable POLGAMIR_LIBRARY names, or `libpolgamir.so` in the folder that
+   POLGAMIR_LIB_DIR names;
 2. `libpolgamir.so` beside this file: a wheel brings it;
-3. `target/lib/libpolgamir.so` of the repository that this package stands in, which `tools/library` proves and writes;
+3. `target/lib/libpolgamir.so` of the repository that this package stands in, which `tools/library`
+   proves and writes;
 4. an installed library, by the loader of the system.
 """
 
@@ -24,12 +26,12 @@ FOLDER_VARIABLE = "POLGAMIR_LIB_DIR"
 
 
 class LibraryError(OSError):
-    """The shared library is missing or of another version."""
+    """The shared library is missing or of another version; its text says what to do."""
 
 
 def soname() -> str:
-    """The name under which the loader knows the library of this version: while the major number is 0, each
-    minor number has its own."""
+    """The name under which the loader knows the library of this version: while the major number is
+    0, each minor number has its own."""
     major, minor, _ = __version__.split(".")
     return f"libpolgamir.so.{major}.{minor}" if major == "0" else f"libpolgamir.so.{major}"
 
@@ -87,5 +89,8 @@ def library() -> ctypes.CDLL:
 
 
 def version() -> int:
-    """The version of the library: 1,000,000 x major + 1,000 x minor + patch."""
+    """The version of the loaded library: 1,000,000 x major + 1,000 x minor + patch.
+
+    Raises a `LibraryError`.
+    """
     return library().polgamir_version()

@@ -1,5 +1,5 @@
-"""Numbers on their way to the library: each is checked against what its field of the header can hold, and an
-error names the field. The planner judges the rest."""
+"""Numbers on their way to the library: each is checked against what its field of the header can
+hold, and an error names the field. The planner judges the rest."""
 
 from __future__ import annotations
 

@@ -10,8 +10,10 @@ from ._numbers import axes_of
 
 
 class Motion(NamedTuple):
-    """Position, velocity and acceleration of an axis at a tick, in fine steps: 1/256 unit, per tick, per tick
-    squared."""
+    """The motion of an axis at a tick, in fine steps of 1/256 unit.
+
+    position, velocity, acceleration   the acceleration holds until the next tick
+    """
 
     position: int
     velocity: int
@@ -19,11 +21,14 @@ class Motion(NamedTuple):
 
 
 class Row(NamedTuple):
-    """The row of a tick."""
+    """The row of a tick.
+
+    tick      0 to arrival
+    motions   each `Motion` by the axis's number, lowest first
+    """
 
     tick: int
     motions: Dict[int, Motion]
-    """By the axis's number, lowest first."""
 
 
 def _row(tick: int, axes: Tuple[int, ...], cells: "array.array[int]") -> Row:
@@ -33,8 +38,9 @@ def _row(tick: int, axes: Tuple[int, ...], cells: "array.array[int]") -> Row:
 class Plan:
     """An accepted job: its arrival, and its table of rows 0 to arrival.
 
-    `for row in plan` walks the rows, `plan[tick]` is one, `len(plan)` their count. Where the plan is
-    `backwards`, its cells begin with the row of the arrival; what is asked by tick stays by tick.
+    `for row in plan` walks the rows, `plan[tick]` is one, `len(plan)` is their count. Where the
+    plan is `backwards`, its cells begin with the row of the arrival; what is asked by tick stays by
+    tick.
     """
 
     __slots__ = ("_arrival", "_mask", "_cells", "_backwards")
@@ -67,38 +73,47 @@ class Plan:
 
     @property
     def cells(self) -> memoryview:
-        """The cells one after the other, row by row: a read-only buffer of 64-bit whole numbers, no copy."""
+        """The cells one after the other, row by row: a read-only buffer of 64-bit whole numbers, no
+        copy."""
         return memoryview(self._cells).toreadonly()
 
     @property
     def table(self) -> memoryview:
-        """The cells with the shape (arrival + 1, axes, 3): a read-only buffer, which `numpy.asarray` takes
-        without a copy."""
+        """The cells with the shape (arrival + 1, axes, 3): a read-only buffer, which
+        `numpy.asarray` takes without a copy."""
         return self.cells.cast("B").cast("q", shape=[self._arrival + 1, len(self.axes), 3])
 
     def positions(self, axis: int) -> memoryview:
-        """The positions of an axis, by tick, in fine steps: a read-only buffer, no copy."""
+        """The positions of an axis by tick, in fine steps: a read-only buffer, no copy.
+
+        Raises a KeyError for an axis that takes no part.
+        """
         return self._column(axis, 0)
 
     def velocities(self, axis: int) -> memoryview:
-        """The velocities of an axis, by tick, in fine steps per tick: a read-only buffer, no copy."""
+        """The velocities of an axis by tick, in fine steps per tick: as `positions`."""
         return self._column(axis, 1)
 
     def accelerations(self, axis: int) -> memoryview:
-        """The accelerations of an axis, by tick, in fine steps per tick squared: a read-only buffer, no copy."""
+        """The accelerations of an axis by tick, in fine steps per tick squared: as `positions`."""
         return self._column(axis, 2)
 
     def position_range(self, axis: int) -> Tuple[int, int]:
         """The least and the greatest position of an axis among the rows, in fine steps.
 
-        End stops are not planned for: hold these against them. Between two rows a head that turns back goes past
-        them by at most an eighth of what its acceleration covers in a tick squared.
+        End stops are not planned for: hold these against them. A head that turns back between two
+        rows goes past them by at most an eighth of the row's acceleration.
+
+        Raises a KeyError for an axis that takes no part.
         """
         positions = self.positions(axis).tolist()
         return min(positions), max(positions)
 
     def motion(self, axis: int, tick: int) -> Motion:
-        """The motion of an axis at a tick, 0 to arrival."""
+        """The `Motion` of an axis at a tick, 0 to arrival.
+
+        Raises an IndexError or a KeyError where there is none.
+        """
         return self[tick].motions[axis]
 
     def _column(self, axis: int, quantity: int) -> memoryview:
@@ -168,7 +183,8 @@ class Part:
 
     @property
     def cells(self) -> memoryview:
-        """The cells one after the other, row by row: a read-only buffer of 64-bit whole numbers, no copy."""
+        """The cells one after the other, row by row: a read-only buffer of 64-bit whole numbers, no
+        copy."""
         return memoryview(self._cells).toreadonly()
 
     def __len__(self) -> int:

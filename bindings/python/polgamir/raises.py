@@ -18,7 +18,11 @@ class Limit(enum.IntEnum):
 
 
 class Raise(NamedTuple):
-    """A raise of one limit, the other staying as it is: what is added to it, at least 1."""
+    """A raise of one limit, the other staying as it is.
+
+    limit   which `Limit`
+    by      what is added to it, at least 1
+    """
 
     limit: Limit
     by: int
@@ -31,15 +35,17 @@ class Raise(NamedTuple):
 
 
 class Raises(NamedTuple):
-    """The answer to a job, never 10, and where it is refusal 8 the raises of each axis that it names.
+    """What to raise so that each axis can make the asked arrival.
 
-    A raise is the least of its limit alone, within the limit's range, for which the axis can arrive: it is
-    enough, and one less is not. The smaller stands first, that of the acceleration limit if both are equal; a
-    limit of whose range no value is enough has none.
+    arrival   of the job, None where it is refused
+    refusal   why it is refused, never with 10; None where it is not
+    axes      where the refusal is 8: each `Raise` of the axes that it names, by their numbers
+
+    A raise is the least of its limit alone for which the axis can arrive: it is enough, and one
+    less is not. The smaller stands first, that of the acceleration limit if both are equal. A limit
+    of which no value is enough has none.
     """
 
     arrival: Optional[int]
-    """The arrival, or none where the job is refused."""
     refusal: Optional[Refusal]
     axes: Mapping[int, Tuple[Raise, ...]]
-    """By the axis's number, lowest first; empty with any answer but 8."""

@@ -9,8 +9,11 @@ from ._numbers import axes_of
 
 
 class Number(enum.IntEnum):
-    """The numbers that a call returns: 0, or that of a refusal. `include/polgamir.h` tells each case, in
-    checking order; 7 is not used."""
+    """The numbers that a call returns, in checking order; 7 is not used.
+
+    `Refusal.text` says each in words. The whole list, with what place and axes mean:
+    docs/METHOD.md, 7.2.
+    """
 
     ACCEPTED = 0
     REFUSED_STOPS = 11
@@ -66,11 +69,14 @@ TEXTS: Dict[int, str] = {
 
 
 class Refusal(Exception):
-    """Why a job or a tour has no plan. A refused call writes nothing.
+    """Why a job or a tour has no plan.
 
-    `number` is the refusal's number, a `Number` where this module knows it; `place` a word's index, an axis, a
-    window or a stop; `mask` the axes named, bit i for axis i; `arrival` the arrival named. What a refusal does
-    not name is 0.
+    number    a `Number`
+    place     what it names: an axis, a window, a stop, or the index of a word
+    mask      the axes that it names, bit i for axis i
+    arrival   the arrival that it names
+
+    What a refusal does not name is 0.
     """
 
     def __init__(self, number: int, place: int = 0, mask: int = 0, arrival: int = 0) -> None:
@@ -87,7 +93,7 @@ class Refusal(Exception):
 
     @property
     def text(self) -> str:
-        """What the number says, in a sentence without its full stop."""
+        """What the number says, in words."""
         return TEXTS.get(self.number, "a number that this module does not have")
 
     @property

@@ -6,13 +6,16 @@ from typing import NamedTuple, Optional
 
 
 class Searched(NamedTuple):
-    """What a search gives: the tick found, or the next candidate where the budget is spent, or neither where
-    no candidate is left."""
+    """What a search gives.
+
+    arrival   the tick found: the least from the first candidate on that suits every axis and fits a
+              window where there are some; else None
+    next      where the budget is spent, the candidate to go on with; else None
+    tried     how many candidates were tried
+
+    Where there is neither, no tick does and no candidate is left.
+    """
 
     arrival: Optional[int]
-    """The least tick from the first candidate on and within the budget that suits every axis and fits a window
-    where there are some."""
     next: Optional[int]
-    """The candidate to go on with."""
     tried: int
-    """How many candidates were tried."""

@@ -19,7 +19,13 @@ from .refusals import Number
 
 @dataclass(frozen=True)
 class TourAxis:
-    """An axis of a tour: where it starts, at rest, and what is common to all legs."""
+    """An axis of a tour.
+
+    start   where it starts, at rest, in units
+
+    speed_limit, acceleration_limit, half_period, damping and second_half_period are as in `Axis`,
+    and the same for all legs.
+    """
 
     start: int
     speed_limit: int
@@ -31,14 +37,22 @@ class TourAxis:
 
 @dataclass(frozen=True)
 class Stop:
-    """A stop of a tour: where each axis rests, by its number, and for how many ticks, 0 to 4,096."""
+    """A stop of a tour.
+
+    positions   where each axis rests, by its number, in units
+    dwell       for how many ticks, 0 to 4,096
+    """
 
     positions: Mapping[int, int]
     dwell: int = 0
 
 
 class Schedule(NamedTuple):
-    """The arrival at each stop, in ticks from the tour's start, and the total: the last arrival plus its dwell."""
+    """When a tour is where.
+
+    arrivals   at each stop, in ticks from the tour's start
+    total      the last arrival plus its dwell
+    """
 
     arrivals: Tuple[int, ...]
     total: int
@@ -46,7 +60,16 @@ class Schedule(NamedTuple):
 
 @dataclass(frozen=True)
 class Tour:
-    """Stops one after the other, each leg from rest to rest and as early as it can be."""
+    """Stops one after the other, each leg from rest to rest and as early as it can be.
+
+    axes    each `TourAxis` by its number, 0 to 5
+    stops   at most 64, each a `Stop`
+
+        >>> from polgamir import Stop, Tour, TourAxis, Weight
+        >>> pan = TourAxis(start=0, speed_limit=10, acceleration_limit=1, half_period=0, damping=Weight(128))
+        >>> Tour({0: pan}, [Stop({0: 6}, dwell=5), Stop({0: -2})]).schedule()
+        Schedule(arrivals=(5, 16), total=16)
+    """
 
     axes: Mapping[int, TourAxis]
     stops: Sequence[Stop]
@@ -57,7 +80,10 @@ class Tour:
         return mask_of(self.axes)
 
     def schedule(self) -> Schedule:
-        """Plans the tour; raises a `Refusal` whose place is the stop, never with 10."""
+        """Plans the tour. Gives its `Schedule`.
+
+        Raises a `Refusal` whose place is the stop, never with 10.
+        """
         given = tour_of(self)
         count = len(self.stops)
         stops = (_structs.Stop * count)(*(stop_of(self, index) for index in range(count)))
@@ -68,7 +94,12 @@ class Tour:
         return Schedule(tuple(arrivals), answer.total)
 
     def leg(self, index: int) -> Job:
-        """The job of the leg to a stop: its plan is the leg's table."""
+        """The `Job` of the leg to a stop: its plan is the leg's table.
+
+        index   of the stop, from 0
+
+        Raises an IndexError where there is none.
+        """
         index = range(len(self.stops))[operator.index(index)]
         axes = {}
         for number, axis in self.axes.items():

@@ -17,21 +17,36 @@ from .searches import Searched
 
 
 def plan_words(words: Sequence[int]) -> Plan:
-    """Plans the job that 32-bit words hold, into a table of its own; raises a `Refusal`, never with 10."""
+    """Plans the job that words hold. Gives a `Plan` with a table of its own.
+
+    words   32-bit words, as docs/METHOD.md, section 6, has them
+
+    Raises a `Refusal`, never with 10.
+    """
     given = words_of(words)
     return planned(MOST_CELLS, lambda table, cells: library().polgamir_plan_words(given, len(given), table, cells))
 
 
 def plan_words_backwards(words: Sequence[int]) -> Plan:
-    """Plans the job that words hold into a table whose rows stand from arrival backwards; raises a `Refusal`,
-    never with 10."""
+    """Plans the job that words hold. Gives a `Plan` whose table has the row of the arrival first.
+
+    words   as of `plan_words`
+
+    Raises a `Refusal`, never with 10.
+    """
     given = words_of(words)
     call = library().polgamir_plan_words_backwards
     return planned(MOST_CELLS, lambda table, cells: call(given, len(given), table, cells), backwards=True)
 
 
 def plan_words_part(words: Sequence[int], first: int, rows: int) -> Part:
-    """Rows as `Job.part`, for the job that 32-bit words hold."""
+    """Plans some rows of the job that words hold. Gives a `Part`.
+
+    words         as of `plan_words`
+    first, rows   as of `Job.part`
+
+    Raises a `Refusal`, never with 10.
+    """
     first, rows = part_of(first, rows)
     given = words_of(words)
     axes = len(axes_of(given[0] & 0x3F)) if len(given) else 0  # as the mask word says, where it is one
@@ -40,14 +55,22 @@ def plan_words_part(words: Sequence[int], first: int, rows: int) -> Part:
 
 
 def raises_words(words: Sequence[int]) -> Raises:
-    """What to raise where the arrival that 32-bit words ask for is turned down with 8."""
+    """What to raise where the arrival that words ask for is turned down with 8. Gives `Raises`.
+
+    words   as of `plan_words`
+    """
     given = words_of(words)
     return raises_of(library().polgamir_raises_words(given, len(given)))
 
 
 def convert_words(words: Sequence[int]) -> Tuple[int, ...]:
-    """The words of an old job with an asked arrival, whose fixed targets may fly, as words of a job in which they move;
-    raises a `Refusal`."""
+    """Turns the words of an old job, whose fixed targets may have a velocity, into words that can
+    be planned. Gives the words, with a moving target for each of those.
+
+    words   of a job with an asked arrival; any job without such targets is copied
+
+    Raises a `Refusal`.
+    """
     given = words_of(words)
     lent = (ctypes.c_uint32 * (len(given) + 2 * AXES))()
     answer = library().polgamir_convert(given, len(given), lent, len(lent))
@@ -57,6 +80,13 @@ def convert_words(words: Sequence[int]) -> Tuple[int, ...]:
 
 
 def search_words(words: Sequence[int], first: int, budget: int) -> Searched:
-    """A search as `Job.search`, for the job that 32-bit words hold."""
+    """Looks for the arrival of the job that words hold, a few candidates a call. Gives a
+    `Searched`.
+
+    words           as of `plan_words`
+    first, budget   as of `Job.search`
+
+    Raises a `Refusal`, never with 3, 8, 9 or 10.
+    """
     given = words_of(words)
     return searched(library().polgamir_search_words(given, len(given), *candidates(first, budget)))

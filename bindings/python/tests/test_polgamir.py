@@ -426,8 +426,10 @@ class Header(unittest.TestCase):
 
 
 class Module(unittest.TestCase):
-    def test_the_documented_example(self):
-        self.assertEqual(doctest.testmod(polgamir).failed, 0)
+    def test_the_documented_examples(self):
+        for module in (polgamir, polgamir.jobs, polgamir.tours):
+            tried = doctest.testmod(module)
+            self.assertEqual((tried.failed, tried.attempted > 0), (0, True), module.__name__)
 
     def test_everything_public_is_documented(self):
         for name in polgamir.__all__:

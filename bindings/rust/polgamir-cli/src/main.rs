@@ -1,7 +1,12 @@
-//! The command `polgamir`: plans set-up sheets of jobs and tours, turns them into job words and back, and draws plans.
+//! The command `polgamir`: it plans set-up sheets of jobs and tours, draws and reports the plans, turns
+//! sheets into job words and back, and reads a pole's sway from a recorded tap.
 //!
-//! Exit status: 0 where it did what was asked, 1 where the planner refuses the job, 2 for a wrong sheet, wrong words, wrong
-//! usage or a file that cannot be read, 3 where the output cannot be written.
+//! The proved library does the planning; this crate reads, writes and draws. `polgamir --help` lists
+//! the commands, `polgamir plan --help` the options of one, and docs/SHEET.md describes the sheet.
+//!
+//! Exit status: 0 where it did what was asked, 1 where the planner refuses the job, 2 for a wrong
+//! sheet, wrong words, wrong usage or a file that cannot be read, 3 where the output cannot be
+//! written.
 
 #![deny(unsafe_code)]
 

@@ -1,15 +1,43 @@
-//! The structs and calls of `include/polgamir.h`, name by name and field by field; the header says what each means and promises.
-//! `polgamir` is the safe layer above them.
+//! The C interface of the proved planner: the structs and calls of `include/polgamir.h`, name by
+//! name and field by field.
+//!
+//! The header says what each call takes, answers and promises. The crate `polgamir` is the safe
+//! layer above this one; most programs want that.
+//!
+//! ```
+//! use polgamir_sys::{polgamir_axis, polgamir_job, polgamir_plan_job};
+//!
+//! let mut job = polgamir_job { mask: 1, ..Default::default() };
+//! job.axes[0] = polgamir_axis {
+//!     target_position: 4,
+//!     speed_limit: 10,
+//!     acceleration_limit: 1,
+//!     second_weight: 128,
+//!     ..Default::default()
+//! };
+//! let mut table = [0; 3 * 5];
+//! // SAFETY: the table has as many cells as are named.
+//! let answer = unsafe { polgamir_plan_job(job, table.as_mut_ptr(), table.len()) };
+//! assert_eq!((answer.number, answer.arrival), (0, 4));
+//! assert_eq!([0, 3, 6, 9, 12].map(|cell| table[cell]), [0, 128, 512, 896, 1024]); // positions
+//! ```
+//!
+//! A number other than 0 is a refusal, and then no cell is written. The list is the header's
+//! `enum polgamir_number`; `polgamir::Refusal` has it for Rust.
 //!
 //! # Which library is linked
 //!
 //! The first of these that there is; the build says which it took.
 //!
-//! 1. `libpolgamir.a`, or else `libpolgamir.so`, in the folder that the variable `POLGAMIR_LIB_DIR` names.
-//! 2. What pkg-config finds as `polgamir` of this crate's major and minor version: an installed library.
-//! 3. `target/lib/libpolgamir.a` of the repository that this crate stands in, which `tools/library` proves and writes.
+//! 1. `libpolgamir.a`, or else `libpolgamir.so`, in the folder that the variable `POLGAMIR_LIB_DIR`
+//!    names.
+//! 2. What pkg-config finds as `polgamir` of this crate's major and minor version: an installed
+//!    library.
+//! 3. `target/lib/libpolgamir.a` of the repository that this crate stands in, which `tools/library`
+//!    proves and writes.
 //!
-//! A library of another major or minor version is an error of the build, as is one of the repository that is older than its sources.
+//! A library of another major or minor version is an error of the build. So is the repository's
+//! library where it is older than its sources.
 
 #![no_std]
 #![allow(non_camel_case_types)]

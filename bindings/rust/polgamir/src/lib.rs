@@ -1,13 +1,9 @@
 //! Motion tables for a scanner head on a swaying pole, planned by a proved library.
 //!
-//! A [`Job`] says for each axis where it starts, what it is to land on, its limits, and the half periods and damping of the pole
-//! under it. [`Job::plan`] gives a table of position, velocity and acceleration for each tick that lands every axis exactly on
-//! its target at one common tick with the sway cancelled, or refuses with a number, a [`Refusal`]. [`plan()`] does
-//! the same in lent memory and allocates nothing. What the library promises of its answers is proved for every job; this crate
-//! is a thin, safe layer above it, without state and without dependencies.
-//!
-//! Time is a whole number of ticks. Inputs are whole units, units per tick and units per tick². The cells of a table are in
-//! fine steps, 1/256 unit.
+//! A [`Job`] says for each axis where it starts, what it is to land on, its limits, and the half
+//! period and damping of the pole under it. [`Job::plan`] gives a [`Plan`]: a table of position,
+//! velocity and acceleration, a row a tick. Every axis lands exactly on its target, all at one
+//! tick, and the pole stands still.
 //!
 //! ```
 //! use polgamir::{Axis, Damping, Job, Refusal, RestPoint, Target};
@@ -16,37 +12,65 @@
 //!     start: RestPoint { position: 0, velocity: 0 },
 //!     speed_limit: 10,
 //!     acceleration_limit: 1,
-//!     half_period: 0,
-//!     damping: Damping::NONE,
+//!     half_period: 3,              // the pole swings over in three ticks
+//!     damping: Damping::Ratio(0.5), // and keeps half its swing
 //!     second_half_period: None,
-//!     target: Target::still(4),
+//!     target: Target::still(6),
 //! };
 //! let plan = Job::earliest().with_axis(0, pan).plan()?;
-//! assert_eq!(plan.arrival(), 4);
+//! assert_eq!(plan.arrival(), 8);
 //! for row in &plan {
 //!     for (axis, motion) in row.axes() {
 //!         println!("tick {} axis {axis}: {} units", row.tick(), motion.position_in_units());
 //!     }
 //! }
-//!
-//! // Tick 3 is too soon, and the refusal says which axes cannot make it.
-//! let refusal = Job::arriving_at(3).with_axis(0, pan).plan().unwrap_err();
-//! assert_eq!(refusal.printed_line(), "refused 8 place 0 axes 1 arrival 0");
 //! # Ok::<(), Refusal>(())
 //! ```
 //!
-//! [`Job::raises`] says, for each of those axes, by how much to raise a limit so that it can.
+//! # What a refusal is
 //!
-//! A [`Tour`] takes the head over a row of [`Stop`]s, one after the other, resting at each: [`Tour::plan`] gives the arrivals, and
-//! [`Tour::leg`] the job whose plan is the table of a leg.
+//! A job that cannot be planned gives a [`Refusal`] in place of a plan: a number, and what it
+//! names. Its text says which fields to look at. [`Job::raises`] says by how much to raise a limit
+//! so that an asked arrival can be made.
 //!
-//! A controller that has little time in each turn of its servo looks for the arrival in parts: [`Job::search`]. One that has little
-//! memory takes the rows in parts: [`Job::rows_in_parts`], [`plan_part`].
+//! ```
+//! # use polgamir::{Axis, Damping, Job, Refusal, RestPoint, Target};
+//! # let pan = Axis {
+//! #     start: RestPoint { position: 0, velocity: 0 },
+//! #     speed_limit: 10,
+//! #     acceleration_limit: 1,
+//! #     half_period: 3,
+//! #     damping: Damping::Ratio(0.5),
+//! #     second_half_period: None,
+//! #     target: Target::still(6),
+//! # };
+//! let too_soon = Job::arriving_at(5).with_axis(0, pan);
+//! let refusal = too_soon.plan().unwrap_err();
+//! assert_eq!(refusal.printed_line(), "refused 8 place 0 axes 1 arrival 0");
+//! ```
 //!
-//! [`Axis::sway_bound`] says how much sway a table can leave where the pole was measured with an error.
+//! # Units
 //!
-//! Jobs can also be read from set-up sheets ([`sheet::Sheet`]), and written to and read from job words ([`Job::to_words`],
-//! [`Job::from_words`]). Words of old jobs whose fixed targets have a velocity go through [`convert()`].
+//! Time is a whole number of ticks. Inputs are whole units, units per tick and units per tick². The
+//! cells of a table are in fine steps, 1/256 unit: [`in_units`] turns them back.
+//!
+//! # Where to look
+//!
+//! | you want | look at |
+//! |---|---|
+//! | a table in lent memory, without an allocation | [`plan()`], [`cells_needed`], [`Accepted`] |
+//! | the last row first | [`Job::plan_backwards`], [`Order`] |
+//! | some rows at a time, for little memory | [`Job::rows_in_parts`], [`plan_part`] |
+//! | the arrival, a few candidates a call | [`Job::search`] |
+//! | a job that arrives in a window | [`Windows`] |
+//! | a tour of stops | [`Tour`], [`Stop`], [`Tour::leg`] |
+//! | the most sway that a pole measured wrongly leaves | [`Axis::sway_bound`] |
+//! | set-up sheets | [`sheet::Sheet`], [`sheet::TourSheet`] |
+//! | job words | [`Job::to_words`], [`Job::from_words`], [`plan_words`], [`convert()`] |
+//!
+//! What the library promises is proved for every job: `docs/BUYERS.md` of the repository. The
+//! method, with the list of refusals, is `docs/METHOD.md`. This crate is a thin, safe layer without
+//! state and without dependencies but [`polgamir_sys`], which says how the library is found.
 
 #![warn(missing_docs)]
 #![deny(unsafe_code)]
