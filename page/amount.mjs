@@ -1,5 +1,5 @@
-// Numbers as they are written on a sheet, each with the measure that stands after it, and what a tick and a unit
-// stand for.
+// Numbers as they are written on a sheet, each with the measure that stands after it, and
+// what a tick and a unit stand for.
 
 import { Fraction } from './fraction.mjs';
 
@@ -29,8 +29,8 @@ function withHyphens(text) {
   return text.replace(new RegExp(`[${MINUS}]`, 'g'), '-');
 }
 
-// The amounts that words say, one after the other: { text, digits, measure }; null where they do not begin with a
-// number.
+// The amounts that words say, one after the other: { text, digits, measure }; null where
+// they do not begin with a number.
 export function amountsOf(words) {
   const found = [];
   for (const word of words) {
@@ -66,7 +66,8 @@ export function secondsOf(amount) {
   return parts && number && number.over(Fraction.whole(parts));
 }
 
-// Whether two names are the same, in whatever case, in the singular or in the plural; `deg` and `°` are degrees.
+// Whether two names are the same, in whatever case, in the singular or in the
+// plural; `deg` and `°` are degrees.
 export function isName(found, name) {
   return singular(found) === singular(name);
 }
@@ -88,7 +89,8 @@ export function readUnsigned(word) {
   return readWhole(word, /^\+?[0-9]+$/, 0n, 2n ** 32n - 1n);
 }
 
-// A whole number of 64 bits, as a BigInt, or null; below zero with a hyphen or any other minus sign.
+// A whole number of 64 bits, as a BigInt, or null; below zero with a hyphen or any other minus
+// sign.
 export function readSigned(word) {
   const plain = word.replace(new RegExp(`^[${MINUS}](?=[0-9])`), '-');
   return readWhole(plain, /^[+-]?[0-9]+$/, -(2n ** 63n), 2n ** 63n - 1n);
@@ -107,7 +109,8 @@ export function readFloat(word) {
   const double = Number(plain), single = Math.fround(double);
   if (!Number.isFinite(single)) return null;
   const other = neighbour(single, double > single);
-  // A double in the middle of two singles may itself be rounded: what is written says to which side.
+  // A double in the middle of two singles may itself be rounded: what is written says to which
+  // side.
   if (double === single || double !== (single + other) / 2) return single;
   const [number, power = '0'] = plain.toLowerCase().split('e');
   const exact = Fraction.read(number.startsWith('-'), number.replace(/^[+-]/, ''), Number(power));
@@ -144,7 +147,8 @@ export function readUnit(words) {
   return { exact: begun ? begun.size : Fraction.whole(1), text, name: named.join(' ') };
 }
 
-// The size that a word begins with, a number above 0 or a quotient of two, and what follows it in the word.
+// The size that a word begins with, a number above 0 or a quotient of two, and what follows it in
+// the word.
 function readSize(word) {
   const number = splitNumber(word);
   if (!number) return null;

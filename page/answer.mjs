@@ -24,7 +24,8 @@ function bigTime(setup, ticks) {
 
 const AT_MOST = 6;
 
-// The answer of entries that are missing or cannot be read: names of the first, sentences for the others.
+// The answer of entries that are missing or cannot be read: names of the first, sentences for the
+// others.
 export function errorsTold(errors, nameOf) {
   const button = id =>
     `<button type="button" class="link" data-go="${escaped(id ?? '')}">${escaped(nameOf(id))}</button>`;

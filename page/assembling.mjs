@@ -1,5 +1,5 @@
-// Putting a setup together from what was read of a sheet: the job or the tour, and what is lacking or does not belong
-// to it.
+// Putting a setup together from what was read of a sheet: the job or the tour, and what is
+// lacking or does not belong to it.
 
 import { SheetError } from './worked.mjs';
 import { DAMPING, TOUR_ENTRIES, STOP } from './entries.mjs';

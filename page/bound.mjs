@@ -1,5 +1,6 @@
-// The proved bound of what a table leaves of a sway where the half period is off, as `Axis::sway_bound` in Rust works
-// it out: theorem `sway-most` in docs/METHOD.md. Everything is whole numbers.
+// The proved bound of what a table leaves of a sway where the half period is off,
+// as `Axis::sway_bound` in Rust works it out: theorem `sway-most` in
+// docs/METHOD.md. Everything is whole numbers.
 
 import { quotientUp } from './fraction.mjs';
 import { LATEST_ARRIVAL } from './calls.mjs';
@@ -8,8 +9,9 @@ const LONGEST_PERIOD = 512n;
 // A little more than 1/π.
 const BY_PI = [106n, 333n];
 
-// The weight of a damping by the planner's own rule: the greatest B that is at most the once-rounded ratio × (256 −
-// B). It serves what is shown; the planner works out its own. Null where the planner refuses the damping with 12.
+// The weight of a damping by the planner's own rule: the greatest B that is at most the
+// once-rounded ratio × (256 − B). It serves what is shown; the planner works out its own. Null
+// where the planner refuses the damping with 12.
 export function weightOf({ kind, numbers }) {
   if (kind === 'weight') return Number(numbers[0]);
   const ratio = ratioOf({ kind, numbers });
@@ -37,8 +39,8 @@ function isInRange(axis) {
     within('start position', -17179869184n, 17179869183n) && within('target position', -17179869184n, 17179869183n);
 }
 
-// The bound in fine steps for a half period that is off by top/bottom ticks (true less planned), or null where there
-// is none.
+// The bound in fine steps for a half period that is off by top/bottom ticks (true less
+// planned), or null where there is none.
 export function swayBound(axis, entry, top, bottom) {
   const weight = weightOf(axis.damping);
   if (weight === null || weight < 1 || weight > 128 || !isInRange(axis)) return null;
@@ -56,8 +58,8 @@ export function swayBound(axis, entry, top, bottom) {
   return quotientUp(changes * (misfit < most ? misfit : most), divisor * bottom * bottom * below * below);
 }
 
-// How much the planned accelerations of an axis change at most, and what a blended one is divided by to give fine
-// steps.
+// How much the planned accelerations of an axis change at most, and what a blended one is
+// divided by to give fine steps.
 function changesOf(axis, hasSecond, weight) {
   const isDamped = axis['half period'] > 0n && weight !== 128;
   const pull = axis.target === 'moving' ? axis['target acceleration'] : 0n, size = pull < 0n ? -pull : pull;

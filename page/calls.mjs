@@ -1,5 +1,5 @@
-// The calls of the proved library, which planned everything that the page shows. bindings/c/layout.h has every
-// field's place.
+// The calls of the proved library, which planned everything that the page shows.
+// bindings/c/layout.h has every field's place.
 
 export const AXES = 6;
 export const FINE_STEPS = 256;
@@ -47,7 +47,8 @@ class Library {
     return [Math.floor(number / 1e6), Math.floor(number / 1e3) % 1e3, number % 1e3].join('.');
   }
 
-  // Plans a job. An accepted one has `table`: its cells in fine steps, as numbers, laid out as the library writes them.
+  // Plans a job. An accepted one has `table`: its cells in fine steps, as numbers, laid
+  // out as the library writes them.
   planJob(job) {
     this.writeJob(job);
     this.calls.polgamir_plan_job(this.answer, this.input, this.table, MOST_CELLS);
@@ -61,7 +62,8 @@ class Library {
     return this.readPlan();
   }
 
-  // The answer to a job without its table: number 10 stands for an accepted one, and has its arrival.
+  // The answer to a job without its table: number 10 stands for an accepted one, and has its
+  // arrival.
   arrivalOf(job) {
     this.writeJob(job);
     this.calls.polgamir_plan_job(this.answer, this.input, this.table, 0);
@@ -76,7 +78,8 @@ class Library {
     return found.number === 0 && this.view.getUint32(this.answer + 20, true) === 1 ? found.arrival : null;
   }
 
-  // What to raise where an asked arrival is refused with 8: for each axis a list of { limit, by }, the smaller first.
+  // What to raise where an asked arrival is refused with 8: for each axis a list of {
+  // limit, by }, the smaller first.
   raises(job) {
     this.writeJob(job);
     this.calls.polgamir_raises_job(this.answer, this.input);
@@ -158,7 +161,8 @@ class Library {
     view.setUint32(at + 36, Number(second ?? 0), true);
   }
 
-  // A count above the most is written as it is, with the windows that there is room for: the library refuses it.
+  // A count above the most is written as it is, with the windows that there is
+  // room for: the library refuses it.
   writeWindows(at, { dwell, list }) {
     const view = this.view;
     view.setUint32(at, 1, true);

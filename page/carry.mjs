@@ -33,9 +33,9 @@ export function csvOf(setup, plan, version, name) {
 
 const PAYLOAD = 2n ** 28n - 1n, ONE_WORD = 2n ** 27n;
 
-// The words of a job, or { error } where words cannot say it. A measured damping has the weight that the planner
-// works out from it; the page asks the library for the plan of the words and hands them out where it is that of the
-// job.
+// The words of a job, or { error } where words cannot say it. A measured damping has the weight
+// that the planner works out from it; the page asks the library for the plan of the words and hands
+// them out where it is that of the job.
 export function wordsOfJob(job) {
   if (job.windows) return { error: 'The job has windows, and job words have none.' };
   const words = [], error = axisNumbers(job.axes).find(number => weightOf(job.axes[number].damping) === null);
@@ -66,7 +66,8 @@ export function wordsOfJob(job) {
   return { words };
 }
 
-// Words as hexadecimal text: mask and arrival on the first line, then a line for each axis, last the end word.
+// Words as hexadecimal text: mask and arrival on the first line, then a line
+// for each axis, last the end word.
 export function hexadecimalOf(words) {
   const kind = at => words[at] >>> 28;
   return words.map((word, at) => {
@@ -85,7 +86,8 @@ export function addressOf(sheet) {
   return ADDRESS + btoa(signs).replaceAll('+', '-').replaceAll('/', '_').replace(/=+$/, '');
 }
 
-// The sheet in the last part of an address: null where there is none, { error } where it is no text.
+// The sheet in the last part of an address: null where there is none, { error } where it is no
+// text.
 export function sheetInAddress(hash) {
   if (!hash || hash === '#') return null;
   const error = `The address has \`${hash.slice(0, 40)}\` at its end, which is no job.`;

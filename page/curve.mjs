@@ -25,8 +25,8 @@ function pixel(value) {
 // How far a drawn line may be from the curve, in pixels.
 const OFF = 0.25;
 
-// A path of straight lines that is put together point by point: a point that stays within OFF of a line drawn past it
-// is left out.
+// A path of straight lines that is put together point by point: a point that stays within OFF of a
+// line drawn past it is left out.
 class Line {
   constructor(x, y) {
     this.path = `M${pixel(x)} ${pixel(y)}`;
@@ -59,8 +59,8 @@ class Line {
   }
 }
 
-// The path of a curve: points (x of a place, y of a value). Of many points in one column of pixels, its extreme and
-// its last are drawn.
+// The path of a curve: points (x of a place, y of a value). Of many points in one column of pixels,
+// its extreme and its last are drawn.
 export function pathOf(ticks, values, x, y, isStepped = false) {
   const count = values.length, isThin = count > 2 * (x.to - x.from),
     line = new Line(x(ticks ? ticks[0] : 0), y(values[0]));

@@ -1,5 +1,5 @@
-// What is entered in the form, and the sheet that says it: every entry of a sheet has its field, and every line of
-// the sheet that is written belongs to one.
+// What is entered in the form, and the sheet that says it: every entry of a sheet has its field,
+// and every line of the sheet that is written belongs to one.
 
 import { amountsOf, onlyAmount, partsOfSecond, readUnit, splitNumber } from './amount.mjs';
 import { NUMBER_LINES, after, measureOf, ruleOf, sameWord } from './entries.mjs';
@@ -9,7 +9,8 @@ import { SheetError } from './worked.mjs';
 
 const TARGET_ENTRIES = ['target position', 'target velocity', 'target acceleration', 'target tick'];
 
-// A number with its measure: '' for ticks and units, `unit` for the axis's unit, else as it is written.
+// A number with its measure: '' for ticks and units, `unit` for the axis's unit, else as it is
+// written.
 export function field(text = '', measure = '') {
   return { text, measure };
 }
@@ -236,8 +237,8 @@ function pushStops(entered, push, lines) {
   });
 }
 
-// What a sheet would take otherwise than the form means it: words in the place of a unit's size, which would be a
-// part of its name.
+// What a sheet would take otherwise than the form means it: words in the place of a unit's size,
+// which would be a part of its name.
 export function formErrors(entered, lines) {
   const units = [['unit', entered], ...entered.axes.map((axis, index) => [`axis.${index}.unit`, axis])];
   const isSize = size => readUnit([size, 'unit'])?.name === 'unit';

@@ -1,5 +1,5 @@
-// The entries of a set-up sheet: their names, what is expected after each, and how each is rounded. docs/SHEET.md is
-// the format's page.
+// The entries of a set-up sheet: their names, what is expected after each, and how each is rounded.
+// docs/SHEET.md is the format's page.
 
 import { Fraction } from './fraction.mjs';
 import { amountsOf, onlyAmount, readFloat, readUnsigned } from './amount.mjs';
@@ -16,7 +16,8 @@ const NAMES = [
 ];
 export const TARGETS = ['still', 'flying', 'moving'];
 
-// The numbers of an axis, in the order in which a sheet is written; the damping stands after the half period.
+// The numbers of an axis, in the order in which a sheet is written; the damping stands after the
+// half period.
 export const ENTRIES = [
   'half period', 'weight', 'second half period', 'speed limit', 'acceleration limit', 'start position',
     'start velocity',
@@ -25,7 +26,8 @@ export const ENTRIES = [
 export const TOUR_ENTRIES = ['half period', 'second half period', 'speed limit', 'acceleration limit',
   'start position'];
 
-// The lines of an axis that are numbers, in the order in which they are tried, each with the entry that it says.
+// The lines of an axis that are numbers, in the order in which they are tried,
+// each with the entry that it says.
 export const NUMBER_LINES = [
   ['half period', 'half period'], ['period', 'half period'], ['frequency', 'half period'], ['swings', 'half period'],
   ['second half period', 'second half period'], ['second period', 'second half period'],
@@ -54,7 +56,8 @@ function readPeaks(words) {
   return all(found.map(amount => readFloat(amount.digits)));
 }
 
-// What a number measures: the names of its steps, and what may stand after a unit's name, first what is shown.
+// What a number measures: the names of its steps, and what may stand after a
+// unit's name, first what is shown.
 export const QUANTITIES = {
   time: { one: 'tick', many: 'ticks' },
   position: { one: 'unit', many: 'units', endings: [''] },
@@ -67,8 +70,8 @@ export function measureOf(quantity, unit) {
   return quantity === 'time' ? 's' : unit + QUANTITIES[quantity].endings[0];
 }
 
-// How an entry is rounded: what it measures, which way, whether it may be below 0, and whether it is kept from coming
-// to 0.
+// How an entry is rounded: what it measures, which way, whether it may be below 0, and
+// whether it is kept from coming to 0.
 const RULES = {
   'speed limit': ['velocity', 'down', false, true],
   'acceleration limit': ['acceleration', 'down', false, true],
@@ -91,8 +94,8 @@ export function ruleOf(entry) {
   return { quantity, rounding, isSigned, isKept };
 }
 
-// What stands after the name of a number's line: the amount, and how the entry follows from it: a part of it, or as a
-// frequency.
+// What stands after the name of a number's line: the amount, and how the entry follows from it: a
+// part of it, or as a frequency.
 export function readNumberLine(name, words) {
   const plain = name.replace(/^second (?!half)/, '');
   if (plain === 'swings') {
@@ -136,7 +139,8 @@ export const WINDOW =
   'an opening and a closing, both ticks from 0 to 4294967295 or both seconds as in `0.4 s 1.2 s`, after `window`';
 export const DWELL = 'a whole number of ticks from 0 to 4096, or seconds as in `0.5 s`, after `dwell`';
 
-// What follows a name of one word or several at the head of a line, in whatever case it is written, or null.
+// What follows a name of one word or several at the head of a line, in whatever case it is written,
+// or null.
 export function after(words, name) {
   const parts = name.split(' ');
   return parts.every((part, place) => sameWord(words[place], part)) ? words.slice(parts.length) : null;

@@ -19,8 +19,8 @@ export function idOf(id, part = '') {
   return `f-${id.replace(/[^a-z0-9]/gi, '-')}${part && '-' + part}`;
 }
 
-// The makers of fields. Who extends it has `changed(id)`, to be called after a change of a field, and
-// `rebuild(change)`.
+// The makers of fields. Who extends it has `changed(id)`, to be called after a change
+// of a field, and `rebuild(change)`.
 export class Fields {
   // A label, a control and the place of what is said of it.
   field(id, label, ...controls) {

@@ -22,8 +22,8 @@ const LABELS = {
   'target tick': 'Time of that position',
 };
 
-// The form of what is entered. `changed(id)` is called after a change of a field, `rebuilt()` after one of which
-// fields there are.
+// The form of what is entered. `changed(id)` is called after a change of a field, `rebuilt()` after
+// one of which fields there are.
 export class Form extends Fields {
   constructor(place, entered, changed) {
     super();

@@ -1,4 +1,5 @@
-// Exact fractions of whole numbers of any size: what is entered, and what it comes to, without a float.
+// Exact fractions of whole numbers of any size: what is entered, and what it comes to, without a
+// float.
 
 const TEN = 10n;
 
@@ -64,7 +65,8 @@ export class Fraction {
     return (this.isNegative ? '-' : '') + withPoint(String(sizeOf(number)), power);
   }
 
-  // The least number of three significant digits whose square is not below the fraction, which is above 0.
+  // The least number of three significant digits whose square is not below the fraction, which is
+  // above 0.
   rootShown() {
     const magnitude = Math.floor(this.magnitude() / 2);
     const square = this.times(tenTo(4 - 2 * magnitude));

@@ -1,4 +1,5 @@
-// The page: what is entered is written as a sheet, read as one, planned by the library and shown, at every change.
+// The page: what is entered is written as a sheet, read as one, planned by the
+// library and shown, at every change.
 
 import { openLibrary } from './calls.mjs';
 import { errorsTold, jobTold, refusalTold, tourTold, withCode } from './answer.mjs';
@@ -92,7 +93,8 @@ class Page extends View {
       try {
         history.replaceState(null, '', addressOf(this.sheet));
       } catch {
-        // A page that is opened from some storages may not change its address; the link can be copied all the same.
+        // A page that is opened from some storages may not change its address; the
+        // link can be copied all the same.
       }
     }, 300);
   }
@@ -211,7 +213,8 @@ class Page extends View {
     if (this.take(text, file.name)) this.name = file.name;
   }
 
-  // Takes the text of a sheet into the form, or says everything that is wrong with it and leaves the form as it is.
+  // Takes the text of a sheet into the form, or says everything that is wrong with
+  // it and leaves the form as it is.
   take(text, name) {
     const { errors } = readSheet(text);
     if (!errors) {

@@ -2,7 +2,8 @@
 
 import { FINE_STEPS } from './calls.mjs';
 
-// How the numbers of an axis are shown: what a fine step of each quantity is, and the names of the measures.
+// How the numbers of an axis are shown: what a fine step of each quantity is,
+// and the names of the measures.
 export function measuresOf(setup, number) {
   const unit = setup.worked.unitOf(number), tick = setup.worked.tick?.exact?.toNumber() ?? null;
   const size = unit?.exact?.toNumber() ?? 1, name = unit?.exact ? unit.name : 'units',
@@ -20,8 +21,8 @@ export function fitsWindow({ dwell, list }, tick) {
   return list.some(({ opening, closing }) => opening <= tick && tick < closing && tick + dwell <= closing);
 }
 
-// A float with at most so many significant digits, without noughts at its end, and without a power of ten where it
-// can be.
+// A float with at most so many significant digits, without noughts at its end, and without
+// a power of ten where it can be.
 export function shownFloat(value, digits = 6) {
   if (value === 0 || !Number.isFinite(value)) return String(value);
   const short = Number(value.toPrecision(digits)), size = Math.abs(short);

@@ -1,5 +1,5 @@
-// The pictures of a plan: for each axis position, velocity and acceleration with their limits, and the sway beside
-// the one that the same job would leave without the blend.
+// The pictures of a plan: for each axis position, velocity and acceleration with their limits, and
+// the sway beside the one that the same job would leave without the blend.
 
 import { FINE_STEPS } from './calls.mjs';
 import { titleOf } from './assembling.mjs';
@@ -7,7 +7,8 @@ import { extremesOf, pathOf, roundValues, scaleOf } from './curve.mjs';
 import { measuresOf, shownFloat, swayTold } from './measures.mjs';
 import { enteredPeriods, polesOf, swayOf } from './sway.mjs';
 
-// A panel's height, and the room around its plot; a remark that does not fit beside the name has a line of its own.
+// A panel's height, and the room around its plot; a remark that does not fit beside
+// the name has a line of its own.
 const PLOT = 104, ABOVE = 22, BELOW = 22, RIGHT = 10, LINE = 14;
 
 // Text for HTML.
@@ -156,8 +157,8 @@ function leftAtStops(plan, { ticks, values }) {
   return left;
 }
 
-// Draws a panel of a width, as SVG. `time` is { last, tick, marks, areas }: areas are { from, to, kind }, marks { at,
-// kind }.
+// Draws a panel of a width, as SVG. `time` is { last, tick, marks, areas }: areas are { from,
+// to, kind }, marks { at, kind }.
 export function drawPanel(panel, title, width, time) {
   const above = ABOVE + (6.6 * panel.name.length + 5.8 * panel.remark.length > width - 12 ? LINE : 0),
     bottom = above + PLOT;

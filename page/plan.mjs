@@ -1,5 +1,5 @@
-// Planning: everything here is asked of the library's calls. What is drawn and told is put together from its answers
-// and cells.
+// Planning: everything here is asked of the library's calls. What is drawn and told is put
+// together from its answers and cells.
 
 import { axesOf } from './calls.mjs';
 import { legOf } from './assembling.mjs';
@@ -19,8 +19,8 @@ function planOfJob(library, setup) {
     last: lastTick(job, answer.arrival) };
 }
 
-// The rows of an accepted answer by axis: position, velocity and acceleration in fine steps, from tick 0 to the
-// arrival.
+// The rows of an accepted answer by axis: position, velocity and acceleration in fine
+// steps, from tick 0 to the arrival.
 function rowsOf({ mask, arrival, table }) {
   const numbers = axesOf(mask), rows = [];
   numbers.forEach((number, place) => {
@@ -33,8 +33,8 @@ function rowsOf({ mask, arrival, table }) {
   return rows;
 }
 
-// The same job with half period 0 on every axis and no second one: { arrival, rows }, { refused } or null where no
-// axis has a blend.
+// The same job with half period 0 on every axis and no second one: { arrival, rows }, { refused }
+// or null where no axis has a blend.
 function unblendedOf(library, job) {
   if (!job.axes.some(axis => axis && polesOf(axis).length)) return null;
   const without = axis => axis && { ...axis, 'half period': 0n, 'second half period': undefined };
@@ -42,7 +42,8 @@ function unblendedOf(library, job) {
   return answer.number ? { refused: answer.number } : { arrival: answer.arrival, rows: rowsOf(answer) };
 }
 
-// The last tick to draw: a period or two of the slowest pole after the arrival, so that what is left of the sway shows.
+// The last tick to draw: a period or two of the slowest pole after the arrival, so that
+// what is left of the sway shows.
 function lastTick(job, arrival) {
   const slowest = Math.max(0, ...job.axes.filter(axis => axis).map(axis =>
     Math.max(Number(axis['half period']), Number(axis['second half period'] ?? 0n))));

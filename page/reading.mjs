@@ -1,4 +1,5 @@
-// Reading a set-up sheet: first what a tick and a unit stand for and where each axis begins, then everything else.
+// Reading a set-up sheet: first what a tick and a unit stand for and where each
+// axis begins, then everything else.
 
 import { AXES } from './calls.mjs';
 import { amountsOf, onlyAmount, readTick, readUnit, secondsOf } from './amount.mjs';
@@ -23,9 +24,9 @@ export function wordsOf(line) {
   return line.split('#')[0].split(SEPARATORS).filter(word => word);
 }
 
-// What a text asks for: { setup } or { errors }, all of them in the order of their lines. A setup is { kind, job } or
-// { kind, tour, stops }, with names, worked (the scales and what was rounded), notes in the order of lines, and
-// lastLine.
+// What a text asks for: { setup } or { errors }, all of them in the order of their lines. A setup
+// is { kind, job } or { kind, tour, stops }, with names, worked (the scales and what was rounded),
+// notes in the order of lines, and lastLine.
 export function readSheet(text) {
   return new Reading(linesOf(text)).read();
 }

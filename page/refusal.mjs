@@ -1,5 +1,6 @@
-// A refusal in words: what is wrong, what to do, and what it is about. The words are those of the command; the text
-// of each number is the header's, and the arrivals and raises that would do are asked of the library.
+// A refusal in words: what is wrong, what to do, and what it is about. The words are those
+// of the command; the text of each number is the header's, and the arrivals and raises that
+// would do are asked of the library.
 
 import { AXES, LATEST_ARRIVAL, LONGEST_DWELL, MOST_STOPS, MOST_WINDOWS, axesOf } from './calls.mjs';
 import { legOf, titleOf } from './assembling.mjs';
@@ -107,8 +108,8 @@ const IN_ORDER =
 const AND_FITS = ' and fits a window';
 const TAP_AGAIN = 'Tap again and enter what the pole does.';
 
-// What to do. In place of the command's advice which line to write, the page has buttons for the arrivals that would
-// do.
+// What to do. In place of the command's advice which line to write, the page has buttons
+// for the arrivals that would do.
 function remedyOf(job, { number, mask }, { least }) {
   const isWindowed = job.windows && mask === 0;
   switch (number) {

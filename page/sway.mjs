@@ -1,10 +1,11 @@
-// The sway of a pole under the accelerations of a table: an oscillator that swings over in its half period and whose
-// swing shrinks to its ratio in that time, both as entered. It is for pictures alone, and a real pole's sway is in
-// proportion to it.
+// The sway of a pole under the accelerations of a table: an oscillator that swings over in its half
+// period and whose swing shrinks to its ratio in that time, both as entered. It is for pictures
+// alone, and a real pole's sway is in proportion to it.
 
 import { ratioOf, weightOf } from './bound.mjs';
 
-// The poles that the blend of an axis cancels: { name, halfPeriod, ratio }, the second one undamped.
+// The poles that the blend of an axis cancels: { name, halfPeriod, ratio }, the second one
+// undamped.
 export function polesOf(axis, entered = {}) {
   const poles = [], first = Number(axis['half period']), second = axis['second half period'];
   if (first > 0 && weightOf(axis.damping) !== null) {
@@ -37,8 +38,9 @@ function oscillatorOf({ halfPeriod, ratio }) {
   return { swing, decay, stiffness: swing * swing + decay * decay };
 }
 
-// The sway from tick 0 to a last tick: points of (tick, value) one after the other, and what is left of it from a
-// tick on. Each row's acceleration holds to the next, the last one's from then on.
+// The sway from tick 0 to a last tick: points of (tick, value) one after the
+// other, and what is left of it from a tick on. Each row's acceleration holds
+// to the next, the last one's from then on.
 export function swayOf(pole, accelerations, last, arrival = accelerations.length - 1) {
   const oscillator = oscillatorOf(pole), parts = Math.ceil(16 / pole.halfPeriod), step = stepOf(oscillator, 1 / parts);
   const count = last * parts + 1, ticks = new Float64Array(count), values = new Float64Array(count);

@@ -1,4 +1,5 @@
-// The table of a plan: the row at the tick under the finger, and all rows, of which those in sight are made.
+// The table of a plan: the row at the tick under the finger, and all rows, of
+// which those in sight are made.
 
 import { FINE_STEPS } from './calls.mjs';
 import { titleOf } from './assembling.mjs';

@@ -1,4 +1,5 @@
-// What is seen of a plan: its pictures, the row at the tick under the finger, the table, and what is printed.
+// What is seen of a plan: its pictures, the row at the tick under the finger,
+// the table, and what is printed.
 
 import { element } from './fields.mjs';
 import { drawPanel, escaped } from './pictures.mjs';

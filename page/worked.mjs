@@ -1,4 +1,5 @@
-// From what is entered to whole ticks and units, and what is said of an entry that no whole number meets.
+// From what is entered to whole ticks and units, and what is said of an entry that no whole number
+// meets.
 
 import { Fraction } from './fraction.mjs';
 import { AXES } from './calls.mjs';
@@ -28,8 +29,8 @@ export class Worked {
     return this.own[axis] ?? this.common;
   }
 
-  // The whole number of an entry, or null where it cannot be told because of another line, of which that is told.
-  // A place is { line, axis, entry, whose, name, entered, expected }.
+  // The whole number of an entry, or null where it cannot be told because of another line, of which
+  // that is told. A place is { line, axis, entry, whose, name, entered, expected }.
   whole(place, amount, share = {}) {
     const rule = ruleOf(place.entry);
     if (!amount.measure && !share.part && !share.isFrequency) return counted(amount, rule) ?? unexpected(place);
@@ -91,7 +92,8 @@ export class Worked {
       `none for \`${place.name} ${place.entered}\``);
   }
 
-  // The unit of an entry's axis. That it is lacking is told once for an axis; one whose own line is wrong has number 6.
+  // The unit of an entry's axis. That it is lacking is told once for an axis; one whose
+  // own line is wrong has number 6.
   unitFor(place) {
     const unit = this.unitOf(place.axis);
     if (unit || place.axis >= AXES) return unit && unit.exact && place.axis < AXES ? unit : UNTOLD;
@@ -110,7 +112,8 @@ export class Worked {
     throw new SheetError(place.line, `at least ${least} after \`${place.name}\``, found + would);
   }
 
-  // Which tick, or which unit, makes at least one of what is entered: numbers of three digits that are enough.
+  // Which tick, or which unit, makes at least one of what is entered: numbers
+  // of three digits that are enough.
   whatWouldDo(place, { value, quantity }) {
     if (quantity === 'time') return `; \`tick ${value.shown(3, 'down')}\` or a shorter one would do`;
     const tick = this.tick.exact, { exact, name } = this.unitOf(place.axis), by = exact.over(value);

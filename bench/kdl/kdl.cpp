@@ -1,6 +1,7 @@
-// Nanoseconds a table and a row of Orocos KDL's trapezoidal profile, for the job 'one axis, long' of the benchmark: rest to rest over 185,900 units at
-// speed limit 100 and acceleration limit 1, position, velocity and acceleration at 2,000 ticks, in floats. The profile is set anew for
-// each table. Debian's package liborocos-kdl-dev has the library.
+// Nanoseconds a table and a row of Orocos KDL's trapezoidal profile, for the job 'one axis, long'
+// of the benchmark: rest to rest over 185,900 units at speed limit 100 and acceleration limit 1,
+// position, velocity and acceleration at 2,000 ticks, in floats. The profile is set anew for each
+// table. Debian's package liborocos-kdl-dev has the library.
 //
 //     g++ -O3 kdl.cpp -o kdl -I/usr/include/eigen3 -lorocos-kdl && ./kdl
 #include <kdl/velocityprofile_trap.hpp>

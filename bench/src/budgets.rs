@@ -1,4 +1,5 @@
-//! Nanoseconds of a search with a budget: what a call takes by itself, and what each candidate adds.
+//! Nanoseconds of a search with a budget: what a call takes by itself, and what each candidate
+//! adds.
 
 use std::hint::black_box;
 
@@ -14,7 +15,8 @@ const BUDGETS: [u32; 5] = [0, 1, 10, 100, 1_000];
 /// The first candidate: late enough for sums of many ticks.
 const FIRST: u32 = 3_000;
 
-/// The same job with damping as measured, whose weight each call works out; that of so small a ratio takes longest.
+/// The same job with damping as measured, whose weight each call works out; that of
+/// so small a ratio takes longest.
 fn measured(job: Job) -> Job {
     let damping = Damping::Ratio(Single(0.001f32.to_bits()));
     Job { axes: job.axes.map(|axis| Axis { damping, half_period: 30, ..axis }), ..job }
@@ -26,8 +28,8 @@ fn finer(axes: u32) -> Job {
     Job { axes: job.axes.map(|axis| Axis { damping: Damping::Weight(100), half_period: 4, ..axis }), ..job }
 }
 
-/// Five axes that reach every candidate and one that reaches none, with 32 windows of eight ticks from the first candidate on: in each window all
-/// six are asked.
+/// Five axes that reach every candidate and one that reaches none, with 32 windows of eight ticks
+/// from the first candidate on: in each window all six are asked.
 fn in_each_window() -> Job {
     let near = Target::Fixed { position: 1_000, velocity: 0 };
     let far = searches::out_of_reach();
@@ -42,7 +44,8 @@ fn alone(job: Job) -> Job {
     Job { mask: 1, ..job }
 }
 
-/// Prints the row of a job that reaches nothing, so that each budget is spent to its last candidate.
+/// Prints the row of a job that reaches nothing, so that each budget is spent to its last
+/// candidate.
 fn row(name: &str, job: &Job) {
     let laid_out = laid_out(job, 0);
     let search = |budget| unsafe { polgamir_search_job(black_box(laid_out), black_box(FIRST), black_box(budget)) };

@@ -1,5 +1,5 @@
-//! The library's call in plain Rust: a job comes by value in the header's layout, as a program in C hands it over, is turned
-//! into typed values and planned.
+//! The library's call in plain Rust: a job comes by value in the header's layout, as a program in C
+//! hands it over, is turned into typed values and planned.
 
 use outside::reference::{Answer, Axis, Damping, Job, Single, Target, Window, Windows};
 use polgamir_sys::{polgamir_axis, polgamir_job, polgamir_window};

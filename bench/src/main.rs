@@ -1,14 +1,16 @@
-//! Nanoseconds for a plan, for the search for its arrival and for a row and axis, of the static library and of plain Rust
-//! with the same formulas, in one run; beside them also the engine by ticks, in plain Rust. Plain Rust makes the same call,
-//! with the job by value in the header's layout; where it lends a typed job instead, that stands beside it.
+//! Nanoseconds for a plan, for the search for its arrival and for a row and axis, of the static
+//! library and of plain Rust with the same formulas, in one run; beside them also the engine by
+//! ticks, in plain Rust. Plain Rust makes the same call, with the job by value in the header's
+//! layout; where it lends a typed job instead, that stands beside it.
 //!
 //!     cargo run --release --offline             all tables
 //!     cargo run --release --offline -- parts    that of rows in parts alone
 //!
-//! Every time is processor time, the least of some batches; a difference is that of the fastest round. The batches of
-//! all sides alternate, and each round of them runs at another depth of the stack, whose beginning the system draws by
-//! lot for each process: a copy takes longer where it falls across lines of the cache. One table is lent to all calls and is not cleared between them: an accepted call writes every
-//! cell of its table, whatever stood there.
+//! Every time is processor time, the least of some batches; a difference is that of the fastest
+//! round. The batches of all sides alternate, and each round of them runs at another depth of the
+//! stack, whose beginning the system draws by lot for each process: a copy takes longer where it
+//! falls across lines of the cache. One table is lent to all calls and is not cleared between them:
+//! an accepted call writes every cell of its table, whatever stood there.
 
 mod budgets;
 mod call;
@@ -48,7 +50,8 @@ fn six() -> [Axis; 6] {
     ]
 }
 
-/// The processor time of this thread in nanoseconds: what other programs take of the processor does not count.
+/// The processor time of this thread in nanoseconds: what other programs take
+/// of the processor does not count.
 fn now() -> f64 {
     #[repr(C)]
     struct Time {
@@ -64,8 +67,8 @@ fn now() -> f64 {
     time.seconds as f64 * 1e9 + time.nanoseconds as f64
 }
 
-/// The times of some calls in one round, in nanoseconds a call: of the library, of plain Rust and of plain Rust with the job
-/// lent.
+/// The times of some calls in one round, in nanoseconds a call: of the library, of plain Rust and
+/// of plain Rust with the job lent.
 type Round<const N: usize> = [[f64; 3]; N];
 
 /// Makes a call some frames further down the stack.
@@ -77,8 +80,8 @@ fn deeper<T>(frames: usize, call: &mut dyn FnMut() -> T) -> T {
     result
 }
 
-/// The rounds of some calls. A call is a job and how many cells it is lent. The batches of all calls alternate, so that a
-/// disturbance does not fall on one of them alone.
+/// The rounds of some calls. A call is a job and how many cells it is lent. The batches of all
+/// calls alternate, so that a disturbance does not fall on one of them alone.
 fn rounds<const N: usize>(calls: [(&Job, usize); N]) -> Vec<Round<N>> {
     let mut table = vec![0; 3 * 6 * 4_097];
     let counts = calls.map(|(job, cells)| once(job, &mut table[..cells]).map(|took| (1e7 / took).ceil() as usize));
@@ -105,14 +108,14 @@ fn time<const N: usize>(calls: [(&Job, usize); N]) -> Round<N> {
     std::array::from_fn(|i| std::array::from_fn(|side| least(i, side)))
 }
 
-/// The round of one side in which the calls took least in all: a difference of least times may join rounds of different
-/// speed.
+/// The round of one side in which the calls took least in all: a difference of least times may
+/// join rounds of different speed.
 fn fastest<const N: usize>(rounds: impl Iterator<Item = [f64; N]>) -> [f64; N] {
     rounds.min_by(|a, b| a.iter().sum::<f64>().total_cmp(&b.iter().sum())).expect("there are rounds")
 }
 
-/// The times of one call of the library and of one of plain Rust, after which both must have given the same answer and the same cells: each side's
-/// batches are sized by its own.
+/// The times of one call of the library and of one of plain Rust, after which both must have given
+/// the same answer and the same cells: each side's batches are sized by its own.
 fn once(job: &Job, lent: &mut [i64]) -> [f64; 2] {
     let start = now();
     let answer = library::plan_typed(job, lent);
@@ -161,8 +164,8 @@ fn whole(name: &str, job: &Job) -> u32 {
     answer.arrival
 }
 
-/// Prints what the search for the least arrival takes: the job with one cell too few, which stops before it chooses
-/// velocities; a job that is refused by 9 is a search and nothing else.
+/// Prints what the search for the least arrival takes: the job with one cell too few, which stops
+/// before it chooses velocities; a job that is refused by 9 is a search and nothing else.
 fn search(name: &str, job: &Job) {
     let mut table = vec![0; 3 * 6 * 4_097];
     let answer = library::plan_typed(&Job { asked: 0, ..*job }, &mut table);
@@ -174,8 +177,9 @@ fn search(name: &str, job: &Job) {
     println!("| {name} | {what} | {proved:.0} | {plain:.0} | {:.2} | {took:.0} |", proved / plain);
 }
 
-/// Prints what a row and axis takes, from the choice of the velocities on: an asked job less the same job with too few
-/// cells, which stops before it chooses or writes, by the rows and axes written.
+/// Prints what a row and axis takes, from the choice of the velocities on: an asked
+/// job less the same job with too few cells, which stops before it chooses or
+/// writes, by the rows and axes written.
 fn by_row(name: &str, job: &Job, arrival: u32) {
     let asked = Job { asked: arrival, ..*job };
     let cells = cells_of(job, arrival);
@@ -187,7 +191,8 @@ fn by_row(name: &str, job: &Job, arrival: u32) {
     println!("| {name} | {} rows | {proved:.1} | {plain:.1} | {:.2} |", arrival + 1, proved / plain);
 }
 
-/// Prints the same of the library with the rows from tick 0 on and from arrival backwards, after the rows of both were compared.
+/// Prints the same of the library with the rows from tick 0 on and from arrival backwards, after
+/// the rows of both were compared.
 fn in_either_order(name: &str, job: &Job, arrival: u32) {
     let asked = Job { asked: arrival, ..*job };
     let cells = cells_of(job, arrival);
@@ -221,7 +226,8 @@ fn many_stops() -> (Tour, Vec<Stop>) {
     (Tour { mask: 63, axes }, (1..=64).map(stop).collect())
 }
 
-/// The plain answers to the legs of a tour one after the other, with no table lent: the last arrival.
+/// The plain answers to the legs of a tour one after the other, with no table lent: the last
+/// arrival.
 fn plain_tour(tour: &Tour, stops: &[Stop]) -> u32 {
     let mut from = [0; 6];
     let mut tick = 0;
@@ -264,7 +270,8 @@ fn raise(name: &str, job: &Job) {
     println!("| {name} | asked {} | {proved:.0} | {plain:.0} | {:.2} |", job.asked, proved / plain);
 }
 
-/// Prints the searches: of the jobs whose whole calls are timed, and of jobs that are made for a long one.
+/// Prints the searches: of the jobs whose whole calls are timed, and of jobs that are made for a
+/// long one.
 fn search_table(short: &Job, long: &Job, wide: &Job, never: &Job) {
     println!("| least arrival, search alone | outcome | library, ns | plain Rust, ns | ratio | by ticks, ns |");
     println!("|---|---|---|---|---|---|");

@@ -1,5 +1,6 @@
-//! A part of 16 rows out of the middle of a table, of one and of six axes on each grid, with the least arrival sought and with that arrival
-//! asked for: nanoseconds, beside those of the whole table; or some calls alone, for a counter of instructions.
+//! A part of 16 rows out of the middle of a table, of one and of six axes on each grid, with the
+//! least arrival sought and with that arrival asked for: nanoseconds, beside those of the whole
+//! table; or some calls alone, for a counter of instructions.
 
 use std::hint::black_box;
 
@@ -103,7 +104,8 @@ pub fn table() {
     println!();
 }
 
-/// Makes some calls of a case and nothing else: for a counter of instructions. `whole` calls for its table, any other word for its part.
+/// Makes some calls of a case and nothing else: for a counter of instructions. `whole` calls for
+/// its table, any other word for its part.
 pub fn calls(case: usize, kind: &str, count: usize) {
     let (case, mut table) = (&cases()[case], vec![0; MOST_CELLS]);
     for _ in 0..count {

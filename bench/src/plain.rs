@@ -1,9 +1,11 @@
-//! The planner in plain Rust, with the library's formulas and loops and none of its proofs: reach of an arrival from the
-//! areas under the envelopes, the least common arrival by axes that lead on from candidate to candidate, past those that
-//! surely fall short and then with sums that are carried from one to the next, or by halving where the target accelerates,
-//! cruise by halving steps over areas, rows by stepping a track an axis, blended once or,
-//! on a pole with a second sway, twice, by a change of velocity that is worked out once for all ticks around in which it is
-//! the same. Beside it the engine by ticks: every candidate is tried, and every sum is taken tick by tick.
+//! The planner in plain Rust, with the library's formulas and loops and none of its proofs:
+//! reach of an arrival from the areas under the envelopes, the least common arrival by axes
+//! that lead on from candidate to candidate, past those that surely fall short and then with
+//! sums that are carried from one to the next, or by halving where the target accelerates,
+//! cruise by halving steps over areas, rows by stepping a track an axis, blended once or, on a
+//! pole with a second sway, twice, by a change of velocity that is worked out once for all
+//! ticks around in which it is the same. Beside it the engine by ticks: every candidate is
+//! tried, and every sum is taken tick by tick.
 
 use std::ops::Range;
 
@@ -85,8 +87,8 @@ pub enum Engine {
     Ticks,
 }
 
-/// The velocities at a cruise: up to tick `rise` they change by `up` a tick; from `fall` ticks before the end on they are
-/// `down` further from it for each tick that is left.
+/// The velocities at a cruise: up to tick `rise` they change by `up` a tick; from `fall` ticks
+/// before the end on they are `down` further from it for each tick that is left.
 struct Ramps {
     rise: i64,
     up: i64,
@@ -94,8 +96,8 @@ struct Ramps {
     down: i64,
 }
 
-/// The sums of both envelopes over the inner ticks of a leg, and the velocities that come to them with one and with two
-/// ticks more, before the speed limit is heeded.
+/// The sums of both envelopes over the inner ticks of a leg, and the velocities that come to them
+/// with one and with two ticks more, before the speed limit is heeded.
 struct Running {
     lowest: i64,
     highest: i64,
@@ -124,7 +126,8 @@ fn quotient(x: i64, by: i64) -> i64 {
     (x as u64 / by as u64) as i64
 }
 
-/// The velocity that comes to the upper envelope of ramps from `first` and to `last` with one tick more.
+/// The velocity that comes to the upper envelope of ramps from `first` and to `last` with one tick
+/// more.
 fn peak(slope: i64, first: i64, last: i64, ticks: i64) -> i64 {
     let crossing = quotient(last - first + slope * ticks, 2 * slope);
     (first + slope * (crossing + 1)).min(last + slope * (ticks - crossing))
@@ -185,7 +188,8 @@ impl Leg {
         Ramps { rise, up: slope(self.first), fall, down: slope(self.last) }
     }
 
-    /// The sum at a cruise, by a ramp, a level part and a ramp, and how many ticks each of the three has.
+    /// The sum at a cruise, by a ramp, a level part and a ramp, and how many ticks each of the
+    /// three has.
     pub fn area_in_parts(&self, cruise: i64) -> (i64, [i64; 3]) {
         let Ramps { rise, up, fall, down } = self.ramps(cruise);
         let inner = self.ticks - 1;
@@ -213,7 +217,8 @@ impl Leg {
         }
     }
 
-    /// An area that is no smaller than the upper envelope's, by a split of the ticks that needs no division.
+    /// An area that is no smaller than the upper envelope's, by a split of the ticks that needs no
+    /// division.
     fn split_area(&self, ticks: i64, room: [i64; 2], lean: i64) -> i64 {
         let inner = ticks - 1;
         let rising = room[0].min(((ticks + lean) / 2).max(0)).min(inner);
@@ -222,7 +227,8 @@ impl Leg {
         ramp(self.first, rising) + (inner - rising - falling) * self.limit + ramp(self.last, falling)
     }
 
-    /// A number of ticks, from those of the leg on, before which none has a list: leaps over those whose split area falls short.
+    /// A number of ticks, from those of the leg on, before which none has a list: leaps over
+    /// those whose split area falls short.
     fn skipped(&self, drift: i64, latest: i64) -> i64 {
         if latest < self.ticks + 64 {
             return self.ticks;
@@ -252,8 +258,8 @@ impl Leg {
         t + 1
     }
 
-    /// The least number of ticks, from those of the leg to the latest, at which there is a list for a sum that changes by
-    /// `drift` a tick; or one past the latest.
+    /// The least number of ticks, from those of the leg to the latest, at which there is a list for
+    /// a sum that changes by `drift` a tick; or one past the latest.
     fn next_with_list(&self, drift: i64, latest: i64) -> i64 {
         let near = quotient((self.last - self.first).abs() + self.slope - 1, self.slope).max(self.ticks);
         if near > latest {
@@ -283,7 +289,8 @@ pub fn reaches(engine: Engine, axis: &Axis, arrival: u32) -> bool {
     (leg.last + change_after * i64::from(delay)).abs() <= leg.limit && leg.has_list(engine)
 }
 
-/// The last tick from n to the last at which a target that accelerates is not too fast, if it is at one of them.
+/// The last tick from n to the last at which a target that accelerates is not too
+/// fast, if it is at one of them.
 fn last_slow(axis: &Axis, n: u32, last: u32) -> u32 {
     let Ends { change_after, leg, .. } = ends(axis, n);
     let arrived = leg.last + change_after * i64::from(delay_of(axis));
@@ -294,7 +301,8 @@ fn last_slow(axis: &Axis, n: u32, last: u32) -> u32 {
     n + quotient(room, change_after.abs()).min(i64::from(last - n)) as u32
 }
 
-/// The least arrival from n to the last that an axis whose target accelerates reaches, or one past the last, by halving.
+/// The least arrival from n to the last that an axis whose target accelerates reaches, or
+/// one past the last, by halving.
 fn next_by_halving(axis: &Axis, n: u32, last: u32) -> u32 {
     let reach = |k: u32| reaches(Engine::Areas, axis, k);
     if last < n {
@@ -342,8 +350,8 @@ fn next_reached(axis: &Axis, n: u32, last: u32) -> u32 {
     ends(axis, first).leg.next_with_list(drift, latest) as u32 + delay
 }
 
-/// The least common arrival from 1 on: the axes lead on one after the other, each to the next candidate that it reaches; those before the
-/// one that led on last are asked again.
+/// The least common arrival from 1 on: the axes lead on one after the other, each to the next
+/// candidate that it reaches; those before the one that led on last are asked again.
 fn least_reached(job: &Job) -> Option<u32> {
     let (mut n, mut again) = (1, 0);
     for (number, axis) in job.set() {
@@ -359,7 +367,8 @@ fn least_reached(job: &Job) -> Option<u32> {
     job.set().take_while(|&(number, _)| number < again).all(|(_, axis)| reaches(Engine::Areas, axis, n)).then_some(n)
 }
 
-/// The least common arrival; of a job with windows the first tick from there that fits one, where every axis reaches it.
+/// The least common arrival; of a job with windows the first tick from there that fits
+/// one, where every axis reaches it.
 fn least_arrival(job: &Job) -> Option<u32> {
     let n = least_reached(job)?;
     let Some(windows) = &job.windows else { return Some(n) };
@@ -393,10 +402,12 @@ struct Track {
     half_period: i64,
     /// The second half period, where the blend is applied once more.
     second: Option<i64>,
-    /// The weights of the blend, so scaled that all of them together are 65,536 by the grid steps in a fine step.
+    /// The weights of the blend, so scaled that all of them together are 65,536 by
+    /// the grid steps in a fine step.
     first_weight: i64,
     second_weight: i64,
-    /// The blended position, in half 1/65,536 of a fine step, and the blended velocity at the row's tick.
+    /// The blended position, in half 1/65,536 of a fine step, and the blended velocity at the row's
+    /// tick.
     position: i64,
     velocity: i64,
     /// The pace of the blended velocity.
@@ -584,7 +595,8 @@ fn axis_passes(x: &Axis) -> bool {
         && !x.target.flies()
 }
 
-/// Refusals 1, 3 to 6 and 15 to 17 are tested as the library tests them, and 13 where windows are brought; the jobs that are timed pass.
+/// Refusals 1, 3 to 6 and 15 to 17 are tested as the library tests them, and 13 where windows are
+/// brought; the jobs that are timed pass.
 fn passes(job: &Job) -> bool {
     (1..=63).contains(&job.mask)
         && job.asked <= LATEST
@@ -592,7 +604,8 @@ fn passes(job: &Job) -> bool {
         && job.windows.as_ref().map_or(true, |windows| windows.refused().is_none())
 }
 
-/// The arrival of a job that no earlier refusal comes to, or the refusal 8 or 9. No job with windows asks for an arrival.
+/// The arrival of a job that no earlier refusal comes to, or the refusal 8 or 9. No job
+/// with windows asks for an arrival.
 fn arrival(job: &Job, engine: Engine) -> Result<u32, Answer> {
     let least = |job: &Job| match engine {
         Engine::Areas => least_arrival(job),

@@ -14,8 +14,9 @@ pub fn returned(raises: polgamir_raises) -> [[Raise; 2]; 6] {
     raises.axes.map(|axis| [pair(axis.first), pair(axis.second)])
 }
 
-/// What the leg of an arrival asks of the limits, with every sign turned where it does not go as far as the straight line
-/// between the velocities of its ends: only the upper envelope can fall short.
+/// What the leg of an arrival asks of the limits, with every sign turned where it does
+/// not go as far as the straight line between the velocities of its ends: only the
+/// upper envelope can fall short.
 struct Task {
     first: i64,
     last: i64,
@@ -52,7 +53,8 @@ impl Task {
         }
     }
 
-    /// The value itself where it is enough; else a higher one, at most `after`, below which none is.
+    /// The value itself where it is enough; else a higher one, at most `after`, below which none
+    /// is.
     fn lead(&self, limit: usize, value: i64, after: i64) -> i64 {
         let mut limits = self.limits;
         limits[limit] = value;

@@ -2,14 +2,16 @@
 
 use outside::reference::{Axis, Damping, Job, Target, Windows, UNSET};
 
-/// Six axes that reach no arrival: each is asked alone, after one of them has led past the last for all.
+/// Six axes that reach no arrival: each is asked alone, after one of them has led past the last for
+/// all.
 pub fn out_of_reach() -> Job {
     let target = Target::Fixed { position: 100_000_000, velocity: 0 };
     let axis = Axis { speed_limit: 1, acceleration_limit: 1, damping: Damping::Weight(128), target, ..UNSET };
     Job { mask: 63, asked: 0, axes: [axis; 6], windows: None }
 }
 
-/// Six axes that lead each other on: each comes to rest some ticks later than the one before it can.
+/// Six axes that lead each other on: each comes to rest some ticks later than the one before it
+/// can.
 pub fn in_turns() -> Job {
     let resting = |position: i64| {
         let target = Target::Fixed { position, velocity: 0 };
@@ -64,7 +66,8 @@ pub fn longest_steady() -> Job {
     ])
 }
 
-/// The longest search of 145,000 random jobs of six axes whose targets accelerate: in the common search and then alone nearly every axis is halved down.
+/// The longest search of 145,000 random jobs of six axes whose targets accelerate: in the common
+/// search and then alone nearly every axis is halved down.
 pub fn longest_accelerating() -> Job {
     six_of([
         ([13_434, 480, 10, 24], 0, moving(-3_529, [2_703, 1, 23])),

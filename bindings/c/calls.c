@@ -1,8 +1,10 @@
 /*
- * The calls of include/polgamir.h over those of the proved module, on every target but x86-64 Linux, where the toolchain's own archive has
- * them. `tools/library --target` compiles this file with the target's C compiler, so that how a struct is passed and returned is that
- * compiler's business. The module takes addresses and whole numbers alone: the place of the answer first, a struct by its address, a count in
- * 64 bits. It reads a struct during the call and writes none but the answer.
+ * The calls of include/polgamir.h over those of the proved module, on every target but x86-64
+ * Linux, where the toolchain's own archive has them. `tools/library --target` compiles this
+ * file with the target's C compiler, so that how a struct is passed and returned is that
+ * compiler's business. The module takes addresses and whole numbers alone: the place of the
+ * answer first, a struct by its address, a count in 64 bits. It reads a struct during the call
+ * and writes none but the answer.
  */
 #include "layout.h"
 #include "polgamir.h"
@@ -10,11 +12,13 @@
 uint32_t polgamir_module_version(void);
 void *polgamir_module_plan_words(polgamir_answer *, const uint32_t *, uint64_t, int64_t *, uint64_t);
 void *polgamir_module_plan_words_backwards(polgamir_answer *, const uint32_t *, uint64_t, int64_t *, uint64_t);
-void *polgamir_module_plan_words_part(polgamir_part_answer *, const uint32_t *, uint64_t, uint32_t, int64_t *, uint64_t);
+void *polgamir_module_plan_words_part(polgamir_part_answer *, const uint32_t *, uint64_t, uint32_t, int64_t *,
+                                      uint64_t);
 void *polgamir_module_plan_job(polgamir_answer *, const polgamir_job *, int64_t *, uint64_t);
 void *polgamir_module_plan_job_backwards(polgamir_answer *, const polgamir_job *, int64_t *, uint64_t);
 void *polgamir_module_plan_job_part(polgamir_part_answer *, const polgamir_job *, uint32_t, int64_t *, uint64_t);
-void *polgamir_module_plan_tour(polgamir_tour_answer *, const polgamir_tour *, const polgamir_stop *, uint64_t, uint32_t *, uint64_t);
+void *polgamir_module_plan_tour(polgamir_tour_answer *, const polgamir_tour *, const polgamir_stop *, uint64_t,
+                                uint32_t *, uint64_t);
 void *polgamir_module_raises_job(polgamir_raises *, const polgamir_job *);
 void *polgamir_module_raises_words(polgamir_raises *, const uint32_t *, uint64_t);
 void *polgamir_module_convert(polgamir_answer *, const uint32_t *, uint64_t, uint32_t *, uint64_t);
@@ -33,14 +37,16 @@ polgamir_answer polgamir_plan_words(const uint32_t *words, size_t word_count, in
     return answer;
 }
 
-polgamir_answer polgamir_plan_words_backwards(const uint32_t *words, size_t word_count, int64_t *table, size_t table_cells)
+polgamir_answer polgamir_plan_words_backwards(const uint32_t *words, size_t word_count, int64_t *table,
+                                              size_t table_cells)
 {
     polgamir_answer answer;
     polgamir_module_plan_words_backwards(&answer, words, word_count, table, table_cells);
     return answer;
 }
 
-polgamir_part_answer polgamir_plan_words_part(const uint32_t *words, size_t word_count, uint32_t first, int64_t *table, size_t table_cells)
+polgamir_part_answer polgamir_plan_words_part(const uint32_t *words, size_t word_count, uint32_t first, int64_t *table,
+                                              size_t table_cells)
 {
     polgamir_part_answer answer;
     polgamir_module_plan_words_part(&answer, words, word_count, first, table, table_cells);
@@ -68,7 +74,8 @@ polgamir_part_answer polgamir_plan_job_part(polgamir_job job, uint32_t first, in
     return answer;
 }
 
-polgamir_tour_answer polgamir_plan_tour(polgamir_tour tour, const polgamir_stop *stops, size_t stop_count, uint32_t *arrivals,
+polgamir_tour_answer polgamir_plan_tour(polgamir_tour tour, const polgamir_stop *stops, size_t stop_count,
+                                        uint32_t *arrivals,
                                         size_t list_entries)
 {
     polgamir_tour_answer answer;

@@ -1,6 +1,6 @@
 /*
- * Where the library reads and writes each field of the structs of include/polgamir.h, by number. The same holds on every target, and a
- * compiler that lays one of them out otherwise stops here.
+ * Where the library reads and writes each field of the structs of include/polgamir.h, by number.
+ * The same holds on every target, and a compiler that lays one of them out otherwise stops here.
  */
 #ifndef POLGAMIR_LAYOUT_H
 #define POLGAMIR_LAYOUT_H

@@ -1,6 +1,7 @@
 /*
- * Planning between the turns of a servo loop, on a controller that has no room for a table. Each turn has some time left. First it goes
- * to a few candidates of the search, until the arrival is found; then to the rows, sixteen at a time, just before they are needed.
+ * Planning between the turns of a servo loop, on a controller that has no room for a table. Each
+ * turn has some time left. First it goes to a few candidates of the search, until the arrival is
+ * found; then to the rows, sixteen at a time, just before they are needed.
  *
  *     make -C examples/c run
  */
@@ -19,7 +20,8 @@
 /* What the controller is at. */
 enum stage { SEARCHING, FOLLOWING, ARRIVED, REFUSED };
 
-/* What it keeps from turn to turn; the library keeps nothing. Rows k of parts 0, 2, 4, .. stand in part[0], the others in part[1]. */
+/* What it keeps from turn to turn; the library keeps nothing. Rows k of parts 0, 2, 4, .. stand in
+   part[0], the others in part[1]. */
 struct planning {
     enum stage stage;
     polgamir_job job;
@@ -85,10 +87,13 @@ int main(void)
 {
     static struct planning plan = {.stage = SEARCHING, .first = 1};
     plan.job.mask = 1u << 0 | 1u << 1;
-    /* Pan, on a pole that swings over in 12 ticks and keeps four fifths of its swing, and tilt; the head may fire from tick 60 on. */
-    plan.job.axes[0] = (polgamir_axis){.target_position = 900, .speed_limit = 40, .acceleration_limit = 2, .half_period = 12,
+    /* Pan, on a pole that swings over in 12 ticks and keeps four fifths of its swing, and tilt; the
+       head may fire from tick 60 on. */
+    plan.job.axes[0] = (polgamir_axis){.target_position = 900, .speed_limit = 40, .acceleration_limit = 2,
+                                       .half_period = 12,
                                        .damping_kind = POLGAMIR_RATIO, .swing_ratio = 0.8f};
-    plan.job.axes[1] = (polgamir_axis){.start_position = 120, .target_position = -200, .speed_limit = 25, .acceleration_limit = 1,
+    plan.job.axes[1] = (polgamir_axis){.start_position = 120, .target_position = -200, .speed_limit = 25,
+                                       .acceleration_limit = 1,
                                        .second_weight = 128};
     plan.job.windows = (polgamir_windows){.given = 1, .dwell = 10, .count = 1, .list = {{60, 200}}};
 

@@ -1,4 +1,5 @@
-// Plans one unit in four ticks (case C) with polgamir.wasm, and prints its rows as the table program does:
+// Plans one unit in four ticks (case C) with polgamir.wasm, and prints its rows as the table
+// program does:
 //
 //     tools/library --target wasm32
 //     node examples/wasm/plan.mjs
@@ -9,7 +10,8 @@ const { instance } = await WebAssembly.instantiate(bytes, {});
 const calls = instance.exports;
 const memory = new DataView(calls.memory.buffer);
 
-// The memory is the caller's from __heap_base on. Structs are 8-byte aligned; bindings/c/layout.h has the place of every field.
+// The memory is the caller's from __heap_base on. Structs are 8-byte aligned;
+// bindings/c/layout.h has the place of every field.
 const answer = calls.__heap_base.value, job = answer + 24, axis = job + 8, table = job + 856;
 memory.setUint32(job, 1, true);          // mask: axis 0 alone
 memory.setUint32(job + 4, 4, true);      // asked: tick 4

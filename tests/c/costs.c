@@ -1,7 +1,8 @@
 /*
- * What a call takes of the stack, and how long the longest ones take: the figures of include/polgamir.h, measured. Each call runs on a
- * stack that is painted before; how far down the paint is gone says what it took. No call recurses, so a few jobs that take every way
- * through the library will do. They run twice, because a loader may bind memcpy on the first run's stack.
+ * What a call takes of the stack, and how long the longest ones take: the figures of
+ * include/polgamir.h, measured. Each call runs on a stack that is painted before; how far down the
+ * paint is gone says what it took. No call recurses, so a few jobs that take every way through the
+ * library will do. They run twice, because a loader may bind memcpy on the first run's stack.
  * Prints the figures, and returns 0 where each is at most what the header says.
  */
 #define _GNU_SOURCE
@@ -20,7 +21,8 @@
 #define JOB_STACK 12000
 #define TOUR_STACK 20000
 
-/* Seconds of processor time, some times what the header says of a 2.5 GHz core: room for a slower or a busy machine, not for another order. */
+/* Seconds of processor time, some times what the header says of a 2.5 GHz core: room for a slower
+   or a busy machine, not for another order. */
 #define LONGEST_SEARCH 0.01
 #define LONGEST_ASKED 0.002
 
@@ -76,19 +78,22 @@ static void convert(void)
 static void plan_tour(void)
 {
     polgamir_tour_answer toured = polgamir_plan_tour(tour, stops, POLGAMIR_MOST_STOPS, arrivals, POLGAMIR_MOST_STOPS);
-    answer = (polgamir_answer){.number = toured.number, .mask = toured.mask, .place = toured.place, .arrival = toured.arrival};
+    answer = (polgamir_answer){.number = toured.number, .mask = toured.mask, .place = toured.place,
+                               .arrival = toured.arrival};
 }
 
 static void search_job(void)
 {
     polgamir_search_answer searched = polgamir_search_job(job, 1, POLGAMIR_LATEST_ARRIVAL);
-    answer = (polgamir_answer){.number = searched.number, .mask = searched.mask, .place = searched.place, .arrival = searched.arrival};
+    answer = (polgamir_answer){.number = searched.number, .mask = searched.mask, .place = searched.place,
+                               .arrival = searched.arrival};
 }
 
 static void search_words(void)
 {
     polgamir_search_answer searched = polgamir_search_words(words, word_count, 1, POLGAMIR_LATEST_ARRIVAL);
-    answer = (polgamir_answer){.number = searched.number, .mask = searched.mask, .place = searched.place, .arrival = searched.arrival};
+    answer = (polgamir_answer){.number = searched.number, .mask = searched.mask, .place = searched.place,
+                               .arrival = searched.arrival};
 }
 
 static double seconds(void)
@@ -162,7 +167,8 @@ static polgamir_axis jointed(polgamir_axis axis, uint32_t second_half_period)
     return axis;
 }
 
-/* An axis to a target that accelerates, on a damped pole for one axis and on an undamped one for the next. */
+/* An axis to a target that accelerates, on a damped pole for one axis and on an undamped one for
+   the next. */
 static polgamir_axis accelerating(unsigned i, int64_t position)
 {
     polgamir_axis axis = to(position, 5000, 2, 4);
@@ -214,7 +220,8 @@ static void both(const char *what, uint32_t asked, polgamir_axis axis, uint32_t 
     word_count = 0;
 }
 
-/* Every way through the library, and the longest calls. Gives back the most stack that a call took. */
+/* Every way through the library, and the longest calls. Gives back the most stack that a call
+   took. */
 static size_t run(void)
 {
     most_stack = 0;
@@ -264,7 +271,8 @@ static size_t run_tour(void)
 {
     tour.mask = 63;
     for (unsigned i = 0; i < POLGAMIR_AXES; i++) {
-        tour.limits[i] = (polgamir_limits){.speed_limit = 10, .acceleration_limit = 1, .half_period = 4, .second_weight = 128};
+        tour.limits[i] = (polgamir_limits){.speed_limit = 10, .acceleration_limit = 1, .half_period = 4,
+                                           .second_weight = 128};
         tour.limits[i].second_sway_given = i % 2;
         tour.limits[i].second_half_period = 3;
         for (unsigned j = 0; j < POLGAMIR_MOST_STOPS; j++) {
@@ -281,8 +289,8 @@ int main(void)
     size_t first = run();
     size_t own = run();
     size_t toured = run_tour();
-    printf("stack %zu bytes, on the first run %zu, of a tour %zu; longest search %.3f s, longest call with an asked arrival %.4f s\n", own,
-           first, toured, longest_search, longest_asked);
+    printf("stack %zu bytes, on the first run %zu, of a tour %zu; longest search %.3f s, "
+           "longest call with an asked arrival %.4f s\n", own, first, toured, longest_search, longest_asked);
     bool kept = own <= JOB_STACK && first <= POLGAMIR_STACK && toured <= TOUR_STACK && longest_search <= LONGEST_SEARCH
                 && longest_asked <= LONGEST_ASKED;
     return kept && failures == 0 ? 0 : 1;

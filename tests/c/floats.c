@@ -3,8 +3,9 @@
  *
  *     floats [nearest | zero | down | up]      # sets the rounding first
  *
- * Prints what comes of two poles, a weight or a refusal: one whose ratio is the least single above 0, and one with peaks 97 and 31. To nearest and with
- * subnormal numbers kept, as the header asks for, that is 1 and 61. A program that is linked with gcc's -ffast-math takes the ratio for 0.
+ * Prints what comes of two poles, a weight or a refusal: one whose ratio is the least single above
+ * 0, and one with peaks 97 and 31. To nearest and with subnormal numbers kept, as the header asks
+ * for, that is 1 and 61. A program that is linked with gcc's -ffast-math takes the ratio for 0.
  */
 #include <fenv.h>
 #include <inttypes.h>
@@ -13,7 +14,8 @@
 
 #include "polgamir.h"
 
-/* A pole from rest to 1,000 in 3 ticks, with a half period of 1. Its velocity at tick 1 is 256,000 - 1,000 B cells: that tells the weight B. */
+/* A pole from rest to 1,000 in 3 ticks, with a half period of 1. Its velocity at tick 1 is
+   256,000 - 1,000 B cells: that tells the weight B. */
 static void show(polgamir_axis measured)
 {
     int64_t table[12];

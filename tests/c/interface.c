@@ -1,7 +1,8 @@
 /*
- * include/polgamir.h and the library that it is linked with: every field is where the library reads it, a null pointer with count 0
- * will do, the numbers have their texts, and both have one version. The answers that are asked for stand in the header's list of
- * refusals. Prints nothing and returns 0 where all of it holds.
+ * include/polgamir.h and the library that it is linked with: every field is where the library
+ * reads it, a null pointer with count 0 will do, the numbers have their texts, and both have
+ * one version. The answers that are asked for stand in the header's list of refusals. Prints
+ * nothing and returns 0 where all of it holds.
  */
 #include <inttypes.h>
 #include <stdbool.h>
@@ -35,8 +36,8 @@ static bool is(polgamir_answer answer, uint32_t number, uint64_t place, uint32_t
 static int64_t table[CELLS];
 
 /*
- * A job of one axis, no two values of which are the same; what its other axes hold, and its windows, which are not given, is of no
- * effect. It lands at tick 300.
+ * A job of one axis, no two values of which are the same; what its other axes hold, and its
+ * windows, which are not given, is of no effect. It lands at tick 300.
  */
 static polgamir_job distinct(unsigned axis)
 {
@@ -78,7 +79,8 @@ static bool accepted(polgamir_job job)
     return polgamir_plan_job(job, table, CELLS).number == 0;
 }
 
-/* On a damped pole as on an undamped one the last row is that of a target which accelerates by 3. */
+/* On a damped pole as on an undamped one the last row is that of a target which accelerates by
+   3. */
 static void lands_beside(unsigned axis, polgamir_job job)
 {
     expect(accepted(job) && table[3 * 300 + 2] == 256 * 3, "an accelerating target", axis);
@@ -86,7 +88,8 @@ static void lands_beside(unsigned axis, polgamir_job job)
     expect(table[3 * 300] == 256 * (902 - 13 * 13) + 128 * 3 * 13 * 13, "an accelerating target's position", axis);
 }
 
-/* Row 0 is the start, row 300 the target 13 ticks after its own tick, as an accepted call writes them. */
+/* Row 0 is the start, row 300 the target 13 ticks after its own tick, as an accepted call writes
+   them. */
 static void reads_the_ends(unsigned axis)
 {
     polgamir_job job = distinct(axis);
@@ -110,7 +113,8 @@ static void reads_the_ends(unsigned axis)
     lands_beside(axis, job);
 }
 
-/* One field at a time is taken past its range, by the names of the fields: the refusal list says which number it gets. */
+/* One field at a time is taken past its range, by the names of the fields: the refusal
+   list says which number it gets. */
 static void reads_the_limits(unsigned axis)
 {
 #define WITH(field, value, number)                                                  \
@@ -150,8 +154,10 @@ static void reads_the_limits(unsigned axis)
     expect(accepted(job), "a fixed target's acceleration and tick are not looked at", axis);
 }
 
-/* The job with its damping as measured has the table that it has with this weight, whatever its other fields hold. */
-static void weighs(const char *what, unsigned axis, uint32_t kind, float ratio, float first, float second, uint32_t weight)
+/* The job with its damping as measured has the table that it has with this weight,
+   whatever its other fields hold. */
+static void weighs(const char *what, unsigned axis, uint32_t kind, float ratio, float first, float second,
+                   uint32_t weight)
 {
     static int64_t by_weight[CELLS];
     polgamir_job job = distinct(axis);
@@ -168,7 +174,8 @@ static void weighs(const char *what, unsigned axis, uint32_t kind, float ratio, 
     expect(accepted(job) && memcmp(table, by_weight, sizeof table) == 0, what, axis);
 }
 
-/* The weights and refusals are those that the header names, and peaks for which the roundings tell. */
+/* The weights and refusals are those that the header names, and peaks for which the roundings
+   tell. */
 static void reads_the_damping(unsigned axis)
 {
     float no_number = 0.0f / 0.0f;
@@ -190,7 +197,8 @@ static void reads_the_damping(unsigned axis)
     }
 }
 
-/* A second half period is read where it is given, by any number but 0, and nowhere else; start and target stay exact. */
+/* A second half period is read where it is given, by any number but 0, and nowhere
+   else; start and target stay exact. */
 static void reads_the_second_sway(unsigned axis)
 {
     polgamir_job job = distinct(axis);
@@ -202,7 +210,8 @@ static void reads_the_second_sway(unsigned axis)
     refused("second_half_period = 0", axis, job, 15);
     job.axes[axis].second_half_period = 13;
     expect(accepted(job) && table[0] == 256 * -701 && table[1] == 256 * 11, "the start of a second sway", axis);
-    expect(table[3 * 300] == 256 * (902 - 13 * 13) && table[3 * 300 + 1] == 256 * -13, "the landing of a second sway", axis);
+    expect(table[3 * 300] == 256 * (902 - 13 * 13) && table[3 * 300 + 1] == 256 * -13, "the landing of a second sway",
+           axis);
     job.asked = 30; /* both half periods: an arrival is later */
     refused("asked = half_period + second_half_period", axis, job, 8);
     job.axes[axis].target_acceleration = 1;
@@ -219,7 +228,8 @@ static void reads_the_second_sway(unsigned axis)
     expect(memcmp(table, rows, sizeof rows) == 0, "the rows of a second sway", axis);
 }
 
-/* The word of kind 13 stands after that of kind 8: its rows are those of the typed call, and a payload of 0 is refused. */
+/* The word of kind 13 stands after that of kind 8: its rows are those of the typed call,
+   and a payload of 0 is refused. */
 static void reads_words_of_kind_13(void)
 {
     uint32_t words[] = {
@@ -229,13 +239,16 @@ static void reads_words_of_kind_13(void)
     polgamir_answer answer = polgamir_plan_words(words, sizeof words / sizeof words[0], table, CELLS);
     expect(is(answer, 0, 0, 1) && answer.arrival == 5 && table[3] == 39, "a word of kind 13", 0);
     words[8] = 0xD0000000;
-    expect(is(polgamir_plan_words(words, sizeof words / sizeof words[0], table, CELLS), 15, 0, 0), "kind 13 with payload 0", 0);
+    expect(is(polgamir_plan_words(words, sizeof words / sizeof words[0], table, CELLS), 15, 0, 0),
+           "kind 13 with payload 0", 0);
     words[7] = 0xD0000002;
     words[8] = 0x80000064;
-    expect(is(polgamir_plan_words(words, sizeof words / sizeof words[0], table, CELLS), 2, 7, 0), "kind 13 before kind 8", 0);
+    expect(is(polgamir_plan_words(words, sizeof words / sizeof words[0], table, CELLS), 2, 7, 0),
+           "kind 13 before kind 8", 0);
 }
 
-/* Field case F asked 39 and 2 as old words: 13 converted ones, which arrive at 39; nothing is written where they do not fit. */
+/* Field case F asked 39 and 2 as old words: 13 converted ones, which arrive at 39; nothing is
+   written where they do not fit. */
 static void converts(void)
 {
     uint32_t words[] = {
@@ -260,7 +273,8 @@ static void converts(void)
     expect(is(polgamir_convert(NULL, 0, NULL, 0), 1, 0, 0), "no words to convert", 0);
 }
 
-/* From arrival backwards: the forward call's rows, the last one first, and the cells after them as they were. */
+/* From arrival backwards: the forward call's rows, the last one first, and the
+   cells after them as they were. */
 static void rows_backwards(unsigned axis)
 {
     static int64_t forwards[CELLS];
@@ -274,8 +288,10 @@ static void rows_backwards(unsigned axis)
     for (size_t tick = 0; tick <= 300; tick++) {
         expect(memcmp(table + 3 * (300 - tick), forwards + 3 * tick, 3 * sizeof *table) == 0, "a row backwards", axis);
     }
-    expect(memcmp(table + 3 * 301, forwards + 3 * 301, sizeof table - 3 * 301 * sizeof *table) == 0, "no cell after row 0", axis);
-    expect(is(polgamir_plan_job_backwards(job, table, 3 * 301 - 1), 10, 0, 0), "a table that is too short backwards", axis);
+    expect(memcmp(table + 3 * 301, forwards + 3 * 301, sizeof table - 3 * 301 * sizeof *table) == 0,
+           "no cell after row 0", axis);
+    expect(is(polgamir_plan_job_backwards(job, table, 3 * 301 - 1), 10, 0, 0), "a table that is too short backwards",
+           axis);
 }
 
 /* A null pointer with count 0: no words, no cells, and neither. */
@@ -300,7 +316,8 @@ static void takes_null(void)
     expect(is(polgamir_plan_job(empty, NULL, 0), 1, 0, 0), "a job with no axis", 0);
 }
 
-/* The payload of kind 14 and the low one of a position, the position in units where they spell one, and else 14 at word 2. */
+/* The payload of kind 14 and the low one of a position, the position in units where they
+   spell one, and else 14 at word 2. */
 static void reads_long_positions(void)
 {
     static const struct {
@@ -342,16 +359,19 @@ static void has_texts(void)
     expect(polgamir_refusal_text(above) == polgamir_refusal_text(UINT32_MAX), "a number above the last", 0);
 }
 
-/* A tour of one axis, whose legs and refusals are worked out by hand: from 0, with L = 10, M = 1 and no blend, 4 units take 4 ticks. */
+/* A tour of one axis, whose legs and refusals are worked out by hand: from 0, with L = 10, M = 1
+   and no blend, 4 units take 4 ticks. */
 static void tours(unsigned axis)
 {
     polgamir_tour tour = {.mask = 1u << axis};
-    tour.limits[axis] = (polgamir_limits){.speed_limit = 10, .acceleration_limit = 1, .half_period = 0, .second_weight = 128};
+    tour.limits[axis] = (polgamir_limits){.speed_limit = 10, .acceleration_limit = 1, .half_period = 0,
+                                          .second_weight = 128};
     polgamir_stop stops[3] = {{.dwell = 3}, {.dwell = 5}, {.dwell = 4097}};
     stops[0].positions[axis] = 4;
     uint32_t list[3] = {7, 7, 7};
     polgamir_tour_answer answer = polgamir_plan_tour(tour, stops, 2, list, 3);
-    expect(answer.number == 0 && answer.place == 0 && answer.mask == 1u << axis && answer.total == 16, "a tour's total", axis);
+    expect(answer.number == 0 && answer.place == 0 && answer.mask == 1u << axis && answer.total == 16, "a tour's total",
+           axis);
     expect(list[0] == 4 && list[1] == 11 && list[2] == 7, "a tour's arrivals; later entries stay", axis);
     answer = polgamir_plan_tour(tour, stops, 2, list, 1);
     expect(answer.number == 10 && answer.place == 2 && answer.mask == 0, "a list that is too short", axis);
@@ -389,7 +409,8 @@ static void tours(unsigned axis)
 static void windows(unsigned axis)
 {
     polgamir_job job = {.mask = 1u << axis};
-    job.axes[axis] = (polgamir_axis){.target_position = 4, .speed_limit = 10, .acceleration_limit = 1, .second_weight = 128};
+    job.axes[axis] = (polgamir_axis){.target_position = 4, .speed_limit = 10, .acceleration_limit = 1,
+                                     .second_weight = 128};
     job.windows = (polgamir_windows){.given = 0, .dwell = 5000, .count = 0};
     expect(polgamir_plan_job(job, table, CELLS).arrival == 4, "windows that are not given", axis);
     job.windows = (polgamir_windows){.given = 1, .dwell = 2, .count = 2, .list = {{0, 5}, {5, 9}}};
@@ -403,7 +424,8 @@ static void windows(unsigned axis)
     job.windows.count = 33;
     expect(is(polgamir_plan_job(job, table, CELLS), 13, 32, 0), "more than 32 windows", axis);
     job.windows = (polgamir_windows){.given = 1, .count = 2, .list = {{0, 5}, {4, 9}}};
-    expect(is(polgamir_plan_job(job, table, CELLS), 13, 1, 0), "a window that opens before the one before it closes", axis);
+    expect(is(polgamir_plan_job(job, table, CELLS), 13, 1, 0), "a window that opens before the one before it closes",
+           axis);
 }
 
 static bool raised(polgamir_raise raise, uint32_t limit, uint32_t by)
@@ -415,13 +437,16 @@ static bool raised(polgamir_raise raise, uint32_t limit, uint32_t by)
 static void raises(unsigned axis)
 {
     polgamir_job job = {.mask = 1u << axis, .asked = 6};
-    job.axes[axis] = (polgamir_axis){.target_position = 9, .speed_limit = 2, .acceleration_limit = 1, .second_weight = 128};
+    job.axes[axis] = (polgamir_axis){.target_position = 9, .speed_limit = 2, .acceleration_limit = 1,
+                                     .second_weight = 128};
     polgamir_raises r = polgamir_raises_job(job);
     expect(is(r.answer, 8, 0, 1u << axis) && r.answer.arrival == 0, "an arrival that is turned down", axis);
-    expect(raised(r.axes[axis].first, POLGAMIR_ACCELERATION_LIMIT, 1) && raised(r.axes[axis].second, POLGAMIR_SPEED_LIMIT, 1),
+    expect(raised(r.axes[axis].first, POLGAMIR_ACCELERATION_LIMIT, 1)
+           && raised(r.axes[axis].second, POLGAMIR_SPEED_LIMIT, 1),
            "equal raises, that of M first", axis);
     for (unsigned other = 0; other < POLGAMIR_AXES; other++) {
-        bool none = raised(r.axes[other].first, POLGAMIR_NO_LIMIT, 0) && raised(r.axes[other].second, POLGAMIR_NO_LIMIT, 0);
+        bool none = raised(r.axes[other].first, POLGAMIR_NO_LIMIT, 0)
+            && raised(r.axes[other].second, POLGAMIR_NO_LIMIT, 0);
         expect(none == (other != axis), "an axis that is not named", other);
     }
     job.asked = 8;
@@ -429,7 +454,8 @@ static void raises(unsigned axis)
     job.axes[axis].target_position = 22;
     job.axes[axis].speed_limit = 3;
     r = polgamir_raises_job(job);
-    expect(raised(r.axes[axis].first, POLGAMIR_SPEED_LIMIT, 1) && raised(r.axes[axis].second, POLGAMIR_ACCELERATION_LIMIT, 2),
+    expect(raised(r.axes[axis].first, POLGAMIR_SPEED_LIMIT, 1)
+           && raised(r.axes[axis].second, POLGAMIR_ACCELERATION_LIMIT, 2),
            "the smaller raise first", axis);
     job.axes[axis].speed_limit = 4;
     r = polgamir_raises_job(job);
@@ -438,42 +464,51 @@ static void raises(unsigned axis)
     expect(is(polgamir_raises_words(NULL, 0).answer, 1, 0, 0), "the raises of no words", axis);
 }
 
-/* A search that is not refused has this report, tick and number tried; a tick that is not the report's own is 0. */
+/* A search that is not refused has this report, tick and number tried; a tick
+   that is not the report's own is 0. */
 static bool reports(polgamir_search_answer answer, unsigned axis, uint32_t report, uint32_t tick, uint32_t tried)
 {
     uint32_t found = report == POLGAMIR_FOUND ? tick : 0;
     uint32_t next = report == POLGAMIR_SPENT ? tick : 0;
-    return answer.number == 0 && answer.place == 0 && answer.mask == 1u << axis && answer.report == report && answer.arrival == found
+    return answer.number == 0 && answer.place == 0 && answer.mask == 1u << axis && answer.report == report
+        && answer.arrival == found
            && answer.next == next && answer.tried == tried;
 }
 
 /* A refused search has nothing but its number and its place. */
 static bool turned_down(polgamir_search_answer answer, uint32_t number, uint64_t place)
 {
-    return answer.number == number && answer.place == place && answer.mask == 0 && answer.arrival == 0 && answer.report == POLGAMIR_NONE
+    return answer.number == number && answer.place == place && answer.mask == 0 && answer.arrival == 0
+        && answer.report == POLGAMIR_NONE
            && answer.next == 0 && answer.tried == 0;
 }
 
-/* Searches of one axis from 0 to 4 with L = 10, M = 1 and no blend, which reaches tick 4 and every later one. */
+/* Searches of one axis from 0 to 4 with L = 10, M = 1 and no blend, which
+   reaches tick 4 and every later one. */
 static void searches(unsigned axis)
 {
     polgamir_job job;
     memset(&job, 0x81, sizeof job);
     job.mask = 1u << axis;
     job.windows.given = 0;
-    job.axes[axis] = (polgamir_axis){.target_position = 4, .speed_limit = 10, .acceleration_limit = 1, .second_weight = 128};
-    expect(reports(polgamir_search_job(job, 1, 4096), axis, POLGAMIR_FOUND, 4, 4), "found, whatever is asked for", axis);
+    job.axes[axis] = (polgamir_axis){.target_position = 4, .speed_limit = 10, .acceleration_limit = 1,
+                                     .second_weight = 128};
+    expect(reports(polgamir_search_job(job, 1, 4096), axis, POLGAMIR_FOUND, 4, 4), "found, whatever is asked for",
+           axis);
     expect(reports(polgamir_search_job(job, 1, 3), axis, POLGAMIR_SPENT, 4, 3), "spent", axis);
     expect(reports(polgamir_search_job(job, 4, 1), axis, POLGAMIR_FOUND, 4, 1), "gone on with", axis);
     expect(reports(polgamir_search_job(job, 4, 0), axis, POLGAMIR_SPENT, 4, 0), "budget 0", axis);
-    expect(reports(polgamir_search_job(job, 4096, UINT32_MAX), axis, POLGAMIR_FOUND, 4096, 1), "the greatest budget", axis);
+    expect(reports(polgamir_search_job(job, 4096, UINT32_MAX), axis, POLGAMIR_FOUND, 4096, 1), "the greatest budget",
+           axis);
     expect(reports(polgamir_search_job(job, 4097, UINT32_MAX), axis, POLGAMIR_NONE, 0, 0), "no candidate", axis);
     expect(turned_down(polgamir_search_job(job, 0, 9), 18, 0), "first candidate 0", axis);
     expect(turned_down(polgamir_search_job(job, 4098, 9), 18, 0), "first candidate 4,098", axis);
     job.windows = (polgamir_windows){.given = 1, .dwell = 0, .count = 1, .list = {{7, 9}}};
-    expect(reports(polgamir_search_job(job, 1, 6), axis, POLGAMIR_SPENT, 7, 6), "ticks outside windows are tried", axis);
+    expect(reports(polgamir_search_job(job, 1, 6), axis, POLGAMIR_SPENT, 7, 6), "ticks outside windows are tried",
+           axis);
     expect(reports(polgamir_search_job(job, 1, 7), axis, POLGAMIR_FOUND, 7, 7), "found in a window", axis);
-    expect(reports(polgamir_search_job(job, 4096, 1), axis, POLGAMIR_NONE, 0, 1), "a budget that just covers the rest", axis);
+    expect(reports(polgamir_search_job(job, 4096, 1), axis, POLGAMIR_NONE, 0, 1), "a budget that just covers the rest",
+           axis);
     job.windows.count = 0;
     expect(turned_down(polgamir_search_job(job, 0, 9), 13, 0), "13 before 18", axis);
     job.axes[axis].half_period = 257;
@@ -488,7 +523,8 @@ static void searches(unsigned axis)
     expect(turned_down(polgamir_search_words(NULL, 0, 0, 9), 1, 0), "no words to search for", axis);
 }
 
-/* Cells, rows and axes as the header counts them: row k of the j-th set bit begins at cell 3 * (axes * k + j). */
+/* Cells, rows and axes as the header counts them: row k of the j-th set bit
+   begins at cell 3 * (axes * k + j). */
 static void counts_cells(void)
 {
     static const int64_t table[POLGAMIR_MOST_CELLS];

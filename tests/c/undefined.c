@@ -1,7 +1,9 @@
 /*
- * What is not looked at may hold anything. Each call gets structs of which only the fields that it may look at are set, and answers what
- * cases worked out by hand say. The other bytes are as the argument says: all of this value; with no argument as malloc leaves them, for
- * valgrind, which then tells where an answer or a branch depends on one of them. Prints nothing and returns 0 where all of it holds.
+ * What is not looked at may hold anything. Each call gets structs of which only the fields that
+ * it may look at are set, and answers what cases worked out by hand say. The other bytes are as
+ * the argument says: all of this value; with no argument as malloc leaves them, for valgrind,
+ * which then tells where an answer or a branch depends on one of them. Prints nothing and
+ * returns 0 where all of it holds.
  */
 #include <stdbool.h>
 #include <stdio.h>
@@ -31,7 +33,8 @@ static void *fresh(size_t size)
     return filling < 0 ? memory : memset(memory, filling, size);
 }
 
-/* ---- jobs of one axis: only what its kinds say is set, and neither the other axes nor the windows' fields after `given` */
+/* ---- jobs of one axis: only what its kinds say is set, and neither the other axes nor
+   the windows' fields after `given` */
 
 static void damp(unsigned kind, uint32_t *weight, float *ratio, float *first, float *second)
 {
@@ -90,7 +93,8 @@ static bool has_rows(const int64_t *table, bool backwards)
 
 static bool searched(polgamir_search_answer answer, unsigned axis)
 {
-    return answer.number == 0 && answer.place == 0 && answer.mask == 1u << axis && answer.arrival == 3 && answer.report == POLGAMIR_FOUND
+    return answer.number == 0 && answer.place == 0 && answer.mask == 1u << axis && answer.arrival == 3
+        && answer.report == POLGAMIR_FOUND
            && answer.next == 0 && answer.tried == 3;
 }
 
@@ -106,11 +110,14 @@ static void calls(polgamir_job *job, unsigned axis)
     expect(searched(polgamir_search_job(*job, 1, 9), axis), "a search", axis);
     job->asked = 0;
     expect(accepted(polgamir_plan_job(*job, table, CELLS + 3), axis, 3) && has_rows(table, false), "a table", axis);
-    expect(accepted(polgamir_plan_job_backwards(*job, table, CELLS + 3), axis, 3) && has_rows(table, true), "a table backwards", axis);
+    expect(accepted(polgamir_plan_job_backwards(*job, table, CELLS + 3), axis, 3) && has_rows(table, true),
+           "a table backwards", axis);
     polgamir_part_answer part = polgamir_plan_job_part(*job, 0, table, CELLS + 3);
-    expect(part.number == 0 && part.arrival == 3 && part.rows == CELLS / 3 && has_rows(table, false), "a part of a table", axis);
+    expect(part.number == 0 && part.arrival == 3 && part.rows == CELLS / 3 && has_rows(table, false),
+           "a part of a table", axis);
     polgamir_raises raises = polgamir_raises_job(*job);
-    expect(accepted(raises.answer, axis, 3) && raised(raises.axes[axis].first, POLGAMIR_NO_LIMIT, 0), "no raises", axis);
+    expect(accepted(raises.answer, axis, 3) && raised(raises.axes[axis].first, POLGAMIR_NO_LIMIT, 0), "no raises",
+           axis);
     free(table);
 }
 
@@ -162,7 +169,8 @@ static void raises(unsigned axis)
     free(job);
 }
 
-/* ---- tours: of other axes neither start nor limits nor positions are set; with no stops nothing is */
+/* ---- tours: of other axes neither start nor limits nor positions are set; with no stops nothing
+   is */
 
 static polgamir_tour *tour_of(unsigned axis, unsigned kind)
 {
@@ -191,7 +199,8 @@ static void tours(unsigned axis)
         stops[1].positions[axis] = 0;
         stops[1].dwell = 0;
         polgamir_tour_answer r = polgamir_plan_tour(*tour, stops, 2, arrivals, 3);
-        expect(r.number == 0 && r.place == 0 && r.mask == 1u << axis && r.arrival == 0 && r.total == 11, "a tour", axis);
+        expect(r.number == 0 && r.place == 0 && r.mask == 1u << axis && r.arrival == 0 && r.total == 11, "a tour",
+               axis);
         expect(arrivals[0] == 3 && arrivals[1] == 11, "its arrivals", axis);
         free(arrivals);
         free(stops);
@@ -226,8 +235,10 @@ static void words(void)
     uint32_t *converted = fresh(sizeof d);
     int64_t *table = fresh(sizeof case_d);
     memcpy(lent, d, sizeof d);
-    expect(accepted(polgamir_plan_words(lent, count, table, CELLS), 0, 3) && has_rows(table, false), "a table of words", 0);
-    expect(accepted(polgamir_plan_words_backwards(lent, count, table, CELLS), 0, 3) && has_rows(table, true), "backwards", 0);
+    expect(accepted(polgamir_plan_words(lent, count, table, CELLS), 0, 3) && has_rows(table, false), "a table of words",
+           0);
+    expect(accepted(polgamir_plan_words_backwards(lent, count, table, CELLS), 0, 3) && has_rows(table, true),
+           "backwards", 0);
     polgamir_part_answer part = polgamir_plan_words_part(lent, count, 0, table, CELLS);
     expect(part.number == 0 && part.arrival == 3 && part.rows == CELLS / 3 && has_rows(table, false), "a part", 0);
     expect(searched(polgamir_search_words(lent, count, 1, 9), 0), "a search of words", 0);

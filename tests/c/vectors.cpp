@@ -1,6 +1,7 @@
 /*
- * include/polgamir.h in C++, with tables and words in vectors: an empty one hands over a null pointer with count 0. Prints nothing and
- * returns 0 where the answers are those of the header's list.
+ * include/polgamir.h in C++, with tables and words in vectors: an empty one hands
+ * over a null pointer with count 0. Prints nothing and returns 0 where the answers
+ * are those of the header's list.
  */
 #include <cstdint>
 #include <vector>
@@ -29,11 +30,13 @@ int main()
     if (answer.number != POLGAMIR_ACCEPTED || table != rows) {
         return 1;
     }
-    if (polgamir_row(table.data(), answer.mask, 3, 0)[2] != -85 || polgamir_row(table.data(), answer.mask, 3, 1) != nullptr) {
+    if (polgamir_row(table.data(), answer.mask, 3, 0)[2] != -85
+        || polgamir_row(table.data(), answer.mask, 3, 1) != nullptr) {
         return 1;
     }
 
-    /* Every struct is empty as it is written here, without a warning about fields that are not said. */
+    /* Every struct is empty as it is written here, without a warning about fields that are not
+       said. */
     const polgamir_stop stop{};
     const polgamir_tour tour{};
     std::vector<std::uint32_t> arrivals(1);

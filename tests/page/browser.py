@@ -1,4 +1,5 @@
-"""A browser without a window, driven by its own remote protocol over two pipes: no driver, no port and no package besides chromium."""
+"""A browser without a window, driven by its own remote protocol over two pipes: no driver, no port
+and no package besides chromium."""
 import base64
 import fcntl
 import json
@@ -26,8 +27,10 @@ class Browser:
         self.into, from_browser = os.pipe()
         words = [path, '--headless=new', '--no-sandbox', '--disable-gpu', '--disable-dev-shm-usage', '--no-first-run',
             '--disable-extensions',
-                 '--disable-background-networking', '--disable-component-update', '--disable-default-apps', '--disable-sync',
-                 '--disable-features=Translate,OptimizationHints', '--remote-debugging-pipe', f'--user-data-dir={self.home.name}', 'about:blank']
+                 '--disable-background-networking', '--disable-component-update', '--disable-default-apps',
+                 '--disable-sync',
+                 '--disable-features=Translate,OptimizationHints', '--remote-debugging-pipe',
+                 f'--user-data-dir={self.home.name}', 'about:blank']
 
         def lend():
             # The protocol's pipes are 3 and 4, where other ends of ours may stand.
@@ -90,7 +93,8 @@ class Browser:
         answer = self.send('Runtime.evaluate', expression=code, returnByValue=True, awaitPromise=True,
             userGesture=gesture)
         if 'exceptionDetails' in answer:
-            raise AssertionError(f'{code[:200]}: {answer["exceptionDetails"].get("exception", {}).get("description", answer["exceptionDetails"]["text"])}')
+            details = answer["exceptionDetails"]
+            raise AssertionError(f'{code[:200]}: {details.get("exception", {}).get("description", details["text"])}')
         return answer['result'].get('value')
 
     def wait(self, code, seconds=10):

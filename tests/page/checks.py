@@ -42,9 +42,13 @@ class Tried:
 
     def set(self, id, value):
         """Enters a value in a field as a person does: the field has it, and says so."""
-        self.browser.evaluate(f'''(() => {{ const field = document.getElementById({json.dumps(id)}), value = {json.dumps(value)};
+        self.browser.evaluate(f'''(() => {{
+            const field = document.getElementById({json.dumps(id)}), value = {json.dumps(value)};
             if (field.type === 'checkbox' || field.type === 'radio') field.click();
-            else {{ field.value = value; for (const kind of ['input', 'change']) field.dispatchEvent(new Event(kind, {{ bubbles: true }})); }}
+            else {{
+                field.value = value;
+                for (const kind of ['input', 'change']) field.dispatchEvent(new Event(kind, {{ bubbles: true }}));
+            }}
             return {SETTLED}; }})()''')
 
     def press(self, id):
@@ -78,9 +82,11 @@ def first_sight(t):
     assert t.text('version') == (ROOT / 'VERSION').read_text().strip()
 
 
-# Tries a field: another value changes the sheet, nonsense is said at the field and stays in it, and the first value mends both.
+# Tries a field: another value changes the sheet, nonsense is said at the field and stays in it,
+# and the first value mends both.
 TRY_FIELD = """(id, sheet) => {
-  const field = () => document.getElementById(id), { type, value, options, checked } = field(), before = polgamirPage.sheet;
+  const field = () => document.getElementById(id), { type, value, options, checked } = field();
+  const before = polgamirPage.sheet;
   const enter = value => {
     if (type === 'checkbox' || type === 'radio') field().click();
     else {
@@ -91,14 +97,17 @@ TRY_FIELD = """(id, sheet) => {
   };
   if (type === 'radio' && checked) return null;
   enter(options ? [...options].map(one => one.value).find(one => one !== value) ?? value : value + '7');
-  if (polgamirPage.sheet === before && !(options && options.length === 1)) return `${id}: another value changes nothing`;
+  const one = options && options.length === 1;
+  if (polgamirPage.sheet === before && !one) return `${id}: another value changes nothing`;
   enter(value);
   if (polgamirPage.sheet !== before) polgamirPage.take(sheet, 'a file'), polgamirPage.settle();
   if (type !== 'text' || /f-axis-[0-9]$|-name$|-note$/.test(id)) return null;
   enter('so many');
-  const verdict = () => document.getElementById('verdict').textContent, message = (field().closest('.stop') ?? field().closest('.field')).querySelector('.message').textContent;
+  const verdict = () => document.getElementById('verdict').textContent;
+  const message = (field().closest('.stop') ?? field().closest('.field')).querySelector('.message').textContent;
   if (field().value !== 'so many') return `${id}: what was entered is lost`;
-  if (!/so many|found 1/.test(message) || !field().closest('.field').querySelector('[aria-invalid]')) return `${id}: nothing is said at it: ${message}`;
+  if (!/so many|found 1/.test(message) || !field().closest('.field').querySelector('[aria-invalid]'))
+    return `${id}: nothing is said at it: ${message}`;
   if (verdict() !== 'Not planned yet') return `${id}: ${verdict()}`;
   enter(value);
   return verdict() === 'Not planned yet' ? `${id}: it stays wrong` : null;
@@ -106,11 +115,13 @@ TRY_FIELD = """(id, sheet) => {
 
 
 def every_field(t):
-    """Each field has its place on the sheet; nonsense in it is said at the field and stays there."""
+    """Each field has its place on the sheet; nonsense in it is said at the field and stays
+    there."""
     count = 0
     for sheet in (FULL_JOB, FULL_TOUR):
         t.take(sheet)
-        ids = t.browser.evaluate("[...document.querySelectorAll('#form input, #form select, #form textarea')].map(field => field.id)")
+        ids = t.browser.evaluate(
+            "[...document.querySelectorAll('#form input, #form select, #form textarea')].map(field => field.id)")
         assert all(ids) and len(set(ids)) == len(ids), 'a field without an id of its own'
         for id in ids:
             wrong = t.browser.evaluate(f'({TRY_FIELD})({json.dumps(id)}, {json.dumps(sheet)})')
@@ -120,7 +131,8 @@ def every_field(t):
 
 
 def every_refusal(t):
-    """Each number that typed jobs and tours can give, with the header's text and the axis or the stop."""
+    """Each number that typed jobs and tours can give, with the header's text and the axis or the
+    stop."""
     for number, told, sheet in REFUSED:
         t.take(sheet)
         verdict, answer = t.text('verdict'), t.text('answer')
@@ -214,7 +226,8 @@ def run_all(chromium, page, texts, polgamir, scratch, keep):
     try:
         for check in (first_sight, every_field, every_refusal, other_arrivals, a_tour, sheets_saved_and_opened,
             addresses,
-                      looks.on_a_phone, looks.by_keyboard, looks.for_a_screen_reader, looks.dark_and_light, looks.numbers_past_every_range,
+                      looks.on_a_phone, looks.by_keyboard, looks.for_a_screen_reader, looks.dark_and_light,
+                      looks.numbers_past_every_range,
                       looks.on_paper, looks.speed, looks.nothing_leaves):
             began = time.monotonic()
             check(tried)

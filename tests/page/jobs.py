@@ -106,7 +106,7 @@ REFUSED = [
     (6, ['start or target of pan'], changed(JOB, ('target position      2050', 'target position      17179869184'))),
     (16, ['the target of pan accelerates'], changed(JOB,
         ('weight               113', 'weight 113\n  second half period 11'),
-                                                    ('still', 'moving\n  target velocity 0\n  target acceleration 1\n  target tick 0'))),
+        ('still', 'moving\n  target velocity 0\n  target acceleration 1\n  target tick 0'))),
     (17, ['the fixed target of pan has a velocity'], changed(JOB, ('still', 'flying\n  target velocity 3'))),
     (13, ['the windows cannot be used'], changed(JOB, ('arrival earliest', 'arrival earliest\ndwell 5\nwindow 20 10'))),
     (13, ['the windows cannot be used'], changed(JOB,

@@ -1,4 +1,5 @@
-"""How the page looks and feels: on a phone, by keyboard, to a screen reader, in the dark, on paper, and how fast it is."""
+"""How the page looks and feels: on a phone, by keyboard, to a screen reader, in the dark,
+on paper, and how fast it is."""
 import json
 import re
 import time
@@ -7,11 +8,13 @@ from pathlib import Path
 from jobs import FULL_JOB, JOB, SIX_AXES, changed
 
 ROOT = Path(__file__).resolve().parents[2]
-SHOWN = "[...document.querySelectorAll('button, input, select, textarea, summary, label.button')].filter(one => one.checkVisibility() && one.id !== 'open')"
+SHOWN = ("[...document.querySelectorAll('button, input, select, textarea, summary, label.button')]"
+         ".filter(one => one.checkVisibility() && one.id !== 'open')")
 
 
 def on_a_phone(t):
-    """390 pixels: nothing to scroll sideways, everything large enough for a finger, and a row under the finger."""
+    """390 pixels: nothing to scroll sideways, everything large enough for a finger,
+    and a row under the finger."""
     t.browser.size(390, 800, touch=True)
     for sheet in (FULL_JOB, (ROOT / 'sheets/plot-of-stems.sheet').read_text(),
         (ROOT / 'sheets/too-soon.sheet').read_text(), SIX_AXES):
@@ -20,13 +23,19 @@ def on_a_phone(t):
         width = t.browser.evaluate('document.documentElement.scrollWidth')
         assert width <= 390, f'{width} pixels are as wide as the page is'
         small = t.browser.evaluate(f'''{SHOWN}.map(one => [one.id || one.innerText, one.getBoundingClientRect().height,
-            (one.closest('label') ?? one).getBoundingClientRect().height]).filter(([, own, label]) => Math.max(own, label) < 40)''')
+            (one.closest('label') ?? one).getBoundingClientRect().height])
+            .filter(([, own, label]) => Math.max(own, label) < 40)''')
         assert not [one for one in small if one[0] != 'link'], f'too small for a finger: {small}'
-        wide = t.browser.evaluate("[...document.querySelectorAll('#form *, #answer *')].filter(one => one.checkVisibility() && one.getBoundingClientRect().right > 391).length")
+        wide = t.browser.evaluate("[...document.querySelectorAll('#form *, #answer *')]"
+                                  ".filter(one => one.checkVisibility()"
+                                  " && one.getBoundingClientRect().right > 391).length")
         assert wide == 0, f'{wide} parts of the form stick out'
     t.take((ROOT / 'sheets/pan-tilt-stem.sheet').read_text())
-    box = t.browser.evaluate('''(() => { const one = document.querySelector('svg.panel'); one.scrollIntoView({ block: 'center' });
-        const { left, top, width, height } = one.getBoundingClientRect(); return [left + width / 2, top + height / 2]; })()''')
+    box = t.browser.evaluate('''(() => {
+        const one = document.querySelector('svg.panel');
+        one.scrollIntoView({ block: 'center' });
+        const { left, top, width, height } = one.getBoundingClientRect();
+        return [left + width / 2, top + height / 2]; })()''')
     t.browser.touch(*box)
     t.settle()
     tick = int(re.search(r'tick (\d+)', t.text('row')).group(1))
@@ -40,18 +49,22 @@ def on_a_phone(t):
 
 
 def by_keyboard(t):
-    """Tab reaches every field and button in the order in which they stand; keys enter, choose and move the tick."""
+    """Tab reaches every field and button in the order in which they stand; keys
+    enter, choose and move the tick."""
     t.open()
     t.browser.evaluate('document.activeElement.blur(), scrollTo(0, 0)')
     places, reached = [], []
     for _ in range(400):
         t.browser.key('Tab', 9)
-        place, id = t.browser.evaluate('[[...document.querySelectorAll("*")].indexOf(document.activeElement), document.activeElement.id]')
-        if id == '' and t.browser.evaluate('document.activeElement === document.body') or places and place <= places[-1]:
+        place, id = t.browser.evaluate(
+            '[[...document.querySelectorAll("*")].indexOf(document.activeElement), document.activeElement.id]')
+        nowhere = id == '' and t.browser.evaluate('document.activeElement === document.body')
+        if nowhere or places and place <= places[-1]:
             break
         places.append(place)
         reached.append(id)
-    wanted = t.browser.evaluate(f"{SHOWN}.filter(one => !one.disabled && one.type !== 'radio').map(one => one.id).filter(id => id)")
+    wanted = t.browser.evaluate(f"{SHOWN}.filter(one => !one.disabled && one.type !== 'radio')"
+                                ".map(one => one.id).filter(id => id)")
     lacking = [id for id in wanted if id not in reached and not id.startswith('f-kind')]
     assert not lacking, f'Tab does not reach {lacking}'
     seen = t.browser.evaluate('''(() => { const one = document.getElementById('f-axis-0-target-position'); one.focus();
@@ -73,7 +86,8 @@ def by_keyboard(t):
 
 
 def for_a_screen_reader(t):
-    """Everything that can be used or seen has a role and a name; what is said of a field belongs to it; the answer is announced."""
+    """Everything that can be used or seen has a role and a name; what is said of a field belongs to
+    it; the answer is announced."""
     roles = {'textbox', 'combobox', 'button', 'checkbox', 'radio', 'slider', 'image', 'img', 'radiogroup', 'group',
         'region', 'table'}
     for sheet in (FULL_JOB, (ROOT / 'sheets/plot-of-stems.sheet').read_text()):
@@ -95,16 +109,25 @@ def for_a_screen_reader(t):
         assert any('position' in name and ' to ' in name for name in pictures), pictures[:3]
     t.open()
     t.set('f-axis-0-speed-limit', 'fast')
-    told = t.browser.evaluate('''(field => [field.getAttribute('aria-invalid'), document.getElementById(field.getAttribute('aria-describedby')).innerText])
+    told = t.browser.evaluate('''(field => [field.getAttribute('aria-invalid'),
+        document.getElementById(field.getAttribute('aria-describedby')).innerText])
         (document.getElementById('f-axis-0-speed-limit'))''')
     assert told[0] == 'true' and 'fast' in told[1], told
 
 
 CONTRAST = '''(() => {
-  const light = colour => { const [r, g, b] = colour.match(/[\\d.]+/g).map(Number).map(v => v / 255).map(v => v <= 0.03928 ? v / 12.92 : ((v + 0.055) / 1.055) ** 2.4);
+  const light = colour => {
+    const [r, g, b] = colour.match(/[\\d.]+/g).map(Number).map(v => v / 255)
+      .map(v => v <= 0.03928 ? v / 12.92 : ((v + 0.055) / 1.055) ** 2.4);
     return 0.2126 * r + 0.7152 * g + 0.0722 * b; };
-  const behind = one => { for (; one; one = one.parentElement) { const c = getComputedStyle(one).backgroundColor; if (!c.endsWith(', 0)') && c !== 'transparent') return c; } return 'rgb(255, 255, 255)'; };
-  return [...document.querySelectorAll('#verdict strong, #verdict span, #answer *, label, legend, .message, button, input, select, th, td, footer p, h1 small')]
+  const behind = one => {
+    for (; one; one = one.parentElement) {
+      const c = getComputedStyle(one).backgroundColor;
+      if (!c.endsWith(', 0)') && c !== 'transparent') return c;
+    }
+    return 'rgb(255, 255, 255)'; };
+  return [...document.querySelectorAll('#verdict strong, #verdict span, #answer *, label, legend, .message, button, '
+    + 'input, select, th, td, footer p, h1 small')]
     .filter(one => one.checkVisibility() && !one.disabled && (one.innerText || one.value)).map(one => {
       const [a, b] = [light(getComputedStyle(one).color), light(behind(one))].sort((x, y) => y - x);
       return [(a + 0.05) / (b + 0.05), (one.innerText || one.value).slice(0, 40)]; }).sort((x, y) => x[0] - y[0])[0];
@@ -155,20 +178,24 @@ def on_paper(t):
         data = path.read_bytes()
         pages = len(re.findall(rb'/Type\s*/Page\b', data))
         assert 1 <= pages <= most, f'{pages} pages'
-        assert t.browser.evaluate("document.getElementById('paper-rows').rows.length > 10 && document.getElementById('paper').textContent === polgamirPage.sheet")
+        assert t.browser.evaluate("document.getElementById('paper-rows').rows.length > 10"
+                                  " && document.getElementById('paper').textContent === polgamirPage.sheet")
 
 
 def speed(t):
-    """Six axes to 4,096 rows, written, read, planned, drawn and laid out as at each letter: the processor's time, which a busy machine
-    stretches less than a clock's. The bound is far off all the same."""
+    """Six axes to 4,096 rows, written, read, planned, drawn and laid out as at each
+    letter: the processor's time, which a busy machine stretches less than a clock's.
+    The bound is far off all the same."""
     t.open()
     t.take(SIX_AXES)
     t.browser.send('Performance.enable', timeDomain='threadTicks')
 
     def spent():
-        return {one['name']: one['value'] for one in t.browser.send('Performance.getMetrics')['metrics']}['TaskDuration']
+        return {one['name']: one['value']
+                for one in t.browser.send('Performance.getMetrics')['metrics']}['TaskDuration']
 
-    letter = "polgamirPage.changed('f-axis-0-start-position'), new Promise(done => requestAnimationFrame(() => setTimeout(() => done(polgamirPage.took))))"
+    letter = ("polgamirPage.changed('f-axis-0-start-position'), "
+              "new Promise(done => requestAnimationFrame(() => setTimeout(() => done(polgamirPage.took))))")
     times, clocks = [], []
     for _ in range(20):
         before = spent()
@@ -177,17 +204,25 @@ def speed(t):
     t.browser.send('Performance.disable')
     times, clocks = sorted(times[5:]), sorted(clocks[5:])
     middle = len(times) // 2
-    print(f'page: six axes to 4,096 rows take {times[middle]:.0f} ms of the processor, {times[0]:.0f} at best ({clocks[middle]:.0f} and {clocks[0]:.0f} by the clock; 50 is the aim)')
+    print(f'page: six axes to 4,096 rows take {times[middle]:.0f} ms of the processor, {times[0]:.0f} at best '
+          f'({clocks[middle]:.0f} and {clocks[0]:.0f} by the clock; 50 is the aim)')
     assert times[0] < 250, times
 
 
 def nothing_leaves(t):
-    """No request but for the page itself, none that a script could make, and no error on the way."""
+    """No request but for the page itself, none that a script could make, and no error on the
+    way."""
     t.open()
-    blocked = t.browser.evaluate('''(async () => { const told = []; addEventListener('securitypolicyviolation', event => told.push(event.effectiveDirective));
-        await fetch('http://127.0.0.1:9/').catch(() => 0); new Image().src = 'http://127.0.0.1:9/x.png'; await new Promise(done => setTimeout(done, 200)); return told; })()''')
+    blocked = t.browser.evaluate('''(async () => {
+        const told = [];
+        addEventListener('securitypolicyviolation', event => told.push(event.effectiveDirective));
+        await fetch('http://127.0.0.1:9/').catch(() => 0);
+        new Image().src = 'http://127.0.0.1:9/x.png';
+        await new Promise(done => setTimeout(done, 200));
+        return told; })()''')
     assert 'connect-src' in blocked and 'img-src' in blocked, blocked
-    urls = [event['params']['request']['url'] for event in t.browser.events if event['method'] == 'Network.requestWillBeSent']
+    urls = [event['params']['request']['url'] for event in t.browser.events
+            if event['method'] == 'Network.requestWillBeSent']
     others = {url.split('#')[0] for url in urls} - {t.address, 'about:blank', 'http://127.0.0.1:9/',
         'http://127.0.0.1:9/x.png'}
     assert not [url for url in others if not url.startswith(('blob:', 'data:'))], others
@@ -203,7 +238,9 @@ def pictures(t, keep):
     for name, width, scheme, sheet in (('wide', 1366, 'light', None), ('wide-dark', 1366, 'dark', None),
         ('phone', 390, 'light', None), ('phone-dark', 390, 'dark', None),
                                        ('phone-refused', 390, 'light',
-                                           (ROOT / 'sheets/too-soon.sheet').read_text()), ('wide-tour', 1366, 'light', (ROOT / 'sheets/plot-of-stems.sheet').read_text()),
+                                           (ROOT / 'sheets/too-soon.sheet').read_text()),
+                                           ('wide-tour', 1366, 'light',
+                                            (ROOT / 'sheets/plot-of-stems.sheet').read_text()),
                                        ('wide-six', 1366, 'light', SIX_AXES), ('phone-six', 390, 'light', SIX_AXES)):
         t.browser.size(width, 900, width < 600)
         t.browser.scheme(scheme)

@@ -1,5 +1,6 @@
-// The page's modules against the command and against what the reference has worked out: every sheet of sheets/ and
-// tests/sheets, its answer, its table, what was rounded, its errors, its CSV and its words.
+// The page's modules against the command and against what the reference has worked out:
+// every sheet of sheets/ and tests/sheets, its answer, its table, what was rounded, its
+// errors, its CSV and its words.
 //
 //     node tests/page/modules.mjs ROOT COMMAND
 
@@ -120,7 +121,10 @@ function planned(setup) {
       : words;
     lines.push(`axis ${number}`, ...Object.keys(entries).sort().map(name => `${name} ${entries[name]}`));
   });
-  for (const { positions, dwell } of setup.stops ?? []) lines.push(`stop ${axes.flatMap((axis, number) => axis ? [positions[number]] : []).join(' ')} dwell ${dwell}`);
+  for (const { positions, dwell } of setup.stops ?? []) {
+    const places = axes.flatMap((axis, number) => axis ? [positions[number]] : []);
+    lines.push(`stop ${places.join(' ')} dwell ${dwell}`);
+  }
   return [...lines, ...notesOf(setup).map(note => `note ${note}`)].join('\n') + '\n';
 }
 
@@ -148,7 +152,8 @@ for (const line of text('tests/sheets/drawn.txt').split('\n').filter(line => lin
   const [tick, unit, name, value, number, sentence] = line.split(' | ');
   const entry = name.replace(/(second )?(?:half period|period|frequency|swings)/, '$1half period');
   const others = OTHERS.filter(other => other !== entry).map(other => `${other} 1\n`).join('');
-  const { setup } = readSheet(`tick ${tick}\nunit ${unit}\naxis 0\n${name} ${value}\narrival earliest\ntarget moving\nweight 128\n${others}`);
+  const { setup } = readSheet(`tick ${tick}\nunit ${unit}\naxis 0\n${name} ${value}\n`
+    + `arrival earliest\ntarget moving\nweight 128\n${others}`);
   assert.equal(String(setup.job.axes[0][entry]), number, line);
   assert.deepEqual(notesOf(setup).map(note => note.split('; ')[0]),
     sentence === '-' ? [] : [`line 4: axis 0: ${sentence}`], line);
@@ -178,8 +183,8 @@ for (const word of ['inf', 'nan', '1e99', '', '.', '1,5', '0x10']) assert.equal(
 assert.equal(library.planJob({ asked: 0n, axes: new Array(6).fill(null), windows: null }).number, 1);
 assert.equal(library.arrivalOf(readSheet(text('sheets/case-c.sheet')).setup.job).number, 10);
 
-// A push one way for T ticks and the other way for T leaves 4a/w² sin²(wT/2) on an undamped pole; a blended one
-// leaves nothing.
+// A push one way for T ticks and the other way for T leaves 4a/w² sin²(wT/2) on an undamped
+// pole; a blended one leaves nothing.
 for (const [halfPeriod, ticks] of [[10, 7], [6.25, 20], [8, 16], [33, 5]]) {
   const rows = Float64Array.from({ length: 2 * ticks + 1 }, (_, row) => row < ticks ? 3 : row < 2 * ticks ? -3 : 0),
     w = Math.PI / halfPeriod;
@@ -194,8 +199,8 @@ for (const [tick, push] of [[0, 1], [1, 0.5], [3, -1.5]]) {
 }
 assert.ok(swayOf({ halfPeriod: 5, ratio: 100 / 156 }, blended, 60).left < 1e-9);
 
-// The sways beside the command's: what is left of each, and what would be without the blend, in the digits that its
-// pictures have.
+// The sways beside the command's: what is left of each, and what would be without the blend, in the
+// digits that its pictures have.
 const LEFT = /left (?:&lt;)?([0-9.,]+)(?:; without (?:the )?blend (?:&lt;)?([0-9.,]+))?</g;
 for (const path of [...files('sheets', '.sheet'), ...files('tests/sheets/good', '.sheet')]) {
   const { setup } = readSheet(text(path)), plan = planOf(library, setup);
@@ -207,7 +212,8 @@ for (const path of [...files('sheets', '.sheet'), ...files('tests/sheets/good', 
   told.forEach(([, ...numbers], place) => numbers.forEach((number, at) => {
     if (number === undefined) return assert.equal(own[place][at], null, path);
     const expected = Number(number.replaceAll(',', ''));
-    assert.ok(Math.abs(own[place][at] - expected) <= 0.006 * expected + 0.001, `${path}: ${own[place][at]} for ${expected}`);
+    assert.ok(Math.abs(own[place][at] - expected) <= 0.006 * expected + 0.001,
+              `${path}: ${own[place][at]} for ${expected}`);
   }));
 }
 

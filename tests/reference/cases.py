@@ -95,7 +95,8 @@ def readings() -> Group:
         typed('nothing moves, half period 1', [to(5, start=(5, 0), half_period=1)]),
         typed('nothing moves, half period 4', [to(5, start=(5, 0), half_period=4)]),
         typed('a fixed target that flies', {3: axis(start=(0, 1), half_period=4, target=(8, 1))}),
-        typed('a fixed target that flies, converted', [axis(start=(0, 1), half_period=4, target=(8, 1, 0, 7))], asked=7),
+        typed('a fixed target that flies, converted', [axis(start=(0, 1), half_period=4, target=(8, 1, 0, 7))],
+              asked=7),
         typed('half units', [axis(target=(0, 0, 1, 0))]),
         typed('halves away from zero, below it', [to(-1)], asked=4),
         typed('4 before 5', [axis(half_period=300), axis(speed_limit=0)]),
@@ -213,7 +214,8 @@ def corrected() -> Group:
                                                  second_weight=64, target=(134217727, 300, 250, 4096))], lent=8192),
         typed('out of reach at every tick', [axis(half_period=256, second_weight=1, target=(0, 0, 1, 0))]),
         typed('a cell short', [CHASED], asked=6, lent=20),
-        typed('a grid for each axis', {0: to(4), 1: CHASED, 4: CHASED._replace(second_weight=128), 5: CHASED._replace(half_period=0)},
+        typed('a grid for each axis',
+              {0: to(4), 1: CHASED, 4: CHASED._replace(second_weight=128), 5: CHASED._replace(half_period=0)},
               lent=300),
     ]
     speed = CHASED._replace(speed_limit=12)
@@ -443,14 +445,18 @@ def mirrors() -> Group:
         return one._replace(start=RestPoint(*(-x for x in one.start)), target=target)
 
     chosen = (('to 4', to(4), 0), ('to 1, asked 4', to(1), 4), ('half units', axis(target=(0, 0, 1, 0)), 0),
-              ('half fine steps', to(1, half_period=1), 54), ('half period 7, weight 1', to(9, half_period=7, second_weight=1), 0),
-              ('half period 3, weight 64', axis(start=(2, 1), half_period=3, second_weight=64, target=(40, -3, 0, 23)), 0),
+              ('half fine steps', to(1, half_period=1), 54),
+              ('half period 7, weight 1', to(9, half_period=7, second_weight=1), 0),
+              ('half period 3, weight 64', axis(start=(2, 1), half_period=3, second_weight=64, target=(40, -3, 0, 23)),
+               0),
               ('weight 127', axis(start=(-2, 3), half_period=2, second_weight=127, target=(5, 1, 0, 2)), 0),
-              ('accelerating, half period 5', axis(acceleration_limit=2, half_period=5, speed_limit=40, target=(3, 1, 1, 4)), 0),
+              ('accelerating, half period 5',
+               axis(acceleration_limit=2, half_period=5, speed_limit=40, target=(3, 1, 1, 4)), 0),
               ('accelerating, damped', CHASED, 6))
     cases = []
     for name, one, asked in chosen:
-        cases += [typed(name + ', right', [one], asked, lent=180), typed(name + ', left', [mirror(one)], asked, lent=180)]
+        cases += [typed(name + ', right', [one], asked, lent=180),
+                  typed(name + ', left', [mirror(one)], asked, lent=180)]
     return Group('mirrors', 'Right and left: halves go away from zero.', cases)
 
 

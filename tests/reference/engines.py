@@ -73,7 +73,8 @@ def answered() -> Tuple[int, int]:
 
 def printed() -> str:
     made, total = answered()
-    return ''.join('by %s: %d of %d legs can be made, sum %d\n' % (engine, made, LEGS, total) for engine in ('ticks', 'areas'))
+    return ''.join('by %s: %d of %d legs can be made, sum %d\n' % (engine, made, LEGS, total)
+                   for engine in ('ticks', 'areas'))
 
 
 if __name__ == '__main__':

@@ -173,7 +173,8 @@ def damping_lines() -> List[str]:
 
 def sway_lines() -> List[str]:
     jobs = swaycases.sways().cases + swaycases.drawn_sways().cases
-    return [plan_line(case) for case in jobs] + [tour_line(case) for case in swaycases.tours() + swaycases.drawn_sway_tours()]
+    return [plan_line(case) for case in jobs] + [tour_line(case)
+                                                 for case in swaycases.tours() + swaycases.drawn_sway_tours()]
 
 
 def raises_lines() -> List[str]:

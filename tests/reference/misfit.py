@@ -106,7 +106,8 @@ def every_leg_changes_little(most_step: int = 3, most_limit: int = 5, most_ticks
 # --- Drawn axes and lists --------------------------------------------------
 
 class Rows(NamedTuple):
-    """The accelerations of an axis that arrives: planned ones up to the landing, exact blends and cells by row."""
+    """The accelerations of an axis that arrives: planned ones up to the landing,
+    exact blends and cells by row."""
     axis: ref.Axis
     arrival: int
     planned: List[int]
@@ -149,8 +150,8 @@ def held(rows: Rows, w: List[int], m: int, e: Fraction, g: Fraction) -> None:
 
 
 def lists_are_held(rng: random.Random, count: int = 150) -> None:
-    """Drawn lists; only the entries from m - N on count. With no blend the list of the signs of the planned
-    changes leaves just what they change in all, and some axes change as much as any may."""
+    """Drawn lists; only the entries from m - N on count. With no blend the list of the signs of the
+    planned changes leaves just what they change in all, and some axes change as much as any may."""
     sharp = 0
     for rows in drawn_rows(rng, count):
         one, n = rows.axis, rows.arrival
@@ -175,7 +176,8 @@ def pole_list(rng: random.Random, turn: int, before: int, after: int, last: int)
 
 
 def poles_are_held(rng: random.Random, count: int = 150) -> None:
-    """Lists with several entries to a tick that fit another half period and another ratio, of either rate."""
+    """Lists with several entries to a tick that fit another half period and
+    another ratio, of either rate."""
     for rows in drawn_rows(rng, count):
         one, n = rows.axis, rows.arrival
         second = one.second_half_period is not None and rng.random() < 0.5

@@ -35,11 +35,13 @@ def all_of(one: Case, *pairs) -> List[PartCase]:
 def ends() -> List[PartCase]:
     """First rows and lengths at their ends."""
     return (
-        all_of(job('C', [to(1)], asked=4), (0, 15), (0, 14), (0, 16), (0, 3), (0, 2), (0, 0), (1, 12), (1, 11), (2, 6), (3, 40),
+        all_of(job('C', [to(1)], asked=4), (0, 15), (0, 14), (0, 16), (0, 3), (0, 2), (0, 0), (1, 12), (1, 11), (2, 6),
+               (3, 40),
                (4, 3), (4, 2), (4, 9), (5, 9), (5, 0), (6, 9), (MOST, 9), (MOST - 1, 9))
         + all_of(typed('A by values', [to(5, start=(5, 0))]), (0, 6), (1, 6), (2, 6))
         + all_of(typed('six axes, fixed', SIX_FIXED), (0, 288), (7, 288), (7, 17), (7, 18), (7, 19), (30, 36))
-        + all_of(typed('six axes asked 4096', SIX_FIXED, asked=4096), (0, 18), (2048, 288), (4096, 288), (4095, 288), (4097, 288)))
+        + all_of(typed('six axes asked 4096', SIX_FIXED, asked=4096), (0, 18), (2048, 288), (4096, 288), (4095, 288),
+                 (4097, 288)))
 
 
 def grids() -> List[PartCase]:

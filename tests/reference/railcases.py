@@ -27,8 +27,10 @@ def spelled(start: Tuple[int, int], target: Tuple[int, int], asked: int = 0) -> 
 
 # --- Words of kind 14 ------------------------------------------------------
 
-PAYLOAD_PAIRS = ((0, PAST), (0, PAST - 1), (-1, PAST - 1), (-1, PAST), (0, 0), (-1, 2 * PAST - 1), (1, 0), (-2, 2 * PAST - 1),
-                 (63, 2 * PAST - 1), (64, 0), (-64, 0), (-65, 0), (-65, 2 * PAST - 1), (63, 0), (PAST - 1, 0), (-PAST, 0))
+PAYLOAD_PAIRS = ((0, PAST), (0, PAST - 1), (-1, PAST - 1), (-1, PAST), (0, 0), (-1, 2 * PAST - 1), (1, 0),
+                 (-2, 2 * PAST - 1),
+                 (63, 2 * PAST - 1), (64, 0), (-64, 0), (-65, 0), (-65, 2 * PAST - 1), (63, 0), (PAST - 1, 0),
+                 (-PAST, 0))
 
 
 def payloads() -> List[Case]:
@@ -96,16 +98,21 @@ def tables() -> List[Case]:
         job('both ends', [to(HIGH, start=(HIGH - 4, 0)), to(LOW, start=(LOW + 4, 0))], lent=40),
         typed('past the end on the way', [axis(start=(HIGH, 10), target=(HIGH, 0))], lent=150),
         typed('past the lower end on the way', [axis(start=(LOW, -10), target=(LOW, 0))], lent=150),
-        typed('as far as 4,096 ticks go', [to(LOW + 4000000000, start=(LOW, 0), speed_limit=1048576, acceleration_limit=65536)],
+        typed('as far as 4,096 ticks go',
+              [to(LOW + 4000000000, start=(LOW, 0), speed_limit=1048576, acceleration_limit=65536)],
               lent=12291),
         typed('farther than 4,096 ticks go', [to(HIGH, start=(LOW, 0), speed_limit=1048576, acceleration_limit=65536)]),
-        typed('the whole rail, asked 4,096', [FAST._replace(start=RestPoint(HIGH, 0), target=RestPoint(LOW, 0))], asked=4096),
+        typed('the whole rail, asked 4,096', [FAST._replace(start=RestPoint(HIGH, 0), target=RestPoint(LOW, 0))],
+              asked=4096),
         typed('the largest numbers on the rail', [LANDS_FAR], lent=8192),
         typed('the largest numbers on the rail, the other way',
-              [LANDS_FAR._replace(start=RestPoint(LOW, 1048576), target=State(LOW + 1000000000, -1048576, 0, 1200))], lent=8192),
-        typed('a far target tick on the rail', [CORRECTED._replace(start=RestPoint(HIGH, 0), target=State(HIGH, 300, 250, 4096))],
+              [LANDS_FAR._replace(start=RestPoint(LOW, 1048576), target=State(LOW + 1000000000, -1048576, 0, 1200))],
               lent=8192),
-        typed('a corrected target on the rail', [CORRECTED._replace(start=RestPoint(LOW, 0), target=State(LOW, 0, 4000, 300))],
+        typed('a far target tick on the rail',
+              [CORRECTED._replace(start=RestPoint(HIGH, 0), target=State(HIGH, 300, 250, 4096))],
+              lent=8192),
+        typed('a corrected target on the rail',
+              [CORRECTED._replace(start=RestPoint(LOW, 0), target=State(LOW, 0, 4000, 300))],
               lent=8192),
         typed('a corrected target on the rail, the other way',
               [CORRECTED._replace(start=RestPoint(HIGH, 0), target=State(HIGH, 0, -4000, 300))], lent=8192),

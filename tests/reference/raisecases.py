@@ -46,13 +46,15 @@ def found() -> List[Case]:
         typed('a damped pole', [to(90, half_period=5, second_weight=60)], asked=15),
         typed('a damped pole, both', [to(90, speed_limit=6, half_period=5, second_weight=60)], asked=24),
         typed('an accelerating target on a damped pole', [CHASED], asked=5),
-        typed('an accelerating target on a damped pole, L', [CHASED._replace(speed_limit=12, acceleration_limit=90)], asked=9),
+        typed('an accelerating target on a damped pole, L', [CHASED._replace(speed_limit=12, acceleration_limit=90)],
+              asked=9),
         typed('a pole with a joint', [jointed(3, 90, half_period=2)], asked=15),
         typed('a pole with a joint, both', [jointed(3, 90, half_period=2, speed_limit=6)], asked=24),
         typed('a pole with a joint, before h + h2 + 1', [jointed(3, 90, half_period=2)], asked=5),
         typed('measured damping', [to(90, half_period=5, second_weight=ratio(0.5))], asked=16),
         typed('at the upper end of the rail', [to(HIGH, start=(HIGH - 9, 0), speed_limit=2)], asked=6),
-        typed('from end to end of the rail', [to(HIGH, start=(LOW, 0), speed_limit=1048576, acceleration_limit=65536)], asked=4096),
+        typed('from end to end of the rail', [to(HIGH, start=(LOW, 0), speed_limit=1048576, acceleration_limit=65536)],
+              asked=4096),
         job('by words, far along the rail', [to(LOW, start=(LOW + 9, 0), speed_limit=2)], asked=6),
         job('by words, with a joint', [jointed(3, 90, half_period=2)], asked=17),
     ]
@@ -125,7 +127,8 @@ def drawn_raises(seed: int = 210, count: int = 60) -> Group:
     for k in range(count):
         axes = {bit: random_jointed(rng) for bit in sorted(rng.sample(range(6), rng.choice([1, 1, 2, 3])))}
         axes = {bit: one if rng.randrange(4) else along(one, random_offset(rng)) for bit, one in axes.items()}
-        asked, name = rng.choice([rng.randint(1, 12), rng.randint(5, 50), rng.randint(40, 200), 0]), 'drawn raises %d' % k
+        asked, name = rng.choice([rng.randint(1, 12), rng.randint(5, 50), rng.randint(40, 200),
+                                  0]), 'drawn raises %d' % k
         if k % 2:
             cases.append(by_words(name, words_of(axes, asked)))
             continue
@@ -138,4 +141,5 @@ def drawn_raises(seed: int = 210, count: int = 60) -> Group:
 def small_axis(rng: random.Random) -> Axis:
     """Small numbers, so that every limit up to an enough one can be tried."""
     return axis(start=(0, rng.randint(-3, 3)), speed_limit=rng.randint(3, 6), acceleration_limit=rng.randint(1, 3),
-                half_period=rng.randint(0, 3), second_weight=rng.choice([128, rng.randint(1, 128)]), target=(rng.randint(-60, 60), 0))
+                half_period=rng.randint(0, 3), second_weight=rng.choice([128, rng.randint(1, 128)]),
+                target=(rng.randint(-60, 60), 0))

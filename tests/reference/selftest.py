@@ -366,7 +366,8 @@ def legs_are_single_jobs(rng, count=40):
         tour = random_tour(rng)
         here, clock, arrivals = [one.start for one in tour.axes], 0, []
         for positions, dwell in tour.stops:
-            axes = [ref.Axis(ref.RestPoint(here[i], 0), *tour.axes[i][1:5], ref.RestPoint(positions[i], 0), tour.axes[i][5])
+            axes = [ref.Axis(ref.RestPoint(here[i], 0), *tour.axes[i][1:5], ref.RestPoint(positions[i], 0),
+                             tour.axes[i][5])
                     for i in range(6)]
             answer, _ = ref.plan_typed(tour.mask, 0, axes, [7] * 73746)
             same('a leg of a random tour', answer.number, 0)
@@ -484,7 +485,8 @@ def corrected_readings():
     slow = chased._replace(speed_limit=12)
     same('planned speed', [n for n in range(1, 4097) if ref.reachable(slow, n)], [4, 5])
     same('grids', [ref.finer(one) for one in (
-        chased, chased._replace(second_weight=128), chased._replace(half_period=0), chased._replace(target=ref.State(3, 1, 0, 0)),
+        chased, chased._replace(second_weight=128), chased._replace(half_period=0),
+        chased._replace(target=ref.State(3, 1, 0, 0)),
         to(4, half_period=2, second_weight=64))], [256, 1, 1, 1, 1])
 
 
@@ -496,7 +498,8 @@ def corrected_axes(rng, count=60):
         if accepted % 2:
             a = rng.choice([-1, 1]) * rng.randint(1, 900)
             one = one._replace(half_period=rng.randint(1, 256), second_weight=rng.randint(1, 127), speed_limit=1000000,
-                               acceleration_limit=60000, target=ref.State(rng.randint(-9999, 9999), 7, a, rng.randint(0, 300)))
+                               acceleration_limit=60000,
+                               target=ref.State(rng.randint(-9999, 9999), 7, a, rng.randint(0, 300)))
         if not ref.is_corrected(one):
             continue
         answer, cells = plan([one])
@@ -531,7 +534,8 @@ def rail_readings():
     same('six moving axes', len(words), 75)
     text = ref.table_program(bytes_of(words))
     assert text.startswith('arrival '), 'the table program reads 300 bytes'
-    same('512 bytes are read', ref.table_program(bytes_of(C_WORDS) + bytes(600)), 'refused 2 place 11 axes 0 arrival 0\n')
+    same('512 bytes are read', ref.table_program(bytes_of(C_WORDS) + bytes(600)),
+         'refused 2 place 11 axes 0 arrival 0\n')
 
 
 def one_spelling(rng, count=3000):
@@ -591,7 +595,8 @@ def sway_readings():
     still = to(5, start=(5, 0), half_period=4, second_half_period=3)
     refuses('N is above h + h2', plan([still], asked=7), 8, mask=1)
     arrives('just above h + h2', plan([still]), 8)
-    same('grids', [ref.finer(one) for one in (still, still._replace(half_period=0), still._replace(second_weight=1))], [2, 2, 2])
+    same('grids', [ref.finer(one) for one in (still, still._replace(half_period=0), still._replace(second_weight=1))],
+         [2, 2, 2])
     words = swaycases.longest()[0].words
     same('the longest job', (len(words), len(bytes_of(words))), (81, 324))
     assert ref.table_program(bytes_of(words)).startswith('arrival '), 'the table program reads 324 bytes'
@@ -619,7 +624,8 @@ def second_blend_is_a_mean(rng, count=20):
     """Both blends by their definition, in fractions of a fine step: the mean of
     the first blend at k and at k - h2."""
     for _ in range(count):
-        one = swaycases.jointed(rng.randint(1, 9), rng.randint(-40, 40), half_period=rng.randint(0, 5), second_weight=rng.randint(1, 128))
+        one = swaycases.jointed(rng.randint(1, 9), rng.randint(-40, 40), half_period=rng.randint(0, 5),
+                                second_weight=rng.randint(1, 128))
         n = plan([one])[0].arrival
         planned = ref.plan_axis(one, n)
 
@@ -642,7 +648,8 @@ def raises_by(axes, asked=0, windows=None):
     six = [by_bit.get(i, UNSET) for i in range(6)]
     answer, named = raises.raises_typed(mask_of(by_bit), asked, six, windows)
     if windows is None:
-        same('raises by words', raises.raises_words(ref.encode(ref.Job(mask_of(by_bit), asked, by_bit))), (answer, named))
+        same('raises by words', raises.raises_words(ref.encode(ref.Job(mask_of(by_bit), asked, by_bit))),
+             (answer, named))
     return answer, {one.bit: [tuple(x) for x in one.raises] for one in named}
 
 
@@ -738,7 +745,8 @@ def conversions_give_equal_tables(rng, count=60):
         words = ref.encode(old)
         answer, left = convert(words, [7] * 90)
         if answer.number != 0:
-            same('refused as in planning', answer, by_the_old_rules(old, lent)[0] if answer.number != 17 else plan(axes, asked)[0])
+            same('refused as in planning', answer,
+                 by_the_old_rules(old, lent)[0] if answer.number != 17 else plan(axes, asked)[0])
             continue
         new = left[:answer.place]
         same('copied, with two words', new, copied_with_two_words(words, asked))
@@ -918,8 +926,8 @@ def main():
     parts_make_the_table(rng)
     misfit.checks(rng)
     print('reference: field cases, traps, settled readings, ranges, definitions, rounding, demand 3, tours, damping,',
-          'windows, accelerating targets on damped poles, positions past 28 bits, a second sway, raises, the converter,',
-          'the search, rows backwards, rows in parts, poles that fit only nearly: ok')
+          'windows, accelerating targets on damped poles, positions past 28 bits, a second sway, raises,',
+          'the converter, the search, rows backwards, rows in parts, poles that fit only nearly: ok')
     return 0
 
 

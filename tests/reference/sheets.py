@@ -1,8 +1,9 @@
 #!/usr/bin/env python3
-"""What a good sheet in a crew's units comes to: the planned numbers, and a sentence for each entry that was rounded. Written from
-docs/SHEET.md, "Numbers with their unit", in exact fractions.
+"""What a good sheet in a crew's units comes to: the planned numbers, and a sentence for each entry
+that was rounded. Written from docs/SHEET.md, "Numbers with their unit", in exact fractions.
 
-    python3 tests/reference/sheets.py              # writes tests/sheets/drawn.txt and the texts of tests/sheets/good and examples
+    python3 tests/reference/sheets.py              # writes tests/sheets/drawn.txt and the texts of
+                                                   tests/sheets/good and examples
     python3 tests/reference/sheets.py --check      # whether they are what it would write
     python3 tests/reference/sheets.py SHEET..      # prints what sheets come to
 """
@@ -55,7 +56,8 @@ def rounded(value, how):
 
 
 def shown(value, digits, how='nearest'):
-    """The decimal number of so many significant digits that stands for a value, without noughts at its end."""
+    """The decimal number of so many significant digits that stands for a value,
+    without noughts at its end."""
     if value == 0:
         return '0'
     power, scaled = 0, abs(value)
@@ -85,7 +87,9 @@ def same(name):
 
 def steps(count, quantity):
     name = STEPS[quantity]
-    return name if abs(count) == 1 else name.replace('tick', 'ticks', 1) if quantity == 'time' else name.replace('unit', 'units', 1)
+    if abs(count) == 1:
+        return name
+    return name.replace('tick', 'ticks', 1) if quantity == 'time' else name.replace('unit', 'units', 1)
 
 
 def amounts(text):
@@ -120,7 +124,8 @@ class Scales:
         ending = {'position': [''], 'velocity': ['/s'], 'acceleration': ['/s²', '/s2', '/s^2']}[quantity]
         fitting = [e for e in ending if measure.endswith(e) and same(measure[:len(measure) - len(e)]) == same(name)]
         assert fitting, (measure, name)
-        step = {'position': unit, 'velocity': unit / (self.tick or 1), 'acceleration': unit / (self.tick or 1) ** 2}[quantity]
+        step = {'position': unit, 'velocity': unit / (self.tick or 1),
+                'acceleration': unit / (self.tick or 1) ** 2}[quantity]
         return number(digits), step, name + ending[0]
 
     def planned(self, line, whose, name, entered, amount, quantity, how, part=1, frequency=False):
@@ -149,13 +154,16 @@ def half_period(scales, line, whose, name, value):
     plain = name.replace('second ', '', 1)
     if plain == 'swings':
         count, time = re.match(r'(\d+) in (.*)', value, re.I).groups()
-        return scales.planned(line, whose, name, value, amounts(time)[0], 'time', 'nearest', Fraction(1, 2 * int(count)))
+        return scales.planned(line, whose, name, value, amounts(time)[0], 'time', 'nearest',
+                              Fraction(1, 2 * int(count)))
     part = Fraction(1, 2) if plain == 'period' else 1
     return scales.planned(line, whose, name, value, amounts(value)[0], 'time', 'nearest', part, plain == 'frequency')
 
 
-NAMES = sorted(list(AXIS) + ['period', 'frequency', 'swings', 'second period', 'second frequency', 'second swings', 'weight',
-                             'shrinks', 'peaks', 'target', 'tick', 'unit', 'axis', 'arrival', 'window', 'dwell', 'stop'],
+NAMES = sorted(list(AXIS) + ['period', 'frequency', 'swings', 'second period', 'second frequency', 'second swings',
+                             'weight',
+                             'shrinks', 'peaks', 'target', 'tick', 'unit', 'axis', 'arrival', 'window', 'dwell',
+                             'stop'],
                key=lambda name: -len(name))
 
 
@@ -194,9 +202,10 @@ def weight(axis):
 
 
 def sway_left(axis, name, off):
-    """The most that a pole keeps of its sway where a half period is off by so many ticks, in units: V by E, as theorem `sway-most` has it,
-    for an oscillator of the true half period p, whose size is (p/pi)^2 and whose difference p/pi. The error counts in ten thousandths of a
-    tick, away from 0, and the sway in 1/256 unit, upward."""
+    """The most that a pole keeps of its sway where a half period is off by so many ticks, in units:
+    V by E, as theorem `sway-most` has it, for an oscillator of the true half period p, whose size
+    is (p/pi)^2 and whose difference p/pi. The error counts in ten thousandths of a tick, away from
+    0, and the sway in 1/256 unit, upward."""
     error = Fraction(-(-abs(off) * 10000 // 1), 10000)
     true = axis[name] + (error if off < 0 else -error)
     by_pi = Fraction(106, 333)
@@ -266,7 +275,8 @@ class Sheet:
         positions, dwell = re.match(r'(.*?)\s*dwell\s+(.*)', value, re.I).groups()
         index = len(self.stops)
         stay = self.whole(line, 'stop %d' % index, 'dwell', amounts(dwell)[0], 'time', 'up')
-        found = [self.whole(line, 'stop %d, %s' % (index, self.titles[axis]), 'position', amount, 'position', 'nearest', axis)
+        found = [self.whole(line, 'stop %d, %s' % (index, self.titles[axis]), 'position', amount, 'position', 'nearest',
+                            axis)
                  for axis, amount in zip(sorted(self.axes), amounts(positions))]
         self.stops.append('stop %s dwell %d' % (' '.join(map(str, found)), stay))
 
@@ -292,11 +302,13 @@ class Sheet:
             size, name = self.scales(axis).unit or (Fraction(1), 'units')
             left = sway_left(self.axes[axis], half, off) * size
             sway = '%s %s' % (shown(left, 3, 'up'), name)
-            told = "; a pole that swings as entered keeps a sway of at most %s (a real pole's is in proportion to it)" % sway
+            told = ("; a pole that swings as entered keeps a sway of at most %s "
+                    "(a real pole's is in proportion to it)" % sway)
             self.notes = [(at, note + told if at == line else note) for at, note in self.notes]
 
     def text(self):
-        """The numbers as they are planned, an entry to a line, then the sentences in the order of their lines."""
+        """The numbers as they are planned, an entry to a line, then the sentences
+        in the order of their lines."""
         axes = [line for axis in sorted(self.axes) for line in
                 ['axis %d' % axis] + ['%s %s' % entry for entry in sorted(self.axes[axis].items())]]
         notes = ['note ' + note for _, note in sorted(self.notes, key=lambda noted: noted[0])]
@@ -304,7 +316,8 @@ class Sheet:
 
 
 def drawn(seed, count):
-    """Entries drawn at random, each with the whole number that is planned and the sentence: tick, unit, name, value, number, sentence."""
+    """Entries drawn at random, each with the whole number that is planned and the sentence: tick,
+    unit, name, value, number, sentence."""
     draw = random.Random(seed)
     ticks = ['0.02', '0.005 s', '1 ms', '20 ms', '1/300', '0.0333', '2.5e-3']
     units = ['0.01 degree', '1/3 mm', '360/4096 degree', '0.25 step', '0.001 degree', 'mm']
@@ -318,7 +331,8 @@ def drawn(seed, count):
         quantity, how = AXIS.get(name, ('time', 'nearest'))
         if quantity == 'time':
             value = '%s %s' % (digits, draw.choice(['s', 's', 'ms', 'seconds']))
-            value = {'frequency': digits + ' Hz', 'swings': '%d in %s' % (draw.randrange(1, 30), value)}.get(name.split()[-1], value)
+            value = {'frequency': digits + ' Hz',
+                     'swings': '%d in %s' % (draw.randrange(1, 30), value)}.get(name.split()[-1], value)
         else:
             sign = '-' if 'limit' not in name and draw.random() < 0.5 else ''
             value = '%s%s %s%s' % (sign, digits, scales.unit[1], draw.choice(endings[quantity]))

@@ -131,7 +131,8 @@ def tables() -> List[Case]:
         typed('to 2, half periods 2 and 3', [TO_2], lent=40),
         typed('C with a second half period of 1, asked 5', [jointed(1)], asked=5, lent=18),
         typed('C with a second half period of 1, the other way', [jointed(1, -1)], asked=5, lent=18),
-        typed('starts and lands moving', [axis(start=(3, 2), half_period=3, second_half_period=2, target=(13, 2, 0, 6))], lent=60),
+        typed('starts and lands moving',
+              [axis(start=(3, 2), half_period=3, second_half_period=2, target=(13, 2, 0, 6))], lent=60),
         typed('a moving target far back', [axis(start=(3, -2), half_period=3, second_weight=9, second_half_period=8,
                                                 target=(-7, 3, 0, -50))], lent=300),
         typed('a target before its tick', [axis(second_half_period=3, target=(10, 1, 0, 10))], lent=60),
@@ -140,19 +141,24 @@ def tables() -> List[Case]:
         typed('a ratio and a second half period', [jointed(3, 9, half_period=2, second_weight=ratio(0.5))], lent=90),
         typed('peaks and a second half period', [jointed(3, 9, half_period=2, second_weight=peaks(97, 31))], lent=90),
         typed('six axes', SIX, lent=8192), job('six axes by words', SIX, lent=8192),
-        typed('every grid in one job', [jointed(2, 9), axis(acceleration_limit=2, half_period=3, second_weight=100, target=(0, 0, 1, 0)),
+        typed('every grid in one job',
+              [jointed(2, 9), axis(acceleration_limit=2, half_period=3, second_weight=100, target=(0, 0, 1, 0)),
                                         to(9)], lent=400),
-        typed('the largest numbers', [FAST._replace(start=RestPoint(-PAST, -1048576), target=State(PAST - 1, 1048576, 0, 900))],
+        typed('the largest numbers',
+              [FAST._replace(start=RestPoint(-PAST, -1048576), target=State(PAST - 1, 1048576, 0, 900))],
               lent=8192),
         typed('the largest numbers, the other way, damped',
-              [FAST._replace(start=RestPoint(PAST - 1, 1048576), second_weight=1, target=State(-PAST, -1048576, 0, 900))], lent=8192),
-        typed('the upper end of the rail', [FAST._replace(start=RestPoint(HIGH, -1048576), target=State(HIGH, 1048576, 0, 1100))],
+              [FAST._replace(start=RestPoint(PAST - 1, 1048576), second_weight=1,
+                             target=State(-PAST, -1048576, 0, 900))], lent=8192),
+        typed('the upper end of the rail',
+              [FAST._replace(start=RestPoint(HIGH, -1048576), target=State(HIGH, 1048576, 0, 1100))],
               lent=8192),
-        typed('the lower end of the rail', [FAST._replace(start=RestPoint(LOW, 1048576), target=State(LOW, -1048576, 0, 1100))],
+        typed('the lower end of the rail',
+              [FAST._replace(start=RestPoint(LOW, 1048576), target=State(LOW, -1048576, 0, 1100))],
               lent=8192),
     ]
-    for h, b, h2 in ((0, 128, 1), (0, 1, 7), (1, 128, 1), (2, 1, 3), (7, 64, 2), (64, 127, 255), (255, 128, 64), (256, 1, 256),
-                     (256, 128, 1), (1, 128, 256)):
+    for h, b, h2 in ((0, 128, 1), (0, 1, 7), (1, 128, 1), (2, 1, 3), (7, 64, 2), (64, 127, 255), (255, 128, 64),
+                     (256, 1, 256), (256, 128, 1), (1, 128, 256)):
         one = axis(start=(2, 1), half_period=h, second_weight=b, second_half_period=h2, target=(40, -3, 0, h + h2 + 20))
         cases.append(typed('half periods %d and %d, weight %d' % (h, h2, b), [one], lent=3 * (h + h2 + 100)))
     return cases
@@ -163,11 +169,13 @@ def tours() -> List[TourCase]:
     return [
         single('out and back with a joint', out, half_period=1, second_weight=100, second_half_period=2),
         single('a leg of no way', [stop(0), stop(0, 2)], half_period=5, second_half_period=3),
-        several('one of two axes has a joint', [BASE, BASE._replace(second_half_period=9)], [stop([4, 9], 3), stop([0, 1])]),
+        several('one of two axes has a joint', [BASE, BASE._replace(second_half_period=9)],
+                [stop([4, 9], 3), stop([0, 1])]),
         single('15 of a leg', out, second_half_period=0),
         single('15 of a leg, 257', out, second_half_period=257),
         several('15: the place is the stop', {4: BASE._replace(second_half_period=0)}, out),
-        several('5 over all axes before 15', [BASE._replace(second_half_period=0), BASE._replace(half_period=257)], out),
+        several('5 over all axes before 15', [BASE._replace(second_half_period=0), BASE._replace(half_period=257)],
+                out),
         single('15 before 6', [stop(HIGH + 1)], second_half_period=0),
         several('0 off the mask', {2: BASE}, [stop([0, 0, 4])], other=BASE._replace(second_half_period=0)),
         single('9 of a leg', [stop(1), stop(4000, 1)], speed_limit=1, half_period=200, second_half_period=200),
@@ -211,7 +219,8 @@ def drawn_sways(seed: int = 29, count: int = 60) -> Group:
             continue
         if rng.randrange(3) == 0:
             axes = {bit: one._replace(second_weight=random_damping(rng)) for bit, one in axes.items()}
-        cases.append(typed(name, axes, asked, lent=8192)._replace(windows=random_windows(rng) if rng.randrange(3) == 0 else None))
+        windows = random_windows(rng) if rng.randrange(3) == 0 else None
+        cases.append(typed(name, axes, asked, lent=8192)._replace(windows=windows))
     return Group('drawn sways', 'Random jobs with second half periods.', cases)
 
 
@@ -231,7 +240,8 @@ def drawn_sway_tours(seed: int = 29, count: int = 12) -> List[TourCase]:
     cases = []
     for k in range(count):
         tour = random_tour(rng)
-        axes = [one._replace(second_half_period=rng.choice([None, 1, 2, rng.randint(1, 40), rng.choice([0, 255, 256, 257])]))
+        axes = [one._replace(second_half_period=rng.choice([None, 1, 2, rng.randint(1, 40),
+                                                            rng.choice([0, 255, 256, 257])]))
                 for one in tour.axes]
         cases.append(case('drawn jointed tour %d' % k, tour._replace(axes=axes), len(tour.stops) + rng.randint(0, 2)))
     return cases

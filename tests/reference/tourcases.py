@@ -124,7 +124,8 @@ def refused_legs() -> List[TourCase]:
         single('half period 256', [stop(4)], half_period=256),
         single('6 at the start', [stop(4)], start=HIGH + 1),
         single('6 at the first stop', [stop(LOW - 1), stop(4)]),
-        single('9 from one end of the rail to the other', [stop(LOW)], start=HIGH, speed_limit=1048576, acceleration_limit=65536),
+        single('9 from one end of the rail to the other', [stop(LOW)], start=HIGH, speed_limit=1048576,
+               acceleration_limit=65536),
         single('6 at the second stop', [stop(4), stop(2 ** 40)]),
         single('9 at the first of two bad stops', [stop(FAR), stop(2 ** 40)], speed_limit=1),
         single('6 before 9 at one stop', [stop(2 ** 40)], speed_limit=1),
@@ -148,7 +149,8 @@ def tours() -> List[TourCase]:
 
 def random_tour_axis(rng: random.Random, offset: int) -> TourAxis:
     return TourAxis(offset + rng.randint(-90, 90), rng.randint(1, 60), rng.randint(1, 9),
-                    rng.choice([0, 0, 1, 2, rng.randint(0, 40)]), rng.choice([128, rng.randint(1, 128), ratio(rng.uniform(0.01, 1))]))
+                    rng.choice([0, 0, 1, 2, rng.randint(0, 40)]),
+                    rng.choice([128, rng.randint(1, 128), ratio(rng.uniform(0.01, 1))]))
 
 
 def random_tour(rng: random.Random) -> Tour:

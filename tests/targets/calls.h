@@ -1,6 +1,7 @@
 /*
- * The calls of the header, each over what a case has read and with what it gives back kept, and the stack that each of them takes: the memory
- * below is painted before a call, and how far down the paint is gone says what it took, with its arguments.
+ * The calls of the header, each over what a case has read and with what it gives back kept, and the
+ * stack that each of them takes: the memory below is painted before a call, and how far down the
+ * paint is gone says what it took, with its arguments.
  */
 #ifndef CALLS_H
 #define CALLS_H
@@ -47,18 +48,22 @@ static void ask_version(void) { version = polgamir_version(); }
 /* A call for words comes right before the same call for typed values. */
 enum { PLAN = 0, BACKWARDS = 2, PART = 4, RAISES = 6, SEARCH = 8, CONVERT = 10, TOUR = 11, VERSION = 12, CALLS = 13 };
 static void (*const call_of[CALLS])(void) = {
-    plan_words, plan_job, backwards_words, backwards_job, part_words, part_job, raises_words, raises_job, search_words, search_job,
+    plan_words, plan_job, backwards_words, backwards_job, part_words, part_job, raises_words, raises_job, search_words,
+        search_job,
     convert, plan_tour, ask_version,
 };
 static const char *const name_of[CALLS] = {
-    "polgamir_plan_words", "polgamir_plan_job", "polgamir_plan_words_backwards", "polgamir_plan_job_backwards", "polgamir_plan_words_part",
-    "polgamir_plan_job_part", "polgamir_raises_words", "polgamir_raises_job", "polgamir_search_words", "polgamir_search_job",
+    "polgamir_plan_words", "polgamir_plan_job", "polgamir_plan_words_backwards", "polgamir_plan_job_backwards",
+        "polgamir_plan_words_part",
+    "polgamir_plan_job_part", "polgamir_raises_words", "polgamir_raises_job", "polgamir_search_words",
+        "polgamir_search_job",
     "polgamir_convert", "polgamir_plan_tour", "polgamir_version",
 };
 static int made[CALLS];
 static size_t most_stack[CALLS];
 
-/* Words below the frame of `make`: more than any call takes. The nearest are left to the functions that paint and look. */
+/* Words below the frame of `make`: more than any call takes. The nearest are left to the
+   functions that paint and look. */
 #define PAINTED 10000
 #define NEAREST 64
 #define PAINT 0xA5C3A5C3u

@@ -1,6 +1,6 @@
 /*
- * Makes the call of a case and compares what comes of it with what is expected. Every cell, entry and word that is lent is looked at after the
- * call, and some that are not lent behind them.
+ * Makes the call of a case and compares what comes of it with what is expected. Every cell, entry
+ * and word that is lent is looked at after the call, and some that are not lent behind them.
  */
 #ifndef CASES_H
 #define CASES_H
@@ -141,7 +141,8 @@ static void check_raise(struct text *expected, polgamir_raise raise, int listed)
         return;
     }
     struct text limit = token(expected);
-    expect(raise.limit == (is(limit, "M") ? POLGAMIR_ACCELERATION_LIMIT : POLGAMIR_SPEED_LIMIT), "the limit of a raise");
+    expect(raise.limit == (is(limit, "M") ? POLGAMIR_ACCELERATION_LIMIT : POLGAMIR_SPEED_LIMIT),
+           "the limit of a raise");
     field(expected, raise.by, "a raise");
 }
 
@@ -189,7 +190,8 @@ static void run_search(struct text *call, struct text *expected)
         return;
     }
     struct text report = token(expected);
-    expect(is(report, searched.report == POLGAMIR_FOUND ? "found" : searched.report == POLGAMIR_SPENT ? "spent" : "none"), "the report");
+    expect(is(report, searched.report == POLGAMIR_FOUND ? "found" : searched.report == POLGAMIR_SPENT ? "spent"
+              : "none"), "the report");
     if (searched.report != POLGAMIR_NONE) {
         field(expected, searched.report == POLGAMIR_FOUND ? searched.arrival : searched.next, "the tick");
     }

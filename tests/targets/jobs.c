@@ -3,7 +3,8 @@
  *
  *     jobs FILE [WORD..]        # FILE is a job (NAME.job)
  *
- * So that the instructions of two runs tell those of a call. Prints the number and the arrival of the last one.
+ * So that the instructions of two runs tell those of a call. Prints the number
+ * and the arrival of the last one.
  */
 #include "platform.h"
 #include "polgamir.h"

@@ -1,4 +1,5 @@
-/* What a test program takes from the machine that it runs on: stdio on Linux (hosted.c), semihosting without an operating system (bare.c). */
+/* What a test program takes from the machine that it runs on: stdio on Linux (hosted.c),
+   semihosting without an operating system (bare.c). */
 #ifndef PLATFORM_H
 #define PLATFORM_H
 
@@ -15,10 +16,12 @@ size_t strlen(const char *text);
 void say(const char *text);
 void say_number(int64_t number);
 
-/* Reads a file to `to` and gives back its bytes; or -1 where it cannot be read, or is longer than `room`. */
+/* Reads a file to `to` and gives back its bytes; or -1 where it cannot be read, or is longer than
+   `room`. */
 long load(const char *name, char *to, size_t room);
 
-/* The program, called with the words of its command line after its name; what it gives back is its exit status. */
+/* The program, called with the words of its command line after its name; what it
+   gives back is its exit status. */
 int program(int count, char **names);
 
 #endif

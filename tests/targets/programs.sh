@@ -1,5 +1,5 @@
-# Programs for a target, and how they are run, for the scripts of this folder; `out` is a folder that is removed at the end, and out/NAME has the installed
-# library of the target NAME.
+# Programs for a target, and how they are run, for the scripts of this folder; `out` is a folder
+# that is removed at the end, and out/NAME has the installed library of the target NAME.
 out=$(mktemp -d)
 trap 'rm -rf "$out"' EXIT
 vectors=$(echo tests/reference/vectors/*.txt jobs/*.job)
@@ -13,8 +13,10 @@ link_bare() { # NAME PROGRAM SOURCE..: a program with no C library, in 4 MB of m
     [ "$name" != riscv32 ] || code=0x10000
     # shellcheck disable=SC2086
     $compiler $options -Os $warnings -ffreestanding -ffunction-sections -fno-tree-loop-distribute-patterns -nostdlib \
-        -T $board/memory.ld -Wl,--gc-sections,-z,noexecstack,--defsym=code=$code,--defsym=ram=0x20000000,--defsym=ram_size=$ram \
-        -Wl,--defsym=stack_size=65536 "$@" tests/targets/bare.c $board/*.c "$out/$name/lib/libpolgamir.a" -lgcc -o "$program"
+        -T $board/memory.ld -Wl,--gc-sections,-z,noexecstack \
+        -Wl,--defsym=code=$code,--defsym=ram=0x20000000,--defsym=ram_size=$ram \
+        -Wl,--defsym=stack_size=65536 "$@" \
+        tests/targets/bare.c $board/*.c "$out/$name/lib/libpolgamir.a" -lgcc -o "$program"
 }
 
 link_linux() { # NAME PROGRAM SOURCE..
@@ -30,7 +32,8 @@ emulate() { # NAME PROGRAM WORD..
     local name=$1 program=$2 words='' word
     shift 2
     for word in program "$@"; do words="$words,arg=$word"; done
-    local board="-display none -monitor none -serial none -chardev stdio,id=out -semihosting-config enable=on,target=native,chardev=out$words -kernel $program"
+    local board="-display none -monitor none -serial none -chardev stdio,id=out"
+    board="$board -semihosting-config enable=on,target=native,chardev=out$words -kernel $program"
     # shellcheck disable=SC2086
     case $name in
     x86-64-linux) qemu-x86_64 $traced "$program" "$@" ;;
@@ -39,6 +42,7 @@ emulate() { # NAME PROGRAM WORD..
     riscv64-linux) qemu-riscv64 $traced "$program" "$@" ;;
     riscv32) qemu-riscv32 $traced "$program" "$@" ;;
     cortex-m4f) qemu-system-arm $traced -M mps2-an386 $board ;;
-    cortex-m0plus) qemu-system-arm $traced -M microbit -global nrf51-soc.sram-size=$ram $board ;; # the board itself has 16 KB
+    # the board itself has 16 KB
+    cortex-m0plus) qemu-system-arm $traced -M microbit -global nrf51-soc.sram-size=$ram $board ;;
     esac
 }

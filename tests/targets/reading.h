@@ -1,6 +1,6 @@
 /*
- * Reads a line of tests/reference/vectors, as the README there describes it, without a C library. `problem` says what is wrong with the line,
- * or with what came of it; the first thing counts.
+ * Reads a line of tests/reference/vectors, as the README there describes it, without a C library.
+ * `problem` says what is wrong with the line, or with what came of it; the first thing counts.
  */
 #ifndef READING_H
 #define READING_H

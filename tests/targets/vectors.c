@@ -1,10 +1,13 @@
 /*
- * Runs the library over files of tests/reference/vectors, and over jobs with their stored texts, on any target:
+ * Runs the library over files of tests/reference/vectors, and over jobs with
+ * their stored texts, on any target:
  *
- *     vectors FILE..        # FILE is a file of vectors, or a job (NAME.job), whose text stands beside it
+ *     vectors FILE..        # FILE is a file of vectors, or a job (NAME.job), whose text stands
+ *                           beside it
  *
- * What is expected was worked out by the reference. Prints the cases that fail, the stack that each call took at most and the number of cases,
- * and ends with status 0 where none fails and every call of the header was made.
+ * What is expected was worked out by the reference. Prints the cases that fail, the stack that
+ * each call took at most and the number of cases, and ends with status 0 where none fails and
+ * every call of the header was made.
  */
 #include "cases.h"
 #include "platform.h"

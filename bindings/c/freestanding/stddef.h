@@ -1,4 +1,5 @@
-/* What the header takes from <stddef.h>, for the toolchain's clang, which has no headers of its own. */
+/* What the header takes from <stddef.h>, for the toolchain's clang, which has no headers of its
+   own. */
 #ifndef POLGAMIR_FREESTANDING_STDDEF_H
 #define POLGAMIR_FREESTANDING_STDDEF_H
 

@@ -1,4 +1,5 @@
-/* What the header takes from <stdint.h>, for the toolchain's clang, which has no headers of its own. */
+/* What the header takes from <stdint.h>, for the toolchain's clang, which has no headers of its
+   own. */
 #ifndef POLGAMIR_FREESTANDING_STDINT_H
 #define POLGAMIR_FREESTANDING_STDINT_H
 

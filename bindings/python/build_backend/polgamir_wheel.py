@@ -1,9 +1,10 @@
-"""Builds the wheel: the package `polgamir` with the proved shared library inside. pip calls it, as pyproject.toml says, and so
-does `tools/release`. It needs nothing but Python, and gives the same bytes each time.
+"""Builds the wheel: the package `polgamir` with the proved shared library inside. pip calls
+it, as pyproject.toml says, and so does `tools/release`. It needs nothing but Python, and
+gives the same bytes each time.
 
-The library is the file that POLGAMIR_LIBRARY names, else target/lib/libpolgamir.so of the repository. The variable
-POLGAMIR_WHEEL_PLATFORM names the wheel's platform where the library is for another machine than this one. SOURCE_DATE_EPOCH is
-the time of the files in the wheel.
+The library is the file that POLGAMIR_LIBRARY names, else target/lib/libpolgamir.so of the
+repository. The variable POLGAMIR_WHEEL_PLATFORM names the wheel's platform where the library is for
+another machine than this one. SOURCE_DATE_EPOCH is the time of the files in the wheel.
 """
 
 import base64
@@ -26,8 +27,8 @@ def _version():
 def _library():
     file = Path(os.environ.get("POLGAMIR_LIBRARY") or REPOSITORY / "target" / "lib" / "libpolgamir.so")
     if not file.is_file():
-        raise SystemExit(f"the proved library {file} is missing: run `tools/library` at the root of the repository, or name a file "
-                         "by POLGAMIR_LIBRARY")
+        raise SystemExit(f"the proved library {file} is missing: run `tools/library` at the root of the repository, "
+                         "or name a file by POLGAMIR_LIBRARY")
     return file
 
 
@@ -40,7 +41,8 @@ def _metadata():
     project = (HERE / "pyproject.toml").read_text()
     said = dict(re.findall(r'^(description|requires-python) = "(.*)"$', project, flags=re.MULTILINE))
     lines = ["Metadata-Version: 2.1", "Name: polgamir", f"Version: {_version()}", f"Summary: {said['description']}",
-             f"Requires-Python: {said['requires-python']}", "License-File: LICENSE", "Description-Content-Type: text/markdown", ""]
+             f"Requires-Python: {said['requires-python']}", "License-File: LICENSE",
+             "Description-Content-Type: text/markdown", ""]
     return "\n".join(lines) + "\n" + (HERE / "README.md").read_text()
 
 
@@ -78,5 +80,6 @@ def build_wheel(wheel_directory, config_settings=None, metadata_directory=None):
 
 
 def build_sdist(sdist_directory, config_settings=None):
-    """There is none: the sources are the repository, and the library in the wheel is proved there."""
+    """There is none: the sources are the repository, and the library in the wheel is proved
+    there."""
     raise NotImplementedError("polgamir has no source archive of its own; build a wheel in the repository")

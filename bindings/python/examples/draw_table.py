@@ -1,5 +1,6 @@
 #!/usr/bin/env python3
-"""Plans pan and tilt from one stem to the next and draws the table: draw_table.py FILE.png (or .svg, .pdf).
+"""Plans pan and tilt from one stem to the next and draws the table:
+draw_table.py FILE.png (or .svg, .pdf).
 
 It draws with matplotlib where that is installed; without it, it prints the arrival and the rows.
 """
@@ -12,8 +13,10 @@ sys.path.insert(0, str(Path(__file__).resolve().parents[1]))
 from polgamir import FINE_STEPS, Axis, Fixed, Job, Ratio, Refusal, RestPoint
 
 AXES = {
-    0: ("pan", Axis(start=RestPoint(-350), speed_limit=40, acceleration_limit=2, half_period=30, damping=Ratio(0.8), target=Fixed(2050))),
-    1: ("tilt", Axis(start=RestPoint(420), speed_limit=25, acceleration_limit=1, half_period=27, damping=Ratio(0.75), target=Fixed(-430))),
+    0: ("pan", Axis(start=RestPoint(-350), speed_limit=40, acceleration_limit=2, half_period=30, damping=Ratio(0.8),
+                    target=Fixed(2050))),
+    1: ("tilt", Axis(start=RestPoint(420), speed_limit=25, acceleration_limit=1, half_period=27, damping=Ratio(0.75),
+                     target=Fixed(-430))),
 }
 
 
@@ -28,7 +31,8 @@ def draw(plan, file):
     table = numpy.asarray(plan.table) / FINE_STEPS  # the table itself is read without a copy
     ticks = numpy.arange(len(plan))
     quantities = ("position, units", "velocity, units/tick", "acceleration, units/tick²")
-    figure, panels = pyplot.subplots(3, len(plan.axes), sharex=True, squeeze=False, figsize=(10, 7), layout="constrained")
+    figure, panels = pyplot.subplots(3, len(plan.axes), sharex=True, squeeze=False, figsize=(10, 7),
+                                     layout="constrained")
     for column, axis in enumerate(plan.axes):
         name, entered = AXES[axis]
         limits = (None, entered.speed_limit, entered.acceleration_limit)

@@ -65,7 +65,8 @@ __all__ = [
     "AXES", "FINE_STEPS", "LATEST_ARRIVAL", "LONGEST_DWELL", "MOST_CELLS", "MOST_STOPS", "MOST_WINDOWS",
     "Axis", "Damping", "Fixed", "Job", "LibraryError", "Limit", "Motion", "Moving", "Number", "Part", "Peaks", "Plan",
     "Raise", "Raises", "Ratio", "Refusal", "RestPoint", "Row", "Schedule", "Searched", "Stop", "SwayLeft", "Target",
-    "Tour", "TourAxis", "Weight", "Window", "Windows", "__version__", "acceleration_changes", "convert_words", "in_units",
+    "Tour", "TourAxis", "Weight", "Window", "Windows", "__version__", "acceleration_changes", "convert_words",
+    "in_units",
     "misfit_bound", "plan_words", "plan_words_backwards", "plan_words_part", "raises_words", "search_words",
     "second_sway_bound", "sway_bound", "sway_left", "version",
 ]

@@ -14,7 +14,8 @@ from .refusals import Number, Refusal
 from .searches import Searched
 
 
-def refusal_of(answer: Union[_structs.Answer, _structs.PartAnswer, _structs.TourAnswer, _structs.SearchAnswer]) -> Refusal:
+def refusal_of(answer: Union[_structs.Answer, _structs.PartAnswer, _structs.TourAnswer,
+                             _structs.SearchAnswer]) -> Refusal:
     """The refusal that an answer is."""
     return Refusal(answer.number, answer.place, answer.mask, answer.arrival)
 

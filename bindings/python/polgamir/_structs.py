@@ -1,4 +1,5 @@
-"""The structs and calls of include/polgamir.h for ctypes, field by field. Nothing here is part of the API."""
+"""The structs and calls of include/polgamir.h for ctypes, field by field.
+Nothing here is part of the API."""
 
 from __future__ import annotations
 
@@ -164,5 +165,6 @@ CALLS = {
     "polgamir_search_job": (SearchAnswer, [Job, ctypes.c_uint32, ctypes.c_uint32]),
     "polgamir_search_words": (SearchAnswer, [LIST, ctypes.c_size_t, ctypes.c_uint32, ctypes.c_uint32]),
 }
-"""Every call of the header: what it returns and takes. A test holds the names to it: a call that the header gains
-gets its structs above, its line here, and its function with the others of its subject."""
+"""Every call of the header: what it returns and takes. A test holds the names to it: a call that
+the header gains gets its structs above, its line here, and its function with the others of its
+subject."""

@@ -196,4 +196,5 @@ class Part:
             yield _row(self._first + place, self.axes, self._cells[width * place : width * (place + 1)])
 
     def __repr__(self) -> str:
-        return f"<polgamir.Part: axes {list(self.axes)}, {self._rows} rows from {self._first} of arrival {self._arrival}>"
+        rows = f"{self._rows} rows from {self._first} of arrival {self._arrival}"
+        return f"<polgamir.Part: axes {list(self.axes)}, {rows}>"

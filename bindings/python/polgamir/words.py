@@ -51,7 +51,8 @@ def plan_words_part(words: Sequence[int], first: int, rows: int) -> Part:
     given = words_of(words)
     axes = len(axes_of(given[0] & 0x3F)) if len(given) else 0  # as the mask word says, where it is one
     room = 3 * axes * min(rows, LATEST_ARRIVAL + 1)
-    return parted(first, room, lambda table, cells: library().polgamir_plan_words_part(given, len(given), first, table, cells))
+    return parted(first, room,
+                  lambda table, cells: library().polgamir_plan_words_part(given, len(given), first, table, cells))
 
 
 def raises_words(words: Sequence[int]) -> Raises:

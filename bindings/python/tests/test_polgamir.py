@@ -1,4 +1,5 @@
-"""Tests of the module: the field cases, refusals, buffers, and every struct, call and number of the header."""
+"""Tests of the module: the field cases, refusals, buffers, and every struct,
+call and number of the header."""
 
 import doctest
 import inspect
@@ -19,13 +20,15 @@ REPOSITORY = HERE.parents[2]
 
 import polgamir
 from polgamir import _loader, _structs, refusals
-from polgamir import (Axis, Fixed, Job, Limit, Motion, Moving, Number, Peaks, Ratio, Refusal, RestPoint, Schedule, Searched, Stop, Tour, TourAxis,
+from polgamir import (Axis, Fixed, Job, Limit, Motion, Moving, Number, Peaks, Ratio, Refusal, RestPoint, Schedule,
+                      Searched, Stop, Tour, TourAxis,
                       Weight, Window, Windows)
 
 
 def field_axis(target, **changes):
     """The axis of the field cases: L = 10, M = 1, h = 0, B = 128, from 0 at rest."""
-    said = dict(start=RestPoint(0), speed_limit=10, acceleration_limit=1, half_period=0, damping=Weight(128), target=target)
+    said = dict(start=RestPoint(0), speed_limit=10, acceleration_limit=1, half_period=0, damping=Weight(128),
+                target=target)
     return Axis(**{**said, **changes})
 
 
@@ -89,7 +92,8 @@ class FieldCases(unittest.TestCase):
         touching = Windows(2, [Window(0, 5), Window(5, 9)])
         self.assertEqual(Job({0: field_axis(Fixed(4))}, windows=touching).plan().arrival, 5)
         self.assertEqual(self.refused(Job({0: field_axis(Fixed(4))}, windows=Windows(0, []))), (13, 0, 0, 0))
-        self.assertEqual(self.refused(Job({0: field_axis(Fixed(4))}, windows=Windows(0, [Window(0, 1)] * 40))), (13, 32, 0, 0))
+        self.assertEqual(self.refused(Job({0: field_axis(Fixed(4))}, windows=Windows(0, [Window(0, 1)] * 40))),
+                         (13, 32, 0, 0))
 
     def test_damping(self):
         by_hand = to(9, half_period=3, damping=Weight(85)).plan()
@@ -104,7 +108,8 @@ class FieldCases(unittest.TestCase):
             self.assertEqual(self.columns(to(end, start=RestPoint(end)))[:2], (1, [256 * end] * 2))
         for past in (upper + 1, lower - 1):
             self.assertEqual(self.refused(to(past)), (6, 0, 0, 0))
-        head, middle, tail = [0x10000001, 0x20000000], [0x40000000, 0x5000000A, 0x60000001, 0x70000000, 0x80000080], [0xA0000000, 0xF0000000]
+        head, tail = [0x10000001, 0x20000000], [0xA0000000, 0xF0000000]
+        middle = [0x40000000, 0x5000000A, 0x60000001, 0x70000000, 0x80000080]
         words = head + [0xE0000000, 0x38000000] + middle + [0xE0000000, 0x98000000] + tail
         self.assertEqual(polgamir.plan_words(words).positions(0).tolist(), [256 * 2**27] * 2)
         words[3] -= 1  # this position fits a single word
@@ -150,7 +155,8 @@ class RaisedLimits(unittest.TestCase):
 
 
 class Searches(unittest.TestCase):
-    """Reports, numbers tried and refusals of request 2.12; the axis reaches tick 4 and every later one."""
+    """Reports, numbers tried and refusals of request 2.12; the axis reaches
+    tick 4 and every later one."""
 
     def test_reports(self):
         self.assertEqual(to(4).search(1, 4096), Searched(4, None, 4))
@@ -169,7 +175,8 @@ class Searches(unittest.TestCase):
         self.assertEqual((part.arrival, tried), (job.arrival_found(), job.arrival_found()))
 
     def test_refusals(self):
-        words = [0x10000001, 0x20000004, 0x30000000, 0x40000000, 0x5000000A, 0x60000001, 0x70000000, 0x80000080, 0x90000001, 0xA0000000,
+        words = [0x10000001, 0x20000004, 0x30000000, 0x40000000, 0x5000000A, 0x60000001, 0x70000000, 0x80000080,
+                 0x90000001, 0xA0000000,
                  0xF0000000]
         self.assertEqual(polgamir.search_words(words, 1, 9), Searched(2, None, 2))
         for first in (0, 4098):
@@ -187,7 +194,8 @@ class Backwards(unittest.TestCase):
     ROWS = [[0, 0, 86], [43, 86, -1], [129, 85, 0], [214, 85, -85], [256, 0, 0]]
 
     def test_rows(self):
-        words = [0x10000001, 0x20000004, 0x30000000, 0x40000000, 0x5000000A, 0x60000001, 0x70000000, 0x80000080, 0x90000001, 0xA0000000,
+        words = [0x10000001, 0x20000004, 0x30000000, 0x40000000, 0x5000000A, 0x60000001, 0x70000000, 0x80000080,
+                 0x90000001, 0xA0000000,
                  0xF0000000]
         for plan in (to(1, 4).plan_backwards(), polgamir.plan_words_backwards(words)):
             self.assertEqual((plan.backwards, plan.arrival), (True, 4))
@@ -205,10 +213,12 @@ class Backwards(unittest.TestCase):
 
 
 class Conversions(unittest.TestCase):
-    """Case F in words: L = 20, M = 1, from 0 at velocity 10, to a fixed target at 10 with velocity 10."""
+    """Case F in words: L = 20, M = 1, from 0 at velocity 10, to a fixed target at 10 with velocity
+    10."""
 
     def words(self, asked):
-        return [0x10000001, 0x20000000 + asked, 0x30000000, 0x4000000A, 0x50000014, 0x60000001, 0x70000000, 0x80000080, 0x9000000A,
+        return [0x10000001, 0x20000000 + asked, 0x30000000, 0x4000000A, 0x50000014, 0x60000001, 0x70000000, 0x80000080,
+                0x9000000A,
                 0xA000000A, 0xF0000000]
 
     def test_case_f(self):
@@ -269,7 +279,8 @@ class Tables(unittest.TestCase):
         self.assertEqual([row[1][2] for row in plan.table.tolist()], plan.accelerations(4).tolist())
 
     def test_positions_have_their_ends(self):
-        """A head that starts away from its target goes past its start: from velocity -3 by one a tick it turns at -4.5."""
+        """A head that starts away from its target goes past its start: from velocity -3 by
+        one a tick it turns at -4.5."""
         away = Axis(start=RestPoint(0, -3), speed_limit=10, acceleration_limit=1, half_period=0, damping=Weight(128),
                     target=Fixed(1))
         plan = Job({0: away}).plan()
@@ -312,7 +323,8 @@ class Inputs(unittest.TestCase):
     """What a field of the header cannot hold is turned down, and never cut to fit."""
 
     def test_numbers_that_do_not_fit(self):
-        for wrong in (to(2**63), to(1, -1), to(1, 2**32), to(1, speed_limit=-1), to(1, half_period=2**32), to(1, damping=Weight(-1))):
+        for wrong in (to(2**63), to(1, -1), to(1, 2**32), to(1, speed_limit=-1), to(1, half_period=2**32),
+                      to(1, damping=Weight(-1))):
             self.assertRaises(ValueError, wrong.plan)
         self.assertRaises(ValueError, Job({6: field_axis(Fixed(1))}).plan)
         self.assertRaises(ValueError, polgamir.plan_words, [2**32])
@@ -417,7 +429,8 @@ class Header(unittest.TestCase):
 
     def test_constants(self):
         constants = {"AXES": polgamir.AXES, "WINDOWS": polgamir.MOST_WINDOWS, "LATEST_ARRIVAL": polgamir.LATEST_ARRIVAL,
-                     "FINE_STEPS": polgamir.FINE_STEPS, "MOST_CELLS": polgamir.MOST_CELLS, "MOST_STOPS": polgamir.MOST_STOPS,
+                     "FINE_STEPS": polgamir.FINE_STEPS, "MOST_CELLS": polgamir.MOST_CELLS,
+                     "MOST_STOPS": polgamir.MOST_STOPS,
                      "LONGEST_DWELL": polgamir.LONGEST_DWELL}
         self.assertEqual({name: self.macro(name) for name in constants}, constants)
         parts = [self.macro(f"VERSION_{part}") for part in ("MAJOR", "MINOR", "PATCH")]
@@ -439,8 +452,10 @@ class Module(unittest.TestCase):
 
     def said(self, **variables):
         """What a program prints that asks for the library's version, with these variables."""
-        code = "import polgamir\ntry:\n    print(polgamir.version())\nexcept polgamir.LibraryError as error:\n    print(error)"
-        run = subprocess.run([sys.executable, "-c", code], cwd=HERE.parent, env=variables, capture_output=True, text=True, check=True)
+        code = ("import polgamir\ntry:\n    print(polgamir.version())\n"
+                "except polgamir.LibraryError as error:\n    print(error)")
+        run = subprocess.run([sys.executable, "-c", code], cwd=HERE.parent, env=variables, capture_output=True,
+                             text=True, check=True)
         return run.stdout
 
     def test_a_library_that_is_not_there(self):
@@ -449,14 +464,17 @@ class Module(unittest.TestCase):
             self.assertIn("/no/such/", self.said(**variables))
 
     def test_the_named_library_is_taken(self):
-        """A library of another version, and one that does not say its version, are named with what is wrong."""
+        """A library of another version, and one that does not say its version,
+        are named with what is wrong."""
         compiler = shutil.which("cc")
         if not compiler:
             self.skipTest("there is no C compiler")
         with tempfile.TemporaryDirectory() as folder:
-            for source, wanted in (("unsigned polgamir_version(void) { return 3001004; }", "3.1.4"), ("int other;", "no polgamir library")):
+            for source, wanted in (("unsigned polgamir_version(void) { return 3001004; }", "3.1.4"),
+                                   ("int other;", "no polgamir library")):
                 file = Path(folder) / "libother.so"
-                subprocess.run([compiler, "-shared", "-fPIC", "-x", "c", "-o", str(file), "-"], input=source, text=True, check=True)
+                subprocess.run([compiler, "-shared", "-fPIC", "-x", "c", "-o", str(file), "-"], input=source, text=True,
+                               check=True)
                 said = self.said(POLGAMIR_LIBRARY=str(file), POLGAMIR_LIB_DIR="/no/such/folder")
                 self.assertIn(str(file), said)
                 self.assertIn(wanted, said)
@@ -464,7 +482,8 @@ class Module(unittest.TestCase):
             patched = (polgamir.version() // 1_000 * 1_000) + 999
             subprocess.run([compiler, "-shared", "-fPIC", "-x", "c", "-o", str(file), "-"], check=True, text=True,
                            input=f"unsigned polgamir_version(void) {{ return {patched}; }}")
-            self.assertIn("has no polgamir_plan_words", self.said(POLGAMIR_LIBRARY=str(file)))  # the version itself would do
+            # the version itself would do
+            self.assertIn("has no polgamir_plan_words", self.said(POLGAMIR_LIBRARY=str(file)))
             file = Path(folder) / "renamed.so"
             shutil.copy(_loader.library_file(), file)
             self.assertEqual(self.said(POLGAMIR_LIBRARY=str(file)), f"{polgamir.version()}\n")
@@ -476,7 +495,8 @@ class Module(unittest.TestCase):
         self.assertEqual(self.said(), f"{polgamir.version()}\n")
 
     def test_the_wheel(self):
-        """The wheel has the package and the library, is the same each time, and plans where it is unpacked."""
+        """The wheel has the package and the library, is the same each time, and
+        plans where it is unpacked."""
         sys.path.insert(0, str(HERE.parent / "build_backend"))
         import polgamir_wheel
 
@@ -492,18 +512,22 @@ class Module(unittest.TestCase):
             site = Path(folder) / "site"
             with zipfile.ZipFile(one) as archive:
                 archive.extractall(site)
-                listed = {line.split(",")[0] for line in archive.read(f"polgamir-{polgamir.__version__}.dist-info/RECORD").decode().split()}
+                record = archive.read(f"polgamir-{polgamir.__version__}.dist-info/RECORD").decode()
+                listed = {line.split(",")[0] for line in record.split()}
                 self.assertEqual(listed, set(archive.namelist()))
-            sources = {f"polgamir/{file.name}" for file in (HERE.parent / "polgamir").glob("*.py")} | {"polgamir/py.typed"}
+            sources = {f"polgamir/{file.name}"
+                       for file in (HERE.parent / "polgamir").glob("*.py")} | {"polgamir/py.typed"}
             self.assertLessEqual(sources, listed)
-            run = subprocess.run([sys.executable, "-c", code], cwd=site, env={}, capture_output=True, text=True, check=True)
+            run = subprocess.run([sys.executable, "-c", code], cwd=site, env={}, capture_output=True, text=True,
+                                 check=True)
             package = site.resolve() / "polgamir"
             self.assertEqual(run.stdout, f"{package / '__init__.py'} {package / 'libpolgamir.so'} [0, 64, 192, 256]\n")
 
     def test_the_example_draws_or_prints(self):
         with tempfile.TemporaryDirectory() as folder:
             file = Path(folder) / "table.png"
-            run = subprocess.run([sys.executable, str(HERE.parent / "examples" / "draw_table.py"), str(file)], capture_output=True, text=True)
+            run = subprocess.run([sys.executable, str(HERE.parent / "examples" / "draw_table.py"), str(file)],
+                                 capture_output=True, text=True)
             self.assertEqual((run.returncode, run.stderr), (0, ""))
             self.assertTrue(run.stdout.startswith("arrival 110"), run.stdout)
             self.assertTrue(file.exists() or "nothing is drawn" in run.stdout)

@@ -1,4 +1,5 @@
-"""The module against the reference of tests/reference, which is written from the definitions and shares nothing with the library."""
+"""The module against the reference of tests/reference, which is written from the definitions and
+shares nothing with the library."""
 
 import struct
 import sys
@@ -45,7 +46,8 @@ def axis_of(axis):
 
 def job_of(case):
     axes = {bit: axis_of(axis) for bit, axis in enumerate(case.axes) if case.mask >> bit & 1}
-    windows = case.windows and polgamir.Windows(case.windows.dwell, [polgamir.Window(*pair) for pair in case.windows.pairs])
+    windows = case.windows and polgamir.Windows(case.windows.dwell,
+                                                [polgamir.Window(*pair) for pair in case.windows.pairs])
     return polgamir.Job(axes, case.asked, windows)
 
 
@@ -146,7 +148,8 @@ class AgainstTheReference(unittest.TestCase):
         for case in raisecases.raises_cases().cases + raisecases.drawn_raises().cases:
             answer, axes = raisecases.raised(case)
             mask = answer.mask if answer.number else 0  # an accepted job's own is not handed on
-            expected = (answer.number, answer.place, mask, answer.arrival), [(axis, list(map(tuple, raises))) for axis, raises in axes]
+            expected = (answer.number, answer.place, mask,
+                        answer.arrival), [(axis, list(map(tuple, raises))) for axis, raises in axes]
             self.assertEqual(raises_of(case), expected, case.name)
 
     def test_backwards(self):

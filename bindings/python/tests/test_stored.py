@@ -1,5 +1,5 @@
-"""What is stored of the reference is what it gives: the cases for the tests from outside, and what the programs `engines` and `table` are
-to print."""
+"""What is stored of the reference is what it gives: the cases for the tests from outside, and what
+the programs `engines` and `table` are to print."""
 
 import sys
 import unittest

@@ -1,4 +1,5 @@
-"""The bound on the sway that a table leaves: numbers worked out by hand, and poles that are swung by the table itself."""
+"""The bound on the sway that a table leaves: numbers worked out by hand, and poles that
+are swung by the table itself."""
 
 import doctest
 import math
@@ -14,7 +15,8 @@ sys.path[:0] = [str(HERE), str(HERE.parent), str(HERE.parents[2] / "tests" / "re
 
 import cases
 import misfit
-from polgamir import (Axis, Fixed, Job, Moving, Refusal, RestPoint, SwayLeft, Weight, acceleration_changes, misfit_bound,
+from polgamir import (Axis, Fixed, Job, Moving, Refusal, RestPoint, SwayLeft, Weight, acceleration_changes,
+                      misfit_bound,
                       second_sway_bound, sway_bound, sway_left, sways)
 from test_reference import axis_of, damping_of
 
@@ -24,14 +26,16 @@ def on_pole(half_period, weight, second=None, target=Fixed(4), acceleration_limi
 
 
 def greatest_left(accelerations, half_period, ratio):
-    """How far the top of an oscillator is from where it comes to rest, at most, over a period from the arrival on: the sum of what
-    each change of acceleration c leaves at a time t after it, c/s e^(-dt) (cos wt + d/w sin wt), with s = w**2 + d**2."""
+    """How far the top of an oscillator is from where it comes to rest, at most, over a period from
+    the arrival on: the sum of what each change of acceleration c leaves at a time t after it, c/s
+    e^(-dt) (cos wt + d/w sin wt), with s = w**2 + d**2."""
     w, d = math.pi / half_period, -math.log(ratio) / half_period
     changes = [after - before for before, after in zip([0, *accelerations], accelerations)]
 
     def left(time):
         ages = ((change, time - tick) for tick, change in enumerate(changes) if change)
-        return sum(c * math.exp(-d * t) * (math.cos(w * t) + d / w * math.sin(w * t)) for c, t in ages) / (w * w + d * d)
+        return sum(c * math.exp(-d * t) * (math.cos(w * t) + d / w * math.sin(w * t))
+                   for c, t in ages) / (w * w + d * d)
 
     arrival = len(changes) - 1
     return max(abs(left(arrival + 2 * half_period * point / 60)) for point in range(60))
@@ -109,7 +113,8 @@ class AgainstTheReference(unittest.TestCase):
             ratio = Fraction(rows.axis.second_weight, 256 - rows.axis.second_weight)
             pole = misfit.Pole(rows.axis.half_period + late, ratio + more)
             if pole.half_period > 0 and pole.ratio > 0:
-                self.assertEqual(misfit_bound(axis, late, more, g, d), math.ceil(misfit.pole_misfit(rows.axis, pole, g, d)))
+                self.assertEqual(misfit_bound(axis, late, more, g, d),
+                                 math.ceil(misfit.pole_misfit(rows.axis, pole, g, d)))
                 self.assertEqual(sway_bound(axis, n, late, more), misfit.pole_left(rows.axis, n, pole))
                 tried += 1
             second = misfit.Pole((axis.second_half_period or 0) + late, 1 + more, second=True)
@@ -124,8 +129,10 @@ class Poles(unittest.TestCase):
         drawn, tried = random.Random(34), 0
         for _ in range(120):
             second = drawn.choice([None, drawn.randint(1, 20)])
-            target = drawn.choice([Fixed(drawn.randint(-900, 900)), Moving(drawn.randint(-300, 300), 0, 0 if second else 1, drawn.randint(0, 90))])
-            axis = on_pole(drawn.randint(0, 20), drawn.choice([128, drawn.randint(1, 128)]), second, target, drawn.randint(1, 9), drawn.randint(1, 90))
+            target = drawn.choice([Fixed(drawn.randint(-900, 900)),
+                                   Moving(drawn.randint(-300, 300), 0, 0 if second else 1, drawn.randint(0, 90))])
+            axis = on_pole(drawn.randint(0, 20), drawn.choice([128, drawn.randint(1, 128)]), second, target,
+                           drawn.randint(1, 9), drawn.randint(1, 90))
             late, more = Fraction(drawn.randint(-99, 99), 30), Fraction(-drawn.randint(0, 99), 400)
             try:
                 plan = Job({0: axis}).plan()

@@ -1,5 +1,6 @@
-//! Finds the proved library and links it, after a look at whether it is there, has this crate's version and, in the repository, is
-//! no older than its sources. It says which library it took; each error says what to run.
+//! Finds the proved library and links it, after a look at whether it is there, has this
+//! crate's version and, in the repository, is no older than its sources. It says which
+//! library it took; each error says what to run.
 
 use std::path::{Path, PathBuf};
 use std::process::Command;
@@ -53,7 +54,8 @@ fn main() {
     println!("cargo::metadata=lib_dir={}", folder.display());
 }
 
-/// The library to link: the one that is named, else an installed one of this version, else the repository's.
+/// The library to link: the one that is named, else an installed one of this
+/// version, else the repository's.
 fn found() -> Result<Found, String> {
     if let Some(folder) = env::var_os(FOLDER_VARIABLE) {
         return Ok(Found { folder: folder.into(), by: "which POLGAMIR_LIB_DIR names", sources: None });
@@ -68,8 +70,8 @@ fn found() -> Result<Found, String> {
         return Ok(Found { folder, by: "which tools/library wrote", sources });
     }
     Err(format!(
-        "no proved library: {FOLDER_VARIABLE} names no folder, {}, and this crate does not stand in its repository; install \
-         polgamir {}, or set {FOLDER_VARIABLE} to the folder that has libpolgamir.a",
+        "no proved library: {FOLDER_VARIABLE} names no folder, {}, and this crate does not stand in its repository; \
+         install polgamir {}, or set {FOLDER_VARIABLE} to the folder that has libpolgamir.a",
         installed.unwrap_err(),
         env!("CARGO_PKG_VERSION")
     ))
@@ -103,8 +105,8 @@ fn look_at(library: &Path, sources: Option<&Path>) -> Result<(), String> {
     let shown = library.display();
     let Ok(built) = fs::metadata(library).and_then(|file| file.modified()) else {
         return Err(format!(
-            "the proved library {shown} is missing (`rt ci` and `.ci/run` remove target/): run `tools/library` at the root of \
-             the repository, or set {FOLDER_VARIABLE} to the folder that has libpolgamir.a"
+            "the proved library {shown} is missing (`rt ci` and `.ci/run` remove target/): run `tools/library` at the \
+             root of the repository, or set {FOLDER_VARIABLE} to the folder that has libpolgamir.a"
         ));
     };
     if let Some(sources) = sources.filter(|folder| folder.is_dir()) {
@@ -126,16 +128,16 @@ fn look_at(library: &Path, sources: Option<&Path>) -> Result<(), String> {
     match version_in(library) {
         Some(version) if version / 1_000 == wanted / 1_000 => Ok(()), // patches fit each other, as the header promises
         Some(version) => Err(format!(
-            "the proved library {shown} has version {}.{}.{}, and this crate is for {}: run `tools/library` in the repository \
-             of this crate, or install polgamir {3}",
+            "the proved library {shown} has version {}.{}.{}, and this crate is for {}: run `tools/library` in the \
+             repository of this crate, or install polgamir {3}",
             version / 1_000_000,
             version / 1_000 % 1_000,
             version % 1_000,
             env!("CARGO_PKG_VERSION")
         )),
         None => Err(format!(
-            "the proved library {shown} does not say its version, or does not link here, on {}: run `tools/library` in the \
-             repository of this crate, on x86-64 Linux",
+            "the proved library {shown} does not say its version, or does not link here, on {}: run `tools/library` in \
+             the repository of this crate, on x86-64 Linux",
             env::var("HOST").unwrap_or_default()
         )),
     }
@@ -159,7 +161,8 @@ fn newest_in(folder: &Path) -> io::Result<Option<(SystemTime, PathBuf)>> {
     Ok(newest)
 }
 
-/// This crate's version, as `polgamir_version` counts it: 1,000,000 × major + 1,000 × minor + patch.
+/// This crate's version, as `polgamir_version` counts it: 1,000,000 × major + 1,000 × minor +
+/// patch.
 fn own_version() -> u32 {
     let parts = [env!("CARGO_PKG_VERSION_MAJOR"), env!("CARGO_PKG_VERSION_MINOR"), env!("CARGO_PKG_VERSION_PATCH")];
     let [major, minor, patch] = parts.map(|part| part.parse::<u32>().expect("a part of a version is a number"));

@@ -1,6 +1,6 @@
 /*
- * All that the library takes from outside on a Cortex-M, beside what the compiler's own libgcc has. A C library has both as well. What the library
- * moves is nearly always words of four bytes.
+ * All that the library takes from outside on a Cortex-M, beside what the compiler's own libgcc has.
+ * A C library has both as well. What the library moves is nearly always words of four bytes.
  */
 #include <stddef.h>
 #include <stdint.h>

@@ -1,10 +1,12 @@
-/* Semihosting: a debugger or an emulator prints and reads files for a program that has no operating system. */
+/* Semihosting: a debugger or an emulator prints and reads files for a program that has no operating
+   system. */
 #ifndef SEMIHOSTING_H
 #define SEMIHOSTING_H
 
 #include <stdint.h>
 
-/* An operation by its number, with the block of words that it takes; gives back what the operation does. */
+/* An operation by its number, with the block of words that it takes; gives back what the operation
+   does. */
 long semihosting(long operation, const void *block);
 
 /* Prints a text. */

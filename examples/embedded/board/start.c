@@ -1,6 +1,7 @@
 /*
- * From reset to main, on a Cortex-M and, for the tests, on a 32-bit RISC-V: the floating-point unit switched on, and the memory cleared. No
- * variable has an initial value but 0; memory.ld sees to it.
+ * From reset to main, on a Cortex-M and, for the tests, on a 32-bit RISC-V: the
+ * floating-point unit switched on, and the memory cleared. No variable has an initial
+ * value but 0; memory.ld sees to it.
  */
 #include <stdint.h>
 
@@ -9,7 +10,8 @@
 extern uint32_t clear_from[], clear_to[], stack_top[];
 int main(void);
 
-/* The unit is off after reset. It then rounds to nearest and keeps subnormal numbers (FPSCR is 0), as the library asks for. */
+/* The unit is off after reset. It then rounds to nearest and keeps subnormal numbers (FPSCR
+   is 0), as the library asks for. */
 static void switch_floats_on(void)
 {
 #if defined(__ARM_FP)

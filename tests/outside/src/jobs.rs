@@ -1,4 +1,5 @@
-//! Random jobs: near and quick, far and long, and damaged ones, as typed values and as words; and random tours.
+//! Random jobs: near and quick, far and long, and damaged ones, as typed values
+//! and as words; and random tours.
 
 mod damaged;
 mod dampings;

@@ -1,8 +1,9 @@
 //! Rules 4 and 5 of docs/METHOD.md for one axis, by areas.
 //!
-//! Between its two ramps a clamped velocity list is flat at the cruise. Its sum is therefore the flat rectangle, less
-//! what the upper envelope cuts off at either end, plus what the lower envelope adds there. Each of these is a triangle
-//! or a trapezium of whole steps, clipped to nothing where a ramp or the flat part is missing.
+//! Between its two ramps a clamped velocity list is flat at the cruise. Its sum is therefore the
+//! flat rectangle, less what the upper envelope cuts off at either end, plus what the lower
+//! envelope adds there. Each of these is a triangle or a trapezium of whole steps, clipped to
+//! nothing where a ramp or the flat part is missing.
 
 /// What a velocity list for ticks 0 to `ticks` must meet, in fine steps.
 #[derive(Clone, Copy, Debug)]
@@ -26,7 +27,8 @@ pub struct Leg {
 pub struct Chosen {
     leg: Leg,
     pub cruise: i64,
-    /// The ticks whose velocity is one above its clamped cruise: from `raised_from` on, `raised` of them.
+    /// The ticks whose velocity is one above its clamped cruise: from
+    /// `raised_from` on, `raised` of them.
     raised_from: i64,
     raised: i64,
 }
@@ -46,7 +48,8 @@ fn ceiling(x: i64, by: i64) -> i64 {
 }
 
 impl Leg {
-    /// The leg with every velocity negated: its upper envelope is this one's lower envelope, negated.
+    /// The leg with every velocity negated: its upper envelope is this one's lower envelope,
+    /// negated.
     fn mirrored(self) -> Leg {
         Leg { first: -self.first, last: -self.last, sum: -self.sum, ..self }
     }
@@ -60,7 +63,8 @@ impl Leg {
         rising + falling
     }
 
-    /// The sum over ticks 1 to `to` of `cruise` brought between the envelopes, for a cruise within the limit.
+    /// The sum over ticks 1 to `to` of `cruise` brought between the envelopes,
+    /// for a cruise within the limit.
     pub fn clamped_sum(self, cruise: i64, to: i64) -> i64 {
         cruise * to - self.cut_off(cruise, to) + self.mirrored().cut_off(-cruise, to)
     }
@@ -87,8 +91,8 @@ impl Leg {
                 beyond = middle;
             }
         }
-        // A tick rises at cruise + 1 where neither envelope holds it at cruise: from here on, as far as the start's
-        // ramps go.
+        // A tick rises at cruise + 1 where neither envelope holds it at cruise: from here on,
+        // as far as the start's ramps go.
         let free_of_start = ceiling((self.first - cruise).max(cruise + 1 - self.first), self.slope);
         Chosen {
             leg: self,
@@ -128,8 +132,8 @@ mod tests {
     use crate::random::Random;
     use std::collections::HashSet;
 
-    /// Every sum over ticks 1 to `ticks` - 1 of a velocity list with the leg's ends and limits, found by trying all
-    /// lists.
+    /// Every sum over ticks 1 to `ticks` - 1 of a velocity list with the leg's ends and
+    /// limits, found by trying all lists.
     fn all_sums(leg: Leg) -> HashSet<i64> {
         let mut reached: HashSet<(i64, i64)> = HashSet::from([(leg.first, 0)]);
         for tick in 1..=leg.ticks {

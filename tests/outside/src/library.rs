@@ -7,8 +7,8 @@ use crate::reference::{
     Windows,
 };
 
-/// Damping and second half period in C's layout, with `fill` where nothing is looked at, and 0 in the other fields. Any number but 0
-/// says that there is a second half period.
+/// Damping and second half period in C's layout, with `fill` where nothing is looked at, and 0 in
+/// the other fields. Any number but 0 says that there is a second half period.
 fn blend(axis: &Axis, fill: u64) -> polgamir_limits {
     let unread = f32::from_bits(fill as u32);
     let mut fields = polgamir_limits {
@@ -46,7 +46,8 @@ fn laid_out_windows(windows: Option<Windows>, fill: u64) -> polgamir_windows {
     all
 }
 
-/// An axis in C's layout. A value that it does not have is `fill`; so is the kind of a moving target, unless that is 0.
+/// An axis in C's layout. A value that it does not have is `fill`; so is the kind of a
+/// moving target, unless that is 0.
 fn laid_out_axis(axis: &Axis, fill: u64) -> polgamir_axis {
     let (unread, moving) = (fill as i64, (fill as u32).max(1));
     let (target_position, target_velocity, target_acceleration, target_tick, target_kind) = match axis.target {
@@ -152,7 +153,8 @@ pub fn plan_tour(tour: &Tour, stops: &[Stop], list: &mut [u32]) -> Toured {
     }
 }
 
-/// What a call for raises returned: the raises of the axes that its answer names. Every other place is empty.
+/// What a call for raises returned: the raises of the axes that its answer
+/// names. Every other place is empty.
 fn raised(of: polgamir_raises) -> Raised {
     let answer = answer(of.answer);
     let named = if answer.number == 8 { answer.mask } else { 0 };

@@ -1,5 +1,6 @@
-//! docs/METHOD.md written out in Rust, without the library: what a call must return and what it must leave. Velocities
-//! and positions come from closed sums (module `leg`), so a row is found without the rows before it.
+//! docs/METHOD.md written out in Rust, without the library: what a call must return and
+//! what it must leave. Velocities and positions come from closed sums (module `leg`), so a
+//! row is found without the rows before it.
 
 mod converter;
 mod damping;

@@ -1,4 +1,5 @@
-//! Swing lists: whole entries g(0) to g(m) with A g(i + h) + B g(i) = 0 for every i from 0 to m - h.
+//! Swing lists: whole entries g(0) to g(m) with A g(i + h) + B g(i) = 0 for every i from 0 to m -
+//! h.
 
 use crate::random::Random;
 
@@ -11,14 +12,15 @@ fn lowest(b: i128, a: i128) -> (i128, i128) {
     (b / x, a / x)
 }
 
-/// The entries of a residue class, first one first: g, -g b/a, g b²/a², .. are whole because g has the factor a for
-/// each step.
+/// The entries of a residue class, first one first: g, -g b/a, g b²/a², .. are whole because g
+/// has the factor a for each step.
 fn class(random: &mut Random, b: i128, a: i128, steps: u32) -> Vec<i128> {
     let seed = i128::from(random.between(-9, 9));
     (0..=steps).map(|n| seed * (-b).pow(n) * a.pow(steps - n)).collect()
 }
 
-/// The largest m, up to `most`, for which every class of a list has entries below 2^60 times a small seed.
+/// The largest m, up to `most`, for which every class of a list has entries
+/// below 2^60 times a small seed.
 pub fn longest(h: usize, second_weight: i64, most: usize) -> usize {
     let (_, a) = lowest(i128::from(second_weight), i128::from(256 - second_weight));
     if a == 1 {
@@ -28,7 +30,8 @@ pub fn longest(h: usize, second_weight: i64, most: usize) -> usize {
     most.min(h * (steps as usize + 1) - 1)
 }
 
-/// A swing list for tick m, where `m` is at most `longest`. Some classes are zero, some lists zero altogether.
+/// A swing list for tick m, where `m` is at most `longest`. Some classes are
+/// zero, some lists zero altogether.
 pub fn list(random: &mut Random, h: usize, second_weight: i64, m: usize) -> Vec<i128> {
     let (b, a) = lowest(i128::from(second_weight), i128::from(256 - second_weight));
     let mut g = vec![0; m + 1];
@@ -52,7 +55,8 @@ pub fn is_swing(g: &[i128], h: usize, second_weight: i64) -> bool {
     (h..g.len()).all(|i| a * g[i] + b * g[i - h] == 0)
 }
 
-/// The sway left at tick m = g.len() - 1: the changes of acceleration over the rows, each times its entry.
+/// The sway left at tick m = g.len() - 1: the changes of acceleration over the rows, each times its
+/// entry.
 pub fn sway(accelerations: &[i64], g: &[i128]) -> i128 {
     let m = g.len() - 1;
     let mut before = 0;

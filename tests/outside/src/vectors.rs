@@ -1,4 +1,5 @@
-//! Reads the case files of tests/reference/vectors: a line is a name, a call and what is expected of it.
+//! Reads the case files of tests/reference/vectors: a line is a name, a call and what is expected
+//! of it.
 
 use std::str::{FromStr, SplitAsciiWhitespace};
 
@@ -157,7 +158,8 @@ impl<'a> Tokens<'a> {
         assert_eq!(got, want);
     }
 
-    /// What is expected of a tour: an answer whose fields the method leaves free where it is not refused, and the total.
+    /// What is expected of a tour: an answer whose fields the method leaves free where it
+    /// is not refused, and the total.
     pub fn toured(&mut self, got: Toured) {
         let free = Answer { number: 0, place: 0, mask: 0, arrival: 0 };
         self.answer(got.err().unwrap_or(free));

@@ -1,6 +1,6 @@
-//! The library and the reference agree on random jobs, valid and damaged, from words and from typed values, with rows in
-//! either order: on the answer and on every lent cell, those past the table and those of a refused call among them. More than 200,000 calls
-//! are compared.
+//! The library and the reference agree on random jobs, valid and damaged, from words and from typed
+//! values, with rows in either order: on the answer and on every lent cell, those past the table
+//! and those of a refused call among them. More than 200,000 calls are compared.
 
 use outside::jobs::{self, Reach};
 use outside::library;
@@ -14,8 +14,8 @@ struct Comparison {
     want: Vec<i64>,
     /// How many calls gave each number.
     seen: [usize; 19],
-    /// How many jobs that search past tick `LONG` are still tried; the others are left out, since such a search takes
-    /// milliseconds.
+    /// How many jobs that search past tick `LONG` are still tried; the others are left out, since
+    /// such a search takes milliseconds.
     long_searches: usize,
 }
 

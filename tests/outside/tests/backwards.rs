@@ -1,5 +1,5 @@
-//! Request 2.13, rows from arrival backwards: the library's two calls give one answer, and the rows of the one are those of
-//! the other from the last to the first, for every grid.
+//! Request 2.13, rows from arrival backwards: the library's two calls give one answer, and the rows
+//! of the one are those of the other from the last to the first, for every grid.
 
 use outside::jobs::{self, Reach};
 use outside::library;
@@ -24,7 +24,8 @@ fn both(job: &Job, from_words: bool, cells: usize) -> (Answer, [Vec<i64>; 2]) {
     (answer, tables)
 }
 
-/// The rows are reversed, not their cells; row N is at cell 0, and what comes after the last row is as it was.
+/// The rows are reversed, not their cells; row N is at cell 0, and what comes
+/// after the last row is as it was.
 fn reversed(job: &Job, from_words: bool, cells: usize) -> Answer {
     let (answer, [forwards, backwards]) = both(job, from_words, cells);
     if answer.number != 0 {

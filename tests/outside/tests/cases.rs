@@ -1,5 +1,6 @@
-//! The field cases and the traps of docs/METHOD.md, and jobs that its text decides where it is easily misread, with the method's
-//! own numbers: the library and the reference both give them, from typed values and from words.
+//! The field cases and the traps of docs/METHOD.md, and jobs that its text decides where it is
+//! easily misread, with the method's own numbers: the library and the reference both give them,
+//! from typed values and from words.
 
 use outside::jobs;
 use outside::library;
@@ -187,7 +188,8 @@ fn poles_with_a_second_sway() {
     // A head that moves starts as it moved before tick 0.
     let passing = Axis { start_velocity: 2, second: Some(2), ..after(2, 2, 0, 1) };
     assert_eq!(outcome(one(passing), 12).1, [[0, 512, 0], [512, 512, 0], [1024, 512, 0], [1536, 512, 0]]);
-    // 15 after 5 and before 6; 16 after 6, also where h is 0 or B is 128; both by number, then by axis.
+    // 15 after 5 and before 6; 16 after 6, also where h is 0 or B is 128; both by number, then by
+    // axis.
     for (second, number) in [(0, 15), (1, 0), (256, 0), (257, 15)] {
         assert_eq!(outcome(one(Axis { second: Some(second), ..to(1) }), 2_000).0.number, number);
     }
@@ -215,7 +217,8 @@ fn flying_fixed_targets_go() {
     assert_eq!(refused(job(&[flying(10), Axis { second: Some(1), ..after(0, 0, 1, 0) }])), (16, 1, 0, 0));
     let windowed = Job { windows: Some(Windows::new(0, &[])), ..f };
     assert_eq!(library::plan_typed(&windowed, &mut []).number, 17);
-    // A fixed target at rest and a moving one are as they were, also where the latter goes on uniformly.
+    // A fixed target at rest and a moving one are as they were, also where the latter goes on
+    // uniformly.
     assert_eq!(arrival(one(after(10, 0, 0, 7))), arrival(one(to(10))));
 }
 

@@ -1,5 +1,6 @@
-//! Request 2.11, the converter: the library and the reference agree on random old jobs, whole and damaged, on the answer and
-//! on every lent word; and the library plans a converted job to the table that the old rules give the old one.
+//! Request 2.11, the converter: the library and the reference agree on random old jobs, whole and
+//! damaged, on the answer and on every lent word; and the library plans a converted job to the
+//! table that the old rules give the old one.
 
 use outside::jobs::{self, word, Reach};
 use outside::library;
@@ -17,7 +18,8 @@ fn agrees(words: &[u32], count: usize) -> Result<Vec<u32>, Answer> {
     converted.map(|count| got[..count].to_vec())
 }
 
-/// The converted job's table by the library is that of the old job by the old rules, and both have one answer.
+/// The converted job's table by the library is that of the old job by the old
+/// rules, and both have one answer.
 fn equal_tables(old: &[u32], new: &[u32]) -> u32 {
     let old = reference::decode(old).expect("a job that is converted is well spelled");
     let mut want = vec![7; 3 * 6 * 100];
@@ -96,8 +98,8 @@ fn f_and_g_converted() {
     assert_eq!(agrees(&jobs::words(&one(flying(10))), 40), Err(refused));
 }
 
-/// Every mask of six axes that fly, each with all the words that an axis can have: up to 81 converted words. Every number of
-/// lent words about those needed.
+/// Every mask of six axes that fly, each with all the words that an axis can have: up to 81
+/// converted words. Every number of lent words about those needed.
 #[test]
 fn every_mask_and_every_length() {
     for mask in 1..64 {

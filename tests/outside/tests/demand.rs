@@ -1,6 +1,7 @@
-//! Demand 3 of docs/METHOD.md on the tables that the library writes, whose rows are read by tick: the landing is exact, both misses are at most 3/2 fine
-//! steps on every row, and the sway of every kind of swing list, of either rate, is 0 before rounding and at most N times G
-//! as rounded. The start is exact and the limits on cells hold too.
+//! Demand 3 of docs/METHOD.md on the tables that the library writes, whose rows are read by tick:
+//! the landing is exact, both misses are at most 3/2 fine steps on every row, and the sway of every
+//! kind of swing list, of either rate, is 0 before rounding and at most N times G as rounded. The
+//! start is exact and the limits on cells hold too.
 
 use outside::jobs::{self, Reach};
 use outside::library;
@@ -37,7 +38,8 @@ fn cells_are_within_limits(axis: &Axis, rows: &[[i64; 3]]) {
     assert!(rows.iter().all(|&[_, v, a]| v.abs() <= speed && a.abs() <= acceleration), "{axis:?}");
 }
 
-/// The delay and the second weight of each blend of an axis: the swings that it cancels. The second swing is undamped.
+/// The delay and the second weight of each blend of an axis: the swings that it
+/// cancels. The second swing is undamped.
 fn rates(axis: &Axis) -> Vec<(usize, i64)> {
     let first = (axis.half_period > 0).then_some((axis.half_period as usize, axis.weight()));
     first.into_iter().chain(axis.second.map(|delay| (delay as usize, 128))).collect()
@@ -83,8 +85,9 @@ fn cells_are_rounded_alike(planned: &Planned, axis: &Axis, rows: &[[i64; 3]]) {
     }
 }
 
-/// What was tried: axes that landed, and of them those far out on the rail and those after accelerating targets on damped
-/// poles; and swing lists that are not zero, of undamped and of damped first swings and of second ones.
+/// What was tried: axes that landed, and of them those far out on the rail and those after
+/// accelerating targets on damped poles; and swing lists that are not zero, of undamped and of
+/// damped first swings and of second ones.
 #[derive(Debug, Default)]
 struct Tried {
     axes: usize,

@@ -1,5 +1,5 @@
-//! Values at the ends of their types and ranges, one field at a time and on every axis; every mask; tables of every
-//! length about the cells needed.
+//! Values at the ends of their types and ranges, one field at a time and on every axis; every mask;
+//! tables of every length about the cells needed.
 
 use outside::jobs::{ratio_ends, with_signed, with_unsigned, word, words, SIGNED_ENDS, SINGLE_ENDS, UNSIGNED_ENDS};
 use outside::library;
@@ -18,8 +18,8 @@ const FIXED: Axis = Axis {
 
 const MOVING: Axis = Axis { target: Target::Moving { position: 7, velocity: 3, acceleration: 0, tick: 2 }, ..FIXED };
 
-/// The answers and the cells agree. An asked arrival keeps the library from a long search; a job without one reaches
-/// its target soon.
+/// The answers and the cells agree. An asked arrival keeps the library from a long search; a job
+/// without one reaches its target soon.
 fn agrees(job: &Job, cells: usize) -> Answer {
     let mut got: Vec<i64> = (0..cells as i64).map(|i| !i).collect();
     let mut want = got.clone();
@@ -29,8 +29,8 @@ fn agrees(job: &Job, cells: usize) -> Answer {
     answer
 }
 
-/// Each of some fields at each of some values, on every axis: among six axes, and alone. `rows` of a table are lent to
-/// six axes and enough to one.
+/// Each of some fields at each of some values, on every axis: among six axes, and alone. `rows` of
+/// a table are lent to six axes and enough to one.
 fn at_every_end<T: Copy>(fields: usize, ends: &[T], with: fn(Axis, usize, T) -> Axis, asked: u32, rows: usize) {
     for axis in [FIXED, MOVING] {
         for i in 0..6 {
@@ -67,7 +67,8 @@ fn words_agree(words: &[u32], cells: usize) -> Answer {
     answer
 }
 
-/// Positions of two words at the ends of either payload, on every axis, as start and as target and as both.
+/// Positions of two words at the ends of either payload, on every axis, as
+/// start and as target and as both.
 #[test]
 fn long_positions_at_every_end() {
     let job = Job { mask: 63, asked: 9, axes: [FIXED; 6], windows: None };

@@ -1,5 +1,6 @@
-//! The fields of every struct that passes between C and the library: what is marked `#[repr(C)]` in the crates has the header's fields, in its
-//! order and with its types. bindings/c/layout.h holds the offsets by number.
+//! The fields of every struct that passes between C and the library: what is marked
+//! `#[repr(C)]` in the crates has the header's fields, in its order and with its types.
+//! bindings/c/layout.h holds the offsets by number.
 
 use std::collections::BTreeMap;
 use std::fs;
@@ -33,7 +34,8 @@ fn in_crates() -> BTreeMap<String, Fields> {
             for part in text.split("#[repr(C)]\npub struct ").skip(1) {
                 let (name, rest) = part.split_once(" {").unwrap();
                 let fields = rest.split_once("\n}").unwrap().0.trim().lines().map(|line| {
-                    let (name, kind) = line.trim().trim_start_matches("pub ").trim_end_matches(',').split_once(": ").unwrap();
+                    let (name, kind) =
+                        line.trim().trim_start_matches("pub ").trim_end_matches(',').split_once(": ").unwrap();
                     (name.to_string(), kind.to_string())
                 });
                 found.insert(header_name(name), fields.collect());

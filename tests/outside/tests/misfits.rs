@@ -1,6 +1,7 @@
-//! Section 25 of docs/METHOD.md on the tables that the library writes: no list leaves more sway than what the planned acceleration
-//! changes at most, times the list's greatest misfit; as rounded N times its greatest entry more. Lists of any entries, and lists
-//! that fit another half period and another ratio, with several entries to a tick.
+//! Section 25 of docs/METHOD.md on the tables that the library writes: no list leaves more sway
+//! than what the planned acceleration changes at most, times the list's greatest misfit; as rounded
+//! N times its greatest entry more. Lists of any entries, and lists that fit another half period
+//! and another ratio, with several entries to a tick.
 
 use outside::jobs::{self, Reach};
 use outside::library;
@@ -8,7 +9,8 @@ use outside::random::Random;
 use outside::reference::{Axis, Job, Order, Planned};
 use outside::swing;
 
-/// An axis of an accepted job: the exact accelerations of its rows, its cells, and what its planned accelerations change in all.
+/// An axis of an accepted job: the exact accelerations of its rows, its cells, and what its
+/// planned accelerations change in all.
 struct Rows<'a> {
     axis: &'a Axis,
     arrival: usize,
@@ -60,7 +62,8 @@ impl Rows<'_> {
         (w.len() - 1 - self.arrival..=last).map(|i| self.misfit(w, i).abs()).max().unwrap()
     }
 
-    /// The bound holds of a list whose greatest misfit and entry are at most these, each a fraction with the denominator `parts`.
+    /// The bound holds of a list whose greatest misfit and entry are at most these, each a
+    /// fraction with the denominator `parts`.
     fn hold(&self, w: &[i128], misfit: i128, size: i128, parts: i128) {
         let most = self.most_changes() * misfit;
         assert!(parts * swing::sway(&self.exact, w).abs() <= most, "before rounding: {:?}", self.axis);
@@ -74,7 +77,8 @@ struct Tried {
     lists: usize,
     poles: usize,
     second_poles: usize,
-    /// Axes with no blend whose planned accelerations change as much as any may: the bound is attained.
+    /// Axes with no blend whose planned accelerations change as much as any may: the bound is
+    /// attained.
     sharp: usize,
 }
 

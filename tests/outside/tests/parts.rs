@@ -1,5 +1,5 @@
-//! Rows in parts: the library gives what the reference gives, for fuzzed first rows and table sizes, and parts put together are
-//! the whole table.
+//! Rows in parts: the library gives what the reference gives, for fuzzed first rows and table
+//! sizes, and parts put together are the whole table.
 
 use outside::jobs::{self, Reach};
 use outside::library;
@@ -19,7 +19,8 @@ fn first_row(random: &mut Random, arrival: u32) -> u32 {
     }
 }
 
-/// One call from typed values and, where words can say the job, one from words: each as the reference has it.
+/// One call from typed values and, where words can say the job, one from words: each as the
+/// reference has it.
 fn as_the_reference(job: &Job, first: u32, cells: usize) -> (u32, u32) {
     let lent: Vec<i64> = (0..cells as i64).map(|i| !i).collect();
     let mut wanted = lent.clone();

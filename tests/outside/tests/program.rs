@@ -1,5 +1,5 @@
-//! The table program prints what the reference prints. `rt check table` builds it to target/bin/table; the variable
-//! POLGAMIR_TABLE names another place.
+//! The table program prints what the reference prints. `rt check table` builds it to
+//! target/bin/table; the variable POLGAMIR_TABLE names another place.
 
 use std::fs::OpenOptions;
 use std::io::Write;
@@ -97,7 +97,8 @@ fn a_table_that_just_fits_and_one_that_does_not() {
     }
 }
 
-/// The job of the most words: six axes after moving targets, with long positions and second half periods.
+/// The job of the most words: six axes after moving targets, with long
+/// positions and second half periods.
 fn longest() -> Vec<u8> {
     let axis = |i: i64| Axis {
         start_position: (i - 3) << 32,

@@ -1,6 +1,6 @@
-//! Request 2.10, the smallest change that makes an asked arrival: the library and the reference agree on random jobs, valid
-//! and damaged, from words and from typed values; and planning by the library bears a raise out: it is enough, and one less
-//! is not.
+//! Request 2.10, the smallest change that makes an asked arrival: the library and the reference
+//! agree on random jobs, valid and damaged, from words and from typed values; and planning by the
+//! library bears a raise out: it is enough, and one less is not.
 
 use outside::jobs::{self, Reach, SIGNED_ENDS, UNSIGNED_ENDS};
 use outside::library;
@@ -11,7 +11,8 @@ use outside::reference::{raises_of_words, Answer, Axis, Job, Raise, Raised, Wind
 /// A search that ends later than this, or nowhere, is a long one, and is left out.
 const LONG: i64 = 200;
 
-/// How often an axis that was named had no raise, one of M, one of L, or both with the one or the other first, or equal.
+/// How often an axis that was named had no raise, one of M, one of L, or both with the
+/// one or the other first, or equal.
 #[derive(Debug, Default)]
 struct Seen {
     numbers: [usize; 19],
@@ -59,7 +60,8 @@ fn arrives(axis: Axis, tick: u32) -> bool {
     answer.number == 10
 }
 
-/// Every raise is enough and one less is not; a limit without a raise is not enough at the end of its range.
+/// Every raise is enough and one less is not; a limit without a raise is not
+/// enough at the end of its range.
 fn borne_out(job: &Job, (_, axes): &Raised) {
     for (i, raises) in axes {
         let axis = &job.axes[*i];
@@ -93,7 +95,8 @@ fn words_agree(seen: &mut Seen, words: &[u32]) {
     seen.raised(&got);
 }
 
-/// A job with an asked arrival: at the edge of its reach or a tick early, near or quick, or after accelerating targets.
+/// A job with an asked arrival: at the edge of its reach or a tick early, near or
+/// quick, or after accelerating targets.
 fn drawn(random: &mut Random) -> Job {
     match random.below(6) {
         0 | 1 => {

@@ -1,15 +1,15 @@
-//! Reach goes on: what the theorem says of every axis and every job, held to every tick by brute force.
-//! An axis that reaches an arrival reaches the next one, unless its target is too fast by then; the
-//! arrivals at which it is slow enough are one run of ticks; what an axis reaches is one run, and so is
-//! what all axes of a job reach.
+//! Reach goes on: what the theorem says of every axis and every job, held to every tick by brute
+//! force. An axis that reaches an arrival reaches the next one, unless its target is too fast by
+//! then; the arrivals at which it is slow enough are one run of ticks; what an axis reaches is one
+//! run, and so is what all axes of a job reach.
 
 use outside::jobs::{self, Reach};
 use outside::library;
 use outside::random::Random;
 use outside::reference::{Axis, Damping, Job, Target, UNSET};
 
-/// Whether each tick from 0 to the last is reached by the axes of a mask. No cell is lent: a reached
-/// arrival is refused by 10.
+/// Whether each tick from 0 to the last is reached by the axes of a mask. No cell is lent: a
+/// reached arrival is refused by 10.
 fn reached(job: &Job, mask: u32, last: u32) -> Vec<bool> {
     let mut asking = Job { mask, windows: None, ..*job };
     (0..=last)
@@ -20,8 +20,8 @@ fn reached(job: &Job, mask: u32, last: u32) -> Vec<bool> {
         .collect()
 }
 
-/// Rule 4's condition on speed, in 1/256 of a unit and with no grid: the planned velocities at the landing
-/// and at the arrival.
+/// Rule 4's condition on speed, in 1/256 of a unit and with no grid: the planned velocities at
+/// the landing and at the arrival.
 fn slow(axis: &Axis, tick: u32) -> bool {
     let (h, second) = (i128::from(axis.half_period), i128::from(axis.second.unwrap_or(0)));
     let (v, a, t) = match axis.target {
@@ -43,8 +43,8 @@ fn runs(marks: &[bool]) -> usize {
     marks.iter().zip(before).filter(|(&now, &before)| now && !before).count()
 }
 
-/// Holds an axis of a job to the theorem. Answers the number of its runs, and whether the run ended before
-/// the last tick.
+/// Holds an axis of a job to the theorem. Answers the number of its runs, and whether the
+/// run ended before the last tick.
 fn hold_axis(job: &Job, number: usize, last: u32) -> (usize, bool) {
     let axis = &job.axes[number];
     let ticks = reached(job, 1 << number, last);

@@ -1,5 +1,6 @@
-//! Request 2.12, planning between servo turns: the library and the reference agree on random searches, valid and damaged,
-//! from words and from typed values; and searches that are continued end in the report of an undivided one.
+//! Request 2.12, planning between servo turns: the library and the reference agree on random
+//! searches, valid and damaged, from words and from typed values; and searches that are continued
+//! end in the report of an undivided one.
 
 use outside::jobs::{self, Reach, UNSIGNED_ENDS};
 use outside::library;
@@ -122,8 +123,8 @@ fn random_searches_of_words_agree() {
     assert!(seen.numbers[2] > 50 && seen.numbers[14] > 0 && seen.numbers[18] > 100, "{seen:?}");
 }
 
-/// A search that is continued from spent by the library, with budgets that are drawn: its last report, the sum of its tried
-/// candidates, and its calls.
+/// A search that is continued from spent by the library, with budgets that are drawn: its last
+/// report, the sum of its tried candidates, and its calls.
 fn continued(job: &Job, first: u32, mut budget: impl FnMut() -> u32) -> (Searched, usize) {
     let (mut from, mut tried) = (first, 0);
     for calls in 1.. {
@@ -158,7 +159,8 @@ fn continued_searches_end_as_undivided_ones() {
     assert!(seen.found > 100 && seen.none > 30, "{seen:?}");
 }
 
-/// With a budget of 1 a search that finds nothing ends with call 4,096; turns without a budget change nothing.
+/// With a budget of 1 a search that finds nothing ends with call 4,096; turns
+/// without a budget change nothing.
 #[test]
 fn one_candidate_a_turn() {
     let nowhere = one(Axis { speed_limit: 1, ..to(100_000_000) });

@@ -1,4 +1,5 @@
-//! Tours: the library and the reference agree on random ones, valid and damaged, on the answer and on every lent entry.
+//! Tours: the library and the reference agree on random ones, valid and damaged, on the
+//! answer and on every lent entry.
 
 use outside::jobs::{self, SIGNED_ENDS, UNSIGNED_ENDS};
 use outside::library;

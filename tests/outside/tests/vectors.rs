@@ -1,5 +1,5 @@
-//! The case files of tests/reference/vectors, which another reference wrote: the library and the reference of this crate
-//! both give what they expect.
+//! The case files of tests/reference/vectors, which another reference wrote: the library and the
+//! reference of this crate both give what they expect.
 
 use outside::library;
 use outside::reference::{self, Answer, Order};
@@ -41,7 +41,8 @@ const CELL: i64 = -1_234_567_890_123;
 const ENTRY: u32 = 987_654_321;
 const WORD: u32 = 0xDEAD_BEEF;
 
-/// The table that is expected: how many cells are written, their sum, and some of them; the rest is as it was.
+/// The table that is expected: how many cells are written, their sum, and some
+/// of them; the rest is as it was.
 fn table(expected: &mut Tokens, cells: &[i64]) {
     expected.is("table");
     let (written, wanted): (usize, u64) = (expected.number(), expected.number());

@@ -1,5 +1,6 @@
-// Calls polgamir.wasm from JavaScript, for the tests of this folder. Structs are laid out as bindings/c/layout.h says; numbers of 64 bits are BigInts.
-// A job is read from the tokens of a case (tests/reference/README.md).
+// Calls polgamir.wasm from JavaScript, for the tests of this folder. Structs are laid out as
+// bindings/c/layout.h says; numbers of 64 bits are BigInts. A job is read from the tokens of a
+// case (tests/reference/README.md).
 
 const CELL = -1234567890123n, ENTRY = 987654321, WORD = 0xDEADBEEF;
 
@@ -38,8 +39,9 @@ class Library {
   i64(at, value) { this.memory.setBigInt64(at, BigInt.asIntN(64, value), true); }
   clear(at, bytes) { new Uint8Array(this.memory.buffer, at, bytes).fill(0); }
 
-  // Makes a call of the header; the place of the answer comes first where it is a struct. The stack, at the start of the memory, is painted before it:
-  // how far down the paint is gone says what the call took.
+  // Makes a call of the header; the place of the answer comes first where it is a
+  // struct. The stack, at the start of the memory, is painted before it: how far down
+  // the paint is gone says what the call took.
   call(name, ...values) {
     const stack = new Uint8Array(this.memory.buffer, 0, 65536).fill(0xA5);
     const given = this.calls[name](...values);
@@ -106,7 +108,8 @@ function putWindows(library, tokens) {
   pairs.slice(0, 32).flat().forEach((tick, i) => library.u32(at + 16 + 4 * i, tick));
 }
 
-// Writes the job; gives back the name of the call for it and what the call takes: the words and their count, or the job's place.
+// Writes the job; gives back the name of the call for it and what the call takes: the words and
+// their count, or the job's place.
 function putJob(library, tokens, name) {
   if (tokens.word() === 'words') return [name.replace('_job', '_words'), ...putWords(library, tokens)];
   library.clear(library.job, 856);

@@ -132,12 +132,14 @@ function runJob(library, name, bytes, text) {
   return printed(library) === text ? null : `${name}: the stored text is another one`;
 }
 
-// All of it: vectors as texts, jobs as [name, bytes, text]. Gives back the failures, and the lines to print.
+// All of it: vectors as texts, jobs as [name, bytes, text]. Gives back the
+// failures, and the lines to print.
 async function runAll(wasm, version, vectors, jobs) {
   const { instance } = await WebAssembly.instantiate(wasm, {});
   const library = new Library(instance);
   const lines = vectors.flatMap((text) => text.split('\n')).filter((line) => line !== '' && !line.startsWith('#'));
-  const failures = [...lines.map((line) => runLine(library, line)), ...jobs.map((job) => runJob(library, ...job))].filter((x) => x !== null);
+  const failures = [...lines.map((line) => runLine(library, line)),
+                    ...jobs.map((job) => runJob(library, ...job))].filter((x) => x !== null);
   if (library.call('polgamir_version') !== version) failures.push('the version is another one');
   for (const name of Object.keys(instance.exports)) {
     if (name.startsWith('polgamir_') && !library.made.has(name)) failures.push(`${name} was not called`);

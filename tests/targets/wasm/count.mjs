@@ -2,15 +2,17 @@
 //
 //     node count.mjs WASM JOB
 //
-// The module is written anew with a counter: each run of instructions up to one that may branch adds its length. Marks of structure (block, loop, else,
-// end) do not count, and a copy of memory is one instruction.
+// The module is written anew with a counter: each run of instructions up to one that may
+// branch adds its length. Marks of structure (block, loop, else, end) do not count, and a
+// copy of memory is one instruction.
 import { readFileSync } from 'node:fs';
 
 const [wasm, job] = process.argv.slice(2).map((name) => readFileSync(name));
 
 function encoded(number) { // unsigned LEB128
   const bytes = [];
-  for (let left = number; bytes.length === 0 || left > 0; left = Math.floor(left / 128)) bytes.push(left % 128 + (left >= 128 ? 128 : 0));
+  for (let left = number; bytes.length === 0
+       || left > 0; left = Math.floor(left / 128)) bytes.push(left % 128 + (left >= 128 ? 128 : 0));
   return bytes;
 }
 
@@ -35,9 +37,11 @@ function skip(code, opcode) {
   else if (opcode === 0x1C) code.take(code.number());
   else if (opcode === 0x43) code.take(4);
   else if (opcode === 0x44) code.take(8);
-  else if (opcode === 0xFC) for (let left = { 8: 2, 9: 1, 10: 2, 11: 1 }[code.number()] ?? 0; left > 0; left--) code.number();
+  else if (opcode === 0xFC) for (let left = { 8: 2, 9: 1, 10: 2, 11: 1 }[code.number()] ?? 0; left > 0;
+                                 left--) code.number();
   else if (opcode === 0x11 || (opcode >= 0x28 && opcode <= 0x3E)) { code.number(); code.number(); }
-  else if ([0x02, 0x03, 0x04, 0x0C, 0x0D, 0x10, 0x3F, 0x40, 0x41, 0x42].includes(opcode) || (opcode >= 0x20 && opcode <= 0x24)) code.number();
+  else if ([0x02, 0x03, 0x04, 0x0C, 0x0D, 0x10, 0x3F, 0x40, 0x41, 0x42].includes(opcode)
+           || (opcode >= 0x20 && opcode <= 0x24)) code.number();
   else if (opcode > 0xC4) throw new Error(`opcode ${opcode}`);
 }
 
@@ -80,7 +84,8 @@ function withCounter(bytes) {
       content = [...encoded(counter + 1), ...section.bytes.subarray(section.at), 0x7E, 1, 0x42, 0, 0x0B];
     } else if (id === 7) {
       const name = [...Buffer.from('counter')];
-      content = [...encoded(section.number() + 1), ...section.bytes.subarray(section.at), name.length, ...name, 3, ...encoded(counter)];
+      content = [...encoded(section.number() + 1), ...section.bytes.subarray(section.at), name.length, ...name, 3,
+                 ...encoded(counter)];
     } else if (id === 10) {
       const bodies = Array.from({ length: section.number() }, () => counted(section.take(section.number()), counter));
       content = [encoded(bodies.length), ...bodies.map((body) => [...encoded(body.length), ...body])].flat();

@@ -1,7 +1,8 @@
 // Runs the stored vectors with polgamir.wasm:
 //
 //     node run.mjs WASM VERSION FILE..              # in node
-//     node run.mjs --page WASM VERSION FILE..       # prints a page that does the same in a browser, with nothing fetched
+//     node run.mjs --page WASM VERSION FILE..       # prints a page that does the same
+//                                                   in a browser, with nothing fetched
 //
 // FILE is a file of vectors, or a job (NAME.job), whose text stands beside it.
 import { readFileSync } from 'node:fs';

@@ -56,7 +56,8 @@ pub enum Task {
 /// A recorded tap that a report is given.
 #[derive(Debug, PartialEq, Eq)]
 pub struct TapOf {
-    /// The axis that it was recorded for, by number or name; `None` for every axis with a half period.
+    /// The axis that it was recorded for, by number or name; `None` for every axis with a half
+    /// period.
     pub axis: Option<String>,
     /// The record.
     pub tapped: Tapped,

@@ -113,7 +113,8 @@ impl From<Usage> for Failure {
     }
 }
 
-/// Does what is asked. What was asked for goes to the file that is named, if one is, a refusal too: no older answer stands there then.
+/// Does what is asked. What was asked for goes to the file that is named, if one is, a refusal too:
+/// no older answer stands there then.
 pub fn run(request: &Request) -> Result<Done, Failure> {
     if let Task::Tap(tapped @ Tapped { picture: Some(picture), .. }) = &request.task {
         return draw_tap(tapped, picture);
@@ -180,7 +181,8 @@ fn plan(source: &Source, sheet: &Sheet, form: PlanForm, cells: Option<usize>) ->
     }
 }
 
-/// Plans a job and prints some of its rows or its refusal. Rows past the arrival are not there; a first one past it is an error.
+/// Plans a job and prints some of its rows or its refusal. Rows past the arrival are not there; a
+/// first one past it is an error.
 fn plan_part(source: &Source, sheet: &Sheet, form: PlanForm, rows: RowRange) -> Result<Done, String> {
     let mut cells = vec![0; 3 * sheet.job.entered().count() * rows.count()];
     let part = match polgamir::plan_part(&sheet.job, rows.first, &mut cells) {
@@ -287,7 +289,8 @@ fn read_tap(tapped: &Tapped) -> Result<Tap, FileError> {
     tap::read(text, tapped.rate(), tapped.column).map_err(|cause| about(&tapped.record, cause))
 }
 
-/// Draws a recorded tap; its lines are printed all the same, but where the picture itself is printed.
+/// Draws a recorded tap; its lines are printed all the same, but where the picture itself is
+/// printed.
 fn draw_tap(tapped: &Tapped, picture: &Path) -> Result<Done, Failure> {
     let tap = read_tap(tapped).map_err(|error| Failure::Input(error.beside_older(picture)))?;
     let title = Source::of(&tapped.record).title;

@@ -1,11 +1,14 @@
-//! The exact accelerations of a plan, before its cells are rounded: rules 2, 3 and 5 of docs/METHOD.md and its blend, in whole numbers.
+//! The exact accelerations of a plan, before its cells are rounded: rules 2, 3 and 5 of
+//! docs/METHOD.md and its blend, in whole numbers.
 //!
-//! The planner hands out rounded cells alone. What a pole keeps of their rounding is told apart from the rest by these. They are held
-//! against every acceleration cell of the table, and where one differs there are none.
+//! The planner hands out rounded cells alone. What a pole keeps of their rounding is told apart
+//! from the rest by these. They are held against every acceleration cell of the table, and
+//! where one differs there are none.
 
 use polgamir::{Axis, Motion, State, Target};
 
-/// The exact accelerations of rows 0 to arrival in units per tick², or `None` where they do not round to the table's cells.
+/// The exact accelerations of rows 0 to arrival in units per tick², or `None` where they do
+/// not round to the table's cells.
 pub fn accelerations(axis: &Axis, rows: &[Motion]) -> Option<Vec<f64>> {
     let arrival = rows.len() as i64 - 1;
     let leg = Leg::of(axis, arrival)?;
@@ -15,7 +18,8 @@ pub fn accelerations(axis: &Axis, rows: &[Motion]) -> Option<Vec<f64>> {
     met.then(|| blended.into_iter().map(|exact| exact as f64 / (256 * divisor) as f64).collect())
 }
 
-/// A target as a moving one: a fixed one is read as not accelerating, at its position at the arrival.
+/// A target as a moving one: a fixed one is read as not accelerating, at its position at the
+/// arrival.
 fn moving(target: Target, arrival: i64) -> State {
     match target {
         Target::Fixed(point) => {
@@ -50,7 +54,8 @@ struct Leg {
 }
 
 impl Leg {
-    /// Rules 2 and 3; `None` where the damping gives no weight or the arrival is not after the half periods.
+    /// Rules 2 and 3; `None` where the damping gives no weight or the arrival
+    /// is not after the half periods.
     fn of(axis: &Axis, arrival: i64) -> Option<Leg> {
         let (weight, half_period) = (i64::from(axis.damping.weight()?), i64::from(axis.half_period));
         let second_half_period = axis.second_half_period.map(i64::from);
@@ -115,7 +120,8 @@ impl Leg {
         (cruise, self.required - sum(cruise))
     }
 
-    /// The planned accelerations of ticks 0 to arrival: the changes of the list that rule 5 chooses, then the target's.
+    /// The planned accelerations of ticks 0 to arrival: the changes of the list that
+    /// rule 5 chooses, then the target's.
     fn accelerations(&self, arrival: i64) -> Vec<i64> {
         let (cruise, mut remainder) = self.cruise();
         let mut velocities = vec![self.start_velocity];
@@ -130,7 +136,8 @@ impl Leg {
         changes.chain((self.ticks..=arrival).map(|_| self.end_acceleration)).collect()
     }
 
-    /// The blend of planned accelerations at a tick, times the sum of its weights; they are 0 before tick 0.
+    /// The blend of planned accelerations at a tick, times the sum of its
+    /// weights; they are 0 before tick 0.
     fn blended(&self, planned: &[i64], tick: i64) -> i64 {
         let at = |tick: i64| usize::try_from(tick).map_or(0, |tick| planned[tick]);
         let once = |tick: i64| (256 - self.weight) * at(tick) + self.weight * at(tick - self.half_period);
@@ -170,7 +177,8 @@ mod tests {
         }
     }
 
-    /// Of drawn jobs every acceleration cell is the exact one, rounded: on each of the three grids, and on each kind of target.
+    /// Of drawn jobs every acceleration cell is the exact one, rounded: on each of the three
+    /// grids, and on each kind of target.
     #[test]
     fn they_round_to_the_cells() {
         let (mut drawn, mut grids) = (Drawn(7), [0; 3]);

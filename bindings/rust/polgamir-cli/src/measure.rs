@@ -1,4 +1,5 @@
-//! In which measures the numbers of a sheet are shown: units and ticks, or what the sheet says that these stand for.
+//! In which measures the numbers of a sheet are shown: units and ticks, or what the
+//! sheet says that these stand for.
 
 use polgamir::sheet::{Sheet, TourSheet, Unit};
 use polgamir::{in_units, Motion};
@@ -71,8 +72,8 @@ impl Measure {
         std::array::from_fn(|quantity| in_units(cells[quantity]) * sizes[quantity])
     }
 
-    /// The decimals that show a fine step of positions, velocities and accelerations; eight show them exactly where a unit
-    /// stands for itself.
+    /// The decimals that show a fine step of positions, velocities and accelerations; eight show
+    /// them exactly where a unit stands for itself.
     pub fn decimals(&self) -> [usize; 3] {
         self.sizes().map(|size| match size {
             1.0 => 8,
@@ -81,7 +82,8 @@ impl Measure {
     }
 }
 
-/// A number of ticks in seconds, as a remark after them: ` (2.2 s)`, or nothing where a tick's seconds are not said.
+/// A number of ticks in seconds, as a remark after them: ` (2.2 s)`, or nothing
+/// where a tick's seconds are not said.
 pub fn in_seconds(ticks: u32, tick: Option<f64>) -> String {
     match tick {
         Some(tick) => format!(" ({} s)", rounded(f64::from(ticks) * tick)),
@@ -118,7 +120,8 @@ mod tests {
         assert_eq!(plain.decimals(), [8, 8, 8]);
     }
 
-    /// 512 fine steps of a hundredth of a degree are 0.02 degree; by ticks of 1/4 second, four times and sixteen times that.
+    /// 512 fine steps of a hundredth of a degree are 0.02 degree; by ticks of 1/4 second,
+    /// four times and sixteen times that.
     #[test]
     fn scales_are_applied() {
         let scaled = measure("tick 0.25\nunit 0.5 degree");

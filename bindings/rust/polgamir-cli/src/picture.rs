@@ -1,6 +1,6 @@
-//! The picture of a plan: for each axis position, velocity and acceleration with their limits, the target's beside them and how
-//! both go on after arrival, and the sway of the pole, at each of its rates, beside the sway that the same job would leave without the
-//! blend.
+//! The picture of a plan: for each axis position, velocity and acceleration with their limits, the
+//! target's beside them and how both go on after arrival, and the sway of the pole, at each of its
+//! rates, beside the sway that the same job would leave without the blend.
 
 pub mod chart;
 mod course;
@@ -30,7 +30,8 @@ pub use page::AxisPictures;
 pub use refused::draw_refusal;
 pub use tour::{draw_tour, tour_pictures, LEGEND as TOUR_LEGEND};
 
-/// The width of a panel that is a picture of its own on a page: readable at a third of a screen, on a phone, and at a third of A4.
+/// The width of a panel that is a picture of its own on a page: readable at a third of a screen, on
+/// a phone, and at a third of A4.
 pub const PANEL_WIDTH: f64 = 290.0;
 
 /// Draws the plan of a sheet.
@@ -96,7 +97,8 @@ fn timeline(sheet: &Sheet, ticks: Ticks) -> Timeline {
     Timeline { tick, last: ticks.last, spans, marks: vec![Mark { tick: ticks.arrival, label }] }
 }
 
-/// What the lines and areas of a job's picture stand for; the sway without the blend only where the picture compares.
+/// What the lines and areas of a job's picture stand for; the sway without the blend
+/// only where the picture compares.
 fn legend(job: &Job, compares: bool) -> Vec<(&'static str, Sample)> {
     let mut legend = vec![
         ("plan", Sample::Line(stroke::PLAN)),
@@ -126,12 +128,13 @@ fn heading(title: &str, sheet: &Sheet, arrival: u32) -> String {
 /// What a sway is.
 pub const SWAY: &str =
     "Sway: that of an oscillator with the half period and the damping as entered, at rest at tick 0 and driven by the \
-                    table's accelerations. A real pole's sway is in proportion to it; it is not the tip in degrees.";
+     table's accelerations. A real pole's sway is in proportion to it; it is not the tip in degrees.";
 
 /// What is left of it.
 pub const LEFT: &str =
-    "Left: the greatest sway from arrival on, measured from where the pole comes to rest. On a pole that fits the weight the exact plan \
-     leaves 0, which is proved; rounding the damping to a weight and the cells to 1/256 unit leaves the rest.";
+    "Left: the greatest sway from arrival on, measured from where the pole comes to rest. On a pole that fits the \
+     weight the exact plan leaves 0, which is proved; rounding the damping to a weight and the cells to 1/256 unit \
+     leaves the rest.";
 
 /// What a second sway is, after another sentence.
 const SECOND: &str =
@@ -150,7 +153,10 @@ fn caption(job: &Job, unblended: Option<&Result<Planned, Refusal>>) -> String {
         true => (SECOND, " and no second one"),
         false => ("", ""),
     };
-    format!("{SWAY}{second} {LEFT} Without the blend: the same job planned with half period 0 on every axis{and_none}, {comparison}.")
+    format!(
+        "{SWAY}{second} {LEFT} Without the blend: the same job planned with half period 0 on every axis{and_none}, \
+         {comparison}."
+    )
 }
 
 /// What the windows of a job are, after another sentence.
@@ -171,7 +177,8 @@ pub fn without_blend(job: &Job) -> Job {
     job
 }
 
-/// The ticks to draw after the arrival: a period or two of the slowest pole, so that what is left of the sway shows.
+/// The ticks to draw after the arrival: a period or two of the slowest pole, so that
+/// what is left of the sway shows.
 fn time_after(job: &Job, arrival: u32) -> u32 {
     let slowest = |axis: &Axis| axis.half_period.max(axis.second_half_period.unwrap_or(0));
     let half_period = job.entered().map(|(_, axis)| slowest(axis)).max().unwrap_or(0);

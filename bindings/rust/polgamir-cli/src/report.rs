@@ -1,7 +1,8 @@
-//! The report of a plan, or of a tour: one HTML page with the sheet as entered, the answer, the pictures, and what a maker asks first.
+//! The report of a plan, or of a tour: one HTML page with the sheet as entered, the answer, the
+//! pictures, and what a maker asks first.
 //!
-//! Arrivals and raises are the planner's own answers, limits and misses are read off the table, and the sway is that of
-//! `picture::sway`, which is tested against the oscillator's closed form.
+//! Arrivals and raises are the planner's own answers, limits and misses are read off the table, and
+//! the sway is that of `picture::sway`, which is tested against the oscillator's closed form.
 
 mod arrivals;
 mod as_entered;
@@ -59,17 +60,18 @@ pub fn written(title: &str, entered: &str, sheet: &Sheet, records: &[Record]) ->
 }
 
 /// How the numbers of a report were made.
-const METHOD: &str = "Arrival and table are those of the proved planner, which lands on the target exactly and leaves no sway before rounding on \
-    a pole that fits half period and weight. Other arrivals, and the limits that would do, are its answers to the same job with the half periods, \
-    the asked tick or one limit changed. Positions, limits and carry misses are read off the table's cells. The sway is computed: an oscillator \
-    with the half period and the swing ratio that are named, at rest at tick 0, follows each row's acceleration until the next row, by the exact \
-    solution for a constant acceleration; nothing is approximated but by double-precision floats. What rounding leaves is computed from the exact \
-    accelerations, which are worked out again from the method and checked against every cell. The bound is the theorem sway-most, worked out in \
-    whole numbers and rounded upward.";
+const METHOD: &str = "Arrival and table are those of the proved planner, which lands on the target exactly and leaves \
+    no sway before rounding on a pole that fits half period and weight. Other arrivals, and the limits that would do, \
+    are its answers to the same job with the half periods, the asked tick or one limit changed. Positions, limits and \
+    carry misses are read off the table's cells. The sway is computed: an oscillator with the half period and the \
+    swing ratio that are named, at rest at tick 0, follows each row's acceleration until the next row, by the exact \
+    solution for a constant acceleration; nothing is approximated but by double-precision floats. What rounding leaves \
+    is computed from the exact accelerations, which are worked out again from the method and checked against every \
+    cell. The bound is the theorem sway-most, worked out in whole numbers and rounded upward.";
 
 /// What a carry miss is.
-const CARRIED: &str = "A row that is carried on by one tick, to position + velocity + acceleration / 2 and velocity + acceleration, misses the \
-    next row by at most 3/2 fine steps of 1/256 unit; this is proved of every table.";
+const CARRIED: &str = "A row that is carried on by one tick, to position + velocity + acceleration / 2 and velocity + \
+    acceleration, misses the next row by at most 3/2 fine steps of 1/256 unit; this is proved of every table.";
 
 /// What a report tells of.
 struct Report<'s> {
@@ -153,9 +155,9 @@ impl<'s> Report<'s> {
     fn answer(&self) -> String {
         let arrival = self.plan.arrival();
         let text = format!(
-            "Accepted: number 0, mask {}, arrival {}. The table has rows 0 to {arrival} and {} cells. Row 0 is on the start and row {arrival} \
-             on the target, both exactly. The least and the greatest position are those of the rows; a head that starts away from its target goes \
-             past its start. {NOT_LIMITED}",
+            "Accepted: number 0, mask {}, arrival {}. The table has rows 0 to {arrival} and {} cells. Row 0 is on the \
+             start and row {arrival} on the target, both exactly. The least and the greatest position are those of the \
+             rows; a head that starts away from its target goes past its start. {NOT_LIMITED}",
             self.plan.axes().0,
             self.tick(arrival),
             self.plan.cells().len()
@@ -192,8 +194,8 @@ impl<'s> Report<'s> {
         };
         let sway = match self.axes.iter().any(|entry| !entry.swings.is_empty()) {
             true => format!(
-                " Sway is in proportion to the real pole's, at each of its rates; it is not the tip in degrees. After arrival there should be \
-                 next to none.{compared}"
+                " Sway is in proportion to the real pole's, at each of its rates; it is not the tip in degrees. After \
+                 arrival there should be next to none.{compared}"
             ),
             false => " No axis has a half period, so no sway is drawn.".into(),
         };
@@ -241,8 +243,8 @@ impl<'s> Report<'s> {
         if self.axes.len() > 1 {
             line("all together".into(), String::new(), self.arrivals.least, self.arrivals.least_unblended);
         }
-        let text = "Least arrivals, whatever the sheet asks for and whatever its windows, as entered and without a half period on any axis. \
-                    An axis that starts and lands at rest arrives by its half periods later.";
+        let text = "Least arrivals, whatever the sheet asks for and whatever its windows, as entered and without a \
+            half period on any axis. An axis that starts and lands at rest arrives by its half periods later.";
         let headings = ["", "half periods", "with the blend", "without", "costs, ticks"];
         html::paragraph(text) + &html::table(&headings, &rows)
     }
@@ -285,8 +287,9 @@ impl<'s> Report<'s> {
                 ]
             })
             .collect();
-        let text = "The greatest sizes among the table's cells. The planned motion keeps its limits before the blend, and so does every cell after \
-                    it; the blend adds two parts, half a period apart, so that accelerations often stay well below their limit.";
+        let text = "The greatest sizes among the table's cells. The planned motion keeps its limits before the blend, \
+            and so does every cell after it; the blend adds two parts, half a period apart, so that accelerations \
+            often stay well below their limit.";
         let headings = ["", "of the limit", "greatest", "limit", "in", "at tick", "rows at the limit"];
         html::paragraph(text) + &html::table(&headings, &rows)
     }

@@ -1,7 +1,8 @@
 //! Standard output, which may be closed.
 //!
-//! Before `main`, the language's start opens the null device in place of a standard output that is closed, and what is then
-//! printed is lost without a word. So a function looks earlier, among those that the loader calls first.
+//! Before `main`, the language's start opens the null device in place of a standard output that is
+//! closed, and what is then printed is lost without a word. So a function looks earlier, among
+//! those that the loader calls first.
 
 use std::io::{self, ErrorKind, Write};
 use std::os::fd::AsFd;

@@ -19,7 +19,8 @@ use record::Record;
 pub use request::Tapped;
 pub use text::{lines, shown};
 
-/// How many standard deviations a spread goes to either side: more than 95 of 100 truths lie within.
+/// How many standard deviations a spread goes to either side: more than 95 of 100 truths lie
+/// within.
 const WITHIN: f64 = 2.5;
 
 /// The least spread, by its number: clocks and poles are no better than that.
@@ -99,8 +100,9 @@ fn fitted(samples: &Samples) -> Result<Fit, String> {
     }
 }
 
-/// Whether a further swing takes so much away that noise cannot account for it: by the Bayesian information criterion, with a margin. Noise that
-/// goes on from sample to sample makes fewer of them count.
+/// Whether a further swing takes so much away that noise cannot account for it: by the
+/// Bayesian information criterion, with a margin. Noise that goes on from sample to
+/// sample makes fewer of them count.
 fn shows(without: &Fit, with: &Fit, samples: &Samples) -> bool {
     let follow = with.follows(samples).clamp(0.0, 0.99);
     let count = samples.times.len() as f64 * (1.0 - follow) / (1.0 + follow);
@@ -126,8 +128,8 @@ struct Before {
     fit: Fit,
 }
 
-/// The samples before something else than the swing is seen: the longest beginning of which a fit leaves about as little as of any, where the fit of
-/// all leaves more than twice that.
+/// The samples before something else than the swing is seen: the longest beginning of which a fit
+/// leaves about as little as of any, where the fit of all leaves more than twice that.
 fn before_a_push(all: &Fit, samples: &Samples) -> Option<Before> {
     let slowest = all.swings.iter().map(|swing| swing.half_period()).fold(0.0, f64::max);
     let beginning = |length: f64| {
@@ -180,7 +182,8 @@ impl Tap {
             let half = rate.half_period.value;
             if rate.swings < LEAST_SWINGS {
                 return Err(format!(
-                    "expected at least {LEAST_SWINGS} swings there and back above the noise, found {:.1} of {:.3} s each: record longer, or tap harder",
+                    "expected at least {LEAST_SWINGS} swings there and back above the noise, found {:.1} of {:.3} s \
+                     each: record longer, or tap harder",
                     rate.swings,
                     2.0 * half
                 ));
@@ -191,27 +194,33 @@ impl Tap {
             let times = &times[from..to.max(from + 2).min(times.len())];
             let in_half = times.len() as f64 * half / (times[times.len() - 1] - times[0]);
             if in_half < LEAST_RATE {
-                return Err(format!("expected at least {LEAST_RATE} samples in each half period of {half:.3} s, found {in_half:.1}: record more samples a second"));
+                return Err(format!(
+                    "expected at least {LEAST_RATE} samples in each half period of {half:.3} s, found \
+                     {in_half:.1}: record more samples a second"
+                ));
             }
             let gaps = times.windows(2).map(|pair| (pair[1] - pair[0], pair[0]));
             if let Some((gap, at)) = gaps.max_by(|one, other| one.0.total_cmp(&other.0)).filter(|(gap, _)| *gap > half)
             {
                 return Err(format!(
-                    "expected samples in every half period of {half:.3} s, found none for {gap:.3} s from {at:.3} s on: record without gaps"
+                    "expected samples in every half period of {half:.3} s, found none for {gap:.3} s from {at:.3} s \
+                     on: record without gaps"
                 ));
             }
         }
         Ok(())
     }
 
-    /// The record's time at which the last swing is used: where it sinks below the noise, or the record ends.
+    /// The record's time at which the last swing is used: where it sinks below
+    /// the noise, or the record ends.
     pub fn end(&self) -> f64 {
         let longest = self.rates.iter().map(|rate| 2.0 * rate.half_period.value * rate.swings).fold(0.0, f64::max);
         self.part.start + longest
     }
 }
 
-/// A rate with its spreads: the half period π/ω and the ratio e^(−λπ/ω), whose variances follow from those of λ and ω.
+/// A rate with its spreads: the half period π/ω and the ratio e^(−λπ/ω), whose
+/// variances follow from those of λ and ω.
 fn rate(fit: &Fit, index: usize, covariance: &solve::Matrix, deviation: f64, noise: f64, length: f64) -> Rate {
     let swing = fit.swings[index];
     let (decay, frequency) = (Fit::place_of(index) + 2, Fit::place_of(index) + 3);

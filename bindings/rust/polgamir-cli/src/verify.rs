@@ -1,4 +1,5 @@
-//! Whether a table is the table of a job: planned anew and compared cell for cell, and checked as a buyer can without a planner.
+//! Whether a table is the table of a job: planned anew and compared cell for cell, and checked
+//! as a buyer can without a planner.
 
 mod big;
 mod certificate;
@@ -77,7 +78,10 @@ pub fn verified(job: &Path, tables: &[PathBuf], standing: Standing) -> Result<Do
         }
         Compared::Part { from, to } => {
             let arrival = plan.arrival();
-            Done::well(format!("{names} is rows {from} to {to} of this job's table of rows 0 to {arrival}, each cell as planned anew.\n"))
+            Done::well(format!(
+                "{names} is rows {from} to {to} of this job's table of rows 0 to {arrival}, each cell \
+                 as planned anew.\n"
+            ))
         }
         Compared::Other(difference, rows) => {
             let head = format!("{names} is NOT the table of this job: {difference}.\n");

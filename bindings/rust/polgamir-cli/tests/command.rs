@@ -63,8 +63,8 @@ fn plan_prints_the_first_and_the_last_rows() {
     assert!(lines[..14].iter().chain(&lines[15..]).all(|line| all.contains(line)));
 }
 
-/// A head that starts away from its target goes past its start: by hand, from velocity −3 by one a tick, it turns at −4.5 after rows at
-/// −2.5, −4 and −4.5.
+/// A head that starts away from its target goes past its start: by hand, from velocity −3 by one a
+/// tick, it turns at −4.5 after rows at −2.5, −4 and −4.5.
 #[test]
 fn plan_prints_how_far_an_axis_goes() {
     let away = changed_case_c("start velocity       0", "start velocity -3").replace("arrival 4", "arrival earliest");
@@ -141,7 +141,8 @@ fn show_reads_words_back() {
         assert_eq!(printed(&run_with(&arguments, input)), (shown.clone(), Some(0)));
     }
     assert_eq!(run_with(&["words", "-"], shown.as_bytes()).stdout, text);
-    let commented = "# case C\n0x10000001 20000004 30000000 40000000 5000000a 60000001 70000000 80000080 90000001 a0000000 f0000000";
+    let commented = "# case C\n0x10000001 20000004 30000000 40000000 5000000a 60000001 70000000 80000080 90000001 \
+        a0000000 f0000000";
     let (shown, _) = printed(&run_with(&["show", "-"], commented.as_bytes()));
     assert_eq!(printed(&run_with(&["plan", "--plain", "-"], shown.as_bytes())).0, CASE_C_TABLE);
 }
@@ -171,8 +172,8 @@ fn show_tells_the_word_at_fault() {
     let told_of = |input: &[u8]| told(&run_with(&["show", "-"], input));
     assert_eq!(
         told_of(b"10000001 20000004 40000000"),
-        "polgamir: standard input: word 2: expected kind 3 (start position) or kind 14 (high part of a position), found kind 4 \
-         (40000000)\n"
+        "polgamir: standard input: word 2: expected kind 3 (start position) or kind 14 (high part of a position), \
+         found kind 4 (40000000)\n"
     );
     assert_eq!(
         told_of(b"10000001\n2000000G"),

@@ -1,4 +1,5 @@
-//! The command `polgamir` where the planner refuses: what it says to a person, and the lines that it names.
+//! The command `polgamir` where the planner refuses: what it says to a person, and the lines that
+//! it names.
 
 mod common;
 
@@ -32,8 +33,8 @@ On the set-up sheet look at \"read the arrival tick before the first sighting\".
     assert_eq!(printed(&run(&["plan", &sheet("too-soon")])), (expected.into(), Some(1)));
 
     let expected = format!(
-        "No plan: the half period or weight of axis 0 is outside its range.\nTap again and enter what the pole does.\n  \
-         line 7: axis 0: weight 129, expected 1 to 128\n{TAP} 5]\n"
+        "No plan: the half period or weight of axis 0 is outside its range.\nTap again and enter what the pole \
+         does.\n  line 7: axis 0: weight 129, expected 1 to 128\n{TAP} 5]\n"
     );
     assert_eq!(refused(&changed_case_c("weight               128", "weight 129")), expected);
 
@@ -58,7 +59,8 @@ On the set-up sheet look at \"read the arrival tick before the first sighting\".
     assert_eq!(run(&["plan", "--cells", "15", &sheet("case-c")]).status.code(), Some(0));
 }
 
-/// Axes are called by their names, ticks are told in seconds too, and limits in the sheet's measure.
+/// Axes are called by their names, ticks are told in seconds too, and limits in the sheet's
+/// measure.
 #[test]
 fn a_refusal_speaks_the_crew_s_words() {
     let text = std::fs::read_to_string(sheet("pan-tilt-stem")).expect("a sheet");
@@ -149,12 +151,12 @@ fn refusal_17_says_what_to_write() {
     );
     let told =
         "Write `target moving` with the same position and velocity, `target acceleration 0` and as `target tick` the \
-                tick at which the target is at its position.";
+         tick at which the target is at its position.";
     assert_eq!(line(&sheet.replace("arrival 4", "arrival earliest"), 1), told);
 }
 
-/// Refusal 8 says which arrivals would do. The numbers are those of a target that is met at ticks 9 to 11 only, of case L, and of case B
-/// with windows.
+/// Refusal 8 says which arrivals would do. The numbers are those of a target that is met at ticks 9
+/// to 11 only, of case L, and of case B with windows.
 #[test]
 fn refusal_8_says_the_least_arrival_that_would_do() {
     let moving = "target moving\ntarget position 8\ntarget velocity -1\ntarget acceleration 1\ntarget tick 0";
@@ -172,14 +174,15 @@ fn refusal_8_says_the_least_arrival_that_would_do() {
     let case_b = changed_case_c("target position      1", "target position 4").replace("arrival 4", windows);
     let told =
         "No plan: every axis can arrive at tick 100, but it fits no window. Earliest: tick 4; the next one after tick \
-                100: tick 2000.";
+         100: tick 2000.";
     assert_eq!(line(&case_b, 0), told);
-    let told = "Write `arrival 2000`, `arrival 4` or `arrival earliest` in line 3, or look whether the site permits other windows \
-                or a shorter dwell does.";
+    let told = "Write `arrival 2000`, `arrival 4` or `arrival earliest` in line 3, or look whether the site permits \
+        other windows or a shorter dwell does.";
     assert_eq!(line(&case_b, 1), told);
 }
 
-/// Refusal 8 says what to raise, of each axis that it names. The numbers are the method's case E and those worked out by hand.
+/// Refusal 8 says what to raise, of each axis that it names. The numbers are the method's case
+/// E and those worked out by hand.
 #[test]
 fn refusal_8_says_which_limit_to_raise() {
     let slow = changed_case_c("target position      1", "target position 9").replace("limit          10", "limit 2");

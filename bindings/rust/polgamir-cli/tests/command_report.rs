@@ -1,4 +1,5 @@
-//! The report: one page that needs no network, whose numbers are those of the table and of the planner.
+//! The report: one page that needs no network, whose numbers are those of the table and of the
+//! planner.
 
 mod common;
 
@@ -114,7 +115,8 @@ fn arrivals_are_the_planner_s() {
         assert_eq!(row(&page, name)[2..], [with.to_string(), without.to_string(), (with - without).to_string()]);
     }
     assert!(page.contains("The arrival is set by axis 0 pan: tick 110 is the least that it reaches alone."), "{page}");
-    let could_not = "it could not; it would take an acceleration limit of 3 units/tick² in place of 2, or a speed limit of 42 units/tick in place of 40";
+    let could_not = "it could not; it would take an acceleration limit of 3 units/tick² in place of 2, or a speed \
+        limit of 42 units/tick in place of 40";
     assert!(page.contains(could_not), "{page}");
     let mut turned = alone(0);
     turned.arrival = polgamir::Arrival::from(109);
@@ -132,8 +134,8 @@ fn what_sets_the_arrival_is_told() {
         ("common-arrival", "The sheet asks for tick 39, the least that suits all axes, set by axis 0 pan."),
         (
             "laser-windows",
-            "Every axis can arrive at tick 110, set by axis 0 pan; tick 150 is the least after it that suits all axes and fits a window with \
-             its dwell. Tick 149 fits none.",
+            "Every axis can arrive at tick 110, set by axis 0 pan; tick 150 is the least after it that suits all axes \
+             and fits a window with its dwell. Tick 149 fits none.",
         ),
         ("case-c", "The sheet asks for tick 4; the least that suits all axes is tick 2, set by axis 0."),
     ] {
@@ -149,7 +151,8 @@ fn what_sets_the_arrival_is_told() {
     assert!(page.contains("it could not: an arrival has to be after both half periods, 5 ticks"), "{page}");
 }
 
-/// Each sway of a pole with a joint is told under its own name, and a job without a pole has no chart and no cost.
+/// Each sway of a pole with a joint is told under its own name, and a job without a
+/// pole has no chart and no cost.
 #[test]
 fn sways_are_told_apart() {
     let page = report("jointed-pole");
@@ -173,7 +176,8 @@ fn sways_are_told_apart() {
 fn a_sway_is_in_proportion() {
     for name in SHEETS {
         let page = report(name);
-        // The title of a picture, which has a label of its own, and a column beside another that says it, need not.
+        // The title of a picture, which has a label of its own, and a column beside
+        // another that says it, need not.
         let excused = |said: &str| said.starts_with(" over the error") || said.starts_with("\">") || said.is_empty();
         for said in page.split("sway left").skip(1).filter_map(|sway| sway.split('<').next()) {
             assert!(said.contains("in proportion") || excused(said), "{name}: sway left{said}");
@@ -224,7 +228,8 @@ fn limits_and_misses_are_read_off_the_cells() {
     }
 }
 
-/// The pole as entered keeps next to nothing, an error of its half period leaves more on both sides, and never more than is proved.
+/// The pole as entered keeps next to nothing, an error of its half period leaves more on both
+/// sides, and never more than is proved.
 #[test]
 fn errors_of_the_pole_leave_sway() {
     let rows = below(&report("pan-tilt-stem"), "sway left, units in proportion, over the error of the half period");
@@ -238,7 +243,8 @@ fn errors_of_the_pole_leave_sway() {
     assert!(left.iter().zip(&bound).all(|(left, bound)| left < bound), "{bound:?}");
 }
 
-/// Entries that were rounded are listed, in the plan and in the report, each with what was entered and what is planned.
+/// Entries that were rounded are listed, in the plan and in the report, each with what
+/// was entered and what is planned.
 #[test]
 fn rounded_entries_are_listed() {
     let (plan, _) = printed(&run(&["plan", &sheet("stem-in-degrees")]));
@@ -252,7 +258,8 @@ fn rounded_entries_are_listed() {
     assert!(page.contains("29.75 ticks, 0.8<") && !report("pan-tilt-stem").contains("were rounded"));
 }
 
-/// The bound is the library's, in the sheet's measure: on a pole that is as entered, and on one whose half period is 10 percent longer.
+/// The bound is the library's, in the sheet's measure: on a pole that is as entered, and on one
+/// whose half period is 10 percent longer.
 #[test]
 fn the_bound_is_the_proved_one() {
     let text = format!("unit 0.01 degree\n{}", fs::read_to_string(sheet("pan-tilt-stem")).expect("a sheet"));
@@ -283,13 +290,15 @@ fn ticks_and_units_scale_a_report() {
     assert_eq!(row(&page, "axis 0 pan, speed")[3..5], ["20", "degree/s"]);
 }
 
-/// The report of a tour over the stops 4 and 0 on one axis: each leg is case B or its mirror image, of four ticks, and by half periods
-/// longer; a tick earlier takes one more of acceleration, as case E does.
+/// The report of a tour over the stops 4 and 0 on one axis: each leg is case B or its
+/// mirror image, of four ticks, and by half periods longer; a tick earlier takes one more
+/// of acceleration, as case E does.
 #[test]
 fn a_tour_is_told_by_its_legs() {
     let tour = |half_period: &str| {
         let text = format!(
-            "tick 0.5\naxis 1 pan\nhalf period {half_period}\nweight 128\nspeed limit 10\nacceleration limit 1\nstart position 0\n\
+            "tick 0.5\naxis 1 pan\nhalf period {half_period}\nweight 128\nspeed limit 10\nacceleration limit 1\nstart \
+             position 0\n\
              stop 4 dwell 3\nstop 0 dwell 5\n"
         );
         let (page, status) = printed(&run_with(&["report", "-o", "-", "-"], text.as_bytes()));

@@ -1,4 +1,5 @@
-//! `polgamir plan --rows A..B`: the rows are those of the method's reference (tests/reference/parts.py), in every form.
+//! `polgamir plan --rows A..B`: the rows are those of the method's reference
+//! (tests/reference/parts.py), in every form.
 
 mod common;
 
@@ -76,8 +77,8 @@ fn wrong_ranges_are_said() {
         assert_eq!(
             plan(&["--rows", wrong]),
             format!(
-                "polgamir: expected two ticks from 0 to 4096, the first not above the second, as `40..55`, after `--rows`, found \
-                 `{wrong}`; `polgamir plan --help` lists its options\n"
+                "polgamir: expected two ticks from 0 to 4096, the first not above the second, as `40..55`, after \
+                 `--rows`, found `{wrong}`; `polgamir plan --help` lists its options\n"
             )
         );
     }

@@ -1,4 +1,5 @@
-//! Sheets in a crew's units, by the command. What is expected stands in `tests/sheets` and `jobs`, made by the reference in Python.
+//! Sheets in a crew's units, by the command. What is expected stands in `tests/sheets` and `jobs`,
+//! made by the reference in Python.
 
 mod common;
 
@@ -74,6 +75,7 @@ fn a_refused_number_is_told_as_it_was_entered() {
         "line 8: pan: half period 298 (entered as `swings 10 in 11.9 s`; a longer `tick` would do), expected 0 to 256";
     assert!(long.contains(line), "{long}");
     let fast = refused("          20 degree/s\n", " 9000 degree/s\n");
-    let line = "speed limit 1800000 (entered as `speed limit 9000 degree/s`; a coarser `unit` or a shorter `tick` would do), expected 1 to";
+    let line = "speed limit 1800000 (entered as `speed limit 9000 degree/s`; a coarser `unit` or a shorter `tick` \
+        would do), expected 1 to";
     assert!(fast.contains(line), "{fast}");
 }

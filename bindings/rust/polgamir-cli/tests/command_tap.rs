@@ -1,5 +1,6 @@
-//! `polgamir tap`: from a record to the lines of a sheet. `sheets/pan-tap.csv` was made of a pole whose half period is 0.595 s and each of whose
-//! swings is 0.8 of the one before, with noise, an offset and a drift, from 0.84 s on.
+//! `polgamir tap`: from a record to the lines of a sheet. `sheets/pan-tap.csv` was made of a pole
+//! whose half period is 0.595 s and each of whose swings is 0.8 of the one before, with noise, an
+//! offset and a drift, from 0.84 s on.
 
 mod common;
 

@@ -112,7 +112,8 @@ stop  arrival, s  dwell, s  departure, s  axis 1 pan, degree
 
 #[test]
 fn wrong_tours_are_told_with_their_line() {
-    let expected = "a position for each axis, `dwell` and a whole number of ticks from 0 to 4096, or seconds as in `1 s`, after `stop`";
+    let expected = "a position for each axis, `dwell` and a whole number of ticks from 0 to 4096, or seconds as in `1 \
+        s`, after `stop`";
     let told = told_with("stop 4 dwell 3", "stop 4 dwell -1");
     assert_eq!(told, format!("line 7: expected {expected}, found `-1`"));
     for wrong in ["stop 4", "stop 4 dwell", "stop x dwell 3", "stop 4 dwell 3 9"] {
@@ -139,7 +140,8 @@ fn wrong_tours_are_told_with_their_line() {
 #[test]
 fn jobs_and_tours_are_told_apart() {
     let expected =
-        "polgamir: standard input: expected a job, found a tour: `polgamir tour` plans it, `polgamir plot` and `polgamir report` show it\n";
+        "polgamir: standard input: expected a job, found a tour: `polgamir tour` plans it, `polgamir plot` and \
+         `polgamir report` show it\n";
     for command in ["plan", "words"] {
         assert_eq!(told(&run_with(&[command, "-"], TOUR.as_bytes())), expected);
     }

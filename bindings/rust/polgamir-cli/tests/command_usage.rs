@@ -1,4 +1,5 @@
-//! The command `polgamir`: its options, wrong input, output that cannot be written, and the exit statuses.
+//! The command `polgamir`: its options, wrong input, output that cannot be
+//! written, and the exit statuses.
 
 mod common;
 
@@ -48,15 +49,15 @@ fn wrong_sheets_end_with_2() {
     for command in ["plan", "words"] {
         assert_eq!(
             told(&run_with(&[command, "-"], wrong.as_bytes())),
-            "polgamir: standard input: line 8: expected a whole number of units per tick from 1 to 1048576, or one as in `60 degree/s`, after \
-             `speed limit`, found `ten`\n"
+            "polgamir: standard input: line 8: expected a whole number of units per tick from 1 to 1048576, or one as \
+             in `60 degree/s`, after `speed limit`, found `ten`\n"
         );
     }
     let far = changed_case_c("target position      1", "target position      17179869184");
     assert_eq!(
         told(&run_with(&["words", "-"], far.as_bytes())),
-        "polgamir: standard input: line 13: expected a number from -17179869184 to 17179869183 after `target position`, \
-         for its job words, found `17179869184`\n"
+        "polgamir: standard input: line 13: expected a number from -17179869184 to 17179869183 after `target \
+         position`, for its job words, found `17179869184`\n"
     );
     assert!(told(&run(&["plan", &scratch("no-such.sheet")])).contains("no-such.sheet: "));
     assert!(told(&run_with(&["plan", "-"], &[0xB7])).contains("utf-8"));

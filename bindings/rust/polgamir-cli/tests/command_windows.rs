@@ -31,7 +31,8 @@ fn refusals_name_the_windows_at_fault() {
     assert_eq!(last(&many), "line 37: the first window too many");
     let expected = "\
 No plan: every axis can arrive at tick 4, but it fits no window. Earliest: tick 7.
-Write `arrival 7` or `arrival earliest` in line 3, or look whether the site permits other windows or a shorter dwell does.
+Write `arrival 7` or `arrival earliest` in line 3, or look whether the site permits \
+other windows or a shorter dwell does.
   line 5: window 7 9
   line 4: dwell 1
 On the set-up sheet look at \"read the arrival tick before the first sighting\". [refusal 8]

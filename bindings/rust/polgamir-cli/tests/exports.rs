@@ -1,5 +1,5 @@
-//! Tables for other programs: what is exported reads back as the table, and what a sheet says of its ticks and units scales what is
-//! shown, never what is planned.
+//! Tables for other programs: what is exported reads back as the table, and what a sheet says of
+//! its ticks and units scales what is shown, never what is planned.
 
 mod common;
 
@@ -162,7 +162,8 @@ fn scaled_case_c() -> String {
     changed_case_c("arrival 4", "arrival 4\ntick 0.25\nunit 0.5 degree")
 }
 
-/// Numbers that are shown are scaled: a position by the unit, a velocity by the tick too, an acceleration by its square.
+/// Numbers that are shown are scaled: a position by the unit, a velocity by the tick too,
+/// an acceleration by its square.
 #[test]
 fn ticks_and_units_scale_what_is_shown() {
     let (text, status) = printed(&run_with(&["plan", "--units", "-"], scaled_case_c().as_bytes()));
@@ -231,7 +232,9 @@ fn units_are_read_and_written() {
     assert_eq!((again.job, again.tick_seconds()), (sheet.job, sheet.tick_seconds()));
     assert!((0..6).all(|axis| again.unit_of(axis) == sheet.unit_of(axis)));
     let (shown, _) = printed(&run_with(&["plan", "--units", "-"], text.as_bytes()));
-    let line = "in degree, degree/s, degree/s² (axis 0 pan); mm per turn, mm per turn/s, mm per turn/s² (axis 1 tilt), a tick is 0.02 s";
+    let line =
+        "in degree, degree/s, degree/s² (axis 0 pan); mm per turn, mm per turn/s, mm per turn/s² (axis 1 tilt), \
+         a tick is 0.02 s";
     assert_eq!(shown.lines().nth(6), Some(line));
 
     let tour = String::from("tick 0.02\nunit degree\n")

@@ -1,4 +1,5 @@
-//! What `-o` leaves in a file: the answer, and of a refused job or tour the refusal, so that no older answer stands there.
+//! What `-o` leaves in a file: the answer, and of a refused job or tour the refusal, so
+//! that no older answer stands there.
 
 mod common;
 
@@ -67,7 +68,8 @@ fn a_refused_array_does_not_compile() {
     assert!(!built.status.success() && String::from_utf8_lossy(&built.stderr).contains("cannot arrive at tick 3"));
 }
 
-/// The report of a refusal is a page that says it in words first, then the sheet with its lines' numbers.
+/// The report of a refusal is a page that says it in words first, then the
+/// sheet with its lines' numbers.
 #[test]
 fn the_report_of_a_refusal_says_it_first() {
     let page = left(&["report"], "refused.html", &too_soon(), 8);
@@ -107,7 +109,8 @@ fn a_wrong_sheet_says_that_the_file_is_older() {
     assert_eq!(fs::read_to_string(file).expect("the file"), "an older answer\n");
 }
 
-/// A refusal that cannot be written is printed all the same, and the status says that the file could not be written.
+/// A refusal that cannot be written is printed all the same, and the status says that
+/// the file could not be written.
 #[test]
 fn a_refusal_that_cannot_be_written_is_printed() {
     let nowhere = scratch("no-such-folder/x.html");

@@ -1,5 +1,5 @@
-//! The report as a browser lays it out: on a laptop's screen, on a phone's, and printed on A4. Where there is no Chromium the tests say so
-//! and look at nothing.
+//! The report as a browser lays it out: on a laptop's screen, on a phone's, and printed on A4.
+//! Where there is no Chromium the tests say so and look at nothing.
 
 mod common;
 
@@ -59,17 +59,20 @@ fn sheets() -> Vec<(&'static str, String)> {
     ]
 }
 
-/// What pages measure in frames of widths: how wide the content of each is, and the size of its smallest drawn letters.
+/// What pages measure in frames of widths: how wide the content of each is, and the
+/// size of its smallest drawn letters.
 fn measured(frames: &[(String, u32)]) -> Option<Vec<(f64, f64)>> {
     let frame = |(page, width): &(String, u32)| {
         let page = fs::read_to_string(page).expect("the page").replace('&', "&amp;").replace('"', "&quot;");
         format!("<iframe width=\"{width}\" height=\"800\" style=\"border:0\" srcdoc=\"{page}\"></iframe>\n")
     };
-    let script = "addEventListener('load', () => { let said = 'measured'; for (const frame of document.querySelectorAll('iframe')) { \
-        const page = frame.contentDocument; let least = 99; page.querySelectorAll('svg text').forEach(text => { \
-        if (text.getClientRects().length) { const drawing = text.ownerSVGElement; least = Math.min(least, \
-        drawing.getBoundingClientRect().width / drawing.viewBox.baseVal.width * parseFloat(text.getAttribute('font-size'))); } }); \
-        said += ' ' + page.documentElement.scrollWidth + ' ' + least; } document.getElementById('said').textContent = said + ' end'; });";
+    let script = "addEventListener('load', () => { let said = 'measured'; for (const frame of \
+        document.querySelectorAll('iframe')) { const page = frame.contentDocument; let least = 99; \
+        page.querySelectorAll('svg text').forEach(text => { if (text.getClientRects().length) { const drawing = \
+        text.ownerSVGElement; least = Math.min(least, drawing.getBoundingClientRect().width / \
+        drawing.viewBox.baseVal.width * parseFloat(text.getAttribute('font-size'))); } }); said += ' ' + \
+        page.documentElement.scrollWidth + ' ' + least; } document.getElementById('said').textContent = said + ' end'; \
+        });";
     let frames: String = frames.iter().map(frame).collect();
     let file = scratch("frames.html");
     let page = format!("<!DOCTYPE html><body><pre id=\"said\"></pre>\n{frames}<script>{script}</script></body>");

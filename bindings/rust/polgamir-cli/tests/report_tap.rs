@@ -42,7 +42,8 @@ fn number(text: &str) -> f64 {
     text.split(' ').next().and_then(|number| number.parse().ok()).unwrap_or_else(|| panic!("no number: {text}"))
 }
 
-/// A pole as entered, of half period 30 ticks and ratio 113/143, has next to no misfit, and leaves next to nothing.
+/// A pole as entered, of half period 30 ticks and ratio 113/143, has next to no
+/// misfit, and leaves next to nothing.
 #[test]
 fn a_pole_as_entered_fits() {
     let page = report(&format!("pan={}", record("fits.csv", 0.6, 113.0 / 143.0)));
@@ -53,7 +54,8 @@ fn a_pole_as_entered_fits() {
     assert!(number(&beside(&page, "sway it leaves at most, before rounding, proved")) < 0.003);
 }
 
-/// The misfit of another pole is that of its swing, tick by tick: the greatest of |143 w(i + 30) + 113 w(i)|.
+/// The misfit of another pole is that of its swing, tick by tick: the greatest
+/// of |143 w(i + 30) + 113 w(i)|.
 #[test]
 fn the_misfit_is_that_of_the_swing() {
     let (half_period, ratio) = (0.66, 0.75);
@@ -65,7 +67,8 @@ fn the_misfit_is_that_of_the_swing() {
         let told = number(&beside(&page, what));
         assert!((told - percent).abs() < 0.03, "{what}: {told}, and not {percent}");
     }
-    // By the theorem: V × E by the divisor, with V = 4 × 2 × 256 + 2 and G = (33/π)² units of 0.01 degree.
+    // By the theorem: V × E by the divisor, with V = 4 × 2 × 256 + 2 and G = (33/π)² units of 0.01
+    // degree.
     let size = (33.0 / std::f64::consts::PI).powi(2) * 0.01;
     let most = 2050.0 * greatest * size / 256.0 / 256.0;
     let told = number(&beside(&page, "sway it leaves at most, before rounding, proved"));

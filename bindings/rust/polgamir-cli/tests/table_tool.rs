@@ -1,5 +1,6 @@
-//! The script `tools/table`: what it checks before it proves anything, and its exit statuses. A stand-in for `rt` notes that it was
-//! called, so that nothing is proved here; the proved program is run where it has been built.
+//! The script `tools/table`: what it checks before it proves anything, and its exit statuses. A
+//! stand-in for `rt` notes that it was called, so that nothing is proved here; the proved program
+//! is run where it has been built.
 
 use std::os::unix::fs::PermissionsExt;
 use std::path::{Path, PathBuf};
@@ -23,7 +24,8 @@ fn stand_in(name: &str, status: i32) -> PathBuf {
     folder
 }
 
-/// Runs the script through a shell, with a redirection, and with the stand-in of a folder in place of `rt`.
+/// Runs the script through a shell, with a redirection, and with the stand-in of a folder in place
+/// of `rt`.
 fn run(folder: &Path, arguments: &[&str], redirection: &str) -> Output {
     let path = format!("{}:{}", folder.display(), env::var("PATH").expect("a path"));
     let line = format!("exec tools/table \"$@\" {redirection}");

@@ -1,4 +1,5 @@
-//! `polgamir verify` and `polgamir certify`, held to case C and case D as docs/METHOD.md prints them.
+//! `polgamir verify` and `polgamir certify`, held to case C and case D as docs/METHOD.md prints
+//! them.
 
 mod common;
 
@@ -43,7 +44,8 @@ fn verified(options: &[&str], tables: &[&str]) -> (String, Option<i32>) {
 fn every_form() {
     let json = r#"{"arrival": 4, "axes": [{"axis": 0, "position": [0, 43, 129, 214, 256],
         "velocity": [0, 86, 85, 85, 0], "acceleration": [86, -1, 0, -85, 0]}]}"#;
-    let array = "static const int64_t c[5][1][3] = {\n{{0, 0, 86}},\n{{43, 86, -1}}, {{129, 85, 0}}, {{214, 85, -85}},\n{{256, 0, 0}},\n};\n";
+    let array = "static const int64_t c[5][1][3] = {\n{{0, 0, 86}},\n{{43, 86, -1}}, {{129, 85, 0}}, {{214, 85, \
+        -85}},\n{{256, 0, 0}},\n};\n";
     let forms = [
         file("every.csv", csv(&by_tick(&CASE_C))),
         file("every.json", json),
@@ -81,7 +83,8 @@ fn parts_and_backwards() {
     assert_eq!(verified(&[], &[&file("falling.csv", csv(&falling))]).1, Some(0));
 }
 
-/// Another table has status 1, and the first cell that differs is named; the checks that need no planner say what is wrong too.
+/// Another table has status 1, and the first cell that differs is named; the checks that need no
+/// planner say what is wrong too.
 #[test]
 fn another_table() {
     let mut rows = by_tick(&CASE_C);

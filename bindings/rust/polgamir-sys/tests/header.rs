@@ -1,5 +1,6 @@
-//! Every constant, struct and call of include/polgamir.h stands in this crate as the header has it, and the structs are laid out as
-//! C lays them out on x86-64; `tests/c/interface.c` holds the header to the same numbers.
+//! Every constant, struct and call of include/polgamir.h stands in this crate as the header has
+//! it, and the structs are laid out as C lays them out on x86-64; `tests/c/interface.c` holds
+//! the header to the same numbers.
 
 use std::collections::BTreeMap;
 use std::fs;

@@ -1,4 +1,5 @@
-//! Draws the leg of a planned table: its two envelopes, and the three areas under its velocities. docs/leg-areas.svg is what it writes.
+//! Draws the leg of a planned table: its two envelopes, and the three areas under its velocities.
+//! docs/leg-areas.svg is what it writes.
 //!
 //!     cargo run --release --example leg_areas > leg-areas.svg
 
@@ -33,7 +34,8 @@ fn planned() -> Result<Vec<i64>, Refusal> {
     Ok(plan.rows().map(|row| row.cells()[1]).collect())
 }
 
-/// The ramp from the start and the ramp back from the end at a tick, with changes of one sign, in fine steps a tick.
+/// The ramp from the start and the ramp back from the end at a tick, with changes of
+/// one sign, in fine steps a tick.
 fn ramps(tick: i64, sign: i64) -> (i64, i64) {
     let step = sign * ACCELERATION_LIMIT;
     (FINE_STEPS * (START + step * tick), FINE_STEPS * (END + step * (TICKS - tick)))
@@ -129,7 +131,12 @@ fn captions(inner: &[(i64, i64)]) {
         (LAST_RAMP, ramp_line(END, falling)),
         (INK, format!("Required sum {required}: the three areas, and {remainder} more, the remainder:")),
         (INK, format!("the first {remainder} level ticks have one fine step a tick more.")),
-        (INK, format!("The areas under the two envelopes are {lowest} and {highest}: the sum lies between, so it can be made.")),
+        (
+            INK,
+            format!(
+                "The areas under the two envelopes are {lowest} and {highest}: the sum lies between, so it can be made."
+            ),
+        ),
     ];
     for (i, (colour, words)) in lines.iter().enumerate() {
         text(24, 424.0 + 18.0 * i as f64, colour, "start", words);

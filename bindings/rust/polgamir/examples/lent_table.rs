@@ -1,4 +1,5 @@
-//! Planning into memory that is lent, as a controller does: nothing is allocated by the call, and a refusal says why.
+//! Planning into memory that is lent, as a controller does: nothing is allocated by
+//! the call, and a refusal says why.
 //!
 //!     cargo run --release --example lent_table
 

@@ -1,5 +1,5 @@
-//! Draws the worked example of docs/METHOD.md: its envelopes, cruise and planned velocities, and below them the two parts of the blend and
-//! their sum. docs/method.svg is what it writes.
+//! Draws the worked example of docs/METHOD.md: its envelopes, cruise and planned velocities, and
+//! below them the two parts of the blend and their sum. docs/method.svg is what it writes.
 //!
 //!     cargo run --release --example method > method.svg
 

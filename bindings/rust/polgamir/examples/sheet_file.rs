@@ -1,4 +1,5 @@
-//! Reads a set-up sheet from a file, plans it, and says which numbers are at fault where it is refused.
+//! Reads a set-up sheet from a file, plans it, and says which numbers are at fault where it is
+//! refused.
 //!
 //!     cargo run --release --example sheet_file ../../../sheets/pan-tilt-stem.sheet
 

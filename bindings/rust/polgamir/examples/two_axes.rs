@@ -1,4 +1,5 @@
-//! Pan and tilt from one stem to the next on a swaying pole: the arrival, the first rows, and the approach read backwards.
+//! Pan and tilt from one stem to the next on a swaying pole: the arrival, the first rows,
+//! and the approach read backwards.
 //!
 //!     cargo run --release --example two_axes
 

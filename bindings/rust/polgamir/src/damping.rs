@@ -4,7 +4,8 @@ use std::fmt;
 
 /// How far a swing of the pole shrinks in half a period.
 ///
-/// A crew notes what the tap test shows, a ratio or two peaks. The planner works out the weight from it:
+/// A crew notes what the tap test shows, a ratio or two peaks. The planner works out the weight
+/// from it:
 ///
 /// ```
 /// use polgamir::Damping;
@@ -15,12 +16,13 @@ use std::fmt;
 /// ```
 #[derive(Debug, Clone, Copy, PartialEq)]
 pub enum Damping {
-    /// The blend's second weight B, 1 to 128: each swing is B / (256 − B) of the one before it. 128 stands for a swing that does
-    /// not shrink.
+    /// The blend's second weight B, 1 to 128: each swing is B / (256 − B) of the one before it. 128
+    /// stands for a swing that does not shrink.
     Weight(u32),
     /// A swing by the one half a period before it, both counted positive: above 0 and at most 1.
     Ratio(f32),
-    /// Two peaks of the swing, half a period apart and both counted positive. Their ratio is second by first, rounded once.
+    /// Two peaks of the swing, half a period apart and both counted positive. Their ratio is
+    /// second by first, rounded once.
     Peaks {
         /// The first peak, above 0.
         first: f32,
@@ -33,9 +35,10 @@ impl Damping {
     /// A swing that does not shrink.
     pub const NONE: Damping = Damping::Weight(128);
 
-    /// The blend's second weight: the one given, or that of the measured ratio by the planner's own rule, the largest B from 1
-    /// to 128 that is at most the once-rounded product of the ratio and 256 − B, or 1 if there is none. `None` where refusal 12
-    /// would come: the first peak is not above 0, or the ratio is not a number above 0 and at most 1.
+    /// The blend's second weight: the one given, or that of the measured ratio by the planner's own
+    /// rule, the largest B from 1 to 128 that is at most the once-rounded product of the ratio and
+    /// 256 − B, or 1 if there is none. `None` where refusal 12 would come: the first peak is not
+    /// above 0, or the ratio is not a number above 0 and at most 1.
     pub fn weight(&self) -> Option<u32> {
         let ratio = match *self {
             Damping::Weight(weight) => return Some(weight),
@@ -47,8 +50,9 @@ impl Damping {
         (ratio > 0.0 && ratio <= 1.0).then(|| (1..=128).rev().find(is_met).unwrap_or(1))
     }
 
-    /// A swing by the one half a period before it, as it was entered: the ratio, the second peak by the first, or what the weight
-    /// stands for. The weight that is planned with is rounded from it. `None` where refusal 12 would come, or 5 of a weight.
+    /// A swing by the one half a period before it, as it was entered: the ratio, the second peak by
+    /// the first, or what the weight stands for. The weight that is planned with is rounded from
+    /// it. `None` where refusal 12 would come, or 5 of a weight.
     pub fn ratio(&self) -> Option<f64> {
         // The decimal number that was written, and not the nearest single-precision float.
         let as_written = |number: f32| number.to_string().parse::<f64>().ok();

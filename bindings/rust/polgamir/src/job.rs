@@ -15,7 +15,8 @@ pub struct RestPoint {
     pub velocity: i64,
 }
 
-/// Where a moving target is at a tick. `d` ticks later it is at position + velocity × d + acceleration × d² / 2.
+/// Where a moving target is at a tick. `d` ticks later it is at position +
+/// velocity × d + acceleration × d² / 2.
 #[derive(Debug, Clone, Copy, PartialEq, Eq, Hash, Default)]
 pub struct State {
     /// Position in units at the tick.
@@ -24,22 +25,24 @@ pub struct State {
     pub velocity: i64,
     /// Acceleration in units per tick², the same at every tick.
     pub acceleration: i64,
-    /// The tick at which position and velocity hold, counted from the start of the job; it may lie before the start.
+    /// The tick at which position and velocity hold, counted from the start of the
+    /// job; it may lie before the start.
     pub tick: i64,
 }
 
 /// What an axis is to land on.
 #[derive(Debug, Clone, Copy, PartialEq, Eq, Hash)]
 pub enum Target {
-    /// A position to come to rest at, whenever that is. Its velocity is 0: the planner refuses any other with 17.
+    /// A position to come to rest at, whenever that is. Its velocity is 0: the
+    /// planner refuses any other with 17.
     Fixed(RestPoint),
     /// A target that moves by itself; the head joins it at arrival.
     Moving(State),
 }
 
 impl Target {
-    /// Whether the target is fixed and has a velocity. The planner refuses it with 17; [`convert`](crate::convert()) takes words of such
-    /// jobs from the time when it did not.
+    /// Whether the target is fixed and has a velocity. The planner refuses it with 17;
+    /// [`convert`](crate::convert()) takes words of such jobs from the time when it did not.
     pub const fn flies(&self) -> bool {
         matches!(self, Target::Fixed(RestPoint { velocity, .. }) if *velocity != 0)
     }
@@ -65,8 +68,9 @@ pub struct Axis {
     pub half_period: u32,
     /// How far a swing of the pole shrinks in half a period.
     pub damping: Damping,
-    /// Of a pole that swings at two rates, as one with a joint does: half the period of its second sway in ticks, 1 to 256. The second
-    /// sway is taken as undamped; an axis that has one cannot have an accelerating target. `None` for a pole that swings at one rate.
+    /// Of a pole that swings at two rates, as one with a joint does: half the period of its second
+    /// sway in ticks, 1 to 256. The second sway is taken as undamped; an axis that has one cannot
+    /// have an accelerating target. `None` for a pole that swings at one rate.
     pub second_half_period: Option<u32>,
     /// What the axis is to land on.
     pub target: Target,
@@ -75,7 +79,8 @@ pub struct Axis {
 /// When a job is to arrive.
 #[derive(Debug, Clone, Copy, PartialEq, Eq, Hash, Default)]
 pub enum Arrival {
-    /// At the least tick that every axis can reach and that fits a window, where the job has windows.
+    /// At the least tick that every axis can reach and that fits a window, where the job has
+    /// windows.
     #[default]
     Earliest,
     /// At this tick and no other, 1 to 4,096.
@@ -123,7 +128,8 @@ pub struct Job {
     pub arrival: Arrival,
     /// The axes by their number, 0 to 5; an axis that does not take part is `None`.
     pub axes: [Option<Axis>; AXES],
-    /// The windows that the arrival is to fit; `None` is a job without windows, which an empty list is not.
+    /// The windows that the arrival is to fit; `None` is a job without windows, which an empty list
+    /// is not.
     pub windows: Option<Windows>,
 }
 
@@ -133,7 +139,8 @@ impl Job {
         Job { arrival: Arrival::Earliest, axes: [None; AXES], windows: None }
     }
 
-    /// A job without axes that asks to arrive at a tick, 1 to 4,096; as in job words, 0 asks for the earliest arrival.
+    /// A job without axes that asks to arrive at a tick, 1 to 4,096; as in job words, 0
+    /// asks for the earliest arrival.
     pub fn arriving_at(tick: u32) -> Job {
         Job { arrival: Arrival::from(tick), ..Job::earliest() }
     }

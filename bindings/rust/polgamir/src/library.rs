@@ -1,4 +1,5 @@
-//! The calls of the proved library: the only place with `unsafe`. Its structs are those of `polgamir-sys`.
+//! The calls of the proved library: the only place with `unsafe`. Its structs are those of
+//! `polgamir-sys`.
 
 use std::mem::{offset_of, size_of};
 
@@ -160,9 +161,10 @@ pub(crate) fn plan_words(words: &[u32], order: Order, table: &mut [i64]) -> Answ
         Order::Forwards => polgamir_plan_words,
         Order::Backwards => polgamir_plan_words_backwards,
     };
-    // SAFETY: both pointers come from slices with these lengths, so they are aligned and valid for the whole call, to
-    // read for `words` and to write for `table`; the borrows keep them from overlapping. The library keeps neither
-    // pointer after it returns, has no state, and does not unwind.
+    // SAFETY: both pointers come from slices with these lengths, so they are aligned and
+    // valid for the whole call, to read for `words` and to write for `table`; the borrows
+    // keep them from overlapping. The library keeps neither pointer after it returns, has
+    // no state, and does not unwind.
     let answer = unsafe { call(words.as_ptr(), words.len(), table.as_mut_ptr(), table.len()) };
     answer.into()
 }
@@ -173,8 +175,9 @@ pub(crate) fn plan_job(job: &Job, order: Order, table: &mut [i64]) -> Answer {
         Order::Forwards => polgamir_plan_job,
         Order::Backwards => polgamir_plan_job_backwards,
     };
-    // SAFETY: the job passes by value in the header's layout, and the table's pointer and length are those of one slice,
-    // valid to write for the whole call. The library keeps no pointer after it returns, has no state, and does not unwind.
+    // SAFETY: the job passes by value in the header's layout, and the table's pointer and length
+    // are those of one slice, valid to write for the whole call. The library keeps no pointer after
+    // it returns, has no state, and does not unwind.
     let answer = unsafe { call(job.into(), table.as_mut_ptr(), table.len()) };
     answer.into()
 }
@@ -186,7 +189,8 @@ pub(crate) fn plan_words_part(words: &[u32], first: u32, table: &mut [i64]) -> (
     parted(part)
 }
 
-/// Plans a job from typed values, with its rows from a first one on; also how many rows were written.
+/// Plans a job from typed values, with its rows from a first one on; also how many rows were
+/// written.
 pub(crate) fn plan_job_part(job: &Job, first: u32, table: &mut [i64]) -> (Answer, u32) {
     // SAFETY: as in `plan_job`.
     let part = unsafe { polgamir_plan_job_part(job.into(), first, table.as_mut_ptr(), table.len()) };
@@ -201,33 +205,37 @@ fn parted(part: polgamir_part_answer) -> (Answer, u32) {
 
 /// The raises for the job that words hold.
 pub(crate) fn raises_words(words: &[u32]) -> Raises {
-    // SAFETY: the pointer and the length are those of one slice, aligned and valid to read for the whole call. The library does
-    // not keep the pointer after it returns, has no state, and does not unwind.
+    // SAFETY: the pointer and the length are those of one slice, aligned and valid to
+    // read for the whole call. The library does not keep the pointer after it returns,
+    // has no state, and does not unwind.
     let raises = unsafe { polgamir_raises_words(words.as_ptr(), words.len()) };
     raises.into()
 }
 
 /// The raises for a job of typed values.
 pub(crate) fn raises_job(job: &Job) -> Raises {
-    // SAFETY: the job passes by value in the header's layout. The library has no state, and does not unwind.
+    // SAFETY: the job passes by value in the header's layout. The library has
+    // no state, and does not unwind.
     let raises = unsafe { polgamir_raises_job(job.into()) };
     raises.into()
 }
 
 /// Converts the words of an old job to lent words.
 pub(crate) fn convert(words: &[u32], lent: &mut [u32]) -> Answer {
-    // SAFETY: both pointers come from slices with these lengths, so they are aligned and valid for the whole call, to read for
-    // `words` and to write for `lent`; the borrows keep them from overlapping. The library keeps neither pointer after it
-    // returns, has no state, and does not unwind.
+    // SAFETY: both pointers come from slices with these lengths, so they are aligned and
+    // valid for the whole call, to read for `words` and to write for `lent`; the borrows
+    // keep them from overlapping. The library keeps neither pointer after it returns, has
+    // no state, and does not unwind.
     let answer = unsafe { polgamir_convert(words.as_ptr(), words.len(), lent.as_mut_ptr(), lent.len()) };
     answer.into()
 }
 
 /// Plans a tour over its stops, and gives its answer and its total.
 pub(crate) fn plan_tour(tour: &Tour, stops: &[Stop], arrivals: &mut [u32]) -> (Answer, u32) {
-    // SAFETY: the tour passes by value in the header's layout, which `Stop` has too. Both pointers come from slices with these
-    // lengths, so they are aligned and valid for the whole call, to read for `stops` and to write for `arrivals`; the borrows
-    // keep them from overlapping. The library keeps neither pointer after it returns, has no state, and does not unwind.
+    // SAFETY: the tour passes by value in the header's layout, which `Stop` has too. Both pointers
+    // come from slices with these lengths, so they are aligned and valid for the whole call, to
+    // read for `stops` and to write for `arrivals`; the borrows keep them from overlapping. The
+    // library keeps neither pointer after it returns, has no state, and does not unwind.
     let polgamir_tour_answer { number, mask, place, arrival, total } = unsafe {
         let stop_list = stops.as_ptr().cast();
         polgamir_plan_tour(tour.into(), stop_list, stops.len(), arrivals.as_mut_ptr(), arrivals.len())
@@ -237,15 +245,16 @@ pub(crate) fn plan_tour(tour: &Tour, stops: &[Stop], arrivals: &mut [u32]) -> (A
 
 /// Searches for the arrival of a job from its words, or gives the answer with the refusal.
 pub(crate) fn search_words(words: &[u32], first: u32, budget: u32) -> Result<Searched, Answer> {
-    // SAFETY: pointer and length are those of one slice, valid to read for the whole call. The library keeps no pointer after it
-    // returns, has no state, and does not unwind.
+    // SAFETY: pointer and length are those of one slice, valid to read for the whole call. The
+    // library keeps no pointer after it returns, has no state, and does not unwind.
     let answer = unsafe { polgamir_search_words(words.as_ptr(), words.len(), first, budget) };
     searched(answer)
 }
 
 /// Searches for the arrival of a job from typed values, or gives the answer with the refusal.
 pub(crate) fn search_job(job: &Job, first: u32, budget: u32) -> Result<Searched, Answer> {
-    // SAFETY: the job passes by value in the header's layout. The library takes no pointer, has no state, and does not unwind.
+    // SAFETY: the job passes by value in the header's layout. The library takes no pointer, has
+    // no state, and does not unwind.
     let answer = unsafe { polgamir_search_job(job.into(), first, budget) };
     searched(answer)
 }

@@ -8,15 +8,17 @@ use crate::refusal::{Answer, AxisMask, Refusal};
 use crate::rows::{Motion, Row};
 use crate::AXES;
 
-/// Plans a job, and writes its rows from a first one on to the lent cells: as many whole rows as they hold, up to the arrival's.
+/// Plans a job, and writes its rows from a first one on to the lent cells: as many whole rows as
+/// they hold, up to the arrival's.
 ///
-/// The rows are those of the table that [`plan()`](crate::plan()) writes. No row before the first one is worked out. Past the
-/// arrival, and where the cells hold no row, none is written; cells after the last row stay as they were. A refused job writes
-/// nothing.
+/// The rows are those of the table that [`plan()`](crate::plan()) writes. No row before the first
+/// one is worked out. Past the arrival, and where the cells hold no row, none is written; cells
+/// after the last row stay as they were. A refused job writes nothing.
 ///
 /// # Errors
 ///
-/// The first refusal in checking order, of those of [`plan()`](crate::plan()) before 10, which never comes.
+/// The first refusal in checking order, of those of [`plan()`](crate::plan()) before 10, which
+/// never comes.
 pub fn plan_part<'t>(job: &Job, first: u32, table: &'t mut [i64]) -> Result<Part<'t>, Refusal> {
     let (answer, rows) = library::plan_job_part(job, first, table);
     Part::from_answer(answer, first, rows, table)
@@ -26,7 +28,8 @@ pub fn plan_part<'t>(job: &Job, first: u32, table: &'t mut [i64]) -> Result<Part
 ///
 /// # Errors
 ///
-/// The first refusal in checking order, of those of [`plan_words`](crate::plan_words) before 10, which never comes.
+/// The first refusal in checking order, of those of
+/// [`plan_words`](crate::plan_words) before 10, which never comes.
 pub fn plan_words_part<'t>(words: &[u32], first: u32, table: &'t mut [i64]) -> Result<Part<'t>, Refusal> {
     let (answer, rows) = library::plan_words_part(words, first, table);
     Part::from_answer(answer, first, rows, table)
@@ -128,7 +131,8 @@ impl OwnedRow {
         self.row().axis(number)
     }
 
-    /// The row's cells: for each axis from the lowest up its position, velocity and acceleration in fine steps.
+    /// The row's cells: for each axis from the lowest up its position, velocity
+    /// and acceleration in fine steps.
     pub fn cells(&self) -> &[i64] {
         &self.cells[..row_cells(self.mask)]
     }
@@ -169,7 +173,8 @@ impl Iterator for RowsInParts<'_> {
         }
         let (first, rows) = self.held;
         if self.tick - first >= rows {
-            // The same job with its own arrival asked for is accepted with every first row; this is proved.
+            // The same job with its own arrival asked for is accepted with
+            // every first row; this is proved.
             self.held = (self.tick, plan_part(&self.job, self.tick, self.buffer).ok()?.len());
         }
         let (first, rows) = self.held;
@@ -191,13 +196,17 @@ impl ExactSizeIterator for RowsInParts<'_> {}
 impl FusedIterator for RowsInParts<'_> {}
 
 impl Job {
-    /// The rows of this job, planned a part at a time into a buffer of the caller's; no whole table is held.
+    /// The rows of this job, planned a part at a time into a buffer of the
+    /// caller's; no whole table is held.
     ///
     /// ```
     /// # use polgamir::{Axis, Damping, Job, Refusal, RestPoint, Target};
     /// # let start = RestPoint { position: 0, velocity: 0 };
     /// # let target = Target::still(900);
-    /// # let pan = Axis { start, speed_limit: 40, acceleration_limit: 2, half_period: 12, damping: Damping::NONE, second_half_period: None, target };
+    /// # let (damping, second_half_period) = (Damping::NONE, None);
+    /// # let pan = Axis {
+    /// #     start, speed_limit: 40, acceleration_limit: 2, half_period: 12, damping, second_half_period, target,
+    /// # };
     /// let job = Job::earliest().with_axis(0, pan);
     /// let mut sixteen_rows = [0; 3 * 16];
     /// for row in job.rows_in_parts(&mut sixteen_rows)? {
@@ -208,7 +217,8 @@ impl Job {
     ///
     /// # Errors
     ///
-    /// Those of [`plan()`](crate::plan()); 10 where the buffer does not hold one row, 3 × axes cells.
+    /// Those of [`plan()`](crate::plan()); 10 where the buffer does not hold one row, 3 × axes
+    /// cells.
     pub fn rows_in_parts<'b>(&self, buffer: &'b mut [i64]) -> Result<RowsInParts<'b>, Refusal> {
         let part = plan_part(self, 0, buffer)?;
         let (arrival, mask, rows) = (part.arrival(), part.axes(), part.len());

@@ -8,8 +8,8 @@ use crate::refusal::{Answer, AxisMask, Refusal};
 use crate::rows::{Order, Row, Rows};
 use crate::{AXES, LATEST_ARRIVAL};
 
-/// The cells of a table with a number of axes and an arrival: 3 × axes × (arrival + 1), or the greatest `usize` where that is
-/// more than a `usize` holds.
+/// The cells of a table with a number of axes and an arrival: 3 × axes × (arrival + 1), or the
+/// greatest `usize` where that is more than a `usize` holds.
 pub const fn cells_needed(axes: u32, arrival: u32) -> usize {
     let row = (axes as usize).saturating_mul(3);
     row.saturating_mul((arrival as usize).saturating_add(1))
@@ -20,18 +20,20 @@ pub const MOST_CELLS: usize = cells_needed(AXES as u32, LATEST_ARRIVAL);
 
 /// Plans a job, and writes its table to the lent cells.
 ///
-/// An accepted job writes the first [`cells_needed`] cells and leaves those after them as they were; a refused job writes
-/// nothing. The call has no state of its own: any number of threads may plan at the same time, each into its own table.
+/// An accepted job writes the first [`cells_needed`] cells and leaves those after them as they
+/// were; a refused job writes nothing. The call has no state of its own: any number of threads may
+/// plan at the same time, each into its own table.
 ///
 /// # Errors
 ///
-/// The first refusal in checking order, of those in [`Refusal`] except 2 and 14, which only words can get.
+/// The first refusal in checking order, of those in [`Refusal`] except 2 and 14, which only words
+/// can get.
 pub fn plan<'t>(job: &Job, table: &'t mut [i64]) -> Result<Accepted<'t>, Refusal> {
     plan_in(job, Order::Forwards, table)
 }
 
-/// Plans a job as [`plan()`] does, and writes its rows from the arrival backwards: the arrival's row first and row 0 last. Each
-/// row is the one that [`plan()`] writes for its tick.
+/// Plans a job as [`plan()`] does, and writes its rows from the arrival backwards: the arrival's
+/// row first and row 0 last. Each row is the one that [`plan()`] writes for its tick.
 ///
 /// # Errors
 ///
@@ -50,13 +52,15 @@ fn plan_in<'t>(job: &Job, order: Order, table: &'t mut [i64]) -> Result<Accepted
 ///
 /// # Errors
 ///
-/// The first refusal in checking order, of those in [`Refusal`] except 12 and 13: words have a weight, and no windows.
+/// The first refusal in checking order, of those in [`Refusal`] except 12 and 13: words
+/// have a weight, and no windows.
 pub fn plan_words<'t>(words: &[u32], table: &'t mut [i64]) -> Result<Accepted<'t>, Refusal> {
     let answer = library::plan_words(words, Order::Forwards, table);
     Accepted::from_answer(answer, Order::Forwards, table)
 }
 
-/// Plans the job that words hold as [`plan_words`] does, and writes its rows from the arrival backwards.
+/// Plans the job that words hold as [`plan_words`] does, and writes its rows from the arrival
+/// backwards.
 ///
 /// # Errors
 ///
@@ -100,8 +104,8 @@ impl<'t> Accepted<'t> {
         self.order
     }
 
-    /// The table: row after row in its [`order`](Accepted::order), in each row the axes from the lowest up, for each its
-    /// position, velocity and acceleration in fine steps.
+    /// The table: row after row in its [`order`](Accepted::order), in each row the axes from the
+    /// lowest up, for each its position, velocity and acceleration in fine steps.
     pub const fn cells(&self) -> &'t [i64] {
         self.cells
     }
@@ -115,14 +119,16 @@ impl<'t> Accepted<'t> {
         Some(Row { tick, mask, cells })
     }
 
-    /// The rows of ticks 0 to arrival, by tick in whichever order they stand; `rows().rev()` goes from the arrival back.
+    /// The rows of ticks 0 to arrival, by tick in whichever order they stand;
+    /// `rows().rev()` goes from the arrival back.
     pub fn rows(&self) -> Rows<'t> {
         Rows::of(*self)
     }
 
-    /// The least and the greatest position of an axis among the rows, in fine steps, or `None` where the job does not have that
-    /// axis. End stops are not planned for: hold these against them. Between two rows a head that turns back goes past them by at
-    /// most an eighth of what its acceleration covers in a tick².
+    /// The least and the greatest position of an axis among the rows, in fine steps, or `None`
+    /// where the job does not have that axis. End stops are not planned for: hold these against
+    /// them. Between two rows a head that turns back goes past them by at most an eighth of what
+    /// its acceleration covers in a tick².
     pub fn position_range(&self, axis: usize) -> Option<RangeInclusive<i64>> {
         let positions = self.rows().filter_map(|row| row.axis(axis)).map(|motion| motion.position..=motion.position);
         positions.reduce(|all, one| *all.start().min(one.start())..=*all.end().max(one.end()))
@@ -179,8 +185,8 @@ impl Plan {
         self.order
     }
 
-    /// The table: row after row in its [`order`](Plan::order), in each row the axes from the lowest up, for each its position,
-    /// velocity and acceleration in fine steps.
+    /// The table: row after row in its [`order`](Plan::order), in each row the axes from the lowest
+    /// up, for each its position, velocity and acceleration in fine steps.
     pub fn cells(&self) -> &[i64] {
         &self.cells
     }
@@ -190,12 +196,14 @@ impl Plan {
         self.accepted().row(tick)
     }
 
-    /// The rows of ticks 0 to arrival, by tick in whichever order they stand; `rows().rev()` goes from the arrival back.
+    /// The rows of ticks 0 to arrival, by tick in whichever order they stand;
+    /// `rows().rev()` goes from the arrival back.
     pub fn rows(&self) -> Rows<'_> {
         self.accepted().rows()
     }
 
-    /// The least and the greatest position of an axis among the rows, in fine steps: [`Accepted::position_range`].
+    /// The least and the greatest position of an axis among the rows, in fine
+    /// steps: [`Accepted::position_range`].
     ///
     /// ```
     /// # use polgamir::{Axis, Damping, Job, Refusal, RestPoint, Target};
@@ -237,7 +245,8 @@ impl Job {
     /// # let start = RestPoint { position: 0, velocity: 0 };
     /// # let target = Target::still(4);
     /// # let (half_period, damping, second_half_period) = (0, Damping::NONE, None);
-    /// # let pan = Axis { start, speed_limit: 10, acceleration_limit: 1, half_period, damping, second_half_period, target };
+    /// # let (speed_limit, acceleration_limit) = (10, 1);
+    /// # let pan = Axis { start, speed_limit, acceleration_limit, half_period, damping, second_half_period, target };
     /// let plan = Job::earliest().with_axis(0, pan).plan()?;
     /// for row in plan.rows().rev() {
     ///     println!("tick {}: {:?}", row.tick(), row.axis(0));
@@ -253,8 +262,9 @@ impl Job {
         self.plan_in(Order::Forwards)
     }
 
-    /// Plans this job into a table of its own whose rows stand from the arrival backwards: what a display takes that draws the
-    /// approach to the target first. [`plan_backwards`] is the call for lent memory.
+    /// Plans this job into a table of its own whose rows stand from the arrival
+    /// backwards: what a display takes that draws the approach to the target first.
+    /// [`plan_backwards`] is the call for lent memory.
     ///
     /// # Errors
     ///

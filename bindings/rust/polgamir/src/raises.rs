@@ -58,11 +58,13 @@ impl Raise {
 
 /// The raises of one axis.
 ///
-/// Each is the least raise of its limit alone, within the limit's range, for which the axis can arrive: it is enough, and one less
-/// is not. Where a limit has none, no value of its range is enough.
+/// Each is the least raise of its limit alone, within the limit's range, for which
+/// the axis can arrive: it is enough, and one less is not. Where a limit has none,
+/// no value of its range is enough.
 #[derive(Debug, Clone, Copy, PartialEq, Eq, Hash, Default)]
 pub struct AxisRaises {
-    /// The smaller raise, that of the acceleration limit if both are equal; `None` where no raise of one limit alone would do.
+    /// The smaller raise, that of the acceleration limit if both are equal; `None` where no
+    /// raise of one limit alone would do.
     pub first: Option<Raise>,
     /// The other limit's raise, where it has one.
     pub second: Option<Raise>,
@@ -75,7 +77,8 @@ impl AxisRaises {
     }
 }
 
-/// What [`raises()`] gives: the answer to a job and, where it is refusal 8, the raises of each axis that it names.
+/// What [`raises()`] gives: the answer to a job and, where it is refusal 8, the
+/// raises of each axis that it names.
 #[derive(Debug, Clone, Copy, PartialEq, Eq, Hash)]
 pub struct Raises {
     answer: Answer,
@@ -99,7 +102,8 @@ impl Raises {
         }
     }
 
-    /// The axes that refusal 8 names, lowest first, each with its raises; none where the answer is another.
+    /// The axes that refusal 8 names, lowest first, each with its raises; none where the answer is
+    /// another.
     pub fn axes(&self) -> impl Iterator<Item = (usize, AxisRaises)> + '_ {
         let named = match self.answer.number {
             8 => AxisMask(self.answer.mask),
@@ -149,7 +153,8 @@ pub fn raises_words(words: &[u32]) -> Raises {
 }
 
 impl Job {
-    /// Which raise of a limit would make an arrival that refusal 8 turned down: [`raises()`] of this job.
+    /// Which raise of a limit would make an arrival that refusal 8 turned down: [`raises()`] of
+    /// this job.
     pub fn raises(&self) -> Raises {
         raises(self)
     }

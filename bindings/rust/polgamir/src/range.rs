@@ -1,4 +1,5 @@
-//! The ranges of an axis's whole numbers: what refusals 4, 5, 15 and 6 look at. Damping as measured is refusal 12's.
+//! The ranges of an axis's whole numbers: what refusals 4, 5, 15 and 6 look at.
+//! Damping as measured is refusal 12's.
 
 use std::ops::RangeInclusive;
 
@@ -18,7 +19,8 @@ pub struct OutOfRange {
 }
 
 impl Axis {
-    /// The range of a number of this axis: a velocity's is set by the speed limit, an acceleration's by the acceleration limit.
+    /// The range of a number of this axis: a velocity's is set by the speed limit, an
+    /// acceleration's by the acceleration limit.
     pub fn range_of(&self, entry: WordKind) -> RangeInclusive<i64> {
         let in_size = |greatest: u32| -i64::from(greatest)..=i64::from(greatest);
         match entry {
@@ -37,8 +39,9 @@ impl Axis {
         }
     }
 
-    /// The numbers of this axis that are outside their ranges. The planner refuses a job that has one, by the number of
-    /// [`OutOfRange::refusal_number`]; which one is at fault, where there are several on an axis, it does not say.
+    /// The numbers of this axis that are outside their ranges. The planner refuses a job that has
+    /// one, by the number of [`OutOfRange::refusal_number`]; which one is at fault, where there are
+    /// several on an axis, it does not say.
     pub fn out_of_range(&self) -> impl Iterator<Item = OutOfRange> + '_ {
         self.entries().filter_map(|(entry, value)| {
             let range = self.range_of(entry);
@@ -48,8 +51,8 @@ impl Axis {
 }
 
 impl OutOfRange {
-    /// The number by which the planner refuses it: 4 for limits, 5 for the blend, 15 for the second half period, 6 for start and
-    /// target.
+    /// The number by which the planner refuses it: 4 for limits, 5 for the blend, 15 for the second
+    /// half period, 6 for start and target.
     pub const fn refusal_number(&self) -> u32 {
         match self.entry {
             WordKind::SpeedLimit | WordKind::AccelerationLimit => 4,

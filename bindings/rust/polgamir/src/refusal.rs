@@ -1,4 +1,5 @@
-//! The refusals: a variant for each number, in checking order, each with its sentence. Number 7 is not used.
+//! The refusals: a variant for each number, in checking order, each with its
+//! sentence. Number 7 is not used.
 
 use std::fmt;
 
@@ -61,13 +62,16 @@ impl fmt::Display for AxisMask {
 /// );
 /// ```
 ///
-/// [`Axis::out_of_range`](crate::Axis::out_of_range) tells which number is at fault in 4, 5, 15 and 6.
+/// [`Axis::out_of_range`](crate::Axis::out_of_range) tells which number is at fault in 4, 5, 15
+/// and 6.
 #[derive(Debug, Clone, Copy, PartialEq, Eq, Hash)]
 #[non_exhaustive]
 pub enum Refusal {
-    /// 1: the mask word is absent, not of kind 1, or its payload is 0 or above 63; of a [`Job`](crate::Job): it has no axis.
+    /// 1: the mask word is absent, not of kind 1, or its payload is 0 or above 63; of a
+    /// [`Job`](crate::Job): it has no axis.
     Mask,
-    /// 2: a word is not of a kind allowed next, the end payload is not 0, or words are lacking or left over.
+    /// 2: a word is not of a kind allowed next, the end payload is not 0, or
+    /// words are lacking or left over.
     Words {
         /// The first such word's index from 0, or the word count where words are lacking.
         index: usize,
@@ -84,13 +88,14 @@ pub enum Refusal {
         /// The first such axis.
         axis: usize,
     },
-    /// 12: of damping as measured, also when the half period is 0: the first peak is not above zero, or the ratio is not a number
-    /// above 0 and at most 1.
+    /// 12: of damping as measured, also when the half period is 0: the first peak is not above
+    /// zero, or the ratio is not a number above 0 and at most 1.
     Damping {
         /// The first such axis.
         axis: usize,
     },
-    /// 5: the half period or the weight of the damping is outside its range, the weight also when the half period is 0.
+    /// 5: the half period or the weight of the damping is outside its range, the weight
+    /// also when the half period is 0.
     Blend {
         /// The first such axis.
         axis: usize,
@@ -100,8 +105,9 @@ pub enum Refusal {
         /// The first such axis.
         axis: usize,
     },
-    /// 6: start or target velocity exceeds the speed limit in size, target acceleration exceeds the acceleration limit in size,
-    /// target tick exceeds 4,096 in size, or a position is outside −17,179,869,184 to 17,179,869,183.
+    /// 6: start or target velocity exceeds the speed limit in size, target acceleration exceeds the
+    /// acceleration limit in size, target tick exceeds 4,096 in size, or a position is outside
+    /// −17,179,869,184 to 17,179,869,183.
     StartOrTarget {
         /// The first such axis.
         axis: usize,
@@ -111,20 +117,22 @@ pub enum Refusal {
         /// The first such axis.
         axis: usize,
     },
-    /// 17: a fixed target has a velocity that is not 0; the converter ([`convert`](crate::convert())) refuses it only in a job that
-    /// seeks the least arrival.
+    /// 17: a fixed target has a velocity that is not 0; the converter
+    /// ([`convert`](crate::convert())) refuses it only in a job that seeks the least arrival.
     FlyingTarget {
         /// The first such axis.
         axis: usize,
     },
-    /// 13: the window list is empty; there are more than 32 windows, or then the dwell is above 4,096; then a window's closing is
-    /// not above its opening, or it opens before the previous one closes.
+    /// 13: the window list is empty; there are more than 32 windows, or then the dwell
+    /// is above 4,096; then a window's closing is not above its opening, or it opens
+    /// before the previous one closes.
     Windows {
-        /// 0 for an empty list, 32 for too many windows or too long a dwell, else the first such window.
+        /// 0 for an empty list, 32 for too many windows or too long a dwell, else the first such
+        /// window.
         place: usize,
     },
-    /// 18: the first candidate of a search is 0 or above 4,097; only [`Job::search`](crate::Job::search) and
-    /// [`search_words`](crate::search_words) get it.
+    /// 18: the first candidate of a search is 0 or above 4,097; only
+    /// [`Job::search`](crate::Job::search) and [`search_words`](crate::search_words) get it.
     FirstCandidate,
     /// 8: the asked arrival is not reachable for every axis, or fits no window.
     NotReachable {
@@ -210,8 +218,9 @@ impl Refusal {
         }
     }
 
-    /// The place: a word's index for 2 and 14, 1 for 3, the axis for 4 to 6, 12 and 15 to 17, the window or 32 for 13, the number of words
-    /// needed for 10 of the converter, and 0 where no place is named.
+    /// The place: a word's index for 2 and 14, 1 for 3, the axis for 4 to 6, 12 and 15
+    /// to 17, the window or 32 for 13, the number of words needed for 10 of the
+    /// converter, and 0 where no place is named.
     pub const fn place(&self) -> u64 {
         match *self {
             Refusal::Words { index } | Refusal::LongPosition { index } => index as u64,
@@ -265,7 +274,9 @@ impl Refusal {
     /// What is wrong, without the number.
     fn write_cause(&self, f: &mut fmt::Formatter<'_>) -> fmt::Result {
         match self {
-            Refusal::Mask => write!(f, "the axis mask is absent, 0 or above 63: a job has at least one of the axes 0 to 5"),
+            Refusal::Mask => {
+                write!(f, "the axis mask is absent, 0 or above 63: a job has at least one of the axes 0 to 5")
+            }
             Refusal::Words { index } => write!(
                 f,
                 "word {index} is of a kind not allowed there, lacking or left over, or it ends the job with a payload \
@@ -282,10 +293,14 @@ impl Refusal {
             ),
             Refusal::Damping { axis } => write!(
                 f,
-                "on axis {axis} the first peak of `damping` is not above 0, or its ratio is not a number above 0 and at most 1"
+                "on axis {axis} the first peak of `damping` is not above 0, or its ratio is not a number above 0 and \
+                 at most 1"
             ),
             Refusal::Blend { axis } => {
-                write!(f, "on axis {axis} `half_period` is outside 0 to 256, or the weight of `damping` outside 1 to 128")
+                write!(
+                    f,
+                    "on axis {axis} `half_period` is outside 0 to 256, or the weight of `damping` outside 1 to 128"
+                )
             }
             Refusal::SecondHalfPeriod { axis } => write!(f, "on axis {axis} `second_half_period` is outside 1 to 256"),
             Refusal::StartOrTarget { axis } => write!(
@@ -299,14 +314,15 @@ impl Refusal {
             }
             Refusal::FlyingTarget { axis } => write!(
                 f,
-                "on axis {axis} `target` is fixed and its `velocity` is not 0: a fixed target is at rest, and one that moves \
-                 uniformly is a moving one with `acceleration` 0"
+                "on axis {axis} `target` is fixed and its `velocity` is not 0: a fixed target is at rest, and one that \
+                 moves uniformly is a moving one with `acceleration` 0"
             ),
-            Refusal::Windows { place: MOST_WINDOWS } => write!(
-                f,
-                "`windows` has more than {MOST_WINDOWS} windows, or its dwell is above {LONGEST_DWELL}"
-            ),
-            Refusal::Windows { place: 0 } => write!(f, "`windows` is an empty list, or window 0 does not close after it opens"),
+            Refusal::Windows { place: MOST_WINDOWS } => {
+                write!(f, "`windows` has more than {MOST_WINDOWS} windows, or its dwell is above {LONGEST_DWELL}")
+            }
+            Refusal::Windows { place: 0 } => {
+                write!(f, "`windows` is an empty list, or window 0 does not close after it opens")
+            }
             Refusal::Windows { place } => {
                 let before = place - 1;
                 write!(f, "window {place} does not close after it opens, or opens before window {before} closes")
@@ -321,7 +337,8 @@ impl Refusal {
             Refusal::NoCommonArrival { axes } if axes.is_empty() => {
                 write!(
                     f,
-                    "each axis can arrive, but no tick from 1 to {LATEST_ARRIVAL} suits all of them and the windows, if any"
+                    "each axis can arrive, but no tick from 1 to {LATEST_ARRIVAL} suits all of them and the windows, \
+                     if any"
                 )
             }
             Refusal::NoCommonArrival { axes } => write!(f, "{axes} can arrive at no tick from 1 to {LATEST_ARRIVAL}"),
@@ -329,7 +346,9 @@ impl Refusal {
                 write!(f, "the arrival is {arrival}, and the lent table has fewer than 3 cells for each axis and row")
             }
             Refusal::WordsTooFew { needed } => write!(f, "the converted job has {needed} words, and fewer are lent"),
-            Refusal::Other { number, .. } => write!(f, "the library refuses by a number, {number}, that has no name here"),
+            Refusal::Other { number, .. } => {
+                write!(f, "the library refuses by a number, {number}, that has no name here")
+            }
         }
     }
 }

@@ -85,7 +85,8 @@ impl<'t> Row<'t> {
         self.tick
     }
 
-    /// The row's cells: for each axis from the lowest up its position, velocity and acceleration in fine steps.
+    /// The row's cells: for each axis from the lowest up its position, velocity
+    /// and acceleration in fine steps.
     pub const fn cells(&self) -> &'t [i64] {
         self.cells
     }
@@ -101,7 +102,8 @@ impl<'t> Row<'t> {
     }
 }
 
-/// Position, velocity and acceleration of one axis at one tick, in fine steps: 1/256 unit, per tick, per tick².
+/// Position, velocity and acceleration of one axis at one tick, in fine steps:
+/// 1/256 unit, per tick, per tick².
 #[derive(Debug, Clone, Copy, PartialEq, Eq, Hash)]
 pub struct Motion {
     /// Position in fine steps.
@@ -134,7 +136,8 @@ impl Motion {
     }
 }
 
-/// Fine steps as units. No cell of a table is past 2^52 fine steps in size, and up to there the result is exact.
+/// Fine steps as units. No cell of a table is past 2^52 fine steps in size, and
+/// up to there the result is exact.
 pub fn in_units(fine_steps: i64) -> f64 {
     fine_steps as f64 / FINE_STEPS as f64
 }

@@ -1,4 +1,5 @@
-//! The set-up sheet: a job or a tour as a person writes it, one entry to a line. The format's page is `docs/SHEET.md`.
+//! The set-up sheet: a job or a tour as a person writes it, one entry to a line. The
+//! format's page is `docs/SHEET.md`.
 //!
 //! ```
 //! use polgamir::sheet::Sheet;
@@ -63,7 +64,8 @@ pub enum Setup {
     Tour(TourSheet),
 }
 
-/// A job with what its sheet says beside it: the names of the axes, and the lines that the entries stand on.
+/// A job with what its sheet says beside it: the names of the axes, and the
+/// lines that the entries stand on.
 #[derive(Debug, Clone, PartialEq, Default)]
 pub struct Sheet {
     /// The job that the sheet asks for.
@@ -77,13 +79,15 @@ impl Sheet {
         self.notes.axis_name(number)
     }
 
-    /// The line, from 1, that an entry of an axis stands on ([`WordKind::SecondWeight`] for the damping), or with `None` that of the whole job's [`WordKind::Arrival`]. A
-    /// sheet that was not read from text has no lines.
+    /// The line, from 1, that an entry of an axis stands on ([`WordKind::SecondWeight`] for the
+    /// damping), or with `None` that of the whole job's [`WordKind::Arrival`]. A sheet that was
+    /// not read from text has no lines.
     pub fn line_of(&self, axis: Option<usize>, entry: WordKind) -> Option<usize> {
         self.notes.line_of(axis, entry)
     }
 
-    /// An entry of an axis, or with `None` the arrival, as it stands on the sheet, where it has a crew's unit: `swings 10 in 8.4 s`.
+    /// An entry of an axis, or with `None` the arrival, as it stands on the sheet, where it has a
+    /// crew's unit: `swings 10 in 8.4 s`.
     pub fn as_entered(&self, axis: Option<usize>, entry: WordKind) -> Option<&str> {
         self.notes.as_entered(axis, entry)
     }
@@ -103,18 +107,20 @@ impl Sheet {
         self.notes.axis_title(number)
     }
 
-    /// The entries that no whole number of ticks or units meets, in the order of their lines: what was entered, what is planned and by how much
-    /// it is off.
+    /// The entries that no whole number of ticks or units meets, in the order of their lines: what
+    /// was entered, what is planned and by how much it is off.
     pub fn rounded(&self) -> &[Rounded] {
         &self.notes.rounded
     }
 
-    /// The seconds of a tick, where the sheet says them: for what is shown, never for what is planned.
+    /// The seconds of a tick, where the sheet says them: for what is shown, never for what is
+    /// planned.
     pub fn tick_seconds(&self) -> Option<f64> {
         self.notes.scales.tick_seconds()
     }
 
-    /// What a unit of an axis stands for, where the sheet says it: for what is shown, never for what is planned.
+    /// What a unit of an axis stands for, where the sheet says it: for what is
+    /// shown, never for what is planned.
     pub fn unit_of(&self, number: usize) -> Option<&Unit> {
         self.notes.scales.unit_of(number)
     }
@@ -199,7 +205,8 @@ fn remark(entry: WordKind) -> &'static str {
     }
 }
 
-/// Writes the sheet in full, in a form that reads back as the same sheet, but for windows after the 32nd.
+/// Writes the sheet in full, in a form that reads back as the same sheet, but for windows after the
+/// 32nd.
 impl fmt::Display for Sheet {
     fn fmt(&self, f: &mut fmt::Formatter<'_>) -> fmt::Result {
         match self.job.arrival {
@@ -240,7 +247,8 @@ fn write_axis(f: &mut fmt::Formatter<'_>, axis: &Axis) -> fmt::Result {
     Ok(())
 }
 
-/// Writes the damping with its remark. A ratio or a peak that is not finite has no line that reads back.
+/// Writes the damping with its remark. A ratio or a peak that is not finite has no line that reads
+/// back.
 fn write_damping(f: &mut fmt::Formatter<'_>, damping: Damping) -> fmt::Result {
     let remark = match damping {
         Damping::Weight(_) => "1 to 128; 128: the swing does not shrink",

@@ -1,7 +1,8 @@
-//! What a table can leave of a sway on a pole that is not quite as entered: the proved bound, as a number.
+//! What a table can leave of a sway on a pole that is not quite as entered: the proved bound, as a
+//! number.
 //!
-//! The theorems are `sway-most` and `measured-most` (docs/METHOD.md, section 25). Everything here is worked out exactly in whole
-//! numbers, and a number that is handed out is rounded upward.
+//! The theorems are `sway-most` and `measured-most` (docs/METHOD.md, section 25). Everything here
+//! is worked out exactly in whole numbers, and a number that is handed out is rounded upward.
 
 mod fraction;
 mod rate;
@@ -16,28 +17,33 @@ use rate::{Misfits, Rate};
 
 /// What a table can leave of a sway at most.
 ///
-/// It is in fine steps where it comes from [`Axis::sway_bound`]: so far is the top of the pole from where it comes to rest, at any time
-/// from the arrival on. Where it comes from [`Axis::sway_left`] it is in fine steps per tick² times the unit of the list's entries.
+/// It is in fine steps where it comes from [`Axis::sway_bound`]: so far is the top of the pole from
+/// where it comes to rest, at any time from the arrival on. Where it comes from [`Axis::sway_left`]
+/// it is in fine steps per tick² times the unit of the list's entries.
 #[derive(Debug, Clone, Copy, PartialEq, Eq, Hash)]
 pub struct SwayLeft {
     /// By the exact blend, before the cells are rounded.
     pub exact: u128,
-    /// By the cells of the table. The rounding of a cell can push the pole too; no rounding pushes it by more than the difference.
+    /// By the cells of the table. The rounding of a cell can push the pole too; no rounding pushes
+    /// it by more than the difference.
     pub rounded: u128,
 }
 
 /// Why there is no bound.
 #[derive(Debug, Clone, Copy, PartialEq, Eq, Hash)]
 pub enum NoBound {
-    /// A number of the axis is outside its range, or its damping gives no weight: the planner refuses such an axis.
+    /// A number of the axis is outside its range, or its damping gives no weight:
+    /// the planner refuses such an axis.
     Axis,
     /// The arrival is not 1 to 4,096.
     Arrival,
     /// The axis has no second half period.
     SecondSway,
-    /// The half period with its error is not above 0 and at most 512 ticks, or the error's denominator is not 1 to 10,000.
+    /// The half period with its error is not above 0 and at most 512 ticks, or the error's
+    /// denominator is not 1 to 10,000.
     HalfPeriod,
-    /// The swing ratio with its error is not above 0 and at most 1, or the error's denominator is not 1 to 10,000.
+    /// The swing ratio with its error is not above 0 and at most 1, or the error's
+    /// denominator is not 1 to 10,000.
     Ratio,
 }
 
@@ -48,10 +54,12 @@ impl fmt::Display for NoBound {
             NoBound::Arrival => "the arrival is not 1 to 4,096",
             NoBound::SecondSway => "the axis has no second half period",
             NoBound::HalfPeriod => {
-                "the half period with its error is not above 0 and at most 512 ticks, or the error has a denominator above 10,000"
+                "the half period with its error is not above 0 and at most 512 ticks, or the error has a denominator \
+                 above 10,000"
             }
             NoBound::Ratio => {
-                "the swing ratio with its error is not above 0 and at most 1, or the error has a denominator above 10,000"
+                "the swing ratio with its error is not above 0 and at most 1, or the error has a denominator above \
+                 10,000"
             }
         })
     }
@@ -59,7 +67,8 @@ impl fmt::Display for NoBound {
 
 impl std::error::Error for NoBound {}
 
-/// How much the planned accelerations of an axis change, and what a blended one is divided by to give fine steps.
+/// How much the planned accelerations of an axis change, and what a blended one is
+/// divided by to give fine steps.
 #[derive(Debug, Clone, Copy)]
 struct Changes {
     most: u128,
@@ -67,9 +76,10 @@ struct Changes {
 }
 
 impl Axis {
-    /// W, the most that the planned accelerations of this axis change in all, from tick 0 to the landing: 4μ + |α| + 2 steps of the
-    /// axis's grid, where μ is the acceleration limit and α the target's acceleration in these steps. The grid is 1/256 unit; 1/512 with
-    /// a second half period; 1/65,536 for an accelerating target on a damped pole.
+    /// W, the most that the planned accelerations of this axis change in all, from tick 0 to the
+    /// landing: 4μ + |α| + 2 steps of the axis's grid, where μ is the acceleration limit and α the
+    /// target's acceleration in these steps. The grid is 1/256 unit; 1/512 with a second half
+    /// period; 1/65,536 for an accelerating target on a damped pole.
     ///
     /// # Errors
     ///
@@ -78,13 +88,16 @@ impl Axis {
         Ok(self.changes()?.most as u64)
     }
 
-    /// What an accepted table of this axis leaves at most of a sway whose misfits are at most E and whose entries are at most G in size:
-    /// W × E by the divisor before rounding, and N × G more as rounded.
+    /// What an accepted table of this axis leaves at most of a sway whose misfits are at
+    /// most E and whose entries are at most G in size: W × E by the divisor before
+    /// rounding, and N × G more as rounded.
     ///
-    /// A sway is any list of whole numbers w(0), w(1), ..: w(i) is how the pole stands i ticks after its top was pushed, in any unit.
-    /// What is left at a tick m from the arrival on is the sum of each change of acceleration at a row k times w(m − k). The list's
-    /// misfit at i is A·w(i + h) + B·w(i), and with a second half period h₂ that at i + h₂ plus that at i. It is 0 where the list fits the
-    /// pole as entered. The misfits and entries that count are those of w(m − N) to w(m).
+    /// A sway is any list of whole numbers w(0), w(1), ..: w(i) is how the pole stands i
+    /// ticks after its top was pushed, in any unit. What is left at a tick m from the
+    /// arrival on is the sum of each change of acceleration at a row k times w(m − k). The
+    /// list's misfit at i is A·w(i + h) + B·w(i), and with a second half period h₂ that at
+    /// i + h₂ plus that at i. It is 0 where the list fits the pole as entered. The misfits
+    /// and entries that count are those of w(m − N) to w(m).
     ///
     /// # Errors
     ///
@@ -93,10 +106,11 @@ impl Axis {
         self.left(arrival, misfit.into(), size.into(), 1)
     }
 
-    /// E, the greatest misfit of a sway that fits a half period and a swing ratio other than the entered ones by these errors, where no
-    /// entry is above `size`, G, and no two neighbours are more than `difference`, D, apart: 2|b − B|·G + A·|p − h|·D, but never more than
-    /// 256·G; twice that with a second half period. Here p is the true half period, and b the weight of the true ratio, which need not
-    /// be whole. An error is the true number less the entered one.
+    /// E, the greatest misfit of a sway that fits a half period and a swing ratio other than the
+    /// entered ones by these errors, where no entry is above `size`, G, and no two neighbours are
+    /// more than `difference`, D, apart: 2|b − B|·G + A·|p − h|·D, but never more than 256·G; twice
+    /// that with a second half period. Here p is the true half period, and b the weight of the true
+    /// ratio, which need not be whole. An error is the true number less the entered one.
     ///
     /// # Errors
     ///
@@ -112,13 +126,16 @@ impl Axis {
         Ok(misfits.greatest(size.into(), difference.into()) as u64)
     }
 
-    /// How far the top of the pole can be from where it comes to rest, at any time from the arrival on, where its half period and its swing
-    /// ratio are other than the entered ones by these errors: a bound in fine steps that no table of this axis exceeds.
+    /// How far the top of the pole can be from where it comes to rest, at any time from the arrival
+    /// on, where its half period and its swing ratio are other than the entered ones by these
+    /// errors: a bound in fine steps that no table of this axis exceeds.
     ///
-    /// The pole is a damped oscillator of one rate, at rest before row 0, and the acceleration of a row holds until the next row. A push
-    /// of 1 unit per tick² then swings its top by at most G = (p/π)² units, and by at most D = p/π units from tick to tick, p being the
-    /// true half period. The bound is [`sway_left`](Axis::sway_left) of the [`misfit_bound`](Axis::misfit_bound) for this G and this D,
-    /// with 106/333, which is a little above it, for 1/π. It is linear in a small error, and it holds for every leg: most leave much less.
+    /// The pole is a damped oscillator of one rate, at rest before row 0, and the acceleration of a
+    /// row holds until the next row. A push of 1 unit per tick² then swings its top by at most G =
+    /// (p/π)² units, and by at most D = p/π units from tick to tick, p being the true half period.
+    /// The bound is [`sway_left`](Axis::sway_left) of the [`misfit_bound`](Axis::misfit_bound) for
+    /// this G and this D, with 106/333, which is a little above it, for 1/π. It is linear in a
+    /// small error, and it holds for every leg: most leave much less.
     ///
     /// ```
     /// use polgamir::{Axis, Damping, Fraction, RestPoint, Target};
@@ -150,8 +167,8 @@ impl Axis {
         self.pole_left(arrival, self.first_rate()?.misfits(half_period_error, ratio_error)?)
     }
 
-    /// As [`Axis::sway_bound`], of the second rate of a pole that swings at two. It is entered as undamped, so that its ratio is 1 and
-    /// an error of it is not above 0.
+    /// As [`Axis::sway_bound`], of the second rate of a pole that swings at two. It is entered as
+    /// undamped, so that its ratio is 1 and an error of it is not above 0.
     ///
     /// # Errors
     ///
@@ -171,7 +188,8 @@ impl Axis {
         self.left(arrival, pole.misfit, pole.size, pole.parts)
     }
 
-    /// What is left of a sway with misfit/parts as its greatest misfit and size/parts as its greatest entry.
+    /// What is left of a sway with misfit/parts as its greatest misfit and
+    /// size/parts as its greatest entry.
     fn left(&self, arrival: u32, misfit: u128, size: u128, parts: u128) -> Result<SwayLeft, NoBound> {
         let Changes { most, divisor } = self.changes()?;
         if !(1..=LATEST_ARRIVAL).contains(&arrival) {

@@ -18,7 +18,8 @@ pub const LONGEST_DWELL: u32 = 4096;
 #[repr(C)]
 #[derive(Debug, Clone, Copy, PartialEq, Eq, Hash, Default)]
 pub struct Stop {
-    /// The resting position of each axis in units; that of an axis which takes no part is not looked at.
+    /// The resting position of each axis in units; that of an axis which takes no part is not
+    /// looked at.
     pub positions: [i64; AXES],
     /// How long the head stays, 0 to 4,096 ticks.
     pub dwell: u32,
@@ -37,7 +38,8 @@ pub struct TourAxis {
     pub half_period: u32,
     /// How far a swing of the pole shrinks in half a period.
     pub damping: Damping,
-    /// Half the period of the pole's second sway in ticks, 1 to 256; `None` for a pole that swings at one rate.
+    /// Half the period of the pole's second sway in ticks, 1 to 256; `None` for
+    /// a pole that swings at one rate.
     pub second_half_period: Option<u32>,
 }
 
@@ -58,7 +60,8 @@ impl TourAxis {
 
 /// A tour: the axes that take part. Its stops are lent to each call.
 ///
-/// Each leg starts at rest where the last one ended, after its dwell, and arrives at the least tick that every axis can reach.
+/// Each leg starts at rest where the last one ended, after its dwell, and arrives at the least
+/// tick that every axis can reach.
 ///
 /// ```
 /// use polgamir::{Damping, Stop, Tour, TourAxis, TourRefusal};
@@ -117,10 +120,12 @@ impl Tour {
         self.axes.iter().enumerate().filter_map(|(number, axis)| axis.as_ref().map(|axis| (number, axis)))
     }
 
-    /// Plans the tour over the stops, writes the arrival at each of them, counted from the tour's start, to the lent list, and
-    /// gives the total: the last arrival with its dwell, and 0 where there are no stops.
+    /// Plans the tour over the stops, writes the arrival at each of them, counted from the
+    /// tour's start, to the lent list, and gives the total: the last arrival with its dwell,
+    /// and 0 where there are no stops.
     ///
-    /// Entries of the list after the last stop's stay as they were; a refused tour writes nothing. Nothing is allocated.
+    /// Entries of the list after the last stop's stay as they were; a refused tour writes
+    /// nothing. Nothing is allocated.
     ///
     /// # Errors
     ///
@@ -132,7 +137,8 @@ impl Tour {
             0 => Ok(total),
             10 => Err(TourRefusal::ListTooShort { stops: place }),
             11 => Err(TourRefusal::Stops { stop: place }),
-            // The library names the stop alone; which axis is at fault, where one is, the leg's own job is told.
+            // The library names the stop alone; which axis is at fault, where one
+            // is, the leg's own job is told.
             4..=6 | 12 | 15 => Err(TourRefusal::Leg { stop: place, refusal: self.leg_refusal(stops, place) }),
             _ => Err(TourRefusal::Leg { stop: place, refusal: Refusal::from_answer(answer) }),
         }
@@ -144,7 +150,8 @@ impl Tour {
         job.arrival_found().expect_err("the job of a refused leg is refused")
     }
 
-    /// Plans the tour over the stops into a list of its own. [`Tour::plan`] is the call for lent memory.
+    /// Plans the tour over the stops into a list of its own. [`Tour::plan`] is the call for lent
+    /// memory.
     ///
     /// # Errors
     ///
@@ -155,8 +162,9 @@ impl Tour {
         Ok(Schedule { arrivals, total })
     }
 
-    /// The job of the leg that leads to a stop, or `None` where there is no such stop. Where the tour is accepted, so is the
-    /// job, and its own arrival is the stop's less the tick at which the head leaves the stop before.
+    /// The job of the leg that leads to a stop, or `None` where there is no such stop. Where the
+    /// tour is accepted, so is the job, and its own arrival is the stop's less the tick at which
+    /// the head leaves the stop before.
     pub fn leg(&self, stops: &[Stop], index: usize) -> Option<Job> {
         let stop = stops.get(index)?;
         let before = index.checked_sub(1).map(|before| &stops[before]);
@@ -227,7 +235,8 @@ impl TourRefusal {
         }
     }
 
-    /// The refusal in the form of the table program's line, as `refused 9 place 1 axes 1 arrival 0`.
+    /// The refusal in the form of the table program's line, as
+    /// `refused 9 place 1 axes 1 arrival 0`.
     pub fn printed_line(&self) -> String {
         format!("refused {} place {} axes {} arrival 0", self.number(), self.place(), self.mask().0)
     }

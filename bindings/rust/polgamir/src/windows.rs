@@ -14,8 +14,8 @@ pub struct Window {
 }
 
 impl Window {
-    /// Whether an arrival fits this window with a dwell: it is not before the opening, it is before the closing, and the dwell ends
-    /// by then.
+    /// Whether an arrival fits this window with a dwell: it is not before the opening, it is before
+    /// the closing, and the dwell ends by then.
     pub const fn holds(&self, arrival: u32, dwell: u32) -> bool {
         self.opening <= arrival && arrival < self.closing && arrival as u64 + dwell as u64 <= self.closing as u64
     }
@@ -23,7 +23,8 @@ impl Window {
 
 /// The windows that a job brings, and how long the head is to stay in one after its arrival.
 ///
-/// Windows stand in the order of their ticks. They may touch, and do not join: one of them holds arrival and dwell.
+/// Windows stand in the order of their ticks. They may touch, and do not join: one
+/// of them holds arrival and dwell.
 ///
 /// ```
 /// use polgamir::{Window, Windows};
@@ -39,8 +40,8 @@ pub struct Windows {
 }
 
 impl Windows {
-    /// Windows with a dwell, 0 to 4,096 ticks. Of more than 32 windows the first 32 are kept, and the number of all: the planner
-    /// refuses them, as it does an empty list.
+    /// Windows with a dwell, 0 to 4,096 ticks. Of more than 32 windows the first 32 are kept, and
+    /// the number of all: the planner refuses them, as it does an empty list.
     pub fn new(dwell: u32, windows: &[Window]) -> Windows {
         let mut list = [Window::default(); MOST_WINDOWS];
         for (place, &window) in list.iter_mut().zip(windows) {

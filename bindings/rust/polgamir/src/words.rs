@@ -9,9 +9,10 @@ use crate::AXES;
 
 /// What a word of a job holds.
 ///
-/// In order: the mask, the arrival, then for each axis of the mask, lowest first, the eight words from `StartPosition` to
-/// `TargetVelocity`, for a pole with a second sway `SecondHalfPeriod` after `SecondWeight`, and for a moving target also
-/// `TargetAcceleration` and `TargetTick`; last `End`. A position that its own word cannot hold has a word `HighPosition` just before it.
+/// In order: the mask, the arrival, then for each axis of the mask, lowest first, the eight words
+/// from `StartPosition` to `TargetVelocity`, for a pole with a second sway `SecondHalfPeriod` after
+/// `SecondWeight`, and for a moving target also `TargetAcceleration` and `TargetTick`; last `End`.
+/// A position that its own word cannot hold has a word `HighPosition` just before it.
 #[derive(Debug, Clone, Copy, PartialEq, Eq, Hash)]
 pub enum WordKind {
     /// Kind 1: which axes take part, bit 0 for axis 0 up to bit 5.
@@ -40,7 +41,8 @@ pub enum WordKind {
     TargetTick = 12,
     /// Kind 13, after kind 8: half the period of a second sway.
     SecondHalfPeriod = 13,
-    /// Kind 14, just before kind 3 or 9: times 2²⁸, and with the following payload read as unsigned, it is the position.
+    /// Kind 14, just before kind 3 or 9: times 2²⁸, and with the following payload read
+    /// as unsigned, it is the position.
     HighPosition = 14,
     /// Kind 15: the end of the job, with payload 0.
     End = 15,
@@ -65,7 +67,8 @@ impl WordKind {
         }
     }
 
-    /// The least and the greatest number that words can say: of a position in two words, else in one.
+    /// The least and the greatest number that words can say: of a position in two words, else in
+    /// one.
     pub const fn range(self) -> (i64, i64) {
         match self {
             WordKind::StartPosition | WordKind::TargetPosition => (HIGH_LEAST << 28, ((HIGH_GREATEST + 1) << 28) - 1),
@@ -141,8 +144,8 @@ pub enum WordFault {
 }
 
 impl WordError {
-    /// The refusal that a call for a table gives to these words: 1 where the mask word is at fault, 14 where a word of kind 14 has a
-    /// wrong payload, else 2.
+    /// The refusal that a call for a table gives to these words: 1 where the mask word is at fault,
+    /// 14 where a word of kind 14 has a wrong payload, else 2.
     pub fn refusal(&self) -> Refusal {
         match (self.index, self.fault) {
             (0, _) => Refusal::Mask,
@@ -248,14 +251,16 @@ impl std::error::Error for NoWords {}
 impl Job {
     /// The words of this job.
     ///
-    /// Words hold the damping as a weight: where it was measured they have the weight that the planner works out from it
-    /// ([`Damping::weight`]), and the table is the same. Values that a word can hold but that the planner refuses, as a weight of
-    /// 129, are written as they stand. A position has one spelling: one word where it fits, else two.
+    /// Words hold the damping as a weight: where it was measured they have the weight that the
+    /// planner works out from it ([`Damping::weight`]), and the table is the same. Values that a
+    /// word can hold but that the planner refuses, as a weight of 129, are written as they stand. A
+    /// position has one spelling: one word where it fits, else two.
     ///
     /// # Errors
     ///
-    /// Windows, which words do not have; else the first axis whose damping as measured has no weight; else the first number that does
-    /// not fit the 28 bits of its word, or as a position its two words.
+    /// Windows, which words do not have; else the first axis whose damping as measured
+    /// has no weight; else the first number that does not fit the 28 bits of its word,
+    /// or as a position its two words.
     pub fn to_words(&self) -> Result<Vec<u32>, NoWords> {
         if self.windows.is_some() {
             return Err(NoWords::Windows);
@@ -277,12 +282,14 @@ impl Job {
 
     /// The job that words hold.
     ///
-    /// Only what refusals 1, 2 and 14 speak of is looked at; whether the numbers can be planned is the planner's to say.
+    /// Only what refusals 1, 2 and 14 speak of is looked at; whether the numbers can be
+    /// planned is the planner's to say.
     ///
     /// # Errors
     ///
-    /// The first word that is not of a kind allowed there, that is lacking or left over, or whose mask or end payload is wrong; else
-    /// the first word of kind 14 whose payload is wrong or whose position fits a single word.
+    /// The first word that is not of a kind allowed there, that is lacking or left over, or
+    /// whose mask or end payload is wrong; else the first word of kind 14 whose payload is
+    /// wrong or whose position fits a single word.
     pub fn from_words(words: &[u32]) -> Result<Job, WordError> {
         let mut reader = Reader { words, index: 0, misspelled: None };
         let mask = reader.mask()?;
@@ -303,8 +310,9 @@ impl Job {
 }
 
 impl Axis {
-    /// The numbers of the axis in the order of its words, each with what it is. The weight is that of the damping, and is left
-    /// out where the damping as measured has none; so is a second half period where the pole has none.
+    /// The numbers of the axis in the order of its words, each with what it is. The weight is that
+    /// of the damping, and is left out where the damping as measured has none; so is a second half
+    /// period where the pole has none.
     pub fn entries(&self) -> impl Iterator<Item = (WordKind, i64)> {
         let (position, velocity, moving) = match self.target {
             Target::Fixed(RestPoint { position, velocity }) => (position, velocity, None),
@@ -366,7 +374,8 @@ const fn kind_of(word: u32) -> u32 {
     word >> 28
 }
 
-/// The words of a job with the index of the one to read next, and the first word of kind 14 that is wrong.
+/// The words of a job with the index of the one to read next, and the first
+/// word of kind 14 that is wrong.
 struct Reader<'w> {
     words: &'w [u32],
     index: usize,
@@ -384,7 +393,8 @@ impl Reader<'_> {
         self.words.get(self.index).is_some_and(|&word| kind_of(word) == kind.number())
     }
 
-    /// The payload of the next word, which is to be of a kind; `or` are kinds that could have stood there too.
+    /// The payload of the next word, which is to be of a kind; `or` are kinds
+    /// that could have stood there too.
     fn payload(&mut self, due: WordKind, or: &'static [WordKind]) -> Result<u32, WordError> {
         match self.words.get(self.index) {
             None => self.fault(WordFault::Lacking { due }),
@@ -406,7 +416,8 @@ impl Reader<'_> {
         self.payload(due, &[]).map(sign_extended)
     }
 
-    /// A position: its word, or one of kind 14 and then its word; `or` are kinds that could have stood there too.
+    /// A position: its word, or one of kind 14 and then its word; `or` are kinds
+    /// that could have stood there too.
     fn position(&mut self, due: WordKind, or: &'static [WordKind]) -> Result<i64, WordError> {
         if !self.next_is(WordKind::HighPosition) {
             return self.payload(due, or).map(sign_extended);
@@ -432,7 +443,8 @@ impl Reader<'_> {
         Ok(mask)
     }
 
-    /// The words of one axis. After one whose target is so far a fixed one, a word of kind 11 could stand too.
+    /// The words of one axis. After one whose target is so far a fixed one, a
+    /// word of kind 11 could stand too.
     fn axis(&mut self, previous_is_fixed: bool) -> Result<Axis, WordError> {
         let or: &[WordKind] = match previous_is_fixed {
             true => &[WordKind::TargetAcceleration, WordKind::HighPosition],
@@ -457,8 +469,8 @@ impl Reader<'_> {
         self.unsigned(WordKind::SecondHalfPeriod).map(Some)
     }
 
-    /// The words of a target; it moves where a word of kind 11 follows its velocity. Where no second half period stands before them, a
-    /// word of kind 13 could stand too.
+    /// The words of a target; it moves where a word of kind 11 follows its velocity. Where no
+    /// second half period stands before them, a word of kind 13 could stand too.
     fn target(&mut self, after_second: bool) -> Result<Target, WordError> {
         let or: &[WordKind] = match after_second {
             true => &[WordKind::HighPosition],

@@ -1,5 +1,5 @@
-//! The calls that write the rows from the arrival backwards: the answer and each row are those of the forward calls, and the
-//! table has the arrival's row first and row 0 last.
+//! The calls that write the rows from the arrival backwards: the answer and each row are those of
+//! the forward calls, and the table has the arrival's row first and row 0 last.
 
 mod common;
 
@@ -31,7 +31,8 @@ fn rows_are_read_by_tick_in_either_order() {
     assert_eq!(backwards.rows().next_back().map(|row| row.cells()), Some(&backwards.cells()[..3]));
 }
 
-/// The plan of a job in both orders, into tables with seven cells too many, which stay as they were.
+/// The plan of a job in both orders, into tables with seven cells too many, which stay as they
+/// were.
 fn both_orders(job: &Job) -> Option<(Plan, Plan)> {
     let lent = vec![i64::MIN; job.enough_cells() + 7];
     let (mut table, mut turned) = (lent.clone(), lent.clone());

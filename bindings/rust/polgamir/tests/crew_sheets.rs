@@ -1,4 +1,5 @@
-//! Sheets in a crew's units against the reference of `tests/reference/sheets.py`, and wrong ones against what is written beside them.
+//! Sheets in a crew's units against the reference of `tests/reference/sheets.py`, and wrong ones
+//! against what is written beside them.
 
 use std::fmt::Write;
 use std::fs;
@@ -111,7 +112,8 @@ fn wrong_sheets_are_told_whole_and_in_the_order_of_their_lines() {
     }
 }
 
-/// Each entry by itself on a sheet that lacks the rest: what it is planned as, and what is said of it.
+/// Each entry by itself on a sheet that lacks the rest: what it is planned as, and what is said of
+/// it.
 #[test]
 fn every_rounding_is_that_of_the_reference() {
     let drawn = fs::read_to_string(folder("tests/sheets/drawn.txt")).expect("drawn entries");

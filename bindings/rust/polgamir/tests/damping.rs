@@ -1,4 +1,5 @@
-//! Damping as measured. The expected weights are those of request 2.3 and its readings, and of exact whole-number arithmetic.
+//! Damping as measured. The expected weights are those of request 2.3 and its readings, and of
+//! exact whole-number arithmetic.
 
 mod common;
 
@@ -45,8 +46,9 @@ fn what_is_no_damping_has_no_weight() {
     }
 }
 
-/// The weight of a ratio from 2⁻¹⁰ to 1, in whole numbers: a product rounds to a float that is at least B exactly where it is not
-/// below the middle between B and the float before it, for B's significand is even.
+/// The weight of a ratio from 2⁻¹⁰ to 1, in whole numbers: a product rounds to a float that
+/// is at least B exactly where it is not below the middle between B and the float before
+/// it, for B's significand is even.
 fn exact_weight(ratio: f32) -> u32 {
     let (significand, exponent) = (ratio.to_bits() & 0x7F_FFFF | 0x80_0000, ratio.to_bits() >> 23);
     // In units of 2⁻⁶⁰: the ratio is its significand × 2^(exponent − 150).
@@ -99,7 +101,8 @@ fn job_with(damping: Damping) -> Job {
     Job::earliest().with_axis(2, Axis { half_period: 3, damping, ..field_axis(Target::still(40)) })
 }
 
-/// The planner's table is that of the same job with the weight entered, at both sides of every edge.
+/// The planner's table is that of the same job with the weight entered, at both sides of every
+/// edge.
 #[test]
 fn the_planner_keeps_the_same_rule() {
     for (_, below, from) in edges() {

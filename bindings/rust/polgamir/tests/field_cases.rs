@@ -32,7 +32,8 @@ fn printed(accepted: &Accepted) -> String {
     text
 }
 
-/// Axis 0 of case F as a converted job has it: the target is at 10, at 10 units per tick, at the asked arrival.
+/// Axis 0 of case F as a converted job has it: the target is at 10, at 10 units
+/// per tick, at the asked arrival.
 fn axis_of_f(asked: u32) -> Axis {
     let target = State { position: 10, velocity: 10, acceleration: 0, tick: asked.into() };
     let start = RestPoint { position: 0, velocity: 10 };

@@ -1,5 +1,5 @@
-//! The examples of the repository: each job of `jobs/` is its sheet's, and its text is what the table program prints. A tour and a
-//! job with windows have a sheet alone.
+//! The examples of the repository: each job of `jobs/` is its sheet's, and its text is what the
+//! table program prints. A tour and a job with windows have a sheet alone.
 
 use std::fs;
 use std::path::{Path, PathBuf};

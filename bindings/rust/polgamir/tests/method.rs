@@ -1,4 +1,5 @@
-//! docs/METHOD.md: its numbers are those of the planner, its sections those that are cited, and its parts are there.
+//! docs/METHOD.md: its numbers are those of the planner, its sections those that are
+//! cited, and its parts are there.
 
 mod common;
 
@@ -57,7 +58,8 @@ fn printed_tables_are_the_planner_s() {
     assert!(page().contains(&words.join(" ")));
 }
 
-/// The planned motion of the example is the table of the same axis without a blend, asked for the landing tick, and it rests from there on.
+/// The planned motion of the example is the table of the same axis without a blend, asked for the
+/// landing tick, and it rests from there on.
 #[test]
 fn the_planned_motion_is_the_planner_s() {
     let planned = Job::arriving_at(8).with_axis(0, Axis { half_period: 0, ..example() }).plan().expect("a plan");
@@ -113,7 +115,9 @@ fn examples_of_damping_and_cells_are_the_planner_s() {
 #[test]
 fn examples_of_words_and_raises_are_the_planner_s() {
     let page = words_of_page();
-    let pairs = "(high, low) = (0, 2²⁷) passes, (0, 2²⁷ − 1) is 14, (−1, 2²⁷ − 1) passes, (−1, 2²⁷) is 14, (64, 0) and (−65, 0) are 14.";
+    let pairs =
+        "(high, low) = (0, 2²⁷) passes, (0, 2²⁷ − 1) is 14, (−1, 2²⁷ − 1) passes, (−1, 2²⁷) is 14, (64, 0) and \
+         (−65, 0) are 14.";
     assert!(page.contains(pairs));
     for (high, low, passes) in [
         (0, 1 << 27, true),
@@ -151,7 +155,8 @@ fn examples_of_words_and_raises_are_the_planner_s() {
     assert_eq!(raises(3, Axis { half_period: 3, ..to(10, 4) }), []);
 }
 
-/// What is said of a target that grows too fast, of searches where nothing is reached, and of rows backwards.
+/// What is said of a target that grows too fast, of searches where nothing is
+/// reached, and of rows backwards.
 #[test]
 fn examples_of_reach_and_search_are_the_planner_s() {
     let target = Target::Moving(State { position: 8, velocity: -1, acceleration: 1, tick: 0 });
@@ -169,7 +174,8 @@ fn examples_of_reach_and_search_are_the_planner_s() {
     assert_eq!(backwards.cells()[..6], [256, 0, 0, 214, 85, -85]);
 }
 
-/// Sections and their parts are numbered without a gap, each link leads to a heading, and every picture is there.
+/// Sections and their parts are numbered without a gap, each link leads to a
+/// heading, and every picture is there.
 #[test]
 fn sections_are_numbered() {
     let page = page();
@@ -211,7 +217,8 @@ fn files_of(folder: &Path, endings: &[&str]) -> Vec<PathBuf> {
     files
 }
 
-/// Every file of definitions is named on the page and names a section of it; files that the page names are there.
+/// Every file of definitions is named on the page and names a section of it; files
+/// that the page names are there.
 #[test]
 fn definitions_and_sections_name_each_other() {
     let page = page();
@@ -239,7 +246,12 @@ fn cited_sections_are_there() {
         let text = fs::read_to_string(&file).expect("a source");
         for cited in text.split("docs/METHOD.md, ").skip(1) {
             for number in numbers_cited(cited) {
-                assert!(is_there(&number), "{}: {number} of '{}'", file.display(), cited.lines().next().unwrap_or_default());
+                assert!(
+                    is_there(&number),
+                    "{}: {number} of '{}'",
+                    file.display(),
+                    cited.lines().next().unwrap_or_default()
+                );
                 count += 1;
             }
         }
@@ -247,7 +259,8 @@ fn cited_sections_are_there() {
     assert!(count > 50, "{count}");
 }
 
-/// The numbers at the head of a citation, as in 'section 6', '3.7' and 'sections 6, 6.3 and 2.5'; none where the whole page is cited.
+/// The numbers at the head of a citation, as in 'section 6', '3.7' and 'sections 6, 6.3 and 2.5';
+/// none where the whole page is cited.
 fn numbers_cited(cited: &str) -> Vec<String> {
     let several = cited.strip_prefix("sections ");
     let cited = several.or(cited.strip_prefix("section ")).unwrap_or(cited);
@@ -292,7 +305,8 @@ fn refusals_of(page: &str, columns: usize) -> Vec<Vec<String>> {
     numbered.map(|row| row[..4].to_vec()).collect()
 }
 
-/// This page has the one list of refusals, in checking order, which is the header's too; the README links to it and has none of its own.
+/// This page has the one list of refusals, in checking order, which is the header's too; the README
+/// links to it and has none of its own.
 #[test]
 fn refusals_are_told_once() {
     let readme = fs::read_to_string(folder("README.md")).expect("the README");

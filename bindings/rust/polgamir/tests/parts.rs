@@ -1,4 +1,5 @@
-//! Rows in parts: the rows of the whole table from any row on, as many as the lent cells hold, and an iterator over them.
+//! Rows in parts: the rows of the whole table from any row on, as many as the lent cells
+//! hold, and an iterator over them.
 
 mod common;
 

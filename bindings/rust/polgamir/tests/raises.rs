@@ -1,4 +1,5 @@
-//! The least raise of a limit for which an axis arrives: what a raise says, of random jobs, from typed values and from words.
+//! The least raise of a limit for which an axis arrives: what a raise says, of random jobs,
+//! from typed values and from words.
 
 mod common;
 
@@ -46,7 +47,8 @@ fn other_answers_have_no_raise() {
     assert_eq!(raises_words(&[]).arrival(), Err(Refusal::Mask));
 }
 
-/// Each raise of a random job is enough, one less is not, and where a limit has none its highest value is not enough.
+/// Each raise of a random job is enough, one less is not, and where a limit has none
+/// its highest value is not enough.
 #[test]
 fn raises_are_least() {
     let mut random = Random(210);

@@ -27,7 +27,8 @@ fn all() -> Vec<(Refusal, &'static str, SheetLine, &'static str)> {
             Refusal::LongPosition { index: 9 },
             "refused 14 place 9 axes 0 arrival 0",
             ReadTheRefusal,
-            "refused with 14: the payload of word 9, of kind 14, is outside -64 to 63, or its position fits a single word",
+            "refused with 14: the payload of word 9, of kind 14, is outside -64 to 63, or its position fits a single \
+             word",
         ),
         (
             Refusal::AskedArrival,
@@ -39,14 +40,15 @@ fn all() -> Vec<(Refusal, &'static str, SheetLine, &'static str)> {
             Refusal::Limits { axis: 2 },
             "refused 4 place 2 axes 0 arrival 0",
             EnterLimits,
-            "refused with 4: on axis 2 `speed_limit` is outside 1 to 1048576, or `acceleration_limit` outside 1 to 65536",
+            "refused with 4: on axis 2 `speed_limit` is outside 1 to 1048576, or `acceleration_limit` outside 1 to \
+             65536",
         ),
         (
             Refusal::Damping { axis: 3 },
             "refused 12 place 3 axes 0 arrival 0",
             TapThePole,
-            "refused with 12: on axis 3 the first peak of `damping` is not above 0, or its ratio is not a number above 0 and \
-             at most 1",
+            "refused with 12: on axis 3 the first peak of `damping` is not above 0, or its ratio is not a number above \
+             0 and at most 1",
         ),
         (
             Refusal::Blend { axis: 0 },
@@ -78,8 +80,8 @@ fn all() -> Vec<(Refusal, &'static str, SheetLine, &'static str)> {
             Refusal::FlyingTarget { axis: 3 },
             "refused 17 place 3 axes 0 arrival 0",
             EnterStartAndTarget,
-            "refused with 17: on axis 3 `target` is fixed and its `velocity` is not 0: a fixed target is at rest, and one that \
-             moves uniformly is a moving one with `acceleration` 0",
+            "refused with 17: on axis 3 `target` is fixed and its `velocity` is not 0: a fixed target is at rest, and \
+             one that moves uniformly is a moving one with `acceleration` 0",
         ),
         (
             Refusal::Windows { place: 0 },
@@ -127,7 +129,8 @@ fn all() -> Vec<(Refusal, &'static str, SheetLine, &'static str)> {
             Refusal::NoCommonArrival { axes: AxisMask(0) },
             "refused 9 place 0 axes 0 arrival 0",
             EnterStartAndTarget,
-            "refused with 9: each axis can arrive, but no tick from 1 to 4096 suits all of them and the windows, if any",
+            "refused with 9: each axis can arrive, but no tick from 1 to 4096 suits all of them and the windows, if \
+             any",
         ),
         (
             Refusal::TableTooShort { arrival: 4 },
@@ -185,7 +188,8 @@ fn called_for(job: &Job) -> Option<Refusal> {
     limits.or(blend).or(second).or(of(6).map(|axis| Refusal::StartOrTarget { axis }))
 }
 
-/// The ranges are the planner's: it refuses with 4, 5, 15 or 6 exactly where a number is outside its range, at that axis.
+/// The ranges are the planner's: it refuses with 4, 5, 15 or 6 exactly where a number is
+/// outside its range, at that axis.
 #[test]
 fn the_planner_keeps_the_same_ranges() {
     let mut random = Random(0x4A6E_5EED_0000_0011);

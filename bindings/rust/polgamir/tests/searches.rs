@@ -1,5 +1,5 @@
-//! Searches between servo turns. The expected values are those of request 2.12 and its readings; 'B4' is the field cases' axis on
-//! its way to 4, which reaches tick 4 and every later one.
+//! Searches between servo turns. The expected values are those of request 2.12 and its readings;
+//! 'B4' is the field cases' axis on its way to 4, which reaches tick 4 and every later one.
 
 mod common;
 
@@ -91,7 +91,8 @@ fn refusals_come_in_checking_order() {
     }
 }
 
-/// A job of any kind that is mostly accepted, every other time with some windows in the first few hundred ticks.
+/// A job of any kind that is mostly accepted, every other time with some
+/// windows in the first few hundred ticks.
 fn drawn(random: &mut Random) -> Job {
     let job = asking(random.plannable_job(), 0);
     if random.once_in(2) {
@@ -106,7 +107,8 @@ fn drawn(random: &mut Random) -> Job {
     job.with_windows(random.small(20) as u32, &windows)
 }
 
-/// Found is the first tick that the job is accepted with where it is asked for, and the number tried follows from the report.
+/// Found is the first tick that the job is accepted with where it is asked for, and the number
+/// tried follows from the report.
 #[test]
 fn a_search_finds_the_first_tick_that_can_be_asked_for() {
     let mut random = Random(1212);
@@ -122,7 +124,8 @@ fn a_search_finds_the_first_tick_that_can_be_asked_for() {
     }
 }
 
-/// A search with the budgets one after the other, from 1 on: the tick or none, and how many candidates were tried in all.
+/// A search with the budgets one after the other, from 1 on: the tick or none, and how
+/// many candidates were tried in all.
 fn in_parts(job: &Job, mut budget: impl FnMut() -> u32) -> (Option<u32>, u32, usize) {
     let (mut first, mut tried) = (1, 0);
     for calls in 1.. {
@@ -137,7 +140,8 @@ fn in_parts(job: &Job, mut budget: impl FnMut() -> u32) -> (Option<u32>, u32, us
     unreachable!("a search ends")
 }
 
-/// Whatever the budgets are, the parts come to one undivided search, whose tick is the job's own arrival and can be asked for.
+/// Whatever the budgets are, the parts come to one undivided search, whose tick is the job's
+/// own arrival and can be asked for.
 #[test]
 fn parts_come_to_one_undivided_search() {
     let mut random = Random(212);

@@ -1,4 +1,5 @@
-//! Poles that swing at two rates, from typed values, words and tours. The expected values are those of request 2.9 and of its readings.
+//! Poles that swing at two rates, from typed values, words and tours. The expected values are those
+//! of request 2.9 and of its readings.
 
 mod common;
 
@@ -187,7 +188,8 @@ fn the_longest_job_has_81_words() {
     assert_eq!(plan_words(&words, &mut table).map(|accepted| accepted.arrival()), Ok(40));
 }
 
-/// A tour's axis may have a second half period: each leg then takes that much longer than the leg of its planned motion.
+/// A tour's axis may have a second half period: each leg then takes that much longer than
+/// the leg of its planned motion.
 #[test]
 fn tours_take_a_second_half_period() {
     let limits = TourAxis {

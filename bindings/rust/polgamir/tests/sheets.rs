@@ -90,7 +90,8 @@ fn typographic_text_is_read() {
     assert!(read_with(10, "target position \u{2212}").is_err());
 }
 
-/// Damping is a weight, or what the tap test shows; it is read as single-precision floats, from the decimals as they stand.
+/// Damping is a weight, or what the tap test shows; it is read as single-precision floats,
+/// from the decimals as they stand.
 #[test]
 fn damping_may_be_a_weight_a_ratio_or_two_peaks() {
     let read = |line: &str| {
@@ -135,9 +136,14 @@ fn a_second_half_period_may_stand_on_the_sheet() {
     for (wrong, told) in [
         (
             "second half period",
-            "a whole number of ticks from 1 to 256, or seconds as in `0.15 s`, after `second half period`, found the end of the line",
+            "a whole number of ticks from 1 to 256, or seconds as in `0.15 s`, after `second half period`, found the \
+             end of the line",
         ),
-        ("second half period none", "a whole number of ticks from 1 to 256, or seconds as in `0.15 s`, after `second half period`, found `none`"),
+        (
+            "second half period none",
+            "a whole number of ticks from 1 to 256, or seconds as in `0.15 s`, after `second \
+             half period`, found `none`",
+        ),
         (
             "second half period 9\nsecond half period 9",
             "one `second half period` for axis 0, found another beside that of line 5",
@@ -148,7 +154,8 @@ fn a_second_half_period_may_stand_on_the_sheet() {
     }
 }
 
-/// Numbers that the planner refuses are its own to refuse, so that its number and sentence are what a crew reads.
+/// Numbers that the planner refuses are its own to refuse, so that its number and
+/// sentence are what a crew reads.
 #[test]
 fn numbers_out_of_range_are_left_to_the_planner() {
     let sheet = read_with(4, "weight 129").expect("a sheet for the planner to refuse");
@@ -173,18 +180,23 @@ fn wrong_entries_are_told_with_their_line() {
         told_with(10, "target position 9223372036854775808"),
     ];
     let expected = [
-        "line 5: expected a whole number of units per tick from 1 to 1048576, or one as in `60 degree/s`, after `speed limit`, found `fast`",
-        "line 5: expected a whole number of units per tick from 1 to 1048576, or one as in `60 degree/s`, after `speed limit`, found `-1`",
-        "line 3: expected a whole number of ticks from 0 to 256, or seconds as in `0.42 s`, after `half period`, found the end of the line",
+        "line 5: expected a whole number of units per tick from 1 to 1048576, or one as in `60 degree/s`, after `speed \
+         limit`, found `fast`",
+        "line 5: expected a whole number of units per tick from 1 to 1048576, or one as in `60 degree/s`, after `speed \
+         limit`, found `-1`",
+        "line 3: expected a whole number of ticks from 0 to 256, or seconds as in `0.42 s`, after `half period`, found \
+         the end of the line",
         "line 4: expected a whole number from 1 to 128 after `weight`, found `1.5`",
-        "line 8: expected a whole number of units per tick, or one as in `2.5 degree/s`, after `start velocity`, found `0 0`",
+        "line 8: expected a whole number of units per tick, or one as in `2.5 degree/s`, after `start velocity`, found \
+         `0 0`",
         "line 9: expected `still` or `moving` after `target`, found `soon`",
         "line 1: expected `earliest`, a tick from 1 to 4096, or seconds as in `2.2 s`, after `arrival`, found `0`",
-        "line 1: expected `earliest`, a tick from 1 to 4096, or seconds as in `2.2 s`, after `arrival`, found the end of the line",
+        "line 1: expected `earliest`, a tick from 1 to 4096, or seconds as in `2.2 s`, after `arrival`, found the end \
+         of the line",
         "line 2: expected an axis number from 0 to 5 after `axis`, found `6`",
         "line 2: expected an axis number from 0 to 5 after `axis`, found the end of the line",
-        "line 10: expected a whole number of units from -17179869184 to 17179869183, or one as in `-3.5 degree`, after `target position`, \
-         found `9223372036854775808`",
+        "line 10: expected a whole number of units from -17179869184 to 17179869183, or one as in `-3.5 degree`, after \
+         `target position`, found `9223372036854775808`",
     ];
     assert_eq!(told, expected);
 }
@@ -194,9 +206,9 @@ fn unknown_and_misplaced_entries_are_told_with_their_line() {
     assert_eq!(
         told_with(3, "half time 0"),
         "line 2: expected `half period` for axis 0, found none among its lines\n\
-         line 3: expected `arrival`, `window`, `dwell`, `tick`, `unit`, `axis`, `stop`, `target` or one of: half period, `weight`, `shrinks` or `peaks`, \
-         second half period, speed limit, acceleration limit, start position, start velocity, target position, target velocity, target acceleration, target tick, \
-         found `half time 0`"
+         line 3: expected `arrival`, `window`, `dwell`, `tick`, `unit`, `axis`, `stop`, `target` or one of: half \
+         period, `weight`, `shrinks` or `peaks`, second half period, speed limit, acceleration limit, start position, \
+         start velocity, target position, target velocity, target acceleration, target tick, found `half time 0`"
     );
     assert_eq!(
         told_with(2, "weight 128").lines().next(),
@@ -234,7 +246,8 @@ fn entries_that_stand_twice_or_not_at_all_are_told_with_their_line() {
     assert_eq!(told_with(9, moving), "line 2: expected `target tick` for axis 0, found none among its lines");
     assert_eq!(
         told_with(1, "# no arrival"),
-        "line 10: expected `arrival earliest`, `arrival` with a tick, or the `stop` of a tour, found the end of the sheet"
+        "line 10: expected `arrival earliest`, `arrival` with a tick, or the `stop` of a tour, found the end of the \
+         sheet"
     );
     let told = read(&["arrival 4"]).expect_err("no axis").to_string();
     assert_eq!(told, "line 1: expected at least one of `axis 0` to `axis 5`, found the end of the sheet");

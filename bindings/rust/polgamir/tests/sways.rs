@@ -1,4 +1,5 @@
-//! The bound on the sway that a table leaves: numbers worked out by hand, and poles and lists that are swung by the table itself.
+//! The bound on the sway that a table leaves: numbers worked out by hand, and poles and lists that
+//! are swung by the table itself.
 
 mod common;
 
@@ -104,8 +105,9 @@ impl Pole {
         Pole { swing: std::f64::consts::PI / half_period, decay: -ratio.ln() / half_period }
     }
 
-    /// How far its top is from where it comes to rest, at most, at times from the arrival on: the sum of what each change of
-    /// acceleration c leaves at a time t after it, c/s e^(−dt) (cos wt + d/w sin wt), with s = w² + d².
+    /// How far its top is from where it comes to rest, at most, at times from the arrival on: the
+    /// sum of what each change of acceleration c leaves at a time t after it, c/s e^(−dt) (cos wt +
+    /// d/w sin wt), with s = w² + d².
     fn left(&self, accelerations: &[i64]) -> f64 {
         let (w, d) = (self.swing, self.decay);
         let answer = |t: f64| (-d * t).exp() * ((w * t).cos() + d / w * (w * t).sin()) / (w * w + d * d);
@@ -133,7 +135,8 @@ fn quotient(fraction: Fraction) -> f64 {
     f64::from(fraction.numerator) / f64::from(fraction.denominator)
 }
 
-/// No pole of random errors is left swinging by more than the bound, under the tables of random jobs.
+/// No pole of random errors is left swinging by more than the bound, under the tables of random
+/// jobs.
 #[test]
 fn no_pole_exceeds_the_bound() {
     let mut random = Random(34);
@@ -161,8 +164,8 @@ fn no_pole_exceeds_the_bound() {
     assert!(first > 300 && second > 50, "{first} {second}");
 }
 
-/// Ramps and a level part of odd multiples of the true half period: every change falls in phase, and the bound is nearly met. So
-/// no bound is of a higher order in the error.
+/// Ramps and a level part of odd multiples of the true half period: every change falls in phase,
+/// and the bound is nearly met. So no bound is of a higher order in the error.
 #[test]
 fn a_leg_in_phase_nearly_meets_the_bound() {
     for (half_period, entered) in [(10, 9), (10, 11), (40, 39), (40, 41), (40, 42)] {
@@ -181,7 +184,8 @@ fn a_leg_in_phase_nearly_meets_the_bound() {
     }
 }
 
-/// The two legs that docs/METHOD.md, section 25, tells in numbers: what is left before rounding and its bounds, in units.
+/// The two legs that docs/METHOD.md, section 25, tells in numbers: what is left before
+/// rounding and its bounds, in units.
 #[test]
 fn the_methods_legs_leave_what_it_says() {
     let told = |axis: Axis, asked: u32, half_period: f64, late: Fraction| {

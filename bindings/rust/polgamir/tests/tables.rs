@@ -1,5 +1,6 @@
-//! What holds of the table of every accepted job, looked at on random jobs: the head starts without a jump, lands exactly,
-//! follows from row to row, keeps its limits, and leaves no more sway than rounding can.
+//! What holds of the table of every accepted job, looked at on random jobs: the head
+//! starts without a jump, lands exactly, follows from row to row, keeps its limits, and
+//! leaves no more sway than rounding can.
 
 mod common;
 
@@ -50,7 +51,8 @@ fn rates(axis: &Axis) -> Vec<(usize, u32)> {
     first.into_iter().chain(second).map(|(half_period, weight)| (half_period as usize, weight)).collect()
 }
 
-/// A swing list with entries up to tick `last`: A × g(i + h) + B × g(i) = 0, from whole numbers that a generator chooses.
+/// A swing list with entries up to tick `last`: A × g(i + h) + B × g(i) = 0, from whole
+/// numbers that a generator chooses.
 fn swing_list((half_period, weight): (usize, u32), last: usize, random: &mut Random) -> Option<Vec<i128>> {
     let (first_weight, second_weight) = (256 - i128::from(weight), i128::from(weight));
     let divisor = (1..=second_weight).rev().find(|d| first_weight % d == 0 && second_weight % d == 0)?;
@@ -65,7 +67,8 @@ fn swing_list((half_period, weight): (usize, u32), last: usize, random: &mut Ran
     Some(list)
 }
 
-/// Looks at the sway that the rows leave at a rate, at some ticks from the arrival on; true where there was a list to look with.
+/// Looks at the sway that the rows leave at a rate, at some ticks from the arrival on; true where
+/// there was a list to look with.
 fn look_at_sway(rate: (usize, u32), rows: &[Motion], random: &mut Random) -> bool {
     let arrival = rows.len() - 1;
     let mut looked = false;

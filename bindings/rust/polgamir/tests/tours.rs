@@ -1,4 +1,5 @@
-//! Tours: arrivals, totals, legs and refusals. The expected values are those of request 2.1 and of its readings.
+//! Tours: arrivals, totals, legs and refusals. The expected values are those of
+//! request 2.1 and of its readings.
 
 mod common;
 
@@ -160,7 +161,8 @@ fn random_tour(random: &mut Random) -> (Tour, Vec<Stop>) {
     (tour, stops)
 }
 
-/// Each arrival is the departure before it and the arrival that the leg's own job gets, and the total is the last departure.
+/// Each arrival is the departure before it and the arrival that the leg's own job gets, and
+/// the total is the last departure.
 #[test]
 fn legs_add_up() {
     let mut random = Random(0x7042_0000_0000_0021);

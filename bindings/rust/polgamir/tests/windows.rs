@@ -1,4 +1,5 @@
-//! Windows. The expected values are those of request 2.5 and its readings; 'B4' is the field cases' axis on its way to 4.
+//! Windows. The expected values are those of request 2.5 and its readings; 'B4' is the
+//! field cases' axis on its way to 4.
 
 mod common;
 
@@ -97,7 +98,8 @@ fn any_number_of_windows_may_come_in() {
     assert!(last.holds(u32::MAX - 1, 1) && !last.holds(u32::MAX - 1, u32::MAX));
 }
 
-/// The arrival with windows is the first that the same job without them can be asked for and that a window holds.
+/// The arrival with windows is the first that the same job without them can be
+/// asked for and that a window holds.
 #[test]
 fn windows_only_leave_out_arrivals() {
     let mut random = Random(0x0025_0000_71D0_0013);
@@ -166,12 +168,13 @@ fn sheets_have_windows_and_a_dwell() {
     assert_eq!(told_of("window 3 9"), "line 4: expected `dwell` beside `window`, found none on the sheet");
     assert_eq!(
         told_of("dwell 1\nwindow 3"),
-        "line 5: expected an opening and a closing, both ticks from 0 to 4294967295 or both seconds as in `0.4 s 1.2 s`, \
-         after `window`, found `3`"
+        "line 5: expected an opening and a closing, both ticks from 0 to 4294967295 or both seconds as in `0.4 s 1.2 \
+         s`, after `window`, found `3`"
     );
     assert_eq!(
         told_of("dwell"),
-        "line 4: expected a whole number of ticks from 0 to 4096, or seconds as in `0.5 s`, after `dwell`, found the end of the line"
+        "line 4: expected a whole number of ticks from 0 to 4096, or seconds as in `0.5 s`, after `dwell`, found the \
+         end of the line"
     );
     assert_eq!(told_of("dwell 1\ndwell 2"), "line 5: expected one `dwell`, found another beside that of line 4");
 }

@@ -129,12 +129,13 @@ fn long_positions_have_their_faults() {
             words[10] = 0xC000_0000;
         })
         .1,
-        "word 10: expected kind 3 (start position), kind 11 (target acceleration) or kind 14 (high part of a position), \
-         found kind 12 (C0000000)"
+        "word 10: expected kind 3 (start position), kind 11 (target acceleration) or kind 14 (high part of a \
+         position), found kind 12 (C0000000)"
     );
 }
 
-/// The words of a position at rest, and the position of the words: one word where it fits, else two, of which the second is unsigned.
+/// The words of a position at rest, and the position of the words: one word where it fits, else
+/// two, of which the second is unsigned.
 #[test]
 fn a_position_has_one_spelling() {
     for (position, high, low) in [

@@ -58,7 +58,8 @@ pub const UNSIGNED_ENDS: [u32; 20] = [
     u32::MAX,
 ];
 
-/// The axis with signed value `j`, in the order of C's struct, replaced. A value that a fixed target lacks is left.
+/// The axis with signed value `j`, in the order of C's struct, replaced. A value
+/// that a fixed target lacks is left.
 pub fn with_signed(axis: Axis, j: usize, value: i64) -> Axis {
     let target = match (axis.target, j) {
         (Target::Fixed { velocity, .. }, 2) => Target::Fixed { position: value, velocity },
@@ -104,7 +105,8 @@ fn nearly_undamped(random: &mut Random) -> Damping {
     }
 }
 
-/// Floats of every kind: zeros, subnormals, numbers about 1, the largest, infinities, and no numbers.
+/// Floats of every kind: zeros, subnormals, numbers about 1, the largest, infinities, and no
+/// numbers.
 pub const SINGLE_ENDS: [Single; 20] = [
     Single(0),
     Single(1),
@@ -150,7 +152,8 @@ fn accelerating(random: &mut Random, axis: Axis) -> Axis {
     }
 }
 
-/// A typed job with one value or several at an end of its type or its range, on axes of the mask and off it.
+/// A typed job with one value or several at an end of its type or its range, on axes of the mask
+/// and off it.
 pub fn damaged_job(random: &mut Random, job: &Job) -> Job {
     let mut damaged = *job;
     for _ in 0..random.between(1, 3) {

@@ -1,5 +1,5 @@
-//! Random dampings that pass their check: weights by hand, and the ratios and peaks that give them, at both ends of what
-//! gives a weight.
+//! Random dampings that pass their check: weights by hand, and the ratios and peaks that give them,
+//! at both ends of what gives a weight.
 
 use std::sync::OnceLock;
 
@@ -8,7 +8,8 @@ use crate::reference::{Damping, Single};
 
 const ONE: u32 = 0x3F80_0000;
 
-/// The bits of the least ratio that gives each weight from 1 to 128, and those just above 1 after them.
+/// The bits of the least ratio that gives each weight from 1 to 128, and those just above 1 after
+/// them.
 fn least_ratios() -> &'static [u32; 130] {
     static LEAST: OnceLock<[u32; 130]> = OnceLock::new();
     LEAST.get_or_init(|| {
@@ -45,7 +46,8 @@ fn ratio(random: &mut Random, weight: usize) -> u32 {
     }
 }
 
-/// Two peaks of about a ratio that gives a weight: of the size that a tap test shows, or of any size.
+/// Two peaks of about a ratio that gives a weight: of the size that a tap test shows, or of any
+/// size.
 fn peaks(random: &mut Random, weight: usize) -> Damping {
     let ratio = f32::from_bits(ratio(random, weight));
     let first = match random.below(4) {

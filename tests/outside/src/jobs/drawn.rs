@@ -122,7 +122,8 @@ pub fn job(random: &mut Random, reach: Reach) -> Job {
     Job { mask, asked: asked as u32, axes, windows: None }
 }
 
-/// A job of the old rules: fixed targets may fly. Mostly it asks for its least arrival or for one soon after.
+/// A job of the old rules: fixed targets may fly. Mostly it asks for its least
+/// arrival or for one soon after.
 pub fn old_job(random: &mut Random, reach: Reach) -> Job {
     let mut old = job(random, reach);
     for axis in &mut old.axes {
@@ -157,7 +158,8 @@ fn late_axis(random: &mut Random, tick: i64) -> Axis {
     Axis { start_position, start_velocity: 0, target, ..axis }
 }
 
-/// An axis after a target that accelerates away: within its speed limit only for some ticks about the target's own.
+/// An axis after a target that accelerates away: within its speed limit only for
+/// some ticks about the target's own.
 fn fleeing_axis(random: &mut Random, tick: i64) -> Axis {
     let acceleration = random.between(1, 9) * if random.once_in(2) { 1 } else { -1 };
     let position = place(random);
@@ -174,7 +176,8 @@ fn fleeing_axis(random: &mut Random, tick: i64) -> Axis {
     }
 }
 
-/// An axis on a pole of any blend, after a target whose acceleration is as large as the speed limit lets it be.
+/// An axis on a pole of any blend, after a target whose acceleration is as
+/// large as the speed limit lets it be.
 fn chasing_axis(random: &mut Random, asked: i64) -> Axis {
     let (h, behind) = (random.between(1, 256), random.between(-20, 20));
     let speed = if random.once_in(2) { 1 << 20 } else { some_size(random, 1 << 20) };

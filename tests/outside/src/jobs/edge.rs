@@ -1,5 +1,6 @@
-//! Random jobs whose axes just make an asked arrival, or just miss it: targets at the last positions within reach and at
-//! the first ones out of it, where ramps meet the limit, where they meet each other first, and where a ramp is missing.
+//! Random jobs whose axes just make an asked arrival, or just miss it: targets at the last
+//! positions within reach and at the first ones out of it, where ramps meet the limit, where they
+//! meet each other first, and where a ramp is missing.
 
 use super::dampings::damping;
 use super::drawn::second;
@@ -34,8 +35,8 @@ fn limits(random: &mut Random, ticks: i64) -> (i64, i64) {
     (speed.clamp(1, 1 << 20), acceleration)
 }
 
-/// A position that the axis reaches, if there is one near the motion that goes from one velocity to the other and back
-/// toward rest between them as far as it can.
+/// A position that the axis reaches, if there is one near the motion that goes from one velocity to
+/// the other and back toward rest between them as far as it can.
 fn within_reach(axis: &Axis, asked: i64) -> Option<i64> {
     let limit = i64::from(axis.acceleration_limit);
     let ticks = asked - axis.delay();

@@ -9,8 +9,8 @@ pub fn anywhere(random: &mut Random) -> i64 {
     random.between(*RAIL.start(), *RAIL.end())
 }
 
-/// A place to start from: mostly about 0, else anywhere on the rail, or where a position takes a second word, where the
-/// payload of that word changes, or where the rail ends.
+/// A place to start from: mostly about 0, else anywhere on the rail, or where a position takes a
+/// second word, where the payload of that word changes, or where the rail ends.
 pub fn place(random: &mut Random) -> i64 {
     match random.below(8) {
         0 => anywhere(random),

@@ -75,7 +75,8 @@ pub fn stray_words(random: &mut Random) -> Vec<u32> {
     list
 }
 
-/// Words with one thing or several wrong: a bit, a kind, a payload, a word too few or too many, two words swapped.
+/// Words with one thing or several wrong: a bit, a kind, a payload, a word too few
+/// or too many, two words swapped.
 pub fn damaged_words(random: &mut Random, words: &[u32]) -> Vec<u32> {
     let mut list = words.to_vec();
     for _ in 0..random.between(1, 2) {

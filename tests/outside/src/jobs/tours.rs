@@ -46,7 +46,8 @@ pub fn tour(random: &mut Random) -> (Tour, Vec<Stop>) {
     (Tour { mask, axes }, stops)
 }
 
-/// A tour with one value or several at an end of its type or its range, on axes of the mask and off it.
+/// A tour with one value or several at an end of its type or its range, on axes of the mask and off
+/// it.
 pub fn damaged_tour(random: &mut Random, tour: &Tour, stops: &[Stop]) -> (Tour, Vec<Stop>) {
     let (mut tour, mut stops) = (*tour, stops.to_vec());
     for _ in 0..random.between(1, 2) {

@@ -4,8 +4,8 @@ use super::job::refusal;
 use super::words::word;
 use super::{decode, Answer};
 
-/// The words of the converted job: after the target velocity of each fixed target that flies stand an acceleration of 0 and
-/// the asked arrival as its tick. All other words are copied.
+/// The words of the converted job: after the target velocity of each fixed target that flies stand
+/// an acceleration of 0 and the asked arrival as its tick. All other words are copied.
 fn converted(words: &[u32], asked: u32) -> Vec<u32> {
     let mut list = Vec::new();
     for (i, &one) in words.iter().enumerate() {
@@ -18,8 +18,8 @@ fn converted(words: &[u32], asked: u32) -> Vec<u32> {
     list
 }
 
-/// The call: how many words it writes to the front of the lent ones, or a refusal. The method leaves mask and arrival of
-/// an accepted conversion free.
+/// The call: how many words it writes to the front of the lent ones, or a refusal. The method
+/// leaves mask and arrival of an accepted conversion free.
 pub fn convert(words: &[u32], lent: &mut [u32]) -> Result<usize, Answer> {
     let job = decode(words)?;
     // A job that asks for an arrival has a conversion, whether its targets fly or not.
@@ -98,8 +98,8 @@ mod tests {
         }
     }
 
-    /// An old job and its conversion have one answer and one table under the old rules; a converted job has the same under
-    /// the rules that hold.
+    /// An old job and its conversion have one answer and one table under the old rules; a converted
+    /// job has the same under the rules that hold.
     #[test]
     fn equal_tables_under_the_old_rules() {
         let mut random = Random::new(48);

@@ -13,7 +13,8 @@ pub enum Damping {
     Peaks(Single, Single),
 }
 
-/// The largest B from 1 to 128 that is at most the once-rounded product of the ratio and 256 - B, or 1 if there is none.
+/// The largest B from 1 to 128 that is at most the once-rounded product of the ratio and
+/// 256 - B, or 1 if there is none.
 fn weight_of(ratio: Single) -> u32 {
     (1..=128).rev().find(|&b| ratio.times(256 - b).is_at_least(b)).unwrap_or(1)
 }

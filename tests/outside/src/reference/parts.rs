@@ -5,7 +5,8 @@ use super::words::decode;
 use super::{Answer, Job};
 
 impl Job {
-    /// The answer before refusal 10 and the number of rows written, of a job that passes the mask's check.
+    /// The answer before refusal 10 and the number of rows written, of a job that passes the mask's
+    /// check.
     fn part_checked(&self, first: u32, table: &mut [i64]) -> (Answer, u32) {
         let arrival = match self.arrival() {
             Ok(arrival) => arrival,

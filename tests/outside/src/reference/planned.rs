@@ -1,10 +1,11 @@
-//! The planned motion of one axis, its blends and its cells: rules 1 to 3 of docs/METHOD.md, and rules 4 and 5 by the areas of
-//! module `leg`.
+//! The planned motion of one axis, its blends and its cells: rules 1 to 3 of docs/METHOD.md, and
+//! rules 4 and 5 by the areas of module `leg`.
 
 use super::Axis;
 use crate::leg::{Chosen, Leg};
 
-/// The planned motion of one axis to one arrival, rules 1 to 3: positions in half steps of its grid, the rest in steps.
+/// The planned motion of one axis to one arrival, rules 1 to 3: positions in half steps
+/// of its grid, the rest in steps.
 pub struct Planned {
     first_position: i64,
     last_position: i64,
@@ -15,8 +16,8 @@ pub struct Planned {
     chosen: Option<Chosen>,
 }
 
-/// The blends before they are divided: A times the planned motion at one tick and B times that at another; and of these,
-/// where there is a second half period, the sum at two ticks.
+/// The blends before they are divided: A times the planned motion at one tick and B times that at
+/// another; and of these, where there is a second half period, the sum at two ticks.
 #[derive(Clone, Copy, Debug, PartialEq, Eq)]
 pub struct Exact {
     /// A fine step of velocity or acceleration is this much; one of position is twice as much.
@@ -26,14 +27,15 @@ pub struct Exact {
     pub acceleration: i64,
 }
 
-/// The planned target's position gains this, in half steps of its grid (request 2.6): 0 on fine steps.
+/// The planned target's position gains this, in half steps of its grid (request 2.6): 0 on fine
+/// steps.
 fn gain(axis: &Axis) -> i64 {
     let (h, b) = (i64::from(axis.half_period), axis.weight());
     2 * b * h * h * (b - 128) * axis.target.acceleration()
 }
 
-/// An axis with a second half period is planned on a grid of 1/512 unit, one after an accelerating target on a damped pole
-/// on 1/65,536 unit, any other on fine steps.
+/// An axis with a second half period is planned on a grid of 1/512 unit, one after an accelerating
+/// target on a damped pole on 1/65,536 unit, any other on fine steps.
 fn grid(axis: &Axis) -> i64 {
     if axis.second.is_some() {
         512
@@ -54,8 +56,9 @@ impl Planned {
         }
         let a = axis.target.acceleration();
         let (twice_target, target_velocity) = axis.target.at(ticks, arrival);
-        // Rules 2 and 3 in fine steps of 1/256 unit, each of which is this many steps of the grid. Start and target are
-        // shifted by their velocity times Bh / 256, and half of a second half period, here in half steps.
+        // Rules 2 and 3 in fine steps of 1/256 unit, each of which is this many steps of the
+        // grid. Start and target are shifted by their velocity times Bh / 256, and half of a
+        // second half period, here in half steps.
         let grid = grid(axis);
         let scale = grid / 256;
         let shift = scale * 2 * b * h + grid * axis.second_delay();
@@ -67,7 +70,8 @@ impl Planned {
         if (last + grid * a * axis.delay()).abs() > limit {
             return None;
         }
-        // A tick adds its velocity and the next one's to the position: the ends once, those between twice.
+        // A tick adds its velocity and the next one's to the position: the ends once, those between
+        // twice.
         let twice_sum = last_position - first_position - first - last;
         assert!(twice_sum % 2 == 0, "half a step is left over: {axis:?} at {arrival}");
         let slope = grid * i64::from(axis.acceleration_limit);
@@ -128,7 +132,8 @@ impl Planned {
         }
     }
 
-    /// The blend of `axis` at a tick, applied once more with equal weights where there is a second half period.
+    /// The blend of `axis` at a tick, applied once more with equal weights where
+    /// there is a second half period.
     pub fn exact(&self, axis: &Axis, tick: i64) -> Exact {
         let once = self.blended(axis, tick);
         match axis.second {
@@ -257,7 +262,8 @@ mod tests {
         assert_eq!(one(still).plan(&mut [0; 30]).arrival, 8);
     }
 
-    /// With a second half period the first and the last row are exact before rounding, also of moving heads and targets.
+    /// With a second half period the first and the last row are exact before rounding,
+    /// also of moving heads and targets.
     #[test]
     fn two_blends_start_and_land_exactly() {
         let mut random = Random::new(46);

@@ -83,8 +83,8 @@ impl Job {
         of_an_axis.or_else(|| self.windows?.refused())
     }
 
-    /// Whether the job asks for the least arrival and has none up to a tick: a long search, for whoever tries tick
-    /// after tick.
+    /// Whether the job asks for the least arrival and has none up to a tick: a long search, for
+    /// whoever tries tick after tick.
     pub fn searches_past(&self, tick: i64) -> bool {
         self.asked == 0 && self.refused().is_none() && self.by_hand().reaches_none_up_to(tick)
     }
@@ -136,7 +136,8 @@ impl Job {
         self.by_hand().set().map(|(_, axis)| (*axis, Planned::reaching(axis, arrival).unwrap().with_list())).collect()
     }
 
-    /// From refusal 3 on: the answer, with the cells of an accepted job written to the front of the table.
+    /// From refusal 3 on: the answer, with the cells of an accepted job written to the front of the
+    /// table.
     pub(super) fn plan_checked(&self, order: Order, table: &mut [i64]) -> Answer {
         match self.arrival() {
             Ok(arrival) => self.write(arrival, order, table),

@@ -2,8 +2,8 @@
 
 use super::{plan_words, Answer};
 
-/// The words that the table program makes of its bytes: at most 512 of them, little-endian, one to three left over as a
-/// word of kind 0, which is allowed nowhere.
+/// The words that the table program makes of its bytes: at most 512 of them, little-endian, one to
+/// three left over as a word of kind 0, which is allowed nowhere.
 pub fn words_of(bytes: &[u8]) -> Vec<u32> {
     let read = &bytes[..bytes.len().min(512)];
     read.chunks(4).map(|four| four.try_into().map_or(0, u32::from_le_bytes)).collect()

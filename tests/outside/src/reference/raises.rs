@@ -42,8 +42,9 @@ impl Raise {
         }
     }
 
-    /// The least raise of this limit for which an axis that does not arrive does so, if there is one in its range. A
-    /// higher limit forbids no list that a lower one allows, so that the interval may be halved.
+    /// The least raise of this limit for which an axis that does not arrive does so, if
+    /// there is one in its range. A higher limit forbids no list that a lower one allows,
+    /// so that the interval may be halved.
     fn least(self, axis: &Axis, arrival: i64) -> Option<Raise> {
         let enough = |amount: u32| Planned::reaching(&self.by(amount).of(axis), arrival).is_some();
         let (mut short, mut beyond) = (0, self.most(axis));
@@ -62,7 +63,8 @@ impl Raise {
     }
 }
 
-/// The raises of one axis: the smaller first, that of M first if they are equal, and none that does not exist.
+/// The raises of one axis: the smaller first, that of M first if they are
+/// equal, and none that does not exist.
 fn raises(axis: &Axis, arrival: i64) -> Vec<Raise> {
     let both = [Raise::Acceleration(0), Raise::Speed(0)];
     let mut some: Vec<Raise> = both.into_iter().filter_map(|limit| limit.least(axis, arrival)).collect();
@@ -155,7 +157,8 @@ mod tests {
         let still = Axis { half_period: 3, ..to(4) };
         let (answer, raises) = asked(job(&[to(4), to(1), still, Axis { start_velocity: 1, ..to(6) }]), 3).raises();
         assert_eq!((answer.number, answer.mask), (8, 0b1101));
-        // With M = 2 axis 3 covers 5.5 in velocities 1, 3, 2, 0; with M = 3 it covers 7.5 in 1, 4, 3, 0.
+        // With M = 2 axis 3 covers 5.5 in velocities 1, 3, 2, 0; with M = 3 it covers 7.5 in 1, 4,
+        // 3, 0.
         assert_eq!(raises, [(0, vec![M(1)]), (2, vec![]), (3, vec![M(2)])]);
     }
 

@@ -1,4 +1,5 @@
-//! Single-precision floats by their bits: exact values, and results rounded once to the nearest, ties to even.
+//! Single-precision floats by their bits: exact values, and results rounded
+//! once to the nearest, ties to even.
 
 /// A single-precision float, by its bits.
 #[derive(Clone, Copy, Debug, PartialEq, Eq)]
@@ -28,9 +29,11 @@ fn digits_of(x: u128) -> i32 {
     128 - x.leading_zeros() as i32
 }
 
-/// The float nearest to `numerator` / `denominator` times two to the power of `exponent`; both are above zero.
+/// The float nearest to `numerator` / `denominator` times two to the power of
+/// `exponent`; both are above zero.
 fn nearest(numerator: u128, denominator: u128, exponent: i32) -> Single {
-    // The quotient of both in units of the last digit: its whole part, what is left of it, and by what it was divided.
+    // The quotient of both in units of the last digit: its whole part, what is left of
+    // it, and by what it was divided.
     let in_units = |last: i32| {
         let up = (exponent - last).max(0);
         let down = (last - exponent).max(0);

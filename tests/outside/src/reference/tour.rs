@@ -1,9 +1,11 @@
-//! Request 2.1: a tour of stops. Each leg is a single typed job from rest to rest that seeks its least arrival.
+//! Request 2.1: a tour of stops. Each leg is a single typed job from rest to
+//! rest that seeks its least arrival.
 
 use super::job::refusal;
 use super::{Answer, Axis, Job, Target, LATEST, UNSET};
 
-/// What is common to all legs. Of an axis the start position, the limits and the blend are looked at.
+/// What is common to all legs. Of an axis the start position, the limits and the blend are looked
+/// at.
 #[derive(Clone, Copy, Debug, PartialEq, Eq)]
 pub struct Tour {
     pub mask: u32,

@@ -176,7 +176,8 @@ mod tests {
 
     #[test]
     fn where_fourteen_stands() {
-        // A wrong word after a word of kind 14 is refused by 2, and so is a word of kind 14 elsewhere or twice.
+        // A wrong word after a word of kind 14 is refused by 2, and so is a
+        // word of kind 14 elsewhere or twice.
         let mut wrong = long_target(64, 0);
         wrong[9] = word(10, 0);
         assert_eq!(target(&wrong), Err((2, 9)));

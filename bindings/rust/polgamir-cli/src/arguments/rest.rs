@@ -128,7 +128,8 @@ impl Rest {
         })
     }
 
-    /// Takes which rows are to be printed. They bring the cells for them, and a C array has all rows.
+    /// Takes which rows are to be printed. They bring the cells for them, and a C array has all
+    /// rows.
     fn rows(&mut self, form: PlanForm) -> Result<Option<RowRange>, Usage> {
         let Some(given) = self.rows.take() else {
             return Ok(None);
@@ -146,8 +147,8 @@ impl Rest {
         let found = given.to_string_lossy();
         RowRange::of(&found).map(Some).ok_or_else(|| {
             Usage::of(format!(
-                "expected two ticks from 0 to {LATEST_ARRIVAL}, the first not above the second, as `40..55`, after `--rows`, \
-                 found `{found}`"
+                "expected two ticks from 0 to {LATEST_ARRIVAL}, the first not above the second, as `40..55`, after \
+                 `--rows`, found `{found}`"
             ))
         })
     }
@@ -232,7 +233,8 @@ impl Rest {
         }
         let tap = |given: OsString| {
             let text = given.to_string_lossy();
-            // An axis has no dot and no slash in its name here, so that a path with `=` is still a path.
+            // An axis has no dot and no slash in its name here, so that a path with `=` is still a
+            // path.
             let (axis, record) = match text.split_once('=').filter(|(axis, _)| !axis.contains(['/', '.'])) {
                 Some((axis, record)) => (Some(axis.trim().to_string()), OsString::from(record)),
                 None => (None, given.clone()),

@@ -8,7 +8,8 @@ use super::words;
 /// What a file's content looks like.
 #[derive(Debug, Clone, Copy, PartialEq, Eq)]
 enum Form {
-    /// Job words as bytes. They always have a zero byte, for the first word has two; a text has none.
+    /// Job words as bytes. They always have a zero byte, for the first word has two; a text has
+    /// none.
     Bytes,
     /// Job words as hexadecimal text: the first word is a number.
     Hexadecimal,
@@ -93,7 +94,8 @@ pub fn tour_of(content: &[u8]) -> Result<TourSheet, String> {
     }
 }
 
-/// The job words of a content; where `bytes` is `None`, the content tells by itself whether it is bytes.
+/// The job words of a content; where `bytes` is `None`, the content tells by itself whether it is
+/// bytes.
 pub fn words_of(content: &[u8], bytes: Option<bool>) -> Result<Vec<u32>, String> {
     if bytes.unwrap_or(Form::of(content) == Form::Bytes) {
         return words::from_bytes(content);
@@ -120,7 +122,8 @@ fn other_text(text: &str) -> Option<&'static str> {
     }
 }
 
-/// Whether a text has the rows of a printed table: a heading of columns, or row 0 below the arrival.
+/// Whether a text has the rows of a printed table: a heading of columns, or row 0 below the
+/// arrival.
 fn has_rows(text: &str) -> bool {
     let mut lines = words_in(text).map(|words| words.take(2).collect::<Vec<_>>());
     lines.nth(1).is_some_and(|second| second[0] == "0") || lines.any(|line| line == ["tick", "position"])

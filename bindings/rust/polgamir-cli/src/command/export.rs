@@ -1,5 +1,5 @@
-//! A plan for other programs: comma-separated values, JSON, or the source of C arrays. Each says which version made it, from which
-//! sheet.
+//! A plan for other programs: comma-separated values, JSON, or the source of C arrays. Each says
+//! which version made it, from which sheet.
 
 mod c;
 mod csv;
@@ -137,7 +137,8 @@ impl<'s> PlannedTour<'s> {
     }
 }
 
-/// The three numbers of a motion as text. Units are printed so that they read back as the same number.
+/// The three numbers of a motion as text. Units are printed so that they read back as the same
+/// number.
 fn numbers(motion: Motion, measure: &Measure, quantity: Quantity) -> [String; 3] {
     match quantity {
         Quantity::FineSteps => [motion.position, motion.velocity, motion.acceleration].map(|cell| cell.to_string()),

@@ -1,4 +1,5 @@
-//! A refusal in words: first the sentence, then what to do, and the lines of the sheet that it is about.
+//! A refusal in words: first the sentence, then what to do, and the lines of the sheet that it is
+//! about.
 
 mod cause;
 mod lines;

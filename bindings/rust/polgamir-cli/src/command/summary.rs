@@ -17,7 +17,8 @@ pub fn of(sheet: &Sheet, accepted: &Accepted) -> String {
     lines + NOT_LIMITED + "\n" + &rounded
 }
 
-/// The least and greatest position of an axis, and its greatest speed and acceleration beside their limits.
+/// The least and greatest position of an axis, and its greatest speed and
+/// acceleration beside their limits.
 fn of_axis(sheet: &Sheet, accepted: &Accepted, number: usize) -> Option<String> {
     let (axis, measure) = (sheet.job.axes[number].as_ref()?, Measure::of(sheet, number));
     let (sizes, names) = (measure.sizes(), measure.names());

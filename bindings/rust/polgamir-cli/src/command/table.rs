@@ -74,7 +74,8 @@ fn in_measure(measure: &Measure, motion: Motion) -> [String; 3] {
     std::array::from_fn(|column| format!("{:.*}", decimals[column], numbers[column]))
 }
 
-/// In what the positions are, velocities and accelerations by the tick or the second: of all axes, or of each.
+/// In what the positions are, velocities and accelerations by the tick or the
+/// second: of all axes, or of each.
 fn measures(sheet: &Sheet, accepted: &Shown) -> String {
     let names: Vec<(usize, [String; 3])> =
         accepted.axes().axes().map(|axis| (axis, Measure::of(sheet, axis).names())).collect();
@@ -101,8 +102,8 @@ fn plain_rows(accepted: &Shown) -> String {
     text
 }
 
-/// The rows in columns of even width, below the axes' titles and the columns' names; of a long table the first and the last ones,
-/// unless all are asked for.
+/// The rows in columns of even width, below the axes' titles and the columns' names; of a long
+/// table the first and the last ones, unless all are asked for.
 fn aligned(sheet: &Sheet, accepted: &Shown, all: bool, format: impl Fn(usize, Motion) -> [String; 3]) -> String {
     let count = accepted.rows().len();
     let hidden = if all || count <= SHORT { 0..0 } else { SHOWN..count - SHOWN };

@@ -11,7 +11,8 @@ use super::{refusal, table, Done};
 use crate::arguments::{TableForm, TourForm};
 use crate::measure::{in_seconds, rounded, Measure};
 
-/// Plans a tour and prints its arrivals, and the tables of its legs where they are asked for, or its refusal.
+/// Plans a tour and prints its arrivals, and the tables of its legs where they
+/// are asked for, or its refusal.
 pub fn planned(source: &Source, sheet: &TourSheet, form: TourForm) -> Done {
     let text = match form {
         TourForm::Table { form, tables } => text_of(sheet, form, tables),
@@ -53,7 +54,8 @@ fn plain(schedule: &Schedule) -> String {
     text
 }
 
-/// The total, then the stops in columns of even width: in ticks and units, or in what the sheet says that they stand for.
+/// The total, then the stops in columns of even width: in ticks and units, or in what the
+/// sheet says that they stand for.
 fn aligned(sheet: &TourSheet, schedule: &Schedule, in_measures: bool) -> String {
     let seconds = sheet.tick_seconds().filter(|_| in_measures);
     let time = |ticks: u32| seconds.map_or(ticks.to_string(), |tick| rounded(f64::from(ticks) * tick));

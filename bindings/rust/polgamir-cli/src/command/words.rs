@@ -7,7 +7,8 @@ pub fn bytes_of(words: &[u32]) -> Vec<u8> {
     words.iter().flat_map(|word| word.to_le_bytes()).collect()
 }
 
-/// Words as hexadecimal text: mask and arrival on the first line, then a line for each axis, last the end word.
+/// Words as hexadecimal text: mask and arrival on the first line, then a line
+/// for each axis, last the end word.
 pub fn hexadecimal_of(words: &[u32]) -> String {
     const START_POSITION: u32 = 3;
     const HIGH_POSITION: u32 = 14;

@@ -54,7 +54,8 @@ impl Chart {
         drawing.finish(WIDTH, ABOVE + HEIGHT + BELOW, &self.title, &self.upward)
     }
 
-    /// Draws grid lines and the numbers along them, and an upright line at the value that was entered.
+    /// Draws grid lines and the numbers along them, and an upright line at the value that was
+    /// entered.
     fn draw_grid(&self, drawing: &mut Drawing, across: &Scale, upward: &Scale, labels: &[(f64, String)]) {
         for (value, text) in labels {
             let y = upward.at(*value);

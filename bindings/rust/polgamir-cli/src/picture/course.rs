@@ -102,7 +102,8 @@ mod tests {
         assert_eq!(course.target, [(0.0, 0.0), (1.0, 1.0), (2.0, 2.0), (3.0, 3.0), (4.0, 4.0), (5.0, 5.0)]);
     }
 
-    /// An accelerating target is carried from its tick in both directions, a fixed one stays where it is.
+    /// An accelerating target is carried from its tick in both directions, a fixed one stays where
+    /// it is.
     #[test]
     fn targets_are_carried() {
         let target = Target::Moving(State { position: 10, velocity: 2, acceleration: 1, tick: 2 });

@@ -57,7 +57,8 @@ pub struct Stack {
 }
 
 impl Stack {
-    /// The lines of its heading: title and pole beside each other where they fit, else one below the other.
+    /// The lines of its heading: title and pole beside each other where they
+    /// fit, else one below the other.
     fn heading(&self, width: f64) -> Vec<(String, Anchor, Type)> {
         let room = Type::HEADING.width_of(&self.title) + Type::LABEL.width_of(&self.pole) + 12.0;
         let titles = wrapped(&self.title, width, Type::HEADING);
@@ -82,7 +83,8 @@ impl Stack {
         panels.map(|(index, panel)| panel.above(width, time, index == 0) + panel::HEIGHT).sum::<f64>() + panel::BELOW
     }
 
-    /// Draws the stack, its heading at the top, its plots of a width at the left, and these from another height on.
+    /// Draws the stack, its heading at the top, its plots of a width at the left,
+    /// and these from another height on.
     fn draw(&self, drawing: &mut Drawing, left: f64, (top, plots): (f64, f64), width: f64, time: &Timeline) {
         let heading = self.heading(width);
         for (index, (line, anchor, set)) in heading.iter().enumerate() {
@@ -149,7 +151,8 @@ impl Page {
         drawing.finish(width, top + MARGIN, &self.title, &self.caption)
     }
 
-    /// Draws the legend, from a height on, and the stacks; returns the width of the page and the height below them.
+    /// Draws the legend, from a height on, and the stacks; returns the width of the
+    /// page and the height below them.
     fn draw_stacks(&self, drawing: &mut Drawing, top: f64) -> (f64, f64) {
         let (columns, plot_width) = self.columns;
         let labels =
@@ -170,7 +173,8 @@ impl Page {
     }
 }
 
-/// Draws what each line and each area stands for, from a height on, and returns the height below it.
+/// Draws what each line and each area stands for, from a height on, and returns the height below
+/// it.
 fn draw_legend(drawing: &mut Drawing, top: f64, width: f64, legend: &[(&str, Sample)]) -> f64 {
     const SAMPLE: f64 = 28.0;
     let (mut x, mut y) = (MARGIN, top);

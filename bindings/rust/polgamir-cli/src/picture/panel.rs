@@ -133,8 +133,8 @@ impl Panel {
         self.labels().iter().map(|(_, text)| Type::LABEL.width_of(text)).fold(0.0, f64::max)
     }
 
-    /// The room that the panel needs above its plot of a width, for its name, its remark and, where it is the first of a stack, the
-    /// labels of several upright lines.
+    /// The room that the panel needs above its plot of a width, for its name, its remark and, where
+    /// it is the first of a stack, the labels of several upright lines.
     pub fn above(&self, width: f64, time: &Timeline, first: bool) -> f64 {
         let second = if self.fits_one_line(width) { 0.0 } else { SECOND_LINE };
         let across = Place { left: 0.0, top: 0.0, width }.across(time);
@@ -150,7 +150,8 @@ impl Panel {
         Type::BODY.width_of(&self.name) + Type::LABEL.width_of(&self.remark) + 10.0 <= width
     }
 
-    /// Draws the panel; the first of a stack says what the upright lines are, the last has the times below it.
+    /// Draws the panel; the first of a stack says what the upright lines are,
+    /// the last has the times below it.
     pub fn draw(&self, drawing: &mut Drawing, place: Place, time: &Timeline, first: bool, last: bool) {
         let across = place.across(time);
         let upward = self.upward(place.top);
@@ -202,7 +203,8 @@ impl Panel {
         }
     }
 
-    /// Draws the quantity's name and the remark above the plot, and of a first panel the labels of the upright lines.
+    /// Draws the quantity's name and the remark above the plot, and of a first panel
+    /// the labels of the upright lines.
     fn draw_names(&self, drawing: &mut Drawing, place: Place, time: &Timeline, first: bool) {
         let line = place.top - 6.0;
         let marks = if first { time.marks.as_slice() } else { &[] };
@@ -252,7 +254,8 @@ pub fn range_within(values: impl Iterator<Item = f64>, limit: f64) -> (f64, f64)
     (lower - room, upper + room)
 }
 
-/// The range for values with a limit, the lines of the limit, and a remark that says it and whether it is too far off to show.
+/// The range for values with a limit, the lines of the limit, and a remark that says it and
+/// whether it is too far off to show.
 pub fn limited(values: impl Iterator<Item = f64>, limit: f64) -> ((f64, f64), Vec<f64>, String) {
     let range = range_within(values, limit);
     let shown = range.0 <= -limit || range.1 >= limit;

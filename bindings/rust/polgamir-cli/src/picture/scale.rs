@@ -33,7 +33,8 @@ impl Scale {
     }
 }
 
-/// The least of 1, 2, 2.5, 5, 10, 20, 25, 50 … (and their tenths, hundredths …) that is not below a step.
+/// The least of 1, 2, 2.5, 5, 10, 20, 25, 50 … (and their tenths, hundredths …) that is not below a
+/// step.
 pub fn round_step(step: f64) -> f64 {
     let magnitude = 10_f64.powf(step.log10().floor());
     let leading = step / magnitude;
@@ -41,7 +42,8 @@ pub fn round_step(step: f64) -> f64 {
     rounded * magnitude
 }
 
-/// A value of an axis whose values are `step` apart: with as many decimals as the step needs, and commas between thousands.
+/// A value of an axis whose values are `step` apart: with as many decimals as the step
+/// needs, and commas between thousands.
 pub fn label(value: f64, step: f64) -> String {
     let is_whole = |scaled: f64| (scaled - scaled.round()).abs() < 1e-6;
     let decimals = (0..9).find(|&decimals| is_whole(step * 10_f64.powi(decimals))).unwrap_or(9) as usize;

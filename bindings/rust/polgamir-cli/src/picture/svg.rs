@@ -202,7 +202,8 @@ impl Drawing {
         let name = format!("{}clip{}", self.prefix, self.clips);
         let _ = writeln!(
             self.elements,
-            "<clipPath id=\"{name}\"><rect x=\"{x:.1}\" y=\"{y:.1}\" width=\"{width:.1}\" height=\"{height:.1}\"/></clipPath>\n\
+            "<clipPath id=\"{name}\"><rect x=\"{x:.1}\" y=\"{y:.1}\" width=\"{width:.1}\" \
+             height=\"{height:.1}\"/></clipPath>\n\
              <g clip-path=\"url(#{name})\">"
         );
         inside(self);
@@ -210,7 +211,8 @@ impl Drawing {
     }
 }
 
-/// Text with the characters that SVG keeps for itself written out, and without those that it cannot hold.
+/// Text with the characters that SVG keeps for itself written out, and without those that it cannot
+/// hold.
 pub fn escaped(text: &str) -> String {
     let text: String = text.chars().filter(|character| !character.is_control()).collect();
     text.replace('&', "&amp;").replace('<', "&lt;").replace('>', "&gt;")

@@ -1,9 +1,10 @@
 //! The sway of a pole, driven by the accelerations of a table.
 //!
-//! The pole is an oscillator that swings over in its half period and whose swing shrinks to its ratio in that time, both as entered.
-//! One with a second half period swings at two rates: the second is an oscillator of its own, which swings over in that time and does
-//! not shrink. Each row's acceleration holds from its tick to the next, the last one's from the arrival on, and pushes the pole the
-//! other way. A real pole's sway is in proportion to this one.
+//! The pole is an oscillator that swings over in its half period and whose swing shrinks to its
+//! ratio in that time, both as entered. One with a second half period swings at two rates: the
+//! second is an oscillator of its own, which swings over in that time and does not shrink. Each
+//! row's acceleration holds from its tick to the next, the last one's from the arrival on, and
+//! pushes the pole the other way. A real pole's sway is in proportion to this one.
 
 /// A pole, or one of its two rates: how fast it swings and how fast the swing dies away.
 #[derive(Debug, Clone, Copy)]
@@ -28,8 +29,8 @@ pub struct Sway {
 }
 
 impl Pole {
-    /// A pole that swings over in a half period of ticks, above 0, and whose swing shrinks to a ratio in that time, above 0 and at
-    /// most 1.
+    /// A pole that swings over in a half period of ticks, above 0, and whose swing shrinks to a
+    /// ratio in that time, above 0 and at most 1.
     pub fn new(half_period: f64, shrinks_to: f64) -> Pole {
         Pole {
             swing: std::f64::consts::PI / half_period,
@@ -38,12 +39,14 @@ impl Pole {
         }
     }
 
-    /// The stiffness by the mass: what an acceleration is divided by to give the displacement at which the pole rests.
+    /// The stiffness by the mass: what an acceleration is divided by to give the
+    /// displacement at which the pole rests.
     fn stiffness(&self) -> f64 {
         self.swing * self.swing + self.decay * self.decay
     }
 
-    /// The sway from tick 0 to a last tick, under the accelerations of rows 0 to arrival in units per tick².
+    /// The sway from tick 0 to a last tick, under the accelerations of rows 0
+    /// to arrival in units per tick².
     pub fn sway(&self, accelerations: &[f64], last_tick: u32) -> Sway {
         let arrival = accelerations.len() - 1;
         let step = self.step(1.0 / f64::from(self.points_to_a_tick));
@@ -69,7 +72,8 @@ impl Pole {
         self.greatest(State { displacement: state.displacement - rest, ..state })
     }
 
-    /// The greatest distance from rest of a free swing: at its beginning, or where it first turns back.
+    /// The greatest distance from rest of a free swing: at its beginning, or where it first turns
+    /// back.
     fn greatest(&self, state: State) -> f64 {
         let slope = (self.decay * state.velocity + self.stiffness() * state.displacement) / self.swing;
         let turns_at = (state.velocity / slope).atan().rem_euclid(std::f64::consts::PI) / self.swing;
@@ -103,7 +107,8 @@ struct State {
     velocity: f64,
 }
 
-/// What a time does to a swing around its rest: displacement and velocity after it are linear in those before.
+/// What a time does to a swing around its rest: displacement and velocity after
+/// it are linear in those before.
 struct Step {
     /// Displacement of displacement.
     kept: f64,
@@ -176,8 +181,9 @@ mod tests {
         }
     }
 
-    /// The sway under rows, as the sum of the answers to each change of acceleration: a change by `c` at tick k displaces the pole at a
-    /// later time t by −c/s (1 − e^(−d(t − k)) (cos w(t − k) + d/w sin w(t − k))), with s = w² + d².
+    /// The sway under rows, as the sum of the answers to each change of acceleration: a change by
+    /// `c` at tick k displaces the pole at a later time t by −c/s (1 − e^(−d(t − k)) (cos w(t −
+    /// k) + d/w sin w(t − k))), with s = w² + d².
     fn by_closed_form(pole: &Pole, accelerations: &[f64], time: f64) -> f64 {
         let (w, d) = (pole.swing, pole.decay);
         let mut before = 0.0;
@@ -210,7 +216,8 @@ mod tests {
         }
     }
 
-    /// What is left is the greatest of the closed form from the arrival on, over a period in fine steps.
+    /// What is left is the greatest of the closed form from the arrival on, over a period in fine
+    /// steps.
     #[test]
     fn what_is_left_is_that_of_the_closed_form() {
         for (half_period, ratio) in [(2.0, 1.0), (5.5, 0.7), (17.0, 0.95), (40.0, 0.3)] {
@@ -228,7 +235,8 @@ mod tests {
         }
     }
 
-    /// A push one way for T ticks and the other way for T leaves 4a/w² sin²(wT/2) on an undamped pole, which is 0 for a whole period.
+    /// A push one way for T ticks and the other way for T leaves 4a/w² sin²(wT/2) on an undamped
+    /// pole, which is 0 for a whole period.
     #[test]
     fn a_push_and_its_opposite_leave_what_the_formula_says() {
         for (half_period, ticks) in [(10.0, 7_u32), (6.25, 20), (8.0, 16), (33.0, 5)] {
@@ -275,7 +283,8 @@ mod tests {
         assert!((displacement + 1.0).abs() < 1e-12 && (velocity + 0.3).abs() < 1e-12);
     }
 
-    /// Pushes that are blended twice leave nothing at either rate; blended once, something at the other.
+    /// Pushes that are blended twice leave nothing at either rate; blended once, something at the
+    /// other.
     #[test]
     fn pushes_blended_twice_cancel_at_both_rates() {
         let mut once = [0.0; 24];

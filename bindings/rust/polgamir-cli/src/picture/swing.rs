@@ -5,7 +5,8 @@ use polgamir::{Axis, WordKind};
 
 use super::sway::Pole;
 
-/// Half periods in ticks as they were entered, where the sheet has them in another measure and they were rounded.
+/// Half periods in ticks as they were entered, where the sheet has them in another
+/// measure and they were rounded.
 #[derive(Debug, Clone, Copy, PartialEq, Default)]
 pub struct Entered {
     /// The half period.
@@ -45,8 +46,8 @@ pub struct Swing {
 }
 
 impl Swing {
-    /// The swings that the blend of an axis cancels: that of its half period, where the damping has a weight, and that of its second half
-    /// period, each where it is above 0.
+    /// The swings that the blend of an axis cancels: that of its half period, where the damping has
+    /// a weight, and that of its second half period, each where it is above 0.
     pub fn of(axis: &Axis, entered: Entered) -> Vec<Swing> {
         let damping = axis.damping;
         let first = damping.ratio().zip(damping.weight()).map(|(ratio, weight)| Swing {

@@ -1,4 +1,5 @@
-//! The timeline of a tour: for each axis position, velocity and sway from the tour's start to its end.
+//! The timeline of a tour: for each axis position, velocity and sway from the tour's start to its
+//! end.
 
 use polgamir::sheet::TourSheet;
 use polgamir::{Axis, Job, Schedule, TourRefusal};
@@ -18,11 +19,11 @@ const WIDTH: f64 = 900.0;
 
 /// What a timeline shows.
 const CAPTION: &str =
-    "Upright lines are arrivals, each with its stop's number; the head then rests for the dwell. Sway: that of an oscillator with the \
-     half period and the damping as entered, at rest at tick 0 and driven by the accelerations of the legs' tables. A real pole's sway is in \
-     proportion to it; it is not the tip in degrees. Left: the greatest sway from an arrival to the next departure. On a pole that fits the \
-     weight the exact plan leaves 0, which is proved of every leg; rounding the damping to a weight and the cells to 1/256 unit leaves the \
-     rest.";
+    "Upright lines are arrivals, each with its stop's number; the head then rests for the dwell. Sway: that of an \
+     oscillator with the half period and the damping as entered, at rest at tick 0 and driven by the accelerations of \
+     the legs' tables. A real pole's sway is in proportion to it; it is not the tip in degrees. Left: the greatest \
+     sway from an arrival to the next departure. On a pole that fits the weight the exact plan leaves 0, which is \
+     proved of every leg; rounding the damping to a weight and the cells to 1/256 unit leaves the rest.";
 
 /// What the timeline of a sheet shows.
 fn caption(sheet: &TourSheet) -> String {
@@ -127,7 +128,8 @@ struct Way {
 }
 
 impl Way {
-    /// The way of an axis, leg after leg, at rest from each arrival to the next departure, whose row is the next leg's first.
+    /// The way of an axis, leg after leg, at rest from each arrival to the next departure,
+    /// whose row is the next leg's first.
     fn of(sheet: &TourSheet, number: usize, legs: &[Leg], stays: &[Stay]) -> Way {
         let mut rows: Vec<Moment> = Vec::new();
         let mut stops = Vec::new();

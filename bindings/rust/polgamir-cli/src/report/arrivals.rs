@@ -1,4 +1,5 @@
-//! What the planner says of the arrivals around that of a job: of each axis alone, without the blend, and one tick earlier.
+//! What the planner says of the arrivals around that of a job: of each axis alone, without
+//! the blend, and one tick earlier.
 
 use polgamir::{Arrival, Axis, AxisRaises, Job};
 
@@ -67,7 +68,8 @@ impl Arrivals {
     }
 }
 
-/// Whether an axis reaches a tick, and if not, by which raises it would: the planner's answer to the axis alone.
+/// Whether an axis reaches a tick, and if not, by which raises it would: the
+/// planner's answer to the axis alone.
 fn earlier(number: usize, axis: &Axis, tick: u32) -> Earlier {
     if tick == 0 {
         return Earlier::NoTick;
@@ -102,7 +104,8 @@ mod tests {
         Earlier::CouldNot(AxisRaises { first: raise(0), second: raise(1) })
     }
 
-    /// The raises that make a tick, by hand: case E by one more of acceleration; then by either limit, the smaller raise first.
+    /// The raises that make a tick, by hand: case E by one more of acceleration; then by either
+    /// limit, the smaller raise first.
     #[test]
     fn raises_that_would_do() {
         use Limit::{Acceleration, Speed};

@@ -1,4 +1,5 @@
-//! What is left on the pole as it was entered, and apart from one another what each rounding leaves.
+//! What is left on the pole as it was entered, and apart from one another what each rounding
+//! leaves.
 
 use super::entry::Entry;
 use super::html::{self, Cell};
@@ -7,8 +8,9 @@ use super::wrong_pole::{Roundings, WrongPole};
 use crate::picture::{LEFT, SWAY};
 
 /// What the numbers of the section are.
-const ROUNDINGS: &str = "The planner takes the half period in whole ticks and the damping as a whole weight, and writes whole cells. What the \
-    rounding of each leaves by itself is told apart; together they add up, or cancel in part.";
+const ROUNDINGS: &str = "The planner takes the half period in whole ticks and the damping as a whole weight, and \
+    writes whole cells. What the rounding of each leaves by itself is told apart; together they add up, or cancel in \
+    part.";
 
 /// The section: a row for each swing of each axis.
 pub fn section(axes: &[(&Entry, Vec<WrongPole>)]) -> String {

@@ -1,4 +1,5 @@
-//! The proved bound on what a table leaves on a pole that is another than entered, in the measure of its axis.
+//! The proved bound on what a table leaves on a pole that is another than
+//! entered, in the measure of its axis.
 
 use polgamir::{in_units, Fraction, SwayLeft};
 
@@ -17,7 +18,8 @@ pub struct Bound<'a> {
 }
 
 impl<'a> Bound<'a> {
-    /// The bound of a swing of an axis; of several tables that with the latest arrival, which is the greatest.
+    /// The bound of a swing of an axis; of several tables that with the latest
+    /// arrival, which is the greatest.
     pub fn of(entry: &'a Entry<'a>, pole: &WrongPole) -> Bound<'a> {
         Bound { entry, swing: pole.swing(), arrival: pole.latest_arrival() }
     }
@@ -32,8 +34,8 @@ impl<'a> Bound<'a> {
         self.at(self.swing.entered_half_period, (self.swing.ratio + error).min(1.0))
     }
 
-    /// On a pole with a half period and a swing ratio, as rounded: the greatest of the bounds for the errors on either side of its own,
-    /// of those that have one. `None` where there is none.
+    /// On a pole with a half period and a swing ratio, as rounded: the greatest of the bounds for
+    /// the errors on either side of its own, of those that have one. `None` where there is none.
     pub fn at(&self, half_period: f64, ratio: f64) -> Option<f64> {
         let half_periods = around(half_period - f64::from(self.swing.half_period));
         let ratios = self.ratio_errors(ratio);
@@ -43,7 +45,8 @@ impl<'a> Bound<'a> {
         bounds.max().map(|fine_steps| self.entry.measure.position(in_units(fine_steps as i64)))
     }
 
-    /// The errors on either side of that of a swing ratio; no ratio is above 1, whose error is a fraction itself.
+    /// The errors on either side of that of a swing ratio; no ratio is above 1,
+    /// whose error is a fraction itself.
     fn ratio_errors(&self, ratio: f64) -> [Fraction; 2] {
         match (ratio, self.entry.axis.damping.weight()) {
             (1.0, Some(weight)) if !self.swing.second => [Fraction::new(256 - 2 * weight as i32, 256 - weight); 2],

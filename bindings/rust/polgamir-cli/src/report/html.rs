@@ -16,7 +16,8 @@ pub fn page(title: &str, body: &str) -> String {
     )
 }
 
-/// A section with its heading, which a printer does not break where it fits a page; the body is HTML.
+/// A section with its heading, which a printer does not break where it fits a page; the body is
+/// HTML.
 pub fn section(heading: &str, body: &str) -> String {
     format!("<section>\n<h2>{}</h2>\n{body}</section>\n", escaped(heading))
 }
@@ -131,7 +132,8 @@ pub fn key(entries: &[(Sample, String)]) -> String {
 fn drawn(sample: Sample) -> String {
     let shape = match sample {
         Sample::Line(Stroke { colour, width, dashes }) => format!(
-            "<path d=\"M0 6L28 6\" fill=\"none\" stroke=\"{colour}\" stroke-width=\"{width}\" stroke-dasharray=\"{}\"/>",
+            "<path d=\"M0 6L28 6\" fill=\"none\" stroke=\"{colour}\" stroke-width=\"{width}\" \
+             stroke-dasharray=\"{}\"/>",
             if dashes.is_empty() { "none" } else { dashes }
         ),
         Sample::Area(colour) => {

@@ -1,4 +1,5 @@
-//! The report of a refused job or tour: the refusal in words first, then the sheet with the numbers of its lines.
+//! The report of a refused job or tour: the refusal in words first, then the sheet
+//! with the numbers of its lines.
 
 use polgamir::sheet::Rounded;
 

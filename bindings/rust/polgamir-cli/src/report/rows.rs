@@ -1,4 +1,5 @@
-//! What is read off the rows of a table: how near an axis comes to its limits, and how far a row that is carried on misses the next.
+//! What is read off the rows of a table: how near an axis comes to its limits, and how far a row
+//! that is carried on misses the next.
 
 use polgamir::{Axis, Motion, FINE_STEPS};
 

@@ -22,8 +22,8 @@ impl Report<'_> {
         }
         match least {
             Some(least) if least < found => format!(
-                "Every axis can arrive at tick {least}, {}; tick {found} is the least after it that suits all axes and fits a window with \
-                 its dwell.{}",
+                "Every axis can arrive at tick {least}, {}; tick {found} is the least after it that suits all axes and \
+                 fits a window with its dwell.{}",
                 self.set_by(least),
                 self.window_told(found - 1)
             ),
@@ -33,8 +33,8 @@ impl Report<'_> {
                 if self.axes.len() > 1 { " Axes that could be sooner are planned to arrive with it." } else { "" }
             ),
             _ => format!(
-                "No axis alone sets the arrival. A head that moves may reach a tick and then none for a while, and tick {found} is the first \
-                 that suits all axes, later than each one's own least."
+                "No axis alone sets the arrival. A head that moves may reach a tick and then none for a while, and \
+                 tick {found} is the first that suits all axes, later than each one's own least."
             ),
         }
     }

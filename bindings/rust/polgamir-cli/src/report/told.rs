@@ -12,7 +12,8 @@ use crate::measure::rounded;
 use crate::picture::scale::quantity;
 use crate::picture::swing::Swing;
 
-/// The section of the entries that no whole number of ticks or units meets; nothing where all are met.
+/// The section of the entries that no whole number of ticks or units meets; nothing where all are
+/// met.
 pub fn rounded_entries(rounded: &[Rounded]) -> String {
     match rounded {
         [] => String::new(),
@@ -79,7 +80,8 @@ pub fn counted(ticks: u32) -> String {
     }
 }
 
-/// A quantity of a sway with three significant digits; below a millionth it is 0, for floats carry no further.
+/// A quantity of a sway with three significant digits; below a millionth it is
+/// 0, for floats carry no further.
 pub fn amount(value: f64) -> String {
     match value.abs() {
         size if size < 1e-6 => "0".into(),

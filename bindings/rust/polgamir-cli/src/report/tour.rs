@@ -1,6 +1,8 @@
-//! The report of a tour: its arrivals and its timeline, and what a maker asks first, of all legs together.
+//! The report of a tour: its arrivals and its timeline, and what a maker asks first, of all legs
+//! together.
 //!
-//! Each leg is a job of its own, from rest to rest, and is asked what the job of a report is asked; of the answers the worst is told.
+//! Each leg is a job of its own, from rest to rest, and is asked what the job of a report is asked;
+//! of the answers the worst is told.
 
 use polgamir::sheet::{Sheet, TourSheet};
 use polgamir::{Schedule, TourRefusal};
@@ -50,9 +52,10 @@ pub fn written(title: &str, entered: &str, sheet: &TourSheet, records: &[Record]
 const TIMELINE_WIDTH: f64 = 900.0;
 
 /// What the pictures show.
-const PLAN: &str = "Position, velocity and sway of each axis from the tour's start to its end, with the limits of its speed. Upright lines are \
-    arrivals, each with its stop's number; the head then rests for the dwell. Sway is in proportion to the real pole's, at each of its rates; it is \
-    not the tip in degrees. At the stops there should be next to none.";
+const PLAN: &str = "Position, velocity and sway of each axis from the tour's start to its end, with the limits of its \
+    speed. Upright lines are arrivals, each with its stop's number; the head then rests for the dwell. Sway is in \
+    proportion to the real pole's, at each of its rates; it is not the tip in degrees. At the stops there should be \
+    next to none.";
 
 /// What the numbers of a tour are made from.
 const LEGS: &str =
@@ -106,8 +109,8 @@ impl TourReport<'_> {
     fn answer(&self) -> String {
         let total = self.schedule.total;
         let text = format!(
-            "Accepted: number 0, total {total} ticks{}. Ticks count from the tour's start. Each leg starts at rest where the last one ended, \
-             after its dwell, and arrives as early as it can.",
+            "Accepted: number 0, total {total} ticks{}. Ticks count from the tour's start. Each leg starts at rest \
+             where the last one ended, after its dwell, and arrives as early as it can.",
             in_seconds(total, self.sheet.tick_seconds())
         );
         let measures = self.legs[0].axes.iter().map(|entry| format!("{}, {}", entry.title, entry.position_name()));
@@ -186,8 +189,8 @@ impl TourReport<'_> {
         }
         let [all_with, all_without] = [self.legs.iter().map(with).sum(), self.legs.iter().map(without).sum()];
         rows.push(line("all legs".into(), all_with, all_without, self.legs.iter().map(leg_cost).sum()));
-        let text = "The ticks of each leg, as entered and without a half period on any axis. A leg costs the half periods of the axis that sets \
-                    its arrival, or less where another axis would set it without the blend.";
+        let text = "The ticks of each leg, as entered and without a half period on any axis. A leg costs the half \
+            periods of the axis that sets its arrival, or less where another axis would set it without the blend.";
         html::paragraph(text) + &html::table(&["", "with the blend", "without", "costs, ticks"], &rows)
     }
 
@@ -208,7 +211,8 @@ impl TourReport<'_> {
             ]
         };
         let rows: Vec<Vec<Cell>> = self.legs.iter().enumerate().map(row).collect();
-        let text = "A leg starts and ends at rest, so that it takes the ticks of its slowest axis; the others are planned to arrive with it.";
+        let text = "A leg starts and ends at rest, so that it takes the ticks of its slowest axis; the others are \
+            planned to arrive with it.";
         html::paragraph(text) + &html::table(&["stop", "leg takes", "set by", "one tick earlier"], &rows)
     }
 
@@ -226,7 +230,8 @@ impl TourReport<'_> {
                 ]
             })
             .collect();
-        let text = "The greatest sizes among the cells of all legs. Ticks count from the leg's own start; rows at the limit are those of all legs.";
+        let text = "The greatest sizes among the cells of all legs. Ticks count from the leg's own start; rows at the \
+            limit are those of all legs.";
         let headings = ["", "of the limit", "greatest", "limit", "in", "at tick", "rows at the limit", "leg to stop"];
         html::paragraph(text) + &html::table(&headings, &rows)
     }

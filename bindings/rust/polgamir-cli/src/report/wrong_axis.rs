@@ -1,4 +1,5 @@
-//! The block of an axis: its pictures, and the charts and numbers of what is left on a pole that is another than entered.
+//! The block of an axis: its pictures, and the charts and numbers of what is left on a
+//! pole that is another than entered.
 
 use super::bound::Bound;
 use super::entry::Entry;
@@ -12,15 +13,16 @@ use crate::picture::Sample;
 /// What the charts show, of a table that is called so.
 pub fn told(tables_name: &str) -> String {
     format!(
-        "The blend cancels the sway of the pole that was entered. The last two pictures of an axis, and the numbers below them, say what \
-         {tables_name} leaves where the pole is another: first its half period, then how far each swing shrinks. 0 is what was entered; a plus \
-         is a true value above it. No swing grows, so that curves over the swing ratio end where the true ratio would be above 1. The curve is \
-         simulated. The bound is proved: no table of the axis that arrives at its tick leaves more, however its cells are rounded; most leave much \
-         less."
+        "The blend cancels the sway of the pole that was entered. The last two pictures of an axis, and the numbers \
+         below them, say what {tables_name} leaves where the pole is another: first its half period, then how far each \
+         swing shrinks. 0 is what was entered; a plus is a true value above it. No swing grows, so that curves over \
+         the swing ratio end where the true ratio would be above 1. The curve is simulated. The bound is proved: no \
+         table of the axis that arrives at its tick leaves more, however its cells are rounded; most leave much less."
     )
 }
 
-/// The block of the numbers of an axis. Of many swings a printer leaves the numbers out: their charts are enough to fill its pages.
+/// The block of the numbers of an axis. Of many swings a printer leaves the numbers out: their
+/// charts are enough to fill its pages.
 pub fn numbers(entry: &Entry, poles: &[WrongPole], swings: usize) -> String {
     const MOST_PRINTED: usize = 6;
     let tables: String = poles.iter().map(|pole| tables(entry, pole)).collect();
@@ -45,12 +47,14 @@ pub fn charts(entry: &Entry, pole: &WrongPole, index: usize) -> [String; 2] {
     ]
 }
 
-/// The numbers of a swing: a table over the errors of its half period, and one over those of its ratio.
+/// The numbers of a swing: a table over the errors of its half period, and one over those of its
+/// ratio.
 fn tables(entry: &Entry, pole: &WrongPole) -> String {
     percents_table(entry, pole) + &ratios_table(entry, pole)
 }
 
-/// The curves of a chart: the bound at the bottom, without the blend above it, the table's at the top.
+/// The curves of a chart: the bound at the bottom, without the blend above it, the table's at the
+/// top.
 fn strokes(over: &[(f64, Left)], bounds: Vec<(f64, f64)>) -> Vec<(Vec<(f64, f64)>, Stroke)> {
     let (plan, unblended) = wrong_pole::curves(over);
     vec![(bounds, stroke::BOUND), (unblended, stroke::UNBLENDED), (plan, stroke::PLAN)]

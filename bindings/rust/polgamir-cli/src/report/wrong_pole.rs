@@ -1,11 +1,12 @@
-//! How much sway is left on the pole as entered, and on one whose half period or damping is another.
+//! How much sway is left on the pole as entered, and on one whose half period or damping is
+//! another.
 
 use super::entry::Entry;
 use crate::picture::sway::{Point, Pole};
 use crate::picture::swing::Swing;
 
-/// The points of a curve on each side of the entered value, and the errors at its ends: in percent of the half period, and in
-/// hundredths of the swing ratio.
+/// The points of a curve on each side of the entered value, and the errors at its ends: in percent
+/// of the half period, and in hundredths of the swing ratio.
 pub const POINTS: i32 = 60;
 const GREATEST_ERROR: i32 = 30;
 
@@ -18,8 +19,8 @@ pub const TOLD_PERCENTS: [f64; 9] = [-10.0, -5.0, -2.0, -1.0, 0.0, 1.0, 2.0, 5.0
 /// The errors of a swing ratio that are told in numbers.
 pub const TOLD_RATIOS: [f64; 9] = [-0.2, -0.1, -0.05, -0.02, 0.0, 0.02, 0.05, 0.1, 0.2];
 
-/// A swing of the pole under an axis as it was entered, and the accelerations of the axis in each table: with the blend, before their
-/// rounding, and without the blend.
+/// A swing of the pole under an axis as it was entered, and the accelerations of the axis in each
+/// table: with the blend, before their rounding, and without the blend.
 pub struct WrongPole<'a> {
     swing: Swing,
     plan: Vec<&'a [f64]>,
@@ -58,7 +59,8 @@ impl<'a> WrongPole<'a> {
         WrongPole { swing, plan, exact, unblended }
     }
 
-    /// The swings of the pole under an axis, over its part in each table; none where the axis has no half period.
+    /// The swings of the pole under an axis, over its part in each table; none
+    /// where the axis has no half period.
     pub fn all_of(tables: &[&'a Entry<'a>]) -> Vec<WrongPole<'a>> {
         let plan: Vec<&[f64]> = tables.iter().map(|entry| entry.accelerations.as_slice()).collect();
         let exact: Option<Vec<&[f64]>> = tables.iter().map(|entry| entry.exact.as_deref()).collect();
@@ -91,9 +93,10 @@ impl<'a> WrongPole<'a> {
         self.left_on(self.swing.pole())
     }
 
-    /// What each rounding leaves by itself, where the exact accelerations are known. The exact plan leaves 0 on a pole that fits half
-    /// period and weight: what it leaves on one that fits the first alone is due to the weight, and the other way round. What the cells'
-    /// rounding leaves is the sway under what was added to each exact acceleration.
+    /// What each rounding leaves by itself, where the exact accelerations are known. The exact plan
+    /// leaves 0 on a pole that fits half period and weight: what it leaves on one that fits the
+    /// first alone is due to the weight, and the other way round. What the cells' rounding leaves
+    /// is the sway under what was added to each exact acceleration.
     pub fn roundings(&self) -> Option<Roundings> {
         let (exact, swing) = (self.exact.as_ref()?, self.swing);
         let by_cells =
@@ -108,13 +111,15 @@ impl<'a> WrongPole<'a> {
         })
     }
 
-    /// What is left where the true half period is greater by some percent than the entered one; each swing shrinks as entered.
+    /// What is left where the true half period is greater by some percent than the entered one;
+    /// each swing shrinks as entered.
     pub fn at_percent(&self, percent: f64) -> Left {
         let half_period = self.swing.entered_half_period * (1.0 + percent / 100.0);
         self.left_on(Pole::new(half_period, self.swing.ratio))
     }
 
-    /// What is left where the true swing ratio is greater by an error than the entered one, or `None` where no pole has such a ratio.
+    /// What is left where the true swing ratio is greater by an error than the entered one, or
+    /// `None` where no pole has such a ratio.
     pub fn at_ratio(&self, error: f64) -> Option<Left> {
         let ratio = self.swing.ratio + error;
         (LEAST_RATIO..=1.0 + 1e-12)
@@ -167,8 +172,9 @@ mod tests {
         Swing { second: false, half_period, entered_half_period: half_period.into(), ratio, planned_ratio: ratio }
     }
 
-    /// Two equal pushes of one tick, half a period apart, leave 0 on the pole that they are made for. On an undamped pole whose half
-    /// period is H, a push of one tick leaves 2a/w² sin(w/2), and the two leave that times 2 |cos(w h/2)|, with w = π/H.
+    /// Two equal pushes of one tick, half a period apart, leave 0 on the pole that they are made
+    /// for. On an undamped pole whose half period is H, a push of one tick leaves 2a/w² sin(w/2),
+    /// and the two leave that times 2 |cos(w h/2)|, with w = π/H.
     #[test]
     fn errors_leave_what_the_formula_says() {
         let mut pushes = [0.0; 30];

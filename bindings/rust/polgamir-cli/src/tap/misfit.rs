@@ -1,4 +1,5 @@
-//! What a record says of a plan: its misfits on the pole as entered, and the sway that they can leave.
+//! What a record says of a plan: its misfits on the pole as entered, and the sway that they can
+//! leave.
 
 use polgamir::Axis;
 
@@ -7,8 +8,9 @@ use super::Tap;
 /// The parts of a unit in which the entries of a list are counted.
 const PARTS: f64 = 1000.0;
 
-/// The misfits of a record on an axis. The record is read at every tick as a list of whole numbers, scaled so that its strongest swing is that of
-/// an oscillator of its half period which is pushed by 1 unit per tick²: (p/π)² units, in thousandths of a unit.
+/// The misfits of a record on an axis. The record is read at every tick as a list of whole numbers,
+/// scaled so that its strongest swing is that of an oscillator of its half period which is pushed
+/// by 1 unit per tick²: (p/π)² units, in thousandths of a unit.
 #[derive(Debug, Clone, Copy, PartialEq, Eq)]
 pub struct Misfit {
     /// E: the greatest misfit of the list.
@@ -28,8 +30,8 @@ struct Lists {
 }
 
 impl Tap {
-    /// The misfits of the record on an axis whose ticks have so many seconds. `None` where the record is shorter than the blend, or the planner
-    /// refuses the axis's damping.
+    /// The misfits of the record on an axis whose ticks have so many seconds. `None` where the
+    /// record is shorter than the blend, or the planner refuses the axis's damping.
     pub fn misfit(&self, axis: &Axis, tick: f64) -> Option<Misfit> {
         let Lists { measured, fitted } = self.lists(tick);
         Some(Misfit {
@@ -52,8 +54,8 @@ impl Tap {
         Lists { measured: measured.into_iter().map(whole).collect(), fitted }
     }
 
-    /// The deflection of the record at a time from the start of the swing, without drift, on a straight line between samples; the fitted one where
-    /// samples are left out.
+    /// The deflection of the record at a time from the start of the swing, without drift, on a
+    /// straight line between samples; the fitted one where samples are left out.
     fn deflection(&self, time: f64) -> f64 {
         let samples = &self.part.samples;
         let next = samples.times.partition_point(|&sample| sample < time).min(samples.times.len() - 1);
@@ -69,7 +71,8 @@ impl Tap {
 }
 
 impl Misfit {
-    /// The most that a table of the axis with an arrival leaves of such a sway, in units: by the exact blend, and as rounded.
+    /// The most that a table of the axis with an arrival leaves of such a sway, in units: by
+    /// the exact blend, and as rounded.
     pub fn sway_left(&self, axis: &Axis, arrival: u32) -> Option<(f64, f64)> {
         let left = axis.sway_left(arrival, self.greatest, self.size).ok()?;
         let units = |fine_steps: u128| fine_steps as f64 / PARTS / polgamir::FINE_STEPS as f64;
@@ -77,7 +80,8 @@ impl Misfit {
     }
 }
 
-/// The greatest misfit of a list on an axis: of A·w(i + h) + B·w(i), and with a second half period of that at i + h₂ plus that at i.
+/// The greatest misfit of a list on an axis: of A·w(i + h) + B·w(i), and with a second half period
+/// of that at i + h₂ plus that at i.
 fn greatest_misfit(axis: &Axis, list: &[i64]) -> Option<u64> {
     let weight = i64::from(axis.damping.weight()?);
     let (half, second) = (axis.half_period as usize, axis.second_half_period.map(|ticks| ticks as usize));
@@ -109,7 +113,8 @@ mod tests {
         }
     }
 
-    /// By hand: 128·(w(i+2) + w(i)) of 5, 3, −4, −3, 2 is 128, 0, −256; of a list that turns over exactly it is 0.
+    /// By hand: 128·(w(i+2) + w(i)) of 5, 3, −4, −3, 2 is 128, 0, −256; of a list
+    /// that turns over exactly it is 0.
     #[test]
     fn misfits_are_those_of_the_list() {
         assert_eq!(greatest_misfit(&axis(2, 128, None), &[5, 3, -4, -3, 2]), Some(256));
@@ -119,7 +124,8 @@ mod tests {
         assert_eq!(greatest_misfit(&axis(5, 128, None), &[5, 3, -4, -3, 2]), None);
     }
 
-    /// A record of a pole that swings over in 21 ticks of 20 ms, each swing 0.8 of the one before, 50 samples a second.
+    /// A record of a pole that swings over in 21 ticks of 20 ms, each swing 0.8 of the
+    /// one before, 50 samples a second.
     fn tap() -> Tap {
         let mut noise = 1_u64;
         let line = |index: u32| {
@@ -131,21 +137,24 @@ mod tests {
         super::super::read(&(0..400).map(line).collect::<String>(), None, None).expect("a tap")
     }
 
-    /// On the pole as it is the fitted swing hardly misfits; on one that swings over in 26 ticks it does.
+    /// On the pole as it is the fitted swing hardly misfits; on one that swings over in 26 ticks it
+    /// does.
     #[test]
     fn a_record_fits_its_own_pole() {
         let found = |half_period| tap().misfit(&axis(half_period, 113, None), 0.02).expect("misfits");
         let (own, other) = (found(21), found(26));
-        // Weight 113 stands for 113/143, a little below 0.8: by 0.78 of a weight, which counts twice.
+        // Weight 113 stands for 113/143, a little below 0.8: by 0.78 of a weight, which counts
+        // twice.
         assert!(own.of_fit < 2 * own.size, "{own:?}");
         assert!(other.of_fit > 20 * own.of_fit && other.greatest >= own.greatest, "{own:?} {other:?}");
-        // The strongest swing is that of an oscillator pushed by 1 unit per tick²: (21/π)² units, in thousandths.
+        // The strongest swing is that of an oscillator pushed by 1 unit per tick²:
+        // (21/π)² units, in thousandths.
         assert!((44_000..46_000).contains(&own.size) && own.ticks > 100, "{own:?}");
         assert!(tap().misfit(&axis(21, 113, None), 1.0).is_none());
     }
 
-    /// No table leaves more of the record's swing than the bound says, at any tick that the record has: the sum of each change of the cells times the
-    /// entry so many ticks later.
+    /// No table leaves more of the record's swing than the bound says, at any tick that the record
+    /// has: the sum of each change of the cells times the entry so many ticks later.
     #[test]
     fn no_table_exceeds_the_bound_of_a_record() {
         let (tap, tick) = (tap(), 0.02);

@@ -1,4 +1,5 @@
-//! Which part of a record is used: from the strongest swing on, without samples at the recorder's limit.
+//! Which part of a record is used: from the strongest swing on, without samples at the recorder's
+//! limit.
 
 use super::fit::Samples;
 use super::record::Record;
@@ -31,8 +32,8 @@ pub fn used(record: &Record) -> Option<Part> {
     Some(Part { start, samples: Samples { times, values }, clipped })
 }
 
-/// The first sample that is nearly as far from the mean of the period around it as any is. That mean follows the drift, and in a clipped swing many
-/// samples are furthest.
+/// The first sample that is nearly as far from the mean of the period around it as any is. That
+/// mean follows the drift, and in a clipped swing many samples are furthest.
 fn strongest_sample(record: &Record, period: f64) -> Option<usize> {
     let Record { times, values, .. } = record;
     let last = times.len() - 1;
@@ -52,8 +53,9 @@ fn strongest_sample(record: &Record, period: f64) -> Option<usize> {
     distances.iter().position(|&distance| distance >= NEARLY * most).filter(|_| most > 0.0)
 }
 
-/// Whether each sample stands at the recorder's limit: the greatest or the least value, met at least six times, three of them in a row. A
-/// neighbour of such a sample may have been pushed below the limit by noise alone, so it counts too.
+/// Whether each sample stands at the recorder's limit: the greatest or the least value, met at
+/// least six times, three of them in a row. A neighbour of such a sample may have been pushed below
+/// the limit by noise alone, so it counts too.
 fn clipped(values: &[f64]) -> Vec<bool> {
     let (least, greatest) =
         values.iter().fold((f64::MAX, f64::MIN), |(least, most), &value| (least.min(value), most.max(value)));
@@ -84,7 +86,8 @@ mod tests {
         Record { times, values, column: None }
     }
 
-    /// Quiet up to 2 s, then a swing of a period of 1 s on a slope: its strongest sample is one of the first two peaks, at 2.25 and 2.75 s.
+    /// Quiet up to 2 s, then a swing of a period of 1 s on a slope: its strongest sample is one of
+    /// the first two peaks, at 2.25 and 2.75 s.
     #[test]
     fn a_swing_starts_at_its_strongest_sample() {
         let swing = |time: f64| {

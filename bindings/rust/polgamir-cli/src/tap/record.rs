@@ -14,8 +14,8 @@ pub struct Record {
 /// The least number of samples that a fit can do with.
 const LEAST_SAMPLES: usize = 16;
 
-/// Reads a record: a column of times and columns of deflections, of which the one that varies most is taken unless one is asked for; or one
-/// column of deflections, so many a second.
+/// Reads a record: a column of times and columns of deflections, of which the one that varies most
+/// is taken unless one is asked for; or one column of deflections, so many a second.
 pub fn read(text: &str, rate: Option<f64>, column: Option<usize>) -> Result<Record, String> {
     let (heading, rows) = rows(text)?;
     let columns = rows.first().map_or(0, Vec::len);
@@ -72,8 +72,8 @@ fn rows(text: &str) -> Result<(Vec<String>, Vec<Vec<f64>>), String> {
     Ok((heading, rows))
 }
 
-/// The fields of a line, between semicolons, tabs, commas or spaces, whichever it has first. Beside semicolons and tabs a comma is a decimal
-/// point.
+/// The fields of a line, between semicolons, tabs, commas or spaces, whichever it has first. Beside
+/// semicolons and tabs a comma is a decimal point.
 fn fields(line: &str) -> Vec<String> {
     let separator = [';', '\t', ','].into_iter().find(|separator| line.contains(*separator));
     let plain = |field: &str| field.trim().trim_matches('"').trim().to_string();
@@ -93,7 +93,8 @@ fn number(field: &str) -> Option<f64> {
     field.replace('\u{2212}', "-").parse().ok().filter(|number: &f64| number.is_finite())
 }
 
-/// The seconds of the unit that the heading of the times names: milliseconds, microseconds and nanoseconds are known, all else is seconds.
+/// The seconds of the unit that the heading of the times names: milliseconds, microseconds and
+/// nanoseconds are known, all else is seconds.
 fn time_unit(heading: Option<&String>) -> f64 {
     let heading = heading.map(|name| name.to_lowercase()).unwrap_or_default();
     let named = |unit: &str| heading.split(|letter: char| !letter.is_alphanumeric()).any(|word| word == unit);
@@ -105,7 +106,8 @@ fn time_unit(heading: Option<&String>) -> f64 {
     }
 }
 
-/// The rows without those whose time is that of the row before, as logs with coarse clocks have them.
+/// The rows without those whose time is that of the row before, as logs with coarse clocks have
+/// them.
 fn without_repeats(mut rows: Vec<Vec<f64>>, has_times: bool) -> Vec<Vec<f64>> {
     if has_times {
         rows.dedup_by(|later, earlier| later[0] == earlier[0]);

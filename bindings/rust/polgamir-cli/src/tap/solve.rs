@@ -3,7 +3,8 @@
 /// A symmetric matrix of a few rows.
 pub type Matrix = Vec<Vec<f64>>;
 
-/// The sums of a least squares problem: products of the columns with each other, and with what is left.
+/// The sums of a least squares problem: products of the columns with each other, and with what is
+/// left.
 #[derive(Debug, Clone)]
 pub struct Sums {
     pub products: Matrix,
@@ -26,13 +27,15 @@ impl Sums {
         }
     }
 
-    /// The unknowns that leave least, with a damping of the diagonal as Marquardt has it; `None` where they cannot be told apart.
+    /// The unknowns that leave least, with a damping of the diagonal as Marquardt has it; `None`
+    /// where they cannot be told apart.
     pub fn solved(&self, damping: f64) -> Option<Vec<f64>> {
         let root = self.root(damping)?;
         Some(self.back(&root, &self.with_rest))
     }
 
-    /// The inverse of the products' matrix, whose diagonal has the variances; `None` where there is none.
+    /// The inverse of the products' matrix, whose diagonal has the variances; `None` where there is
+    /// none.
     pub fn inverse(&self) -> Option<Matrix> {
         let (root, count) = (self.root(0.0)?, self.with_rest.len());
         let unit = |column: usize| (0..count).map(|row| f64::from(u8::from(row == column))).collect::<Vec<_>>();
@@ -83,7 +86,8 @@ impl Sums {
 mod tests {
     use super::*;
 
-    /// The line 1 + 2x through three points, and its inverse matrix by hand: sums 3, 3, 5 give a determinant of 6.
+    /// The line 1 + 2x through three points, and its inverse matrix by hand: sums
+    /// 3, 3, 5 give a determinant of 6.
     #[test]
     fn a_line_is_found() {
         let mut sums = Sums::new(2);

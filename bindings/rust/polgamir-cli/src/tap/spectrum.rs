@@ -2,8 +2,9 @@
 
 use std::f64::consts::PI;
 
-/// The angular frequency in radians per second at which values swing most, of those that swing at least once in the record and at most as often as
-/// its samples show; with the values taken at even steps between those that were recorded.
+/// The angular frequency in radians per second at which values swing most, of those that swing at
+/// least once in the record and at most as often as its samples show; with the values taken at even
+/// steps between those that were recorded.
 pub fn strongest(times: &[f64], values: &[f64]) -> Option<f64> {
     let (first, last) = (*times.first()?, *times.last()?);
     let count = times.len().clamp(2, 1 << 16);

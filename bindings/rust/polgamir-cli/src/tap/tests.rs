@@ -28,7 +28,8 @@ impl Random {
     }
 }
 
-/// One rate of a pole: its half period in seconds, each swing by the one before, and how far it goes.
+/// One rate of a pole: its half period in seconds, each swing by the one before, and how far it
+/// goes.
 #[derive(Debug, Clone, Copy)]
 struct Rate {
     half: f64,
@@ -37,7 +38,8 @@ struct Rate {
 }
 
 impl Rate {
-    /// The deflection at a time after the tap: a swing of which each half period is the ratio of the one before.
+    /// The deflection at a time after the tap: a swing of which each half
+    /// period is the ratio of the one before.
     fn at(&self, time: f64, phase: f64) -> f64 {
         self.size * self.ratio.powf(time / self.half) * (PI * time / self.half + phase).sin()
     }
@@ -77,7 +79,8 @@ impl Made {
         }
     }
 
-    /// The record: an offset, a drift, either sign, the noise by the size of the swing, and the limit.
+    /// The record: an offset, a drift, either sign, the noise by the size of the swing, and the
+    /// limit.
     fn text(&self, random: &mut Random) -> String {
         let sign = if random.next() < 0.5 { -1.0 } else { 1.0 };
         // A strong drift would hold the record at its limit.
@@ -106,8 +109,9 @@ fn holds(printed: &str, name: &str, truth: f64) -> bool {
     matches!(ends.take(2).collect::<Vec<f64>>()[..], [low, high] if low <= truth && truth <= high)
 }
 
-/// Of a hundred records, how many were fitted with as many rates as the pole has, and how often the truth lies within the stated spread: of the half
-/// period, of the ratio, and of the second half period.
+/// Of a hundred records, how many were fitted with as many rates as the pole has, and
+/// how often the truth lies within the stated spread: of the half period, of the ratio,
+/// and of the second half period.
 fn counted(seed: u64, make: impl Fn(&mut Random) -> Made) -> [usize; 4] {
     let mut counts = [0; 4];
     let mut random = Random(seed);
@@ -137,7 +141,8 @@ fn a_pole_with_noise_is_found() {
     assert_found(0x5EED_0001, Made::drawn);
 }
 
-/// Noise that goes on from sample to sample, as behind a filter, neither narrows the spread nor passes for a second rate.
+/// Noise that goes on from sample to sample, as behind a filter, neither narrows the
+/// spread nor passes for a second rate.
 #[test]
 fn a_pole_with_noise_that_goes_on_is_found() {
     assert_found(0x5EED_0008, |random| Made { follows: random.within(0.3, 0.8), ..Made::drawn(random) });

@@ -3,7 +3,8 @@
 use super::{Rate, Spread, Tap};
 use crate::measure::rounded;
 
-/// The lines of an axis of a sheet: comments that say what was used and what was left out, and the entries with their spread.
+/// The lines of an axis of a sheet: comments that say what was used and what was left out, and
+/// the entries with their spread.
 pub fn lines(name: &str, tap: &Tap) -> String {
     let comments = [tap.used(name)].into_iter().chain(tap.left_out());
     let mut text: String = comments.map(|line| format!("# {line}\n")).collect();
@@ -24,8 +25,8 @@ fn entry(name: &str, spread: &Spread, unit: &str, remark: &str) -> String {
     format!("{name:20} {:12} # {low} to {high}{unit}{remark}\n", format!("{value}{unit}"))
 }
 
-/// A number, the least and the greatest that it may be, with as many decimals as the spread gives sense to; the ends are rounded outward, and a
-/// ratio is not above 1 there.
+/// A number, the least and the greatest that it may be, with as many decimals as the spread gives
+/// sense to; the ends are rounded outward, and a ratio is not above 1 there.
 pub fn shown(spread: &Spread) -> (String, String, String) {
     let Spread { value, within } = *spread;
     let decimals = (1.0 - within.max(1e-9).log10().floor()).clamp(2.0, 10.0) as i32;
@@ -51,7 +52,8 @@ impl Tap {
         let swings: Vec<String> = self.rates.iter().map(swings).collect();
         let rates = if self.rates.len() == 2 { "two rates: " } else { "" };
         format!(
-            "{name}{column}: {count} samples over {} s. Used: {rates}{} swings there and back, from {} s to {} s. The first goes {} far, the noise {}.",
+            "{name}{column}: {count} samples over {} s. Used: {rates}{} swings there and back, from {} s to {} s. The \
+             first goes {} far, the noise {}.",
             digits(length),
             swings.join(" and "),
             digits(part.start),

@@ -2,7 +2,8 @@
 
 use std::cmp::Ordering;
 
-/// A whole number: a sign and its size in 64-bit digits, the lowest first, without zeros at the end.
+/// A whole number: a sign and its size in 64-bit digits, the lowest first, without zeros at the
+/// end.
 #[derive(Debug, Clone, PartialEq, Eq, Default)]
 pub struct Big {
     negative: bool,

@@ -1,4 +1,5 @@
-//! A certificate: one file with a job's sheet, words, answer and table, what made it, and the checks of the table, for a quality folder.
+//! A certificate: one file with a job's sheet, words, answer and table, what made it, and the
+//! checks of the table, for a quality folder.
 
 use std::fmt::Write;
 use std::path::Path;
@@ -112,7 +113,8 @@ fn held(file: &Path, content: &[u8]) -> Result<Done, FileError> {
             let (arrival, own) = (plan.arrival(), env!("CARGO_PKG_VERSION"));
             let name = file.display();
             Ok(Done::well(format!(
-                "{name} holds: sheet, words, answer, checks and rows 0 to {arrival} are those of version {own}, planned anew; it was written by {by}.\n"
+                "{name} holds: sheet, words, answer, checks and rows 0 to {arrival} are those of version {own}, \
+                 planned anew; it was written by {by}.\n"
             )))
         }
         Some(difference) => Ok(Done::differs(format!("{} does NOT hold: {difference}.\n", file.display()))),
@@ -150,7 +152,7 @@ mod tests {
 
     const SHEET: &str =
         "arrival 4\naxis 0\n  half period 0\n  weight 128\n  speed limit 10\n  acceleration limit 1\n  \
-                         start position 0\n  start velocity 0\n  target still\n  target position 1\n";
+         start position 0\n  start velocity 0\n  target still\n  target position 1\n";
 
     /// A certificate whose sum is right and whose table is not the job's: the cell is named.
     #[test]

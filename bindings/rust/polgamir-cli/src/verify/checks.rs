@@ -1,4 +1,5 @@
-//! What a buyer can check of a table without a planner: its first and last row, its limits, how rows follow one another, and the sway.
+//! What a buyer can check of a table without a planner: its first and last row, its limits, how
+//! rows follow one another, and the sway.
 
 use polgamir::sheet::Sheet;
 use polgamir::{Axis, Motion, Target, FINE_STEPS};

@@ -1,4 +1,5 @@
-//! Reads a table from a file: comma-separated values, JSON, the source of a C array, or the cells as bytes.
+//! Reads a table from a file: comma-separated values, JSON, the source of a C array, or the cells
+//! as bytes.
 
 use super::json::Json;
 use crate::command::table::COLUMNS;

@@ -1,4 +1,5 @@
-//! What the tests of the command share: its runs, a reader of JSON, and what they have in common with the library's tests.
+//! What the tests of the command share: its runs, a reader of JSON, and what they have in
+//! common with the library's tests.
 
 #![allow(dead_code, unused_imports)]
 

@@ -13,12 +13,14 @@ pub struct Amount {
     pub text: String,
     /// The number as it is written.
     pub digits: String,
-    /// What follows the number, in small letters, without spaces around a `/`; empty for ticks and units.
+    /// What follows the number, in small letters, without spaces around a `/`; empty for ticks and
+    /// units.
     pub measure: String,
 }
 
 impl Amount {
-    /// The amounts that words say, one after the other; `None` where they do not begin with a number.
+    /// The amounts that words say, one after the other; `None` where they do not begin with a
+    /// number.
     pub fn all(words: &[&str]) -> Option<Vec<Amount>> {
         let mut found: Vec<Amount> = Vec::new();
         for word in words {
@@ -77,7 +79,8 @@ pub fn seconds_parts(measure: &str) -> Option<i64> {
     }
 }
 
-/// Whether a word is a number, or begins with one, and what follows it: a sign, digits with or without a point among them, and a power of ten.
+/// Whether a word is a number, or begins with one, and what follows it: a sign, digits with or
+/// without a point among them, and a power of ten.
 pub fn split(word: &str) -> Option<(&str, &str)> {
     let unsigned = word.strip_prefix(['+', '-']).or_else(|| word.strip_prefix(MINUS_SIGNS)).unwrap_or(word);
     let whole = count_digits(unsigned);
@@ -119,7 +122,8 @@ pub fn number(digits: &str) -> Option<Fraction> {
     Some(Fraction::read(number.starts_with('-'), unsigned, power.parse().ok()?))
 }
 
-/// Whether two names are the same, in whatever case, in the singular or in the plural; `deg` and `°` are degrees.
+/// Whether two names are the same, in whatever case, in the singular or in the
+/// plural; `deg` and `°` are degrees.
 pub fn is_name(found: &str, name: &str) -> bool {
     singular(found) == singular(name)
 }

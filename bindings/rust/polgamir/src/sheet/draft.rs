@@ -29,7 +29,8 @@ struct Entry {
 
 /// An axis being read.
 pub struct Draft {
-    /// The number of the axis; [`AXES`](crate::AXES) for one whose line is wrong, which is read and then left.
+    /// The number of the axis; [`AXES`](crate::AXES) for one whose line is
+    /// wrong, which is read and then left.
     pub number: usize,
     /// What to call the axis.
     title: String,
@@ -163,8 +164,9 @@ impl Draft {
         lines.map(|(entry, line)| EntryLine { axis: Some(self.number), entry, line })
     }
 
-    /// The axis of a tour whose first stop stands on a line: legs start and end at rest, at the stops. What is wrong with it is added to the
-    /// errors; with an error there is no sheet, and the axis is any.
+    /// The axis of a tour whose first stop stands on a line: legs start and end at
+    /// rest, at the stops. What is wrong with it is added to the errors; with an error
+    /// there is no sheet, and the axis is any.
     pub fn tour_axis(&self, first_stop: usize, errors: &mut Vec<SheetError>) -> TourAxis {
         let unwanted = self.entries.iter().filter(|entry| !TOUR_ENTRIES.contains(&entry.kind));
         let unwanted = unwanted.map(|entry| (entry.kind.name(), entry.line));
@@ -182,7 +184,8 @@ impl Draft {
         }
     }
 
-    /// The axis with all its entries. What is wrong with it is added to the errors; with an error there is no sheet, and the axis is any.
+    /// The axis with all its entries. What is wrong with it is added to the errors; with an error
+    /// there is no sheet, and the axis is any.
     pub fn axis(&self, errors: &mut Vec<SheetError>) -> Axis {
         Axis {
             half_period: self.unsigned(WordKind::HalfPeriod, errors),
@@ -247,7 +250,8 @@ impl Draft {
         self.number(kind, errors) as u32
     }
 
-    /// Tells that the axis lacks an entry, at the line where the axis begins, and gives any value in its place.
+    /// Tells that the axis lacks an entry, at the line where the axis begins,
+    /// and gives any value in its place.
     fn lacks<T>(&self, entry: &str, any: T, errors: &mut Vec<SheetError>) -> T {
         let expected = format!("{entry} for axis {}", self.number);
         errors.extend(fault::<()>(self.line, expected, "none among its lines").err());

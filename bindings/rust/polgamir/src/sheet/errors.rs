@@ -21,7 +21,8 @@ impl fmt::Display for SheetError {
 
 impl std::error::Error for SheetError {}
 
-/// Why a text is no set-up sheet: everything that is wrong with it, in the order of its lines. Printed, each stands on a line of its own.
+/// Why a text is no set-up sheet: everything that is wrong with it, in the order of its lines.
+/// Printed, each stands on a line of its own.
 #[derive(Debug, Clone, PartialEq, Eq)]
 pub struct SheetErrors(Vec<SheetError>);
 

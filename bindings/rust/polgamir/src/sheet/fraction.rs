@@ -98,7 +98,8 @@ impl Fraction {
         whole.plus(&Natural::from(u128::from(further)))
     }
 
-    /// The decimal number of at most so many significant digits that stands for the fraction, without noughts at its end.
+    /// The decimal number of at most so many significant digits that stands for the
+    /// fraction, without noughts at its end.
     pub fn shown(&self, digits: u32, rounding: Rounding) -> String {
         if self.is_zero() {
             return "0".into();
@@ -109,7 +110,8 @@ impl Fraction {
         format!("{sign}{}", with_point(number.digits(), power))
     }
 
-    /// The least number of three significant digits whose square is not below the fraction, which is above 0.
+    /// The least number of three significant digits whose square is not below
+    /// the fraction, which is above 0.
     pub fn root_shown(&self) -> String {
         let magnitude = self.magnitude().div_euclid(2);
         let square = self.times(&ten_to(4 - 2 * magnitude));

@@ -78,7 +78,8 @@ impl Natural {
         (self.0.len() <= 4).then(|| self.0.iter().rev().fold(0, |number, &digit| number << 32 | u128::from(digit)))
     }
 
-    /// How often a divisor above 0 goes into the number, and what is left: long division, bit by bit where 128 are not enough.
+    /// How often a divisor above 0 goes into the number, and what is left: long division, bit
+    /// by bit where 128 are not enough.
     pub fn divided(&self, divisor: &Natural) -> (Natural, Natural) {
         if let (Some(number), Some(divisor)) = (self.to_u128(), divisor.to_u128()) {
             return (Natural::from(number / divisor), Natural::from(number % divisor));

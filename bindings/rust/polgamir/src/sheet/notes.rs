@@ -5,7 +5,8 @@ use super::scales::Scales;
 use crate::words::WordKind;
 use crate::AXES;
 
-/// The names of the axes, what a tick and a unit stand for, and the lines that the entries stand on.
+/// The names of the axes, what a tick and a unit stand for, and the lines that the entries stand
+/// on.
 #[derive(Debug, Clone, PartialEq, Default)]
 pub struct Notes {
     /// The name of each axis that has one.

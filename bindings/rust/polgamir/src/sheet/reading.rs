@@ -1,4 +1,5 @@
-//! Reading a set-up sheet: first what a tick and a unit stand for and where each axis begins, then everything else.
+//! Reading a set-up sheet: first what a tick and a unit stand for and where each
+//! axis begins, then everything else.
 
 use std::num::NonZeroU32;
 use std::str::FromStr;

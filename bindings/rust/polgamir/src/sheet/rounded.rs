@@ -9,16 +9,19 @@ use crate::job::Axis;
 use crate::words::WordKind;
 use crate::FINE_STEPS;
 
-/// An entry that was rounded: what was entered, what is planned, and by how much that is off. Printed, it is a sentence for a crew:
-/// `line 6: axis 0 pan: speed limit 60.3 degree/s is planned as 60 degree/s (120 units per tick), 0.3 degree/s less`. That of a half period ends
-/// with what a pole that swings as entered can keep of its sway.
+/// An entry that was rounded: what was entered, what is planned, and by how much that is off.
+/// Printed, it is a sentence for a crew:
+/// `line 6: axis 0 pan: speed limit 60.3 degree/s is planned as 60 degree/s (120 units per tick),
+/// 0.3 degree/s less`. That of a half period ends with what a pole that swings as entered can keep
+/// of its sway.
 #[derive(Debug, Clone, PartialEq)]
 pub struct Rounded {
     /// The line, from 1.
     pub line: usize,
     /// The axis that the entry belongs to; `None` for one of the whole sheet.
     pub axis: Option<usize>,
-    /// Which number of the axis it is, or [`WordKind::Arrival`]; `None` for one of windows, dwells and stops.
+    /// Which number of the axis it is, or [`WordKind::Arrival`]; `None` for one of windows, dwells
+    /// and stops.
     pub entry: Option<WordKind>,
     /// What was entered, as it stands on the sheet: `half period 0.425 s`.
     pub entered: String,
@@ -26,8 +29,9 @@ pub struct Rounded {
     pub planned: String,
     /// By how much it is off: `0.005 s less`.
     pub off: String,
-    /// Of a half period, the most that is left of the sway of a pole that swings as entered: `0.31 degree`. It is the proved bound of
-    /// [`Axis::sway_bound`], before rounding, of every table of the axis.
+    /// Of a half period, the most that is left of the sway of a pole that swings as
+    /// entered: `0.31 degree`. It is the proved bound of [`Axis::sway_bound`], before
+    /// rounding, of every table of the axis.
     pub sway: Option<String>,
     /// What is planned less what was entered, in ticks or units.
     steps_off: Fraction,
@@ -73,8 +77,8 @@ impl Rounded {
         self.steps_off.shown(17, Rounding::Nearest).parse().unwrap_or(0.0)
     }
 
-    /// Works out what a half period of an axis that is off leaves, in a unit's size and name. A number that the planner refuses leaves nothing to
-    /// be told.
+    /// Works out what a half period of an axis that is off leaves, in a unit's size and name. A
+    /// number that the planner refuses leaves nothing to be told.
     pub fn weigh(&mut self, axis: &Axis, unit: (&Fraction, &str)) {
         // The error in ten thousandths of a tick, away from 0: true less planned.
         let size = self.steps_off.size().times(&Fraction::whole(10_000)).rounded(Rounding::Up);

@@ -1,4 +1,5 @@
-//! What a tick and a unit stand for: what is shown is scaled by them, and so is what is entered with a measure.
+//! What a tick and a unit stand for: what is shown is scaled by them, and so is
+//! what is entered with a measure.
 
 use std::fmt;
 
@@ -25,7 +26,8 @@ struct Size {
     text: String,
 }
 
-/// An entry and the line that it stands on. One that could not be read is kept as `None`: it is on the sheet.
+/// An entry and the line that it stands on. One that could not be read is kept
+/// as `None`: it is on the sheet.
 #[derive(Debug, Clone, PartialEq)]
 struct Noted<T> {
     entry: Option<T>,
@@ -77,7 +79,8 @@ impl Scales {
         }
     }
 
-    /// The exact size and the name of a unit of an axis. An axis whose own line cannot be read has number [`AXES`].
+    /// The exact size and the name of a unit of an axis. An axis whose own line
+    /// cannot be read has number [`AXES`].
     pub fn unit(&self, axis: usize) -> Scale<(&Fraction, &str)> {
         let Some(own) = self.own.get(axis) else {
             return Scale::Unreadable;
@@ -144,7 +147,8 @@ fn tick_size(value: &[&str]) -> Option<Size> {
     Some(Size { shown: exact.to_f64(), exact, text: value.join(" ") })
 }
 
-/// The size of a unit, 1 where no number stands before its name, and the name, in which no word is a number.
+/// The size of a unit, 1 where no number stands before its name, and the name, in which no word is
+/// a number.
 fn unit_size(value: &[&str]) -> Option<SizedUnit> {
     let (first, others) = value.split_first()?;
     let (exact, text, name) = match size(first) {
@@ -169,7 +173,8 @@ fn unit_found(value: &[&str]) -> String {
     }
 }
 
-/// The size that a word begins with, a number above 0 or a quotient of two, and what follows it in the word.
+/// The size that a word begins with, a number above 0 or a quotient of two, and what follows it in
+/// the word.
 fn size(word: &str) -> Option<(Fraction, &str)> {
     let (digits, rest) = split(word)?;
     let (size, rest) = match rest.strip_prefix('/').and_then(split) {

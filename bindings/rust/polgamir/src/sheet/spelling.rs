@@ -35,7 +35,8 @@ pub const NAMES: [&str; 29] = [
     "target flying",
 ];
 
-/// A line whose name is not spelt as a sheet has it: the name that is nearest, and how many words stand in its place.
+/// A line whose name is not spelt as a sheet has it: the name that is nearest, and how
+/// many words stand in its place.
 pub fn nearest(words: &[&str]) -> Option<(&'static str, usize)> {
     let mut found: Option<(usize, &'static str, usize)> = None;
     for name in NAMES {
@@ -65,7 +66,8 @@ fn allowed(name: &str) -> usize {
     }
 }
 
-/// How many letters are to be put in, left out, changed, or exchanged with their neighbour, to get from one text to another.
+/// How many letters are to be put in, left out, changed, or exchanged with their neighbour,
+/// to get from one text to another.
 fn distance(from: &str, to: &str) -> usize {
     let (from, to): (Vec<char>, Vec<char>) = (from.chars().collect(), to.chars().collect());
     let (mut before, mut last): (Vec<usize>, Vec<usize>) = (Vec::new(), (0..=to.len()).collect());

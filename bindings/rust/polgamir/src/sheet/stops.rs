@@ -13,7 +13,8 @@ use crate::windows::Window;
 
 /// What is expected after `stop`.
 const STOP: &str =
-    "a position for each axis, `dwell` and a whole number of ticks from 0 to 4096, or seconds as in `1 s`, after `stop`";
+    "a position for each axis, `dwell` and a whole number of ticks from 0 to 4096, or seconds as in `1 s`, after \
+     `stop`";
 
 /// What is expected after `window`.
 const WINDOW: &str =

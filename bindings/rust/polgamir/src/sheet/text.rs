@@ -2,7 +2,8 @@
 
 use super::SheetError;
 
-/// The signs that editors put in place of a hyphen: minus, en dash, hyphen, hyphen that does not break.
+/// The signs that editors put in place of a hyphen: minus, en dash, hyphen, hyphen that does not
+/// break.
 pub const MINUS_SIGNS: [char; 4] = ['\u{2212}', '\u{2013}', '\u{2010}', '\u{2011}'];
 
 /// A whole number, below zero with a hyphen or any other minus sign.
@@ -36,7 +37,8 @@ pub fn quoted(words: &[&str]) -> String {
     }
 }
 
-/// What follows a name of one word or several at the head of a line, in whatever case it is written.
+/// What follows a name of one word or several at the head of a line, in whatever case it is
+/// written.
 pub fn after<'l, 'w>(words: &'l [&'w str], name: &str) -> Option<&'l [&'w str]> {
     let mut rest = words;
     for part in name.split(' ') {

@@ -34,18 +34,20 @@ impl TourSheet {
         self.notes.axis_title(number)
     }
 
-    /// The entries that no whole number of ticks or units meets, in the order of their lines: what was entered, what is planned and by how much
-    /// it is off.
+    /// The entries that no whole number of ticks or units meets, in the order of their lines: what
+    /// was entered, what is planned and by how much it is off.
     pub fn rounded(&self) -> &[Rounded] {
         &self.notes.rounded
     }
 
-    /// The seconds of a tick, where the sheet says them: for what is shown, never for what is planned.
+    /// The seconds of a tick, where the sheet says them: for what is shown, never for what is
+    /// planned.
     pub fn tick_seconds(&self) -> Option<f64> {
         self.notes.scales.tick_seconds()
     }
 
-    /// What a unit of an axis stands for, where the sheet says it: for what is shown, never for what is planned.
+    /// What a unit of an axis stands for, where the sheet says it: for what is
+    /// shown, never for what is planned.
     pub fn unit_of(&self, number: usize) -> Option<&Unit> {
         self.notes.scales.unit_of(number)
     }
@@ -55,7 +57,8 @@ impl TourSheet {
         self.stop_lines.get(index).copied()
     }
 
-    /// The sheet of a leg's job, or `None` where there is no such stop. Its positions have the lines of the stops.
+    /// The sheet of a leg's job, or `None` where there is no such stop. Its
+    /// positions have the lines of the stops.
     pub fn leg(&self, index: usize) -> Option<Sheet> {
         let mut sheet = Sheet { job: self.tour.leg(&self.stops, index)?, notes: self.notes.clone() };
         let before = index.checked_sub(1).and_then(|before| self.line_of_stop(before));
@@ -75,7 +78,8 @@ impl TourSheet {
     }
 }
 
-/// Writes the sheet in full, in a form that reads back as the same sheet. A tour without stops has no sheet that reads back.
+/// Writes the sheet in full, in a form that reads back as the same sheet. A tour without
+/// stops has no sheet that reads back.
 impl fmt::Display for TourSheet {
     fn fmt(&self, f: &mut fmt::Formatter<'_>) -> fmt::Result {
         self.notes.scales.write_whole(f)?;

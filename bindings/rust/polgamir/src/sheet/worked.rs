@@ -44,7 +44,8 @@ pub struct Worked {
 }
 
 impl Worked {
-    /// The whole number of an entry. `None` where it cannot be told because of another line, of which that is told.
+    /// The whole number of an entry. `None` where it cannot be told because of
+    /// another line, of which that is told.
     pub fn whole(
         &mut self,
         place: &Place,
@@ -157,7 +158,8 @@ impl Worked {
         }
     }
 
-    /// The exact size and the name of the unit of an entry's axis. That it is lacking is told once for an axis.
+    /// The exact size and the name of the unit of an entry's axis. That it is
+    /// lacking is told once for an axis.
     fn unit(&mut self, place: &Place) -> Result<Option<(Fraction, String)>, SheetError> {
         let axis = place.axis.unwrap_or(AXES);
         match self.scales.unit(axis) {
@@ -186,7 +188,8 @@ impl Worked {
         fault(place.line, format!("at least {least} after `{}`", place.name), found)
     }
 
-    /// Which tick, or which unit, makes at least one of what is entered: numbers of three digits that are enough.
+    /// Which tick, or which unit, makes at least one of what is entered:
+    /// numbers of three digits that are enough.
     fn what_would_do(&self, place: &Place, measured: &Measured) -> String {
         let value = &measured.value;
         if measured.quantity == Quantity::Time {

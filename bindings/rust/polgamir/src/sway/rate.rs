@@ -8,7 +8,8 @@ const LONGEST: i128 = 512;
 /// A little more than 1/π.
 const BY_PI: (u128, u128) = (106, 333);
 
-/// One of the blends of an axis, and what the weights of the other one add up to, 1 where there is no other.
+/// One of the blends of an axis, and what the weights of the other one add up
+/// to, 1 where there is no other.
 #[derive(Debug, Clone, Copy)]
 pub struct Rate {
     pub first_weight: i128,
@@ -17,8 +18,9 @@ pub struct Rate {
     pub others: i128,
 }
 
-/// A bound on the misfits of every sway of a half period and a ratio: by_size / size_parts for each unit of G and
-/// by_difference / parts for each unit of D, but not more than `most` for each unit of G.
+/// A bound on the misfits of every sway of a half period and a ratio: by_size /
+/// size_parts for each unit of G and by_difference / parts for each unit of D, but not
+/// more than `most` for each unit of G.
 #[derive(Debug, Clone, Copy)]
 pub struct Misfits {
     by_size: u128,
@@ -39,8 +41,9 @@ pub struct Oscillator {
 }
 
 impl Rate {
-    /// The misfits of a sway with these errors. With A and B the weights, S their sum and n/d the error of the ratio B/A, the second weight
-    /// of the true ratio differs from B by A²n / (Sd + An).
+    /// The misfits of a sway with these errors. With A and B the weights, S their
+    /// sum and n/d the error of the ratio B/A, the second weight of the true ratio
+    /// differs from B by A²n / (Sd + An).
     pub fn misfits(&self, half_period_error: Fraction, ratio_error: Fraction) -> Result<Misfits, NoBound> {
         let (late, parts) = half_period_error.parts().ok_or(NoBound::HalfPeriod)?;
         let (more, of) = ratio_error.parts().ok_or(NoBound::Ratio)?;
@@ -66,7 +69,8 @@ impl Rate {
 }
 
 impl Misfits {
-    /// The greatest misfit of a sway with no entry above a size and no two neighbours further apart than a difference, rounded upward.
+    /// The greatest misfit of a sway with no entry above a size and no two neighbours further apart
+    /// than a difference, rounded upward.
     pub fn greatest(&self, size: u128, difference: u128) -> u128 {
         let parts = self.size_parts * self.parts;
         let misfit = self.by_size * self.parts * size + self.by_difference * self.size_parts * difference;

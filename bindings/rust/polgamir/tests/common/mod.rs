@@ -1,4 +1,5 @@
-//! What the tests share: the field cases' axis, files of the repository, and random numbers that are the same in every run.
+//! What the tests share: the field cases' axis, files of the repository, and random numbers
+//! that are the same in every run.
 
 #![allow(dead_code)]
 
@@ -127,7 +128,8 @@ impl Random {
         job
     }
 
-    /// A position that job words can hold, in one word or in two, sometimes at an end of what each holds.
+    /// A position that job words can hold, in one word or in two, sometimes at an end of what each
+    /// holds.
     pub fn any_position(&mut self) -> i64 {
         let end = if self.once_in(2) { 1 << 27 } else { 1 << 34 };
         match self.between(1, 4) {

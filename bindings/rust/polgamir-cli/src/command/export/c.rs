@@ -16,9 +16,11 @@ pub fn of_job(source: &Source, sheet: &Sheet, accepted: &Shown) -> String {
     let axes: Vec<String> = mask.axes().map(|axis| sheet.axis_title(axis)).collect();
     format!(
         "/*\n * {}: rows 0 to {arrival}, each with {}, for each its position, velocity and acceleration\n \
-         * in fine steps, 1/256 unit, per tick and per tick squared. It lies in memory as polgamir_plan_job writes it.\n \
+         * in fine steps, 1/256 unit, per tick and per tick squared. It lies in memory \
+         as polgamir_plan_job writes it.\n \
          * Made by {}.\n */\n\
-         #include <stdint.h>\n\n#define {capitals}_ARRIVAL {arrival}\n#define {capitals}_AXES {}\n#define {capitals}_MASK {}\n\n\
+         #include <stdint.h>\n\n#define {capitals}_ARRIVAL {arrival}\n#define {capitals}_AXES {}\n\
+         #define {capitals}_MASK {}\n\n\
          static const int64_t {name}_table[{capitals}_ARRIVAL + 1][{capitals}_AXES][3] = {{\n{}}};\n",
         comment(&source.title),
         comment(&axes.join(", ")),
@@ -36,7 +38,8 @@ pub fn of_tour(source: &Source, tour: &PlannedTour) -> String {
     let axes: Vec<String> = tour.axes().map(|axis| tour.sheet.axis_title(axis)).collect();
     let mut text = format!(
         "/*\n * {}: a tour of {} stops. The table of each leg has a row for each tick, each with {},\n \
-         * for each its position, velocity and acceleration in fine steps, 1/256 unit, per tick and per tick squared.\n \
+         * for each its position, velocity and acceleration in fine steps, 1/256 unit, per tick \
+         and per tick squared.\n \
          * From its arrival the head stays for the dwell. Ticks of the list count from the tour's start.\n \
          * Made by {}.\n */\n\
          #include <stdint.h>\n\n#define {capitals}_STOPS {}\n#define {capitals}_TOTAL {}\n#define {capitals}_AXES {}\n\
@@ -62,7 +65,8 @@ pub fn of_tour(source: &Source, tour: &PlannedTour) -> String {
     }
     text + &format!(
         "\nstatic const struct {{\n    uint32_t departure, arrival, dwell; /* ticks of the tour */\n    \
-         uint32_t last;                      /* the last row of the table */\n    const int64_t (*table)[{capitals}_AXES][3];\n\
+         uint32_t last;                      /* the last row of the table */\n    \
+         const int64_t (*table)[{capitals}_AXES][3];\n\
          }} {name}_legs[{capitals}_STOPS] = {{\n{list}}};\n"
     )
 }

@@ -1,4 +1,5 @@
-//! Comma-separated values: a line that begins with `#` and says what made them, a heading, then a line for each row.
+//! Comma-separated values: a line that begins with `#` and says what made them, a
+//! heading, then a line for each row.
 
 use std::fmt::Write;
 
@@ -25,7 +26,8 @@ pub fn of_job(source: &Source, sheet: &Sheet, accepted: &Shown, quantity: Quanti
     text
 }
 
-/// A tour: a line for each row of each leg, with the stop that the leg goes to, the tick of the tour and the row's own.
+/// A tour: a line for each row of each leg, with the stop that the leg goes to, the
+/// tick of the tour and the row's own.
 pub fn of_tour(source: &Source, tour: &PlannedTour, quantity: Quantity) -> String {
     let time = tour.sheet.tick_seconds().filter(|_| quantity == Quantity::Units);
     let axes: Vec<(String, Measure)> =
@@ -65,7 +67,8 @@ fn heading(first: &[&str], time: Option<f64>, axes: &[(String, Measure)], quanti
     fields.join(",") + "\n"
 }
 
-/// Appends the line of a row: its places, the time where it is told (a tick and the seconds of one), and its numbers.
+/// Appends the line of a row: its places, the time where it is told (a tick and the
+/// seconds of one), and its numbers.
 fn push_line(
     text: &mut String,
     places: &[u32],

@@ -10,8 +10,8 @@ use crate::command::shown::Shown;
 use crate::command::table::COLUMNS;
 use crate::measure::Measure;
 
-/// A job: the arrival, the first row of a part, what the numbers are in, and for each axis its numbers from tick 0 to arrival, or
-/// those of the part.
+/// A job: the arrival, the first row of a part, what the numbers are in, and for each axis its
+/// numbers from tick 0 to arrival, or those of the part.
 pub fn of_job(source: &Source, sheet: &Sheet, accepted: &Shown, quantity: Quantity) -> String {
     let mut text = begun(source) + &format!("  \"arrival\": {},\n", accepted.arrival());
     if let Some(ticks) = accepted.ticks_of_part() {
@@ -29,7 +29,8 @@ pub fn of_job(source: &Source, sheet: &Sheet, accepted: &Shown, quantity: Quanti
     text + "  \"axes\": [\n" + &axes.join(",\n") + "\n  ]\n}\n"
 }
 
-/// A tour: the total, the axes, and for each stop its times, its positions in units, and the table of the leg to it.
+/// A tour: the total, the axes, and for each stop its times, its positions in units,
+/// and the table of the leg to it.
 pub fn of_tour(source: &Source, tour: &PlannedTour, quantity: Quantity) -> String {
     let mut text = begun(source) + &format!("  \"total\": {},\n", tour.schedule.total);
     text += &in_what(quantity, tour.sheet.tick_seconds());
@@ -74,7 +75,8 @@ fn in_what(quantity: Quantity, tick: Option<f64>) -> String {
     }
 }
 
-/// An axis's number, its name where it has one, and the names of its measures where numbers are in these.
+/// An axis's number, its name where it has one, and the names of its measures where numbers are in
+/// these.
 fn axis_head(axis: usize, name: Option<&str>, measure: &Measure, quantity: Quantity) -> Vec<String> {
     let mut head = vec![format!("\"axis\": {axis}")];
     head.extend(name.map(|name| format!("\"name\": {}", text(name))));
@@ -84,7 +86,8 @@ fn axis_head(axis: usize, name: Option<&str>, measure: &Measure, quantity: Quant
     head
 }
 
-/// An axis of a table: what it begins with, its least and greatest position where all rows are shown, and its numbers as lists.
+/// An axis of a table: what it begins with, its least and greatest position where all rows are
+/// shown, and its numbers as lists.
 fn of_axis(
     indent: &str,
     head: &[String],

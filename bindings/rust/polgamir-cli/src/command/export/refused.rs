@@ -1,4 +1,5 @@
-//! A refusal in the form of an export: in JSON an object, in C a line that no compiler takes, else the line of the table program.
+//! A refusal in the form of an export: in JSON an object, in C a line that no compiler takes, else
+//! the line of the table program.
 
 use polgamir::sheet::{Sheet, TourSheet};
 use polgamir::{Limit, Refusal, TourRefusal};
@@ -45,12 +46,14 @@ fn in_line(told: &Told, export: Export) -> String {
 fn in_json(source: &Source, [number, place, axes, arrival]: [u64; 4], told: &Told) -> String {
     let words = json::text(&told.in_short());
     format!(
-        "{}  \"refused\": {number},\n  \"place\": {place},\n  \"axes\": {axes},\n  \"arrival\": {arrival},\n  \"text\": {words}",
+        "{}  \"refused\": {number},\n  \"place\": {place},\n  \"axes\": {axes},\n  \"arrival\": \
+         {arrival},\n  \"text\": {words}",
         json::begun(source)
     )
 }
 
-/// What would do in place of a refused arrival: the least arrival, the next one after the asked, and raises of each axis.
+/// What would do in place of a refused arrival: the least arrival, the next one after the
+/// asked, and raises of each axis.
 fn other_ways(sheet: &Sheet, refusal: &Refusal) -> String {
     if !matches!(refusal, Refusal::NotReachable { .. }) {
         return String::new();

@@ -18,7 +18,8 @@ pub fn about(sheet: &Sheet, refusal: &Refusal) -> Vec<String> {
     lines
 }
 
-/// The lines about windows that a refusal is about: those at fault, or all where the arrival fits none.
+/// The lines about windows that a refusal is about: those at fault, or all where the arrival fits
+/// none.
 fn window_lines(sheet: &Sheet, refusal: &Refusal) -> Vec<String> {
     let Some(windows) = &sheet.job.windows else {
         return Vec::new();
@@ -61,7 +62,8 @@ fn place(sheet: &Sheet, axis: Option<usize>, entry: WordKind) -> String {
     sheet.line_of(axis, entry).map(|line| format!("line {line}: ")).unwrap_or_default()
 }
 
-/// The entries of an axis that are outside their ranges, of those that a refusal's number speaks of.
+/// The entries of an axis that are outside their ranges, of those that a refusal's number speaks
+/// of.
 fn guilty_lines(sheet: &Sheet, number: usize, refusal: u32) -> Vec<String> {
     let faults = sheet.job.axes[number].iter().flat_map(|axis| axis.out_of_range());
     let faults = faults.filter(|fault| fault.refusal_number() == refusal);
@@ -74,7 +76,8 @@ fn guilty_lines(sheet: &Sheet, number: usize, refusal: u32) -> Vec<String> {
     told.collect()
 }
 
-/// How a number that is out of range was entered, where it has a crew's unit, and what would bring it in.
+/// How a number that is out of range was entered, where it has a crew's unit, and what would bring
+/// it in.
 fn as_entered(sheet: &Sheet, number: usize, fault: &OutOfRange) -> String {
     let Some(entered) = sheet.as_entered(Some(number), fault.entry) else {
         return String::new();

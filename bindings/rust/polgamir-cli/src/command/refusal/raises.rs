@@ -15,7 +15,8 @@ pub struct RaiseOfAxis {
     pub to: u32,
 }
 
-/// For each axis that refusal 8 names, its least raises of one limit alone, the smaller first; perhaps none.
+/// For each axis that refusal 8 names, its least raises of one limit alone, the smaller first;
+/// perhaps none.
 pub fn of_axes(sheet: &Sheet, refusal: &Refusal) -> Vec<(usize, Vec<RaiseOfAxis>)> {
     if !matches!(refusal, Refusal::NotReachable { .. }) {
         return Vec::new();
@@ -28,7 +29,8 @@ pub fn of_axes(sheet: &Sheet, refusal: &Refusal) -> Vec<(usize, Vec<RaiseOfAxis>
     told.collect()
 }
 
-/// The raises in words, a line for each axis, and that the tick fits no window, which raises do not heed.
+/// The raises in words, a line for each axis, and that the tick fits no window, which raises do not
+/// heed.
 pub fn lines(sheet: &Sheet, refusal: &Refusal) -> Vec<String> {
     let axes = of_axes(sheet, refusal);
     let asked = sheet.job.arrival.number();

@@ -20,7 +20,8 @@ pub fn sentence(sheet: &Sheet, refusal: &Refusal, arrivals: &OtherArrivals) -> S
         }
         Refusal::StartOrTarget { .. } => "Enter where the axis is and goes, within what its limits allow.".into(),
         Refusal::Acceleration { .. } => {
-            "Enter a target without acceleration, or leave the second half period out and let the pole sway at that rate."
+            "Enter a target without acceleration, or leave the second half period out and let the pole sway at that \
+             rate."
                 .into()
         }
         Refusal::FlyingTarget { .. } => of_flying(sheet.job.arrival),

@@ -1,4 +1,5 @@
-//! The refusal of a tour in words: a leg's is that of its job, whose positions are those of the stops.
+//! The refusal of a tour in words: a leg's is that of its job, whose positions are those of the
+//! stops.
 
 use polgamir::sheet::{SheetLine, TourSheet};
 use polgamir::{TourRefusal, LONGEST_DWELL, MOST_STOPS};
