@@ -20,6 +20,8 @@ pub mod LeastTick
 pub mod CheckingOrder
 -- Refusals 8 and 9 of a job with windows.
 pub mod OutsideWindows
+-- What admission comes to, and what a call says that goes on from it.
+pub mod Admissions
 -- Each refusal comes only in its named case, the first in checking order.
 pub mod Verdict
 -- A call with its rows in an order.

@@ -18,7 +18,9 @@ pub mod Job
 pub mod Words
 -- The refusals of one axis: 4, 12, 5, 15, 6, 16 and 17.
 pub mod Refusals
--- The answer to a call and its table; refusals 3, 8, 9 and 10.
+-- The first refusal of a job before its arrival is looked for, or the job: what every call goes on from. Refusals 3 and 13.
+pub mod Admission
+-- The answer to a call and its table; refusals 8, 9 and 10.
 pub mod Outcome
 -- Demand 3: what holds of every accepted job's table.
 pub mod Demand

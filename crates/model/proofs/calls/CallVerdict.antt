@@ -1,6 +1,6 @@
 -- Every call, from words or from typed values, whatever was lent, ends in a verdict: `call-verdict`.
 use Prim.Native.Nat.{ℕ, zero, suc, _/_, _%_, _≤_}
-use mathlib.Core.Path.{refl, sym, subst}
+use mathlib.Core.Path.{sym, subst}
 use mathlib.Core.Bool.{Bool, true, false}
 use mathlib.Core.List.{List, [], _∷_}
 use native.Mathlib.Omega.{arith}
@@ -8,14 +8,14 @@ use lib.Dec.{eqb}
 use lib.IntN.{ℤ}
 use Rattle.model.specs.declared.Axis.{Axis}
 use Rattle.model.specs.declared.Order.the-variants.{Forwards}
-use Rattle.model.specs.planning.Job.{Job, JobAxis, setFrom, setAxes, jobOf, setBits}
-use Rattle.model.specs.planning.Words.{Decoded, noMask, badWord, badLong, job, decode, goodMask}
-use Rattle.model.specs.planning.Outcome.{Outcome, Input, words, typed, call, refuse, jobOutcome}
+use Rattle.model.specs.planning.Job.{Job, JobAxis, setFrom, setAxes, setBits}
+use Rattle.model.specs.planning.Admission.{Input, words, typed, planningRules}
+use Rattle.model.specs.planning.Outcome.{call, outcomeAfter}
 use Rattle.model.specs.theorems.Spelling.{AxesInWords}
-use Rattle.model.specs.theorems.Verdict.{Refuses, Verdict, WordsAre, CallVerdict}
+use Rattle.model.specs.theorems.Verdict.{Refuses, Verdict, CallVerdict}
 use Rattle.model.proofs.jobs.Masks.{Ascends, ascends-from}
 use Rattle.model.proofs.jobs.Verdict.{verdict, is-refusal}
-use Rattle.model.proofs.words.WordsAre.{words-are, Says, SaysTyped, by-input}
+use Rattle.model.proofs.jobs.Admissions.{IsJob, after-admission}
 
 -- ---- the numbers of the axes ascend
 
@@ -57,35 +57,12 @@ axes-ascend (n ∷ ns) (x ∷ xs) l (r, rs) (e, (h, hs)) =
 
 -- ---- the calls
 
-abbrev Refused : List ℤ → Outcome → ℕ → ℕ → Type 0
-Refused lent o n p = Refuses o n p 0 0 lent
-
-abbrev Judged : List ℤ → Outcome → Job → Type 0
-Judged lent o j = Verdict Forwards j lent o
+-- the numbers of its axes ascend
+ascends : (q : Input) (j : Job) → IsJob q j → Ascends 0 (j .axes)
+ascends (words ws) j a = let s = a .1 .1 .inside in axes-ascend (setBits (j .mask)) (j .axes) 0 (set-rising 6 0 (j .mask)) (s .axes)
+ascends (typed t) j e = subst (λ (i : Job). Ascends 0 (i .axes)) e (set-ascends 0 (t .mask) (t .axes))
 
 pub call-verdict : (q : Input) (lent : List ℤ) → CallVerdict Forwards lent (call q lent) q
-call-verdict (words ws) lent =
-    by-input (Refused lent (call (words ws) lent)) (Judged lent (call (words ws) lent)) (words ws) (go (decode ws) (words-are ws (decode ws) .0 refl))
-  where
-    by : Decoded → Outcome
-    by d = elim d [
-      | noMask ↦ refuse 1 0 0 0 lent
-      | badWord p ↦ refuse 2 p 0 0 lent
-      | badLong p ↦ refuse 14 p 0 0 lent
-      | job j ↦ jobOutcome j lent
-    ]
-
-    go : (d : Decoded) → WordsAre ws d → Says (Refused lent (by d)) (Judged lent (by d)) d
-    go noMask a = is-refusal
-    go (badWord p) a = is-refusal
-    go (badLong p) a = is-refusal
-    go (job j) a = let s = a .1 .1 .inside in verdict j lent (axes-ascend (setBits (j .mask)) (j .axes) 0 (set-rising 6 0 (j .mask)) (s .axes))
-call-verdict (typed t) lent =
-    by-input (Refused lent (call (typed t) lent)) (Judged lent (call (typed t) lent)) (typed t) (go (goodMask (t .mask)))
-  where
-    by : Bool → Outcome
-    by b = elim b [ true ↦ jobOutcome (jobOf t) lent | false ↦ refuse 1 0 0 0 lent ]
-
-    go : (b : Bool) → SaysTyped (Refused lent (by b)) (Judged lent (by b)) (jobOf t) b
-    go true = verdict (jobOf t) lent (set-ascends 0 (t .mask) (t .axes))
-    go false = is-refusal
+call-verdict q lent =
+    after-admission planningRules (outcomeAfter lent) (λ o n p. Refuses o n p 0 0 lent) (λ o j. Verdict Forwards j lent o) (λ n p. is-refusal) q
+    (λ j a. verdict j lent (ascends q j a))

@@ -21,8 +21,9 @@ use Rattle.model.specs.planning.Motion.{Tick, reachable}
 use Rattle.model.specs.planning.Rows.{plannedAxis, blend, blendBy, cells}
 use Rattle.model.specs.planning.Refusals.{lastTick, restAllowed, limitsRefused, dampingRefused, blendRefused}
 use Rattle.model.specs.planning.Refusals.{swayRefused, valuesRefused, accelerationRefused, accelerationRefusedBy, flies}
-use Rattle.model.specs.planning.Outcome.{Outcome, refuse, tested, jobOutcomeBy}
-use Rattle.model.specs.calls.Converter.{oldRefusals, convertedTarget, withTarget, convertedAxis, convertedJob}
+use Rattle.model.specs.planning.Admission.{Admission, refusedAt, tested}
+use Rattle.model.specs.planning.Outcome.{Outcome, outcomeAfter, jobOutcomeBy}
+use Rattle.model.specs.calls.Converter.{oldRefusals, oldRules, convertedTarget, withTarget, convertedAxis, convertedJob}
 use Rattle.model.proofs.jobs.MappedAxes.{cells-alike, Blind, AllBlind, asked-mapped, tested-mapped}
 
 module _ (n : ℕ) where
@@ -84,13 +85,14 @@ module _ (n : ℕ) where
       blends x r f = by-sway x r f (x .«second_sway»)
 
 -- an asked arrival: the same answer and the same table
-pub converted-outcome : (j : Job) (lent : List ℤ) → 1 ≤ j .asked → jobOutcomeBy oldRefusals (convertedJob j) lent ≡ jobOutcomeBy oldRefusals j lent
+pub converted-outcome : (j : Job) (lent : List ℤ) → 1 ≤ j .asked → jobOutcomeBy oldRules (convertedJob j) lent ≡ jobOutcomeBy oldRules j lent
 converted-outcome j lent h = go (leb (j .asked) lastTick) (leb-true (j .asked) lastTick)
   where
     go : (b : Bool) → (b ≡ true → j .asked ≤ lastTick)
-        → _≡_ {A = Outcome} (elim b as (λ _. Outcome) [ true ↦ tested oldRefusals (convertedJob j) lent | false ↦ refuse 3 1 0 0 lent ])
-        (elim b as (λ _. Outcome) [ true ↦ tested oldRefusals j lent | false ↦ refuse 3 1 0 0 lent ])
+        → _≡_ {A = Outcome} (outcomeAfter lent (elim b as (λ _. Admission) [ true ↦ tested oldRefusals (convertedJob j) | false ↦ refusedAt 3 1 ]))
+        (outcomeAfter lent (elim b as (λ _. Admission) [ true ↦ tested oldRefusals j | false ↦ refusedAt 3 1 ]))
     go true f =
         let n = j .asked in
-        tested-mapped (convertedAxis n) oldRefusals (old-blind n (f refl)) j lent (asked-mapped (convertedAxis n) n h (reach-kept n) (cells-kept n) j lent)
+        tested-mapped (convertedAxis n) (outcomeAfter lent) j (asked-mapped (convertedAxis n) n h (reach-kept n) (cells-kept n) j lent) oldRefusals
+        (old-blind n (f refl))
     go false f = refl

@@ -23,34 +23,39 @@ use Rattle.model.specs.planning.Windows.{noWindows, refused13}
 use Rattle.model.specs.planning.Job.{Job, JobAxis, axesOf, jobOf, withWeight, axesWithWeight, jobWithWeight, typedWithWeight}
 use Rattle.model.specs.planning.Words.{goodMask}
 use Rattle.model.specs.planning.Refusals.{lastTick}
-use Rattle.model.specs.planning.Outcome.{Outcome, typed, call, callIn, ordered, refuse, admitted, axisRefusals, tested, jobOutcome, partOver, beforeTen, answerOf}
+use Rattle.model.specs.planning.Admission.{typed, axisRefusals, Admission, refusedAt, admitted, Rules, planningRules, tested, askedAdmission, jobAdmission}
+use Rattle.model.specs.planning.Outcome.{Outcome, call, callIn, ordered, outcomeAfter, partOver, beforeTen, answerOf}
 use Rattle.model.specs.calls.Parts.{PartOutcome, partRows, partAccepted, partRefused, partWith, partCall}
 use Rattle.model.specs.calls.Raises.{raiseOf, raisesOf, raisesFrom, noneRaised, raisesWith, raisesCall}
-use Rattle.model.specs.calls.Search.{searchFrom, refuseSearch, searchAnswer, firstAllowed, searchAdmitted, asking, searchJob, searchCall}
+use Rattle.model.specs.calls.Search.{searchFrom, refuseSearch, searchAnswer, firstAllowed, firstChecked, asking, searchRules, searchAfter, searchCall}
 use Rattle.model.specs.calls.Tour.{legAxis, legAxes, legJob, legAnswer, Legs, refusedLeg, legsFrom, afterLegs, arrivalsOver, refuseTour, firstLongDwell}
 use Rattle.model.specs.calls.Tour.{TourOutcome, tourOutcome, noStops, mostStops}
 use Rattle.model.specs.theorems.GivenWeights.{limitsWithWeight, settingsWithWeight, MeasuredIsGiven}
 use Rattle.model.proofs.jobs.Ordered.{answer-stays}
-use Rattle.model.proofs.jobs.GivenWeights.{set-with-weight, arrives-with-weight, admitted-with-weight, ordered-with-weight, part-with-weight, tests-with-weight}
+use Rattle.model.proofs.jobs.GivenWeights.{set-with-weight, arrives-with-weight, arrived-with-weight, ordered-with-weight, part-with-weight, tests-with-weight}
 
 -- ---- a table
 
-module _ (j : Job) (lent : List ℤ) where
-  abbrev by-asked : Job → Bool → Outcome
-  by-asked i b = elim b [ true ↦ tested axisRefusals i lent | false ↦ refuse 3 1 0 0 lent ]
+-- what becomes of a job, by whether its mask is allowed
+abbrev by-mask : Rules → Job → Bool → Admission
+by-mask r j b = elim b [ true ↦ jobAdmission r j | false ↦ refusedAt 1 0 ]
 
-  abbrev by-mask : Job → Bool → Outcome
-  by-mask i b = elim b [ true ↦ jobOutcome i lent | false ↦ refuse 1 0 0 0 lent ]
+-- of any call that goes on by f from rules with planning's tests, and that reads a job with its weights given as it reads the job
+module _ {X : Type 0} (f : Admission → X) (number : X → ℕ) (numbered : (p : ℕ) → number (f (refusedAt 12 p)) ≡ 12) (reads : Job → Job) where
+  abbrev rules : Rules
+  rules = record { reads = reads; tests = λ asked. axisRefusals }
 
-  asked : (b : Bool) → (by-asked j b .number ≡ 12 → ⊥) → by-asked (jobWithWeight j) b ≡ by-asked j b
-  asked true h =
-      tests-with-weight (λ n p. refuse n p 0 0 lent) (λ o. o .number) (λ n p. refl) (j .axes) (admitted j lent) (admitted (jobWithWeight j) lent)
-      (admitted-with-weight j lent) h
-  asked false h = refl
+  module _ (j : Job) (read : reads (jobWithWeight j) ≡ jobWithWeight (reads j)) (same : f (admitted (jobWithWeight (reads j))) ≡ f (admitted (reads j))) where
+    abbrev by-asked : Job → Bool → Admission
+    by-asked i b = elim b [ true ↦ tested axisRefusals i | false ↦ refusedAt 3 1 ]
 
-  masked : (b : Bool) → (by-mask j b .number ≡ 12 → ⊥) → by-mask (jobWithWeight j) b ≡ by-mask j b
-  masked true h = asked (leb (j .asked) lastTick) h
-  masked false h = refl
+    asked : (b : Bool) → (number (f (by-asked (reads j) b)) ≡ 12 → ⊥) → f (by-asked (jobWithWeight (reads j)) b) ≡ f (by-asked (reads j) b)
+    asked true h = tests-with-weight f number numbered (reads j) same h
+    asked false h = refl
+
+    masked : (b : Bool) → (number (f (by-mask rules j b)) ≡ 12 → ⊥) → f (by-mask rules (jobWithWeight j) b) ≡ f (by-mask rules j b)
+    masked true h = ap (λ (i : Job). f (askedAdmission (λ a. axisRefusals) i)) read ∙ asked (leb (reads j .asked) lastTick) h
+    masked false h = refl
 
 -- the job of the values by hand
 job-with-weight : (t : Typed.Job) → jobOf (typedWithWeight t) ≡ jobWithWeight (jobOf t)
@@ -59,7 +64,8 @@ job-with-weight t =
 
 called : (t : Typed.Job) (lent : List ℤ) → (call (typed t) lent .number ≡ 12 → ⊥) → call (typed (typedWithWeight t)) lent ≡ call (typed t) lent
 called t lent h =
-    ap (λ (j : Job). by-mask j lent j (goodMask (t .mask))) (job-with-weight t) ∙ masked (jobOf t) lent (goodMask (t .mask)) h
+    ap (λ (j : Job). outcomeAfter lent (by-mask planningRules j (goodMask (t .mask)))) (job-with-weight t)
+    ∙ masked (outcomeAfter lent) (λ o. o .number) (λ p. refl) (λ j. j) (jobOf t) refl (arrived-with-weight (jobOf t) (t .asked) lent) (goodMask (t .mask)) h
 
 tables : (o : Order) (t : Typed.Job) (lent : List ℤ) → (callIn o (typed t) lent .number ≡ 12 → ⊥)
     → callIn o (typed (typedWithWeight t)) lent ≡ callIn o (typed t) lent
@@ -147,34 +153,21 @@ raises t h =
 -- ---- searches
 
 module _ (first budget : ℕ) where
-  -- 13, then 18, then the search
-  admitted-search : (j : Job) → searchAdmitted (jobWithWeight j) first budget ≡ searchAdmitted j first budget
-  admitted-search j =
-      λ i.
-      elim (refused13 (j .windows)) as (λ _. SearchAnswer) [
-        | some p ↦ refuseSearch 13 p
-        | none ↦ elim (firstAllowed first) as (λ _. SearchAnswer) [
-          | true ↦ searchAnswer (j .mask) (searchFrom (λ n. arrives-with-weight j n i) first budget)
-          | false ↦ refuseSearch 18 0
-        ]
-      ]
-
-  searched : (j : Job) → (searchJob j first budget .number ≡ 12 → ⊥) → searchJob (jobWithWeight j) first budget ≡ searchJob j first budget
-  searched j h =
-      tests-with-weight refuseSearch (λ a. a .number) (λ n p. refl) (j .axes) (searchAdmitted (asking 0 j) first budget)
-      (searchAdmitted (asking 0 (jobWithWeight j)) first budget) (admitted-search (asking 0 j)) h
-
-  by-good : Job → Bool → SearchAnswer
-  by-good j b = elim b [ true ↦ searchJob j first budget | false ↦ refuseSearch 1 0 ]
-
   searches : (t : Typed.Job) → (searchCall (typed t) first budget .number ≡ 12 → ⊥)
       → searchCall (typed (typedWithWeight t)) first budget ≡ searchCall (typed t) first budget
-  unfolding searchCall by-good
-  searches t h = ap (λ (j : Job). by-good j (goodMask (t .mask))) (job-with-weight t) ∙ go (goodMask (t .mask)) h
+  unfolding searchCall
+  searches t h =
+      ap (λ (j : Job). searchAfter first budget (by-mask searchRules j (goodMask (t .mask)))) (job-with-weight t)
+      ∙ masked (searchAfter first budget) (λ a. a .number) (λ p. refl) (asking 0) (jobOf t) refl checked (goodMask (t .mask)) h
     where
-      go : (b : Bool) → (by-good (jobOf t) b .number ≡ 12 → ⊥) → by-good (jobWithWeight (jobOf t)) b ≡ by-good (jobOf t) b
-      go true h = searched (jobOf t) h
-      go false h = refl
+      -- 18, then the search
+      checked : firstChecked (jobWithWeight (asking 0 (jobOf t))) first budget ≡ firstChecked (asking 0 (jobOf t)) first budget
+      checked =
+          λ i.
+          elim (firstAllowed first) as (λ _. SearchAnswer) [
+            | true ↦ searchAnswer (t .mask) (searchFrom (λ n. arrives-with-weight (asking 0 (jobOf t)) n i) first budget)
+            | false ↦ refuseSearch 18 0
+          ]
 
 -- ---- tours
 

@@ -14,68 +14,25 @@ use Rattle.whole.proofs.Tests.{T-true, true-T, both, and, ltb-yes, leb-yes, by-
 use Rattle.model.specs.declared.Report.{Report}
 use Rattle.model.specs.declared.Report.the-variants.{Found, Spent, Nothing}
 use Rattle.model.specs.declared.SearchAnswer.{SearchAnswer}
-use Rattle.model.specs.planning.Windows.{refused13}
-use Rattle.model.specs.planning.Job.{Job, jobOf}
-use Rattle.model.specs.planning.Words.{Decoded, noMask, badWord, badLong, job, decode, goodMask}
-use Rattle.model.specs.planning.Outcome.{Outcome, Input, words, typed, jobRead, inputJob, refuse}
-use Rattle.model.specs.planning.Outcome.{arrives, arrived, leastFrom, firstAxis, Tests, axisRefusals, tested}
+use Rattle.model.specs.planning.Job.{Job}
+use Rattle.model.specs.planning.Admission.{Input, inputJob, axisRefusals, Admission, tested, jobAdmission, admission}
+use Rattle.model.specs.planning.Outcome.{arrives, leastFrom, outcomeAfter}
 use Rattle.model.specs.theorems.Verdict.{Arrives, Passing}
-use Rattle.model.specs.calls.Search.{candidates, searchFrom, refuseSearch, searchAnswer, firstAllowed, firstChecked, searchTested, asking}
-use Rattle.model.specs.calls.Search.{searchJob, searchCall, undivided, after, continued, callsMade}
+use Rattle.model.specs.calls.Search.{candidates, searchFrom, refuseSearch, searchAnswer, firstAllowed, firstChecked, asking}
+use Rattle.model.specs.calls.Search.{searchRules, searchAfter, searchCall, undivided, after, continued, callsMade}
 use Rattle.model.specs.calls.Search.{Continues, ended, goesOn, ContinuingIsUndivided, AtLeast1, EndsWithin4096}
-use Rattle.model.specs.calls.Search.{SearchSays, found, spent, nothing, Planned, numbersOf, OneOf, SearchVerdict}
+use Rattle.model.specs.calls.Search.{SearchSays, found, spent, nothing, Planned, SearchVerdict}
 use Rattle.model.specs.calls.Search.{refusedAs, refused18, reports, SearchCallVerdict}
-use Rattle.model.proofs.words.WordsAre.{Says, SaysTyped, by-input, either-said}
+use Rattle.model.proofs.words.WordsAre.{either-said}
 use Rattle.model.proofs.jobs.WindowsInWords.{windows-right}
-use Rattle.model.proofs.jobs.OutsideWindows.{Clear}
-use Rattle.model.proofs.jobs.CheckingOrder.{Lacks, lacks, clear-passed}
+use Rattle.model.proofs.jobs.CheckingOrder.{lacks, clear-passed}
+use Rattle.model.proofs.jobs.Admissions.{Way, stops, passes, ways, not-among, Numbered, Comes, refuses, goes, comes, after-admission}
 use Rattle.model.proofs.calls.Budgets.{whole, wholly, whole-search, GoesOn, either-way}
 use Rattle.model.proofs.calls.SearchSays.{search-says, planned}
 
--- ---- the checks
-
--- one of them refuses the search with the number and the place with which it refuses the table, whatever is lent; or none does
-data Ways (ts : Tests) (j : Job) : Type 0 where
-  stops : (n p : ℕ) → OneOf (numbersOf ts) n → ((lent : List ℤ) → tested ts j lent ≡ refuse n p 0 0 lent)
-      → ((first budget : ℕ) → searchTested ts j first budget ≡ refuseSearch n p) → Ways ts j
-  passes : Clear ts (j .axes) → refused13 (j .windows) ≡ none → ((first budget : ℕ) → searchTested ts j first budget ≡ firstChecked j first budget)
-      → Ways ts j
-
-ways : (j : Job) (ts : Tests) → Ways ts j
-ways j [] = go (refused13 (j .windows)) refl
-  where
-    table : List ℤ → Option ℕ → Outcome
-    table lent o = elim o [ some p ↦ refuse 13 p 0 0 lent | none ↦ arrived j (j .asked) lent ]
-
-    search : ℕ → ℕ → Option ℕ → SearchAnswer
-    search first budget o = elim o [ some p ↦ refuseSearch 13 p | none ↦ firstChecked j first budget ]
-
-    go : (o : Option ℕ) → refused13 (j .windows) ≡ o → Ways [] j
-    go (some p) e = stops 13 p (inl refl) (λ lent. ap (table lent) e) (λ first budget. ap (search first budget) e)
-    go none e = passes tt e (λ first budget. ap (search first budget) e)
-ways j (t ∷ ts) = go (firstAxis (t .1) (j .axes)) refl (ways j ts)
-  where
-    table : List ℤ → Option ℕ → Outcome
-    table lent o = elim o [ some i ↦ refuse (t .0) i 0 0 lent | none ↦ tested ts j lent ]
-
-    search : ℕ → ℕ → Option ℕ → SearchAnswer
-    search first budget o = elim o [ some i ↦ refuseSearch (t .0) i | none ↦ searchTested ts j first budget ]
-
-    go : (o : Option ℕ) → firstAxis (t .1) (j .axes) ≡ o → Ways ts j → Ways (t ∷ ts) j
-    go (some i) e w = stops (t .0) i (inl refl) (λ lent. ap (table lent) e) (λ first budget. ap (search first budget) e)
-    go none e (stops n p a f g) = stops n p (inr a) (λ lent. ap (table lent) e ∙ f lent) (λ first budget. ap (search first budget) e ∙ g first budget)
-    go none e (passes c n g) = passes (e, c) n (λ first budget. ap (search first budget) e ∙ g first budget)
-
--- those of a job, whose asked arrival is read as 0
-of-job : (j : Job) → Ways axisRefusals (asking 0 j)
-of-job j = ways (asking 0 j) axisRefusals
-
--- none of their numbers is 0
-numbered : (ts : Tests) (n : ℕ) → Lacks 0 ts → OneOf (numbersOf ts) n → n ≡ 0 → ⊥
-numbered [] n l (inl e) z = omega arith
-numbered [] n l (inr a) z = a
-numbered (t ∷ ts) n (l, ls) (inl e) z = l (sym e ∙ z)
-numbered (t ∷ ts) n (l, ls) (inr a) z = numbered ts n ls a z
+-- a search's tests have no number 0 and no number 10
+search-numbered : Numbered searchRules
+search-numbered = record { not-0 = λ n. lacks 0 axisRefusals refl; not-10 = λ n. lacks 10 axisRefusals refl }
 
 -- ---- 18, or the search
 
@@ -99,20 +56,19 @@ module _ (j : Job) (first budget : ℕ) where
   can-ask p h r tried n (spent a b) e = absurd (let z : _≡_ {A = ℕ} 0 1 = cc in omega arith)
   can-ask p h r tried n (nothing a b) e = absurd (let z : _≡_ {A = ℕ} 0 1 = cc in omega arith)
 
-  job-verdict : SearchVerdict j first budget (searchJob j first budget)
-  job-verdict = go (of-job j)
+  job-verdict : SearchVerdict j first budget (searchAfter first budget (jobAdmission searchRules j))
+  job-verdict = go (tested axisRefusals (asking 0 j)) refl (ways axisRefusals (asking 0 j))
     where
-      go : Ways axisRefusals (asking 0 j) → SearchVerdict j first budget (searchJob j first budget)
-      go (stops n p a f g) = refusedAs n p a f (g first budget)
-      go (passes c w g) =
+      go : (a : Admission) → tested axisRefusals (asking 0 j) ≡ a → Way axisRefusals (asking 0 j) a → SearchVerdict j first budget (searchAfter first budget a)
+      go a e (stops n p o) = refusedAs n p o (λ lent. ap (outcomeAfter lent) e) refl
+      go a e (passes c w) =
           let p : Passing (asking 0 j) = record { asked = omega arith; axes = clear-passed (j .axes) c; windows = windows-right (j .windows) w } in
-          subst (SearchVerdict j first budget) (sym (g first budget))
-          (by-bool (SearchVerdict j first budget) (firstAllowed first) _ _
+          by-bool (SearchVerdict j first budget) (firstAllowed first) _ _
           (λ t.
           let h = first-right first t in
           let says = search-says j first budget (p .axes) (h .1) in
           reports p (h .0) (h .1) refl says (λ n e. can-ask p (h .0) _ _ n says e))
-          (λ t. refused18 p (first-wrong first t) refl))
+          (λ t. refused18 p (first-wrong first t) refl)
 
 -- ---- a search that is not refused: each search of the same job is what it finds
 
@@ -132,45 +88,22 @@ first-passes j f b h =
     (choice-yes (firstAllowed f) (answer j f b) (refuseSearch 18 0)
     (T-true (firstAllowed f) (and (ltb 0 f) (leb f 4097) (true-T (ltb-yes (h .0))) (true-T (leb-yes (h .1))))))
 
-job-searches : (j : Job) (first budget : ℕ) → searchJob j first budget .number ≡ 0 → Allowed first × ((f b : ℕ) → Allowed f → searchJob j f b ≡ answer j f b)
-job-searches j first budget z = go (of-job j)
-  where
-    not-18 : (b : Bool) → (T b → Allowed first) → (elim b as (λ _. SearchAnswer) [ true ↦ answer j first budget | false ↦ refuseSearch 18 0 ]) .number ≡ 0
-        → Allowed first
-    not-18 true h e = h tt
-    not-18 false h e = absurd (omega arith)
-
-    go : Ways axisRefusals (asking 0 j) → Allowed first × ((f b : ℕ) → Allowed f → searchJob j f b ≡ answer j f b)
-    go (stops n p a f g) = absurd (numbered axisRefusals n (lacks 0 axisRefusals refl) a (sym (ap (λ (r : SearchAnswer). r .number) (g first budget)) ∙ z))
-    go (passes c w g) = (
-      not-18 (firstAllowed first) (first-right first) (sym (ap (λ (r : SearchAnswer). r .number) (g first budget)) ∙ z),
-      λ f b h. g f b ∙ first-passes (asking 0 j) f b h,
-    )
-
 pub searches : (q : Input) (first budget : ℕ) → searchCall q first budget .number ≡ 0 → Searches q first
 unfolding searchCall
-searches (words ws) first budget z = go (decode ws) refl z
+searches q first budget = go (admission searchRules q) refl (comes searchRules search-numbered q)
   where
-    by : Decoded → ℕ → ℕ → SearchAnswer
-    by d f b = elim d [ noMask ↦ refuseSearch 1 0 | badWord p ↦ refuseSearch 2 p | badLong p ↦ refuseSearch 14 p | job j ↦ searchJob j f b ]
+    not-18 : (j : Job) (b : Bool) → (T b → Allowed first) → (elim b as (λ _. SearchAnswer) [ true ↦ answer j first budget | false ↦ refuseSearch 18 0 ]) .number ≡ 0
+        → Allowed first
+    not-18 j true h e = h tt
+    not-18 j false h e = absurd (omega arith)
 
-    go : (d : Decoded) → decode ws ≡ d → by d first budget .number ≡ 0 → Searches (words ws) first
-    go noMask e z = absurd (omega arith)
-    go (badWord p) e z = absurd (omega arith)
-    go (badLong p) e z = absurd (omega arith)
-    go (job j) e z =
-        let s = job-searches j first budget z in
-        record { allowed = s .0; is = λ f b h. subst (λ (d : Decoded). by d f b ≡ answer (jobRead d) f b) (sym e) (s .1 f b h) }
-searches (typed t) first budget z = go (goodMask (t .mask)) refl z
-  where
-    by : Bool → ℕ → ℕ → SearchAnswer
-    by g f b = elim g [ true ↦ searchJob (jobOf t) f b | false ↦ refuseSearch 1 0 ]
-
-    go : (g : Bool) → goodMask (t .mask) ≡ g → by g first budget .number ≡ 0 → Searches (typed t) first
-    go false e z = absurd (omega arith)
-    go true e z =
-        let s = job-searches (jobOf t) first budget z in
-        record { allowed = s .0; is = λ f b h. ap (λ (g : Bool). by g f b) e ∙ s .1 f b h }
+    go : (a : Admission) → admission searchRules q ≡ a → Comes searchRules (inputJob q) a → searchAfter first budget a .number ≡ 0 → Searches q first
+    go a e (refuses n p h k) z = absurd (h z)
+    go a e (goes h c w) z =
+        record {
+          allowed = not-18 (asking 0 (inputJob q)) (firstAllowed first) (first-right first) z;
+          is = λ f b l. ap (searchAfter f b) e ∙ first-passes (asking 0 (inputJob q)) f b l;
+        }
 
 -- ---- calls that go on
 
@@ -305,38 +238,11 @@ within-4096 q first bs z l c =
       calls = omega (arith, s .allowed .0, made q (s .is) bs first (s .allowed) l);
     }
 
-abbrev Refused : SearchAnswer → ℕ → ℕ → Type 0
-Refused a n p = a ≡ refuseSearch n p
-
-abbrev Judged : ℕ → ℕ → SearchAnswer → Job → Type 0
-Judged first budget a j = SearchVerdict j first budget a
-
 pub search-verdict : (q : Input) (first budget : ℕ) → SearchCallVerdict q first budget (searchCall q first budget)
 unfolding searchCall
-search-verdict (words ws) first budget = by-input (Refused (search (decode ws))) (Judged first budget (search (decode ws))) (words ws) (go (decode ws))
-  where
-    search : Decoded → SearchAnswer
-    search d = elim d [
-      | noMask ↦ refuseSearch 1 0
-      | badWord p ↦ refuseSearch 2 p
-      | badLong p ↦ refuseSearch 14 p
-      | job j ↦ searchJob j first budget
-    ]
-
-    go : (d : Decoded) → Says (Refused (search d)) (Judged first budget (search d)) d
-    go noMask = refl
-    go (badWord p) = refl
-    go (badLong p) = refl
-    go (job j) = job-verdict j first budget
-search-verdict (typed t) first budget =
-    by-input (Refused (search (goodMask (t .mask)))) (Judged first budget (search (goodMask (t .mask)))) (typed t) (go (goodMask (t .mask)))
-  where
-    search : Bool → SearchAnswer
-    search g = elim g [ true ↦ searchJob (jobOf t) first budget | false ↦ refuseSearch 1 0 ]
-
-    go : (g : Bool) → SaysTyped (Refused (search g)) (Judged first budget (search g)) (jobOf t) g
-    go true = job-verdict (jobOf t) first budget
-    go false = refl
+search-verdict q first budget =
+    after-admission searchRules (searchAfter first budget) (λ a n p. a ≡ refuseSearch n p) (λ a j. SearchVerdict j first budget a) (λ n p. refl) q
+    (λ j i. job-verdict j first budget)
 
 -- a call with number 0: what its report says, and that a tick that it found can be asked for
 pub record CallSays (j : Job) (first budget : ℕ) (a : SearchAnswer) : Type 0 where
@@ -345,7 +251,7 @@ pub record CallSays (j : Job) (first budget : ℕ) (a : SearchAnswer) : Type 0 w
 
 job-says : (j : Job) (first budget : ℕ) (a : SearchAnswer) → a .number ≡ 0 → SearchVerdict j first budget a → CallSays j first budget a
 job-says j first budget a z (refusedAs n p k f e) =
-    absurd (numbered axisRefusals n (lacks 0 axisRefusals refl) k (sym (ap (λ (r : SearchAnswer). r .number) e) ∙ z))
+    absurd (not-among 0 axisRefusals n (λ e. omega arith) (lacks 0 axisRefusals refl) k (sym (ap (λ (r : SearchAnswer). r .number) e) ∙ z))
 job-says j first budget a z (refused18 p h e) = absurd (let m = ap (λ (r : SearchAnswer). r .number) e in omega arith)
 job-says j first budget a z (reports p l h k s asked) = record { says = s; asked = asked }
 

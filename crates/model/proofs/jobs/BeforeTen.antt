@@ -6,26 +6,26 @@ use mathlib.Core.Path.{_≡_, refl, sym, ap, subst, _∙_}
 use mathlib.Core.Bool.{Bool, true, false, not}
 use mathlib.Core.Option.{Option, none, some}
 use mathlib.Core.Logic.{_⊎_, inl, inr}
-use mathlib.Core.List.{List, [], _∷_}
+use mathlib.Core.List.{List, []}
 use lib.IntN.{ℤ}
-use lib.Dec.{eqb, leb, ltb}
+use lib.Dec.{eqb, ltb}
 use lib.ListN.{length, length-map}
 use borrow.Author.Tests.{eqb-true, ne-eqb}
 use Rattle.model.specs.declared.Answer.{Answer}
 use Rattle.model.specs.declared.Order.the-variants.{Forwards}
-use Rattle.model.specs.planning.Job.{Job, jobOf, maskWhere}
-use Rattle.model.specs.planning.Windows as W
+use Rattle.model.specs.planning.Job.{Job, maskWhere}
 use Rattle.model.specs.planning.Motion.{reachable}
-use Rattle.model.specs.planning.Words.{Decoded, noMask, badWord, badLong, job, decode, goodMask}
 use Rattle.model.specs.planning.Refusals.{lastTick}
-use Rattle.model.specs.planning.Outcome.{Outcome, Input, words, typed, call, jobRead, inputJob, inputAxes}
-use Rattle.model.specs.planning.Outcome.{refuse, accept, filled, arrived, Tests, tested, axisRefusals, jobOutcome}
-use Rattle.model.specs.planning.Outcome.{cellsNeeded, leastFrom, arrives, firstAxis, reachesNone, beforeTen, answerOf}
+use Rattle.model.specs.planning.Admission.{Input, inputJob, inputAxes, axisRefusals, Admission, planningRules, admission}
+use Rattle.model.specs.planning.Outcome.{Outcome, call, refuse, accept, filled, arrived, outcomeAfter}
+use Rattle.model.specs.planning.Outcome.{cellsNeeded, leastFrom, arrives, reachesNone, beforeTen, answerOf}
 use Rattle.model.specs.theorems.Verdict.{Verdict, refused3, refused4, refused12, refused5, refused15, refused6}
 use Rattle.model.specs.theorems.Verdict.{refused16, refused17, refused13, refused8, refused9, refused10, accepted}
 use Rattle.model.specs.theorems.Verdict.{Refuses, CallVerdict}
 use Rattle.model.specs.planning.Demand.{Demand3}
 use Rattle.model.proofs.words.WordsAre.{either-said}
+use Rattle.model.proofs.jobs.CheckingOrder.{lacks}
+use Rattle.model.proofs.jobs.Admissions.{Numbered, Comes, refuses, goes, comes}
 use Rattle.model.proofs.calls.CallVerdict.{call-verdict}
 use Rattle.model.proofs.tables.Demand.{demand3}
 
@@ -71,47 +71,18 @@ module _ (j : Job) (l l' : List ℤ) where
       go true = filled-same (suc n)
       go false = refl
 
-  tested-same : (ts : Tests) → Same (tested ts j)
-  tested-same [] = go (W.refused13 (j .windows))
-    where
-      go : (o : Option ℕ) → beforeTen (j .mask) (elim o as (λ _. Outcome) [ some p ↦ refuse 13 p 0 0 l | none ↦ arrived j (j .asked) l ])
-          ≡ beforeTen (j .mask) (elim o as (λ _. Outcome) [ some p ↦ refuse 13 p 0 0 l' | none ↦ arrived j (j .asked) l' ])
-      go (some p) = refl
-      go none = arrived-same (j .asked)
-  tested-same (t ∷ ts) = go (firstAxis (t .1) (j .axes)) (tested-same ts)
-    where
-      go : (o : Option ℕ) → Same (tested ts j)
-          → beforeTen (j .mask) (elim o as (λ _. Outcome) [ some i ↦ refuse (t .0) i 0 0 l | none ↦ tested ts j l ])
-          ≡ beforeTen (j .mask) (elim o as (λ _. Outcome) [ some i ↦ refuse (t .0) i 0 0 l' | none ↦ tested ts j l' ])
-      go (some i) h = refl
-      go none h = h
-
-  job-same : Same (jobOutcome j)
-  job-same = go (leb (j .asked) lastTick)
-    where
-      go : (b : Bool) → beforeTen (j .mask) (elim b as (λ _. Outcome) [ true ↦ tested axisRefusals j l | false ↦ refuse 3 1 0 0 l ])
-          ≡ beforeTen (j .mask) (elim b as (λ _. Outcome) [ true ↦ tested axisRefusals j l' | false ↦ refuse 3 1 0 0 l' ])
-      go true = tested-same axisRefusals
-      go false = refl
+-- planning's tests have no number 0 and no number 10
+pub planning-numbered : Numbered planningRules
+planning-numbered = record { not-0 = λ n. lacks 0 axisRefusals refl; not-10 = λ n. lacks 10 axisRefusals refl }
 
 pub same-answer : (q : Input) (lent : List ℤ) → beforeTen (inputJob q .mask) (call q lent) ≡ answerOf q
 unfolding answerOf
-same-answer (words ws) lent = go (decode ws)
+same-answer q lent = go (admission planningRules q) (comes planningRules planning-numbered q)
   where
-    read : Decoded → List ℤ → Outcome
-    read d l = elim d [ noMask ↦ refuse 1 0 0 0 l | badWord p ↦ refuse 2 p 0 0 l | badLong p ↦ refuse 14 p 0 0 l | job j ↦ jobOutcome j l ]
-
-    go : (d : Decoded) → beforeTen (jobRead d .mask) (read d lent) ≡ beforeTen (jobRead d .mask) (read d [])
-    go noMask = refl
-    go (badWord p) = refl
-    go (badLong p) = refl
-    go (job j) = job-same j lent []
-same-answer (typed t) lent = go (goodMask (t .mask))
-  where
-    go : (b : Bool) → beforeTen (t .mask) (elim b as (λ _. Outcome) [ true ↦ jobOutcome (jobOf t) lent | false ↦ refuse 1 0 0 0 lent ])
-        ≡ beforeTen (t .mask) (elim b as (λ _. Outcome) [ true ↦ jobOutcome (jobOf t) [] | false ↦ refuse 1 0 0 0 [] ])
-    go true = job-same (jobOf t) lent []
-    go false = refl
+    go : (a : Admission) → Comes planningRules (inputJob q) a
+        → beforeTen (inputJob q .mask) (outcomeAfter lent a) ≡ beforeTen (inputJob q .mask) (outcomeAfter [] a)
+    go a (refuses n p h k) = refl
+    go a (goes h c w) = arrived-same (inputJob q) lent [] (inputJob q .asked)
 
 -- ---- with room for the table it is the call's own
 

@@ -7,7 +7,7 @@ use lib.Dec.{eqb}
 use borrow.Author.Tests.{eqb-false}
 use Rattle.model.specs.planning.Job.{JobAxis}
 use Rattle.model.specs.planning.Refusals.{AllPassed}
-use Rattle.model.specs.planning.Outcome.{Tests, axisRefusals}
+use Rattle.model.specs.planning.Admission.{Tests, axisRefusals}
 use Rattle.model.proofs.jobs.Verdict.{none-refused, all-passed}
 use Rattle.model.proofs.jobs.OutsideWindows.{Clear}
 

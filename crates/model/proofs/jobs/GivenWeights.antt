@@ -15,7 +15,7 @@ use Rattle.model.specs.declared.SecondSway.{SecondSway}
 use Rattle.model.specs.declared.SecondSway.the-variants.{Absent, HalfPeriod}
 use Rattle.model.specs.declared.Order.{Order}
 use Rattle.model.specs.declared.Order.the-variants.{Forwards, Backwards}
-use Rattle.model.specs.planning.Windows.{noWindows, refused13}
+use Rattle.model.specs.planning.Windows.{noWindows}
 use Rattle.model.specs.planning.Motion.{Tick}
 use Rattle.model.specs.planning.Rows.{plannedAxis, blend, blendBy, cells}
 use Rattle.model.specs.planning.Job.{Job, JobAxis, setAxes, axesOf, withWeight, axesWithWeight, jobWithWeight}
@@ -23,9 +23,10 @@ use Rattle.model.specs.planning.Quantities.{finer}
 use Rattle.model.specs.planning.Refusals.{lastTick, limitsRefused, dampingRefused, blendRefused, swayRefused, valuesRefused, accelerationRefused, flyingRefused}
 use Rattle.model.specs.planning.Refusals.{restAllowed, targetAllowed, AllPassed}
 use Rattle.model.specs.planning.Outcome.{Outcome, outcomeOf, answerIn, refuse, partOver, ordered, allReach, leastFrom, arrives, reachesNone}
-use Rattle.model.specs.planning.Outcome.{filled, arrived, admitted, firstAxis, Tests, axisRefusals}
+use Rattle.model.specs.planning.Admission.{firstAxis, Tests, axisRefusals, Admission, refusedAt, admitted, tested}
+use Rattle.model.specs.planning.Outcome.{filled, arrived}
 use Rattle.model.proofs.jobs.MappedAxes.{cells-alike, Blind, AllBlind, first-mapped}
-use Rattle.model.proofs.jobs.MappedAxes.{mask-mapped, reach-mapped, arrives-mapped, over-mapped, filled-mapped, asked-mapped}
+use Rattle.model.proofs.jobs.MappedAxes.{mask-mapped, reach-mapped, arrives-mapped, over-mapped, filled-mapped, asked-mapped, tested-mapped}
 
 -- ---- the axes
 
@@ -139,51 +140,33 @@ arrived-with-weight j zero lent =
     ]
 arrived-with-weight j (suc n) lent = asked-mapped withWeight (suc n) (omega arith) (λ x. refl) (cells-with-weight (suc n)) j lent
 
--- 13, and then the arrival
-pub admitted-with-weight : (j : Job) (lent : List ℤ) → admitted (jobWithWeight j) lent ≡ admitted j lent
-admitted-with-weight j lent = λ i. elim (refused13 (j .windows)) as (λ _. Outcome) [ some p ↦ refuse 13 p 0 0 lent | none ↦ arrived-with-weight j (j .asked) lent i ]
-
--- ---- the tests of the axes, of any call: r n p is a refusal and `end` what comes after the tests
+-- ---- the tests of the axes, of any call: it goes on by f, and a refusal by 12 has the number 12
 
 none-refused : (l : List JobAxis) → firstAxis dampingRefused (axesWithWeight l) ≡ none
 none-refused [] = refl
 none-refused (x ∷ l) = none-refused l
 
-module _ {R : Type 0} (r : ℕ → ℕ → R) (number : R → ℕ) (numbered : (n p : ℕ) → number (r n p) ≡ n) where
-  abbrev pub by-tests : Tests → List JobAxis → R → R
-  by-tests [] xs end = end
-  by-tests (t ∷ ts) xs end = elim (firstAxis (t .1) xs) [ some i ↦ r (t .0) i | none ↦ by-tests ts xs end ]
+module _ {X : Type 0} (f : Admission → X) (number : X → ℕ) (numbered : (p : ℕ) → number (f (refusedAt 12 p)) ≡ 12) (j : Job)
+    (same : f (admitted (jobWithWeight j)) ≡ f (admitted j)) where
+  by-damping : Job → Option ℕ → Admission
+  by-damping i o = elim o [ some k ↦ refusedAt 12 k | none ↦ tested afterDamping i ]
 
-  -- tests that do not tell the two apart
-  blind-tests : (ts : Tests) → AllBlind withWeight ts → (xs : List JobAxis) (end : R) → by-tests ts (axesWithWeight xs) end ≡ by-tests ts xs end
-  blind-tests [] b xs end = refl
-  blind-tests (t ∷ ts) (b, bs) xs end =
-      λ i. elim (first-mapped withWeight (t .1) b xs i) as (λ _. R) [ some k ↦ r (t .0) k | none ↦ blind-tests ts bs xs end i ]
+  damping : (o : Option ℕ) → (number (f (by-damping j o)) ≡ 12 → ⊥) → f (tested fromDamping (jobWithWeight j)) ≡ f (by-damping j o)
+  unfolding by-damping
+  damping (some k) h = absurd (h (numbered k))
+  damping none h =
+      ap (λ (o : Option ℕ). f (by-damping (jobWithWeight j) o)) (none-refused (j .axes)) ∙ tested-mapped withWeight f j same afterDamping afterDamping-blind
 
-  module _ (xs : List JobAxis) (end end' : R) (same : end' ≡ end) where
-    rest : by-tests afterDamping (axesWithWeight xs) end' ≡ by-tests afterDamping xs end
-    rest = blind-tests afterDamping afterDamping-blind xs end' ∙ ap (by-tests afterDamping xs) same
+  by-limits : Job → Option ℕ → Admission
+  by-limits i o = elim o [ some k ↦ refusedAt 4 k | none ↦ tested fromDamping i ]
 
-    by-damping : R → Option ℕ → R
-    by-damping rest o = elim o [ some k ↦ r 12 k | none ↦ rest ]
+  limits : (o : Option ℕ) → (number (f (by-limits j o)) ≡ 12 → ⊥) → f (by-limits (jobWithWeight j) o) ≡ f (by-limits j o)
+  unfolding by-damping by-limits
+  limits (some k) h = refl
+  limits none h = damping (firstAxis dampingRefused (j .axes)) h
 
-    damping : (o : Option ℕ) → (number (by-damping (by-tests afterDamping xs end) o) ≡ 12 → ⊥)
-        → by-tests fromDamping (axesWithWeight xs) end' ≡ by-damping (by-tests afterDamping xs end) o
-    unfolding by-damping
-    damping (some k) h = absurd (h (numbered 12 k))
-    damping none h = ap (by-damping (by-tests afterDamping (axesWithWeight xs) end')) (none-refused xs) ∙ rest
-
-    by-limits : R → Option ℕ → R
-    by-limits rest o = elim o [ some k ↦ r 4 k | none ↦ rest ]
-
-    limits : (o : Option ℕ) → (number (by-limits (by-tests fromDamping xs end) o) ≡ 12 → ⊥)
-        → by-limits (by-tests fromDamping (axesWithWeight xs) end') o ≡ by-limits (by-tests fromDamping xs end) o
-    unfolding by-damping by-limits
-    limits (some k) h = refl
-    limits none h = damping (firstAxis dampingRefused xs) h
-
-    pub tests-with-weight : (number (by-tests axisRefusals xs end) ≡ 12 → ⊥) → by-tests axisRefusals (axesWithWeight xs) end' ≡ by-tests axisRefusals xs end
-    unfolding by-limits
-    tests-with-weight h =
-        ap (by-limits (by-tests fromDamping (axesWithWeight xs) end')) (first-mapped withWeight limitsRefused (λ x. refl) xs)
-        ∙ limits (firstAxis limitsRefused xs) h
+  pub tests-with-weight : (number (f (tested axisRefusals j)) ≡ 12 → ⊥) → f (tested axisRefusals (jobWithWeight j)) ≡ f (tested axisRefusals j)
+  unfolding by-limits
+  tests-with-weight h =
+      ap (λ (o : Option ℕ). f (by-limits (jobWithWeight j) o)) (first-mapped withWeight limitsRefused (λ x. refl) (j .axes))
+      ∙ limits (firstAxis limitsRefused (j .axes)) h

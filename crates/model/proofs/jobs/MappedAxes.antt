@@ -2,7 +2,7 @@
 -- are the same.
 use Prim.Native.Nat.{ℕ, zero, suc, _+_, _*_, _^_, _≤_}
 use native.Mathlib.Omega.{arith}
-use mathlib.Core.Path.{_≡_, refl, ap, ap₂}
+use mathlib.Core.Path.{_≡_, refl, ap, ap₂, _∙_}
 use mathlib.Core.Bool.{Bool, true, false, not, _&&_}
 use mathlib.Core.Option.{Option, none, some}
 use mathlib.Core.List.{List, [], _∷_, _++_, map, flatten}
@@ -17,7 +17,8 @@ use Rattle.model.specs.planning.Windows.{inWindows, refused13}
 use Rattle.model.specs.planning.Motion.{Tick, reachable}
 use Rattle.model.specs.planning.Rows.{plannedAxis, blend, divisor, row, rowAt, part, cells, tabulate}
 use Rattle.model.specs.planning.Job.{Job, JobAxis, axesOf, maskWhere}
-use Rattle.model.specs.planning.Outcome.{Outcome, refuse, allReach, arrives, cellsNeeded, partOver, filled, arrived, firstAxis, Tests, tested}
+use Rattle.model.specs.planning.Outcome.{Outcome, refuse, allReach, arrives, cellsNeeded, partOver, filled, arrived}
+use Rattle.model.specs.planning.Admission.{firstAxis, Tests, Admission, refusedAt, admitted, tested}
 
 -- two axes have the same cells where they have the same blends and the same divisor
 pub cells-alike : (n k : ℕ) (x y : Axis) → ((f : Tick → ℤ) → blend (plannedAxis n x) k f ≡ blend (plannedAxis n y) k f) → divisor x ≡ divisor y
@@ -106,15 +107,24 @@ module _ (F : Axis → Axis) where
         | false ↦ refuse 8 0 (mask-mapped (λ x. not (reachable x (suc n))) (λ x. ap not (reach x)) (j .axes) i) 0 lent
       ]
 
-  -- ---- the tests of the axes, and 13
+  -- ---- the tests of the axes, and 13, of a call that goes on by f
 
-  pub tested-mapped : (ts : Tests) → AllBlind ts → (j : Job) (lent : List ℤ)
-      → arrived (mappedJob j) (j .asked) lent ≡ arrived j (j .asked) lent → tested ts (mappedJob j) lent ≡ tested ts j lent
-  tested-mapped [] b j lent e =
-      λ i. elim (refused13 (j .windows)) as (λ _. Outcome) [ some p ↦ refuse 13 p 0 0 lent | none ↦ e i ]
-  tested-mapped (t ∷ ts) (b, bs) j lent e =
-      λ i.
-      elim (first-mapped (t .1) b (j .axes) i) as (λ _. Outcome) [
-        | some k ↦ refuse (t .0) k 0 0 lent
-        | none ↦ tested-mapped ts bs j lent e i
-      ]
+  module _ {X : Type 0} (f : Admission → X) (j : Job) (same : f (admitted (mappedJob j)) ≡ f (admitted j)) where
+    pub tested-mapped : (ts : Tests) → AllBlind ts → f (tested ts (mappedJob j)) ≡ f (tested ts j)
+    tested-mapped [] b = go (refused13 (j .windows))
+      where
+        by : Job → Option ℕ → Admission
+        by i o = elim o [ some p ↦ refusedAt 13 p | none ↦ admitted i ]
+
+        go : (o : Option ℕ) → f (by (mappedJob j) o) ≡ f (by j o)
+        go (some p) = refl
+        go none = same
+    tested-mapped (t ∷ ts) (b, bs) =
+        ap (λ (o : Option ℕ). f (by (mappedJob j) o)) (first-mapped (t .1) b (j .axes)) ∙ go (firstAxis (t .1) (j .axes)) (tested-mapped ts bs)
+      where
+        by : Job → Option ℕ → Admission
+        by i o = elim o [ some k ↦ refusedAt (t .0) k | none ↦ tested ts i ]
+
+        go : (o : Option ℕ) → f (tested ts (mappedJob j)) ≡ f (tested ts j) → f (by (mappedJob j) o) ≡ f (by j o)
+        go (some k) h = refl
+        go none h = h

@@ -19,7 +19,8 @@ use Rattle.model.specs.planning.Job.{Job, JobAxis, maskWhere}
 use Rattle.model.specs.planning.Refusals.{lastTick, limitsRefused, dampingRefused, blendRefused, swayRefused}
 use Rattle.model.specs.planning.Refusals.{valuesRefused, accelerationRefused, flyingRefused, Passed, AllPassed}
 use Rattle.model.specs.planning.Outcome.{Outcome, refuse, accept, allReach, leastFrom, arrives, cellsNeeded, reachesNone}
-use Rattle.model.specs.planning.Outcome.{firstAxis, Tests, axisRefusals, filled, arrived, admitted, tested, jobOutcome}
+use Rattle.model.specs.planning.Admission.{firstAxis, Tests, axisRefusals, Admission, refusedAt, admitted, windowed, tested}
+use Rattle.model.specs.planning.Outcome.{filled, arrived, outcomeAfter, jobOutcome}
 use Rattle.model.specs.theorems.Verdict.{Arrives, Passing, OutsideWindows, EightOutside, NineNowhere}
 use Rattle.model.proofs.jobs.WindowsInWords.{in-windows, windows-in, windows-wrong}
 use Rattle.model.proofs.jobs.LeastTick.{least-is, none-is}
@@ -57,10 +58,10 @@ Clear [] xs = Unit
 Clear (t ∷ ts) xs = (firstAxis (t .1) xs ≡ none) × Clear ts xs
 
 module _ (j : Job) (lent : List ℤ) (p : Passing j) where
-  tests-clear : (ts : Tests) → Clear ts (j .axes) → tested ts j lent ≡ admitted j lent
+  tests-clear : (ts : Tests) → Clear ts (j .axes) → tested ts j ≡ windowed j
   tests-clear [] c = refl
   tests-clear (t ∷ ts) (e, c) =
-      ap (λ (o : Option ℕ). elim o as (λ _. Outcome) [ some i ↦ refuse (t .0) i 0 0 lent | none ↦ tested ts j lent ]) e ∙ tests-clear ts c
+      ap (λ (o : Option ℕ). elim o as (λ _. Admission) [ some i ↦ refusedAt (t .0) i | none ↦ tested ts j ]) e ∙ tests-clear ts c
 
   -- of each test that no axis that passed meets
   clear : (f : Axis → Bool) → ((x : Axis) → Passed x → f x ≡ false) → firstAxis f (j .axes) ≡ none
@@ -83,9 +84,10 @@ module _ (j : Job) (lent : List ℤ) (p : Passing j) where
 
   pub goes-on : jobOutcome j lent ≡ arrived j (j .asked) lent
   goes-on =
-      ap (λ (b : Bool). elim b as (λ _. Outcome) [ true ↦ tested axisRefusals j lent | false ↦ refuse 3 1 0 0 lent ]) (leb-yes (p .asked))
+      ap (outcomeAfter lent)
+      (ap (λ (b : Bool). elim b as (λ _. Admission) [ true ↦ tested axisRefusals j | false ↦ refusedAt 3 1 ]) (leb-yes (p .asked))
       ∙ tests-clear axisRefusals all-clear
-      ∙ ap (λ (o : Option ℕ). elim o as (λ _. Outcome) [ some k ↦ refuse 13 k 0 0 lent | none ↦ arrived j (j .asked) lent ]) no-thirteen
+      ∙ ap (λ (o : Option ℕ). elim o as (λ _. Admission) [ some k ↦ refusedAt 13 k | none ↦ admitted j ]) no-thirteen)
 
   -- where there is an arrival the number is 10 or 0
   not-filled : (n k : ℕ) → (k ≡ 10 → ⊥) → (k ≡ 0 → ⊥) → filled j n lent .number ≡ k → ⊥

@@ -21,8 +21,9 @@ use Rattle.model.proofs.jobs.WindowsInWords.{in-windows, windows-in, wi
 use Rattle.model.specs.planning.Job.{Job, JobAxis, maskWhere}
 use Rattle.model.specs.planning.Refusals.{lastTick, limitsRefused, dampingRefused, blendRefused, swayRefused}
 use Rattle.model.specs.planning.Refusals.{valuesRefused, accelerationRefused, flyingRefused, Passed, AllPassed}
+use Rattle.model.specs.planning.Admission.{firstAxis, Admission}
 use Rattle.model.specs.planning.Outcome.{Outcome, refuse, accept, allReach, leastFrom, leastArrival, arrives}
-use Rattle.model.specs.planning.Outcome.{reachesNone, firstAxis, cellsNeeded, filled, arrived, jobOutcome}
+use Rattle.model.specs.planning.Outcome.{reachesNone, cellsNeeded, filled, arrived, outcomeAfter, jobOutcome}
 use Rattle.model.specs.theorems.Verdict.{Refuses, Accepts, Among, NoneRefused, FirstRefused, Names}
 use Rattle.model.specs.theorems.Verdict.{AllReachable, ReachesNone, Arrives, IsArrival, WindowsPass, Verdict}
 use Rattle.model.specs.theorems.Verdict.{refused3, refused4, refused12, refused5, refused15, refused6}
@@ -209,29 +210,32 @@ module _ (j : Job) (lent : List ℤ) (numbered : Ascends 0 (j .axes)) where
           clash true f t = f
           clash false f t = t
 
+  abbrev A : Admission → Type 0
+  A a = Verdict Forwards j lent (outcomeAfter lent a)
+
   pub verdict : Verdict Forwards j lent (jobOutcome j lent)
   verdict =
-      by-bool Q (leb (j .asked) lastTick) _ _
+      by-bool A (leb (j .asked) lastTick) _ _
       (λ t.
       let h : j .asked ≤ lastTick = leb→le (j .asked) lastTick t in
-      by-option Q (firstAxis limitsRefused (j .axes)) _ _ (λ i e. refused4 i h (first-refused limitsRefused (j .axes) i e) is-refusal) (λ e₄.
+      by-option A (firstAxis limitsRefused (j .axes)) _ _ (λ i e. refused4 i h (first-refused limitsRefused (j .axes) i e) is-refusal) (λ e₄.
       let n₄ = none-refused limitsRefused (j .axes) e₄ in
-      by-option Q (firstAxis dampingRefused (j .axes)) _ _ (λ i e. refused12 i h n₄ (first-refused dampingRefused (j .axes) i e) is-refusal) (λ e₁₂.
+      by-option A (firstAxis dampingRefused (j .axes)) _ _ (λ i e. refused12 i h n₄ (first-refused dampingRefused (j .axes) i e) is-refusal) (λ e₁₂.
       let n₁₂ = none-refused dampingRefused (j .axes) e₁₂ in
-      by-option Q (firstAxis blendRefused (j .axes)) _ _ (λ i e. refused5 i h n₄ n₁₂ (first-refused blendRefused (j .axes) i e) is-refusal) (λ e₅.
+      by-option A (firstAxis blendRefused (j .axes)) _ _ (λ i e. refused5 i h n₄ n₁₂ (first-refused blendRefused (j .axes) i e) is-refusal) (λ e₅.
       let n₅ = none-refused blendRefused (j .axes) e₅ in
-      by-option Q (firstAxis swayRefused (j .axes)) _ _ (λ i e. refused15 i h n₄ n₁₂ n₅ (first-refused swayRefused (j .axes) i e) is-refusal) (λ e₁₅.
+      by-option A (firstAxis swayRefused (j .axes)) _ _ (λ i e. refused15 i h n₄ n₁₂ n₅ (first-refused swayRefused (j .axes) i e) is-refusal) (λ e₁₅.
       let n₁₅ = none-refused swayRefused (j .axes) e₁₅ in
-      by-option Q (firstAxis valuesRefused (j .axes)) _ _
+      by-option A (firstAxis valuesRefused (j .axes)) _ _
       (λ i e. refused6 i h n₄ n₁₂ n₅ n₁₅ (first-refused valuesRefused (j .axes) i e) is-refusal) (λ e₆.
       let n₆ = none-refused valuesRefused (j .axes) e₆ in
-      by-option Q (firstAxis accelerationRefused (j .axes)) _ _
+      by-option A (firstAxis accelerationRefused (j .axes)) _ _
       (λ i e. refused16 i h n₄ n₁₂ n₅ n₁₅ n₆ (first-refused accelerationRefused (j .axes) i e) is-refusal) (λ e₁₆.
       let n₁₆ = none-refused accelerationRefused (j .axes) e₁₆ in
-      by-option Q (firstAxis flyingRefused (j .axes)) _ _
+      by-option A (firstAxis flyingRefused (j .axes)) _ _
       (λ i e. refused17 i h n₄ n₁₂ n₅ n₁₅ n₆ n₁₆ (first-refused flyingRefused (j .axes) i e) is-refusal) (λ e₁₇.
       let passed = all-passed (j .axes) n₄ n₁₂ n₅ n₁₅ n₆ n₁₆ (none-refused flyingRefused (j .axes) e₁₇) in
-      by-option Q (W.refused13 (j .windows)) _ _
+      by-option A (W.refused13 (j .windows)) _ _
       (λ p e. let x = windows-wrong (j .windows) p e in refused13 p h passed (x .0) (x .1) is-refusal)
       (λ e. arrived-is (j .asked) refl h passed (windows-right (j .windows) e))))))))))
       (λ t. refused3 (nleb→lt (j .asked) lastTick t) is-refusal)

@@ -12,7 +12,7 @@ use borrow.Author.Tests.{eq-eqb, eqb-true}
 use Rattle.model.specs.planning.Job.{Job, jobOf}
 use Rattle.model.specs.planning.Words.{Reading, got, wrong, afterMask, kind, payload, goodMask, firstBadLong}
 use Rattle.model.specs.planning.Words.{Decoded, noMask, badWord, badLong, job, spelled, decided, decode}
-use Rattle.model.specs.planning.Outcome.{Input, words, typed, jobRead, inputJob}
+use Rattle.model.specs.planning.Admission.{Input, words, typed, jobRead, inputJob}
 use Rattle.model.specs.theorems.Grammar.{WellFormed}
 use Rattle.model.specs.theorems.Spelling.{SpellsJob, OneSpelling}
 use Rattle.model.specs.theorems.Verdict.{MaskOutside, MaskWordWrong, FirstLongWrong, WordsAre, DecodesAre, ByInput, words1, words2, words14, wordsJob, typed1, typedJobs}

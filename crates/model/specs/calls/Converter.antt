@@ -2,20 +2,20 @@
 use Prim.Native.Nat.{ℕ, zero, suc}
 use mathlib.Core.Path.{_≡_}
 use mathlib.Core.Bool.{Bool, true, false, not, _&&_}
-use mathlib.Core.Option.{none, some}
 use mathlib.Core.List.{List, [], _∷_, _++_, map}
 use lib.IntN.{ℤ}
-use lib.Dec.{eqb, leb, ltb}
+use lib.Dec.{eqb, ltb}
 use lib.ListN.{length, take, drop}
 use Rattle.model.specs.declared.Axis.{Axis}
 use Rattle.model.specs.declared.Target.{Target}
 use Rattle.model.specs.declared.Target.the-variants.{Fixed, Moving}
 use Rattle.model.specs.planning.Quantities.{asMoving}
 use Rattle.model.specs.planning.Job.{Job, JobAxis}
-use Rattle.model.specs.planning.Words.{kind, payload, noMask, badWord, badLong, job, decode}
+use Rattle.model.specs.planning.Words.{kind, payload}
 use Rattle.model.specs.theorems.Spelling.{word}
-use Rattle.model.specs.planning.Refusals.{lastTick, limitsRefused, dampingRefused, blendRefused, swayRefused, valuesRefused, accelerationRefused, flies}
-use Rattle.model.specs.planning.Outcome.{Outcome, Tests, firstAxis, axisRefusals, outcomeOfWordsBy, outcomeOfWords, words}
+use Rattle.model.specs.planning.Refusals.{limitsRefused, dampingRefused, blendRefused, swayRefused, valuesRefused, accelerationRefused, flies}
+use Rattle.model.specs.planning.Admission.{words, Tests, axisRefusals, Admission, refusedAt, admitted, Rules, jobAdmission, admission}
+use Rattle.model.specs.planning.Outcome.{Outcome, callBy, call}
 use Rattle.model.specs.theorems.Verdict.{ByInput}
 
 -- ---- the old rules: the tests of `axisRefusals` without 17
@@ -24,8 +24,11 @@ abbrev pub oldRefusals : Tests
 oldRefusals =
     (4, limitsRefused) ∷ (12, dampingRefused) ∷ (5, blendRefused) ∷ (15, swayRefused) ∷ (6, valuesRefused) ∷ (16, accelerationRefused) ∷ []
 
+abbrev pub oldRules : Rules
+oldRules = record { reads = λ j. j; tests = λ asked. oldRefusals }
+
 abbrev pub oldOutcome : List ℕ → List ℤ → Outcome
-oldOutcome = outcomeOfWordsBy oldRefusals
+oldOutcome ws = callBy oldRules (words ws)
 
 -- ---- the converted words
 
@@ -71,26 +74,19 @@ abbrev pub conversionRefusals : ℕ → Tests
 conversionRefusals zero = axisRefusals
 conversionRefusals (suc n) = oldRefusals
 
-abbrev pub unlessRefused : Tests → List JobAxis → List ℕ → Conversion → Conversion
-unlessRefused [] xs lent c = c
-unlessRefused (t ∷ ts) xs lent c =
-    elim (firstAxis (t .1) xs) [ some i ↦ unconverted (t .0) i lent | none ↦ unlessRefused ts xs lent c ]
+abbrev pub conversionRules : Rules
+conversionRules = record { reads = λ j. j; tests = conversionRefusals }
 
-abbrev pub jobConversion : Job → List ℕ → List ℕ → Conversion
-jobConversion j ws lent =
-    elim (leb (j .asked) lastTick) [
-      | true ↦ unlessRefused (conversionRefusals (j .asked)) (j .axes) lent (written (converted (j .asked) ws) lent)
-      | false ↦ unconverted 3 1 lent
-    ]
+abbrev pub conversionAfter : List ℕ → List ℕ → Admission → Conversion
+conversionAfter ws lent (refusedAt n p) = unconverted n p lent
+conversionAfter ws lent (admitted j) = written (converted (j .asked) ws) lent
 
 abbrev pub conversion : List ℕ → List ℕ → Conversion
-conversion ws lent =
-    elim (decode ws) [
-      | noMask ↦ unconverted 1 0 lent
-      | badWord p ↦ unconverted 2 p lent
-      | badLong p ↦ unconverted 14 p lent
-      | job j ↦ jobConversion j ws lent
-    ]
+conversion ws lent = conversionAfter ws lent (admission conversionRules (words ws))
+
+-- a job that words spell
+abbrev pub jobConversion : Job → List ℕ → List ℕ → Conversion
+jobConversion j ws lent = conversionAfter ws lent (jobAdmission conversionRules j)
 
 -- which words it refuses, and which job it converts, said of the words
 abbrev pub ConversionVerdict : List ℕ → List ℕ → Conversion → Type 0
@@ -139,4 +135,4 @@ ConversionKept = (ws lent : List ℕ) → conversion ws lent .number ≡ 0 → (
 
 -- and planning gives them that outcome too
 abbrev pub ConversionPlans : Type 0
-ConversionPlans = (ws lent : List ℕ) → conversion ws lent .number ≡ 0 → (cells : List ℤ) → outcomeOfWords (writtenWords ws lent) cells ≡ oldOutcome ws cells
+ConversionPlans = (ws lent : List ℕ) → conversion ws lent .number ≡ 0 → (cells : List ℤ) → call (words (writtenWords ws lent)) cells ≡ oldOutcome ws cells

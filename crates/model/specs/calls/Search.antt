@@ -14,12 +14,10 @@ use Rattle.model.specs.declared.Report.{Report}
 use Rattle.model.specs.declared.Report.the-variants.{Found, Spent, Nothing}
 use Rattle.model.specs.declared.SearchReport.{SearchReport}
 use Rattle.model.specs.declared.SearchAnswer.{SearchAnswer}
-use Rattle.model.specs.planning.Job.{Job, axesOf, jobOf}
-use Rattle.model.specs.planning.Windows.{refused13}
-use Rattle.model.specs.planning.Words.{noMask, badWord, badLong, job, decode, goodMask}
+use Rattle.model.specs.planning.Job.{Job, axesOf}
 use Rattle.model.specs.planning.Refusals.{lastTick}
-use Rattle.model.specs.planning.Outcome.{Input, words, typed, leastFrom, arrives, firstAxis, Tests, axisRefusals}
-use Rattle.model.specs.planning.Outcome.{refuse, accept, cellsNeeded, jobOutcome}
+use Rattle.model.specs.planning.Admission.{Input, axisRefusals, numbersOf, OneOf, Admission, refusedAt, admitted, Rules, admission}
+use Rattle.model.specs.planning.Outcome.{leastFrom, arrives, refuse, accept, cellsNeeded, jobOutcome}
 use Rattle.model.specs.theorems.Verdict.{Arrives, Passing, ByInput}
 use Rattle.model.specs.planning.Demand.{Demand3}
 
@@ -71,33 +69,20 @@ abbrev pub firstChecked : Job → ℕ → ℕ → SearchAnswer
 firstChecked j first budget =
     elim (firstAllowed first) [ true ↦ searchAnswer (j .mask) (searchFrom (arrives j) first budget) | false ↦ refuseSearch 18 0 ]
 
--- 13, and then 18
-abbrev pub searchAdmitted : Job → ℕ → ℕ → SearchAnswer
-searchAdmitted j first budget = elim (refused13 (j .windows)) [ some p ↦ refuseSearch 13 p | none ↦ firstChecked j first budget ]
-
--- the refusals of an axis, in checking order, as for a table
-abbrev pub searchTested : Tests → Job → ℕ → ℕ → SearchAnswer
-searchTested [] j first budget = searchAdmitted j first budget
-searchTested (t ∷ ts) j first budget =
-    elim (firstAxis (t .1) (j .axes)) [ some i ↦ refuseSearch (t .0) i | none ↦ searchTested ts j first budget ]
-
 -- a job with another asked arrival
 abbrev pub asking : ℕ → Job → Job
 asking n j = record { mask = j .mask; asked = n; axes = j .axes; windows = j .windows }
 
 -- the asked arrival is read as 0, so that 3 never comes
-abbrev pub searchJob : Job → ℕ → ℕ → SearchAnswer
-searchJob j first budget = searchTested axisRefusals (asking 0 j) first budget
+abbrev pub searchRules : Rules
+searchRules = record { reads = asking 0; tests = λ asked. axisRefusals }
+
+abbrev pub searchAfter : ℕ → ℕ → Admission → SearchAnswer
+searchAfter first budget (refusedAt n p) = refuseSearch n p
+searchAfter first budget (admitted j) = firstChecked j first budget
 
 unfoldable pub searchCall : Input → ℕ → ℕ → SearchAnswer
-searchCall (words ws) first budget =
-    elim (decode ws) [
-      | noMask ↦ refuseSearch 1 0
-      | badWord p ↦ refuseSearch 2 p
-      | badLong p ↦ refuseSearch 14 p
-      | job j ↦ searchJob j first budget
-    ]
-searchCall (typed t) first budget = elim (goodMask (t .mask)) [ true ↦ searchJob (jobOf t) first budget | false ↦ refuseSearch 1 0 ]
+searchCall q first budget = searchAfter first budget (admission searchRules q)
 
 -- ---- calls that go on from spent
 
@@ -165,15 +150,6 @@ pub record Planned (j : Job) (n : ℕ) : Type 0 where
   pub demand3 : (lent : List ℤ) → cellsNeeded (length (axesOf j)) n ≤ length lent → Demand3 Forwards (axesOf j) n (jobOutcome (asking n j) lent .cells)
 
 -- ---- what each number says of a job whose mask and words passed
-
--- the numbers of some tests of an axis, and 13
-abbrev pub numbersOf : Tests → List ℕ
-numbersOf [] = 13 ∷ []
-numbersOf (t ∷ ts) = t .0 ∷ numbersOf ts
-
-abbrev pub OneOf : List ℕ → ℕ → Type 0
-OneOf [] n = ⊥
-OneOf (k ∷ ks) n = (n ≡ k) ⊎ OneOf ks n
 
 pub data SearchVerdict (j : Job) (first budget : ℕ) (a : SearchAnswer) : Type 0 where
   -- refused by the number of a test of an axis or by 13, as the job that asks for its least arrival is, whatever is lent

@@ -5,7 +5,7 @@ use mathlib.Core.Bool.{Bool, true, false, not, _&&_}
 use mathlib.Core.Option.{Option, none, some}
 use mathlib.Core.List.{List, [], _∷_, _++_}
 use lib.IntN.{ℤ}
-use lib.Dec.{eqb, leb, ltb}
+use lib.Dec.{eqb, ltb}
 use lib.ListN.{length, drop}
 use Rattle.model.specs.declared.Answer.{Answer}
 use Rattle.model.specs.declared.Axis.{Axis}
@@ -13,11 +13,12 @@ use Rattle.model.specs.declared.Order.{Order}
 use Rattle.model.specs.declared.Order.the-variants.{Forwards, Backwards}
 use Rattle.model.specs.planning.Motion.{reachable}
 use Rattle.model.specs.planning.Rows.{part}
-use Rattle.model.specs.declared.Job as Typed
-use Rattle.model.specs.planning.Windows.{noWindows, inWindows, refused13}
-use Rattle.model.specs.planning.Job.{Job, JobAxis, axesOf, jobOf, maskWhere}
-use Rattle.model.specs.planning.Words.{Decoded, noMask, badWord, badLong, job, decode, goodMask}
-use Rattle.model.specs.planning.Refusals.{lastTick, limitsRefused, dampingRefused, blendRefused, swayRefused, valuesRefused, accelerationRefused, flyingRefused}
+use Rattle.model.specs.planning.Windows.{inWindows}
+use Rattle.model.specs.planning.Job.{Job, JobAxis, axesOf, maskWhere}
+use Rattle.model.specs.planning.Refusals.{lastTick}
+use Rattle.model.specs.planning.Admission.{Admission, refusedAt, admitted, Rules, planningRules, jobAdmission, admission}
+-- what a call is given
+pub use Rattle.model.specs.planning.Admission.{Input, words, typed, inputJob, inputAxes}
 
 pub record Outcome : Type 0 where
   pub number : ℕ
@@ -96,92 +97,25 @@ arrived j (suc n) lent =
       | false ↦ refuse 8 0 (maskWhere (λ x. not (reachable x (suc n))) (j .axes)) 0 lent
     ]
 
--- ---- refusals 4, 12, 5, 15, 6, 16 and 17: each number over all axes, lowest first, before the next number
+-- ---- the call: the first refusal before these, or the arrival
 
--- the number of the first axis for which a test holds
-abbrev pub firstAxis : (Axis → Bool) → List JobAxis → Option ℕ
-firstAxis f [] = none
-firstAxis f (x ∷ xs) = elim (f (x .axis)) [ true ↦ some (x .number) | false ↦ firstAxis f xs ]
+abbrev pub outcomeAfter : List ℤ → Admission → Outcome
+outcomeAfter lent (refusedAt n p) = refuse n p 0 0 lent
+outcomeAfter lent (admitted j) = arrived j (j .asked) lent
 
--- numbered tests of an axis, in checking order
-abbrev pub Tests : Type 0
-Tests = List (ℕ × (Axis → Bool))
-
-abbrev pub axisRefusals : Tests
-axisRefusals =
-    (4, limitsRefused)
-    ∷ (12, dampingRefused)
-    ∷ (5, blendRefused)
-    ∷ (15, swayRefused)
-    ∷ (6, valuesRefused)
-    ∷ (16, accelerationRefused)
-    ∷ (17, flyingRefused)
-    ∷ []
-
--- refusal 13, directly after 17
-abbrev pub admitted : Job → List ℤ → Outcome
-admitted j lent = elim (refused13 (j .windows)) [ some p ↦ refuse 13 p 0 0 lent | none ↦ arrived j (j .asked) lent ]
-
-abbrev pub tested : Tests → Job → List ℤ → Outcome
-tested [] j lent = admitted j lent
-tested (t ∷ ts) j lent =
-    elim (firstAxis (t .1) (j .axes)) [
-      | some i ↦ refuse (t .0) i 0 0 lent
-      | none ↦ tested ts j lent
-    ]
-
--- ---- from refusal 3 on
-
--- by some tests of the axes
-abbrev pub jobOutcomeBy : Tests → Job → List ℤ → Outcome
-jobOutcomeBy tests j lent = elim (leb (j .asked) lastTick) [ true ↦ tested tests j lent | false ↦ refuse 3 1 0 0 lent ]
-
-abbrev pub jobOutcome : Job → List ℤ → Outcome
-jobOutcome = jobOutcomeBy axisRefusals
-
--- ---- the calls: refusals 1, 2 and 14 of words; refusal 1 of typed values, which then go on at 3
-
-abbrev pub outcomeOfWordsBy : Tests → List ℕ → List ℤ → Outcome
-outcomeOfWordsBy tests ws lent =
-    elim (decode ws) [
-      | noMask ↦ refuse 1 0 0 0 lent
-      | badWord p ↦ refuse 2 p 0 0 lent
-      | badLong p ↦ refuse 14 p 0 0 lent
-      | job j ↦ jobOutcomeBy tests j lent
-    ]
-
-abbrev pub outcomeOfWords : List ℕ → List ℤ → Outcome
-outcomeOfWords = outcomeOfWordsBy axisRefusals
-
-abbrev pub outcomeOfJob : Typed.Job → List ℤ → Outcome
-outcomeOfJob t lent = elim (goodMask (t .mask)) [ true ↦ jobOutcome (jobOf t) lent | false ↦ refuse 1 0 0 0 lent ]
-
--- a call's input: words, or a job of typed values
-pub data Input : Type 0 where
-  words : List ℕ → Input
-  typed : Typed.Job → Input
+-- by some rules
+abbrev pub callBy : Rules → Input → List ℤ → Outcome
+callBy r q lent = outcomeAfter lent (admission r q)
 
 abbrev pub call : Input → List ℤ → Outcome
-call (words ws) lent = outcomeOfWords ws lent
-call (typed t) lent = outcomeOfJob t lent
+call = callBy planningRules
 
--- the job of a call; one without axes where the words are refused
-abbrev pub noJob : Job
-noJob = record { mask = 0; asked = 0; axes = []; windows = noWindows }
+-- from refusal 3 on, for a job whose mask and words passed
+abbrev pub jobOutcomeBy : Rules → Job → List ℤ → Outcome
+jobOutcomeBy r j lent = outcomeAfter lent (jobAdmission r j)
 
-abbrev pub jobRead : Decoded → Job
-jobRead noMask = noJob
-jobRead (badWord p) = noJob
-jobRead (badLong p) = noJob
-jobRead (job j) = j
-
-abbrev pub inputJob : Input → Job
-inputJob (words ws) = jobRead (decode ws)
-inputJob (typed t) = jobOf t
-
--- the axes that a call plans, lowest first
-abbrev pub inputAxes : Input → List Axis
-inputAxes q = axesOf (inputJob q)
+abbrev pub jobOutcome : Job → List ℤ → Outcome
+jobOutcome = jobOutcomeBy planningRules
 
 -- ---- the same call with its rows in an order (docs/METHOD.md, section 22)
 
