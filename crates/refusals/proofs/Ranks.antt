@@ -13,9 +13,10 @@ use borrow.Author.Tests.{lt-ltb, le-ltb, ne-eqb, eq-eqb}
 use Rattle.model.specs.declared.Axis.{Axis}
 use Rattle.model.specs.declared.Windows.{Windows}
 use Rattle.model.specs.planning.Job.{JobAxis}
-use Rattle.model.specs.planning.Outcome.{firstAxis, Tests}
+use Rattle.model.specs.planning.Admission.{firstAxis, Tests}
 use Rattle.arrival.proofs.SetAxes.{pick, from, axisAt, from-more, from-none}
-use Rattle.refusals.specs.declared.Refusal.{Refusal}
+use Rattle.model.specs.declared.Checked.{Checked}
+use Rattle.model.specs.declared.Checked.the-variants.{Refused}
 use Rattle.refusals.specs.Checks.{windowRefusal, testsFor, firstRefusal, firstMet, leastRank, lowestAxis, numberOf}
 
 -- ---- one test, and those after it
@@ -83,20 +84,20 @@ abbrev numbers : Tests → List ℕ
 numbers ts = map (λ t. t .0) ts
 
 -- what comes of a rank in a list of tests
-abbrev pub ranked : Tests → List JobAxis → Windows → ℕ → Refusal
-ranked ts xs w k = cond (ltb k (length ts)) (record { number = getD (numbers ts) k 0; place = lowestAxis ts k xs }) (windowRefusal w)
+abbrev pub ranked : Tests → List JobAxis → Windows → ℕ → Checked
+ranked ts xs w k = cond (ltb k (length ts)) (Refused (getD (numbers ts) k 0) (lowestAxis ts k xs)) (windowRefusal w)
 
-abbrev placed : ℕ → Option ℕ → Refusal
-placed n o = record { number = n; place = elim o as (λ _. ℕ) [ some i ↦ i | none ↦ 0 ] }
+abbrev placed : ℕ → Option ℕ → Checked
+placed n o = Refused n (elim o as (λ _. ℕ) [ some i ↦ i | none ↦ 0 ])
 
 pub first-is : (ts : Tests) (xs : List JobAxis) (w : Windows) → ranked ts xs w (leastRank ts xs) ≡ firstRefusal ts xs w
 first-is [] xs w =
-    ap (λ (b : Bool). cond b (record { number = 0; place = lowestAxis [] (leastRank [] xs) xs }) (windowRefusal w)) (le-ltb (leastRank [] xs) 0 (omega arith))
+    ap (λ (b : Bool). cond b (Refused 0 (lowestAxis [] (leastRank [] xs) xs)) (windowRefusal w)) (le-ltb (leastRank [] xs) 0 (omega arith))
 first-is (t ∷ ts) xs w = go (firstAxis (t .1) xs) refl (first-is ts xs w)
   where
     go : (o : Option ℕ) → firstAxis (t .1) xs ≡ o → ranked ts xs w (leastRank ts xs) ≡ firstRefusal ts xs w
         → ranked (t ∷ ts) xs w (leastRank (t ∷ ts) xs)
-        ≡ (elim o as (λ _. Refusal) [ some i ↦ record { number = t .0; place = i } | none ↦ firstRefusal ts xs w ])
+        ≡ (elim o as (λ _. Checked) [ some i ↦ Refused (t .0) i | none ↦ firstRefusal ts xs w ])
     go (some i) e h =
         ap (ranked (t ∷ ts) xs w) (met t ts xs i e)
         ∙ ap (λ (b : Bool). cond b (placed (t .0) (ranked-first (t ∷ ts) 0 xs)) (windowRefusal w)) (lt-ltb 0 (suc (length ts)) (omega arith))
@@ -142,17 +143,17 @@ module _ (resting : Bool) (xs : List JobAxis) (w : Windows) (count k : ℕ) (all
   ends = ap (ranked tests xs w) is ∙ first-is tests xs w
 
   -- the number of the rank, and the lowest axis that has it
-  pub some-refused : k < count → (n i : ℕ) → n ≡ numberOf k → i ≡ lowestAxis tests k xs → record { number = n; place = i } ≡ firstRefusal tests xs w
+  pub some-refused : k < count → (n i : ℕ) → n ≡ numberOf k → i ≡ lowestAxis tests k xs → Refused n i ≡ firstRefusal tests xs w
   some-refused l n i e f =
-      ap₂ (λ (m j : ℕ). record { number = m; place = j }) (e ∙ number-is resting k (omega arith)) f
-      ∙ sym (ap (λ (b : Bool). cond b (record { number = getD (numbers tests) k 0; place = lowestAxis tests k xs }) (windowRefusal w))
+      ap₂ (λ (m j : ℕ). Refused m j) (e ∙ number-is resting k (omega arith)) f
+      ∙ sym (ap (λ (b : Bool). cond b (Refused (getD (numbers tests) k 0) (lowestAxis tests k xs)) (windowRefusal w))
       (lt-ltb k (length tests) (omega arith)))
       ∙ ends
 
   -- no axis is refused, and 13 comes next
   pub none-refused : count ≤ k → windowRefusal w ≡ firstRefusal tests xs w
   none-refused l =
-      sym (ap (λ (b : Bool). cond b (record { number = getD (numbers tests) k 0; place = lowestAxis tests k xs }) (windowRefusal w))
+      sym (ap (λ (b : Bool). cond b (Refused (getD (numbers tests) k 0) (lowestAxis tests k xs)) (windowRefusal w))
       (le-ltb k (length tests) (omega arith)))
       ∙ ends
 

@@ -1,47 +1,39 @@
--- The refusals before 8, in checking order, and the weights that are to be worked out.
-use Prim.Native.Nat.{ℕ, suc, _/_, _%_, _≤_, min}
-use mathlib.Core.Path.{_≡_}
+-- The refusals of axes and of windows, in checking order.
+use Prim.Native.Nat.{ℕ, suc, min}
 use mathlib.Core.Bool.{Bool, true, false, cond}
 use mathlib.Core.Option.{none, some}
 use mathlib.Core.List.{List, [], _∷_, map}
-use lib.Dec.{eqb, leb}
+use lib.Dec.{eqb}
 use lib.ListN.{length, getD}
 use Rattle.model.specs.declared.Axis.{Axis}
+use Rattle.model.specs.declared.Checked.{Checked}
+use Rattle.model.specs.declared.Checked.the-variants.{Passed, Refused}
 use Rattle.model.specs.declared.Windows.{Windows}
 use Rattle.model.specs.planning.Windows.{refused13}
-use Rattle.model.specs.planning.Job.{Job, JobAxis, withWeight}
-use Rattle.model.specs.planning.Refusals.{AllPassed, lastTick}
-use Rattle.model.specs.planning.Outcome.{firstAxis, Tests, axisRefusals}
+use Rattle.model.specs.planning.Job.{JobAxis}
+use Rattle.model.specs.planning.Admission.{firstAxis, Tests, axisRefusals, Admission, refusedAt, admitted}
 use Rattle.model.specs.calls.Converter.{oldRefusals}
-use Rattle.motion.specs.Motions.{measured}
-use Rattle.refusals.specs.declared.Refusal.{Refusal}
 
--- ---- refusals 3, 4, 12, 5, 15, 6, 16, 17 and 13
+-- ---- refusals 4, 12, 5, 15, 6, 16, 17 and 13
 
--- refusal 13, or number 0
-abbrev pub windowRefusal : Windows → Refusal
-windowRefusal w = elim (refused13 w) [ some p ↦ record { number = 13; place = p } | none ↦ record { number = 0; place = 0 } ]
+-- refusal 13, or none
+abbrev pub windowRefusal : Windows → Checked
+windowRefusal w = elim (refused13 w) [ some p ↦ Refused 13 p | none ↦ Passed ]
 
 -- the tests of the axes, where fixed targets must be at rest and where they may fly
 abbrev pub testsFor : Bool → Tests
 testsFor true = axisRefusals
 testsFor false = oldRefusals
 
--- the first refusal of a list of numbered tests, or then 13, or number 0
-abbrev pub firstRefusal : Tests → List JobAxis → Windows → Refusal
+-- the first refusal of a list of numbered tests, or then 13, or none
+abbrev pub firstRefusal : Tests → List JobAxis → Windows → Checked
 firstRefusal [] xs w = windowRefusal w
-firstRefusal (t ∷ ts) xs w = elim (firstAxis (t .1) xs) [ some i ↦ record { number = t .0; place = i } | none ↦ firstRefusal ts xs w ]
+firstRefusal (t ∷ ts) xs w = elim (firstAxis (t .1) xs) [ some i ↦ Refused (t .0) i | none ↦ firstRefusal ts xs w ]
 
-abbrev pub checkedFor : Job → Refusal
-checkedFor j = elim (leb (j .asked) lastTick) [ true ↦ firstRefusal axisRefusals (j .axes) (j .windows) | false ↦ record { number = 3; place = 1 } ]
-
--- what the checks come to for a job
-pub record Checked (j : Job) (r : Refusal) : Type 0 where
-  pub is : r ≡ checkedFor j
-  -- number 0: the asked arrival, the axes and the windows have passed
-  pub asked : r .number ≡ 0 → j .asked ≤ lastTick
-  pub passed : r .number ≡ 0 → AllPassed (j .axes)
-  pub windows : r .number ≡ 0 → refused13 (j .windows) ≡ none
+-- admission without its job
+abbrev pub withoutJob : Admission → Checked
+withoutJob (refusedAt n p) = Refused n p
+withoutJob (admitted j) = Passed
 
 -- ---- the first refusal by ranks
 
@@ -62,15 +54,3 @@ lowestAxis ts rank xs = elim (firstAxis (λ x. eqb (firstMet ts x) rank) xs) [ s
 -- the number of a rank in checking order
 abbrev pub numberOf : ℕ → ℕ
 numberOf rank = getD (map (λ t. t .0) axisRefusals) rank 0
-
--- ---- the weights
-
--- whether one is to be worked out from damping as measured
-abbrev pub anyMeasured : List JobAxis → Bool
-anyMeasured [] = false
-anyMeasured (x ∷ xs) = cond (measured (x .axis)) true (anyMeasured xs)
-
--- of six axes, those whose bit is set with the number B given, the others as they are
-abbrev pub namedWithWeight : ℕ → List Axis → List Axis
-namedWithWeight m [] = []
-namedWithWeight m (x ∷ xs) = cond (eqb (m % 2) 1) (withWeight x) x ∷ namedWithWeight (m / 2) xs

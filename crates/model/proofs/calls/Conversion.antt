@@ -87,7 +87,7 @@ outcome-same j cells e =
 -- ---- what number 0 says
 
 -- the converter's tests have no number 0 and no number 10
-conversion-numbered : Numbered conversionRules
+pub conversion-numbered : Numbered conversionRules
 conversion-numbered = record { not-0 = λ n. zeros n; not-10 = λ n. tens n }
   where
     zeros : (n : ℕ) → Lacks 0 (conversionRefusals n)

@@ -31,7 +31,7 @@ use Rattle.model.proofs.calls.Budgets.{whole, wholly, whole-search, Goe
 use Rattle.model.proofs.calls.SearchSays.{search-says, planned}
 
 -- a search's tests have no number 0 and no number 10
-search-numbered : Numbered searchRules
+pub search-numbered : Numbered searchRules
 search-numbered = record { not-0 = λ n. lacks 0 axisRefusals refl; not-10 = λ n. lacks 10 axisRefusals refl }
 
 -- ---- 18, or the search

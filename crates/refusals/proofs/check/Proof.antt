@@ -20,20 +20,16 @@ number-of-requires c κs =
 lowest-axis-requires : tie.Need-lowest-axis-requires
 lowest-axis-requires c κs = search needs
 
-refusal-of-requires : tie.Need-refusal-of-requires
-refusal-of-requires c κs = search needs
-
 returns : tie.Need-returns
 returns c =
-    let d = c .before .before .before in
+    let d = c .before .before in
     let a = d .before .before .before .args in
     let k = d .before .before .least-rank in
     let n = d .before .test-count in
-    let number = c .before .before .number-of in
-    let axis = c .before .lowest-axis in
+    let number = c .before .number-of in
+    let axis = c .lowest-axis in
     let xs = setAxes 0 (a .mask) (a .axes) in
-    c .refusal-of .ensures
-    ∙ some-refused (a .resting) xs (a .windows) (n .result) (k .result) (n .ensures) (k .ensures) (d .if1 .taken) (number .result) (axis .result)
+    some-refused (a .resting) xs (a .windows) (n .result) (k .result) (n .ensures) (k .ensures) (d .if1 .taken) (number .result) (axis .result)
     (number .ensures) (axis .ensures)
 
 window-refusal-requires : tie.Need-window-refusal-requires
@@ -56,7 +52,6 @@ check-spec =
     test-count-requires
     number-of-requires
     lowest-axis-requires
-    refusal-of-requires
     returns
     window-refusal-requires
     returns-2)

@@ -1,0 +1,4 @@
+pub mod Weights
+pub mod Purposes
+pub mod Admitted
+pub mod ReadWords
