@@ -8,7 +8,8 @@ use lib.IntN.{ℤ, pos, _+ℤ_, _-ℤ_, _*ℤ_}
 use Rattle.model.specs.declared.SecondSway.{SecondSway}
 use Rattle.model.specs.declared.SecondSway.the-variants.{Absent, HalfPeriod}
 use Rattle.model.specs.planning.Quantities.{swayDelay}
-use Rattle.blended.specs.BlendedStates.{mix, added, blendsBy}
+use Rattle.blended.specs.BlendedStates.{mix, added}
+use Rattle.planned.specs.Plans.{blendsBy}
 
 pub mix-same : (a b : ℕ) (x : ℤ) → mix a b x x ≡ pos (a + b) *ℤ x
 mix-same a b x = sym (+ℤ-*ℤ (pos a) (pos b) x)

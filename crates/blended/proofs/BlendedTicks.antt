@@ -22,13 +22,14 @@ use Rattle.model.specs.planning.Refusals.{Plannable}
 use Rattle.model.proofs.tables.FromLanding.{sums-from-landing}
 use Rattle.model.proofs.tables.TwoBlends.{divisor-some}
 use Rattle.motion.proofs.PlannableAxis.{plannable-after}
-use Rattle.blended.specs.declared.AxisPlan.{AxisPlan}
-use Rattle.blended.specs.Plans.{scale, planOf}
-use Rattle.blended.specs.BlendedStates.{plannedAt, velocityBack, mix, blendedBack, added, blendedVelocity, blendedPosition, axisCells, halfUnit, LandsAt}
-use Rattle.blended.proofs.Scale.{scale-some, scale-divides}
+use Rattle.planned.specs.declared.AxisPlan.{AxisPlan}
+use Rattle.planned.specs.Plans.{scale, planOf}
+use Rattle.planned.specs.Plans.{plannedAt, velocityBack}
+use Rattle.blended.specs.BlendedStates.{mix, blendedBack, added, blendedVelocity, blendedPosition, axisCells, halfUnit, LandsAt}
+use Rattle.planned.proofs.Scale.{scale-some, scale-divides}
 use Rattle.blended.proofs.Blend.{mix-sum, mix-change, mix-start, mix-times, added-sum, added-change, added-times, added-start}
-use Rattle.blended.proofs.Velocities.{back-early, back-late}
-use Rattle.blended.proofs.PlannedTicks.{plannedPosition, tick-is}
+use Rattle.planned.proofs.Velocities.{back-early, back-late}
+use Rattle.planned.proofs.PlannedTicks.{plannedPosition, tick-is}
 
 -- ---- d ticks before
 
@@ -188,7 +189,10 @@ module _ (x : Axis) (n k : ℕ) (plannable : Plannable x n) (last : k ≤ n) whe
   scaled f d = mix (p .«first_weight») (p .«second_weight») (f (backTick p k d)) (f (backTick p k (d + halfPeriod x)))
 
   blend-is : (f : Tick → ℤ) → added S (scaled f) ≡ pos (scale x) *ℤ blend (plannedAxis n x) k f
-  blend-is f = ap (added S) (λ i d. once d i) ∙ added-times S (pos (scale x)) (λ d. blendOnce (plannedAxis n x) k d f) ∙ ap (λ (z : ℤ). pos (scale x) *ℤ z) (all S)
+  blend-is f =
+      ap (added S) (λ i d. once d i)
+      ∙ added-times S (pos (scale x)) (λ d. blendOnce (plannedAxis n x) k d f)
+      ∙ ap (λ (z : ℤ). pos (scale x) *ℤ z) (all S)
     where
       once : (d : ℕ) → scaled f d ≡ pos (scale x) *ℤ blendOnce (plannedAxis n x) k d f
       once d =

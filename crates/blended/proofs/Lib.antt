@@ -1,9 +1,5 @@
 pub mod Blend
-pub mod Scale
-pub mod Velocities
-pub mod PlannedSegments
-pub mod Ranges
-pub mod Sums
-pub mod PlannedTicks
+pub mod BlendedSteps
+pub mod BlendedRanges
+pub mod BlendedSums
 pub mod BlendedTicks
-pub mod PlannableAxis

@@ -1,10 +1,8 @@
--- One axis tick by tick, over its plan: the planned velocities, their blend, and the cells of a row (docs/METHOD.md, section 3, rules 1, 2, 3 and 5, and
--- section 4).
+-- One axis after the blends, tick by tick: its velocity, its state, and the cells of a row
+-- (docs/METHOD.md, section 3, rules 1, 2, 3 and 5, and section 4).
 use Prim.Native.Nat.{ℕ, zero, suc, _+_, _-_, _*_}
 use mathlib.Core.Path.{_≡_}
-use mathlib.Core.Bool.{true, false}
 use mathlib.Core.List.{List, [], _∷_}
-use lib.Dec.{ltb}
 use lib.IntN.{ℤ, pos, _+ℤ_, _-ℤ_, _*ℤ_}
 use Rattle.whole.specs.Integers.{nearestQuotient}
 use Rattle.model.specs.declared.Order.{Order}
@@ -12,23 +10,9 @@ use Rattle.model.specs.declared.Order.the-variants.{Forwards, Backwards}
 use Rattle.model.specs.declared.SecondSway.{SecondSway}
 use Rattle.model.specs.declared.SecondSway.the-variants.{Absent, HalfPeriod}
 use Rattle.model.specs.planning.Quantities.{swayDelay}
-use Rattle.profile.specs.Regions.{velocityIn}
-use Rattle.blended.specs.declared.AxisPlan.{AxisPlan}
+use Rattle.planned.specs.declared.AxisPlan.{AxisPlan}
 use Rattle.blended.specs.declared.BlendedState.{BlendedState}
-
--- ---- the planned velocities
-
--- at tick k: below T that of its region, from T on the end velocity changed by the acceleration
-unfoldable pub plannedAt : AxisPlan → ℕ → ℤ
-plannedAt p k =
-    elim (ltb k (p .regions .ticks)) [
-      | true ↦ velocityIn (p .regions) k
-      | false ↦ p .regions .end +ℤ pos (k - p .regions .ticks) *ℤ p .acceleration
-    ]
-
--- d ticks before tick k: before tick 0 the planned motion is uniform
-unfoldable pub velocityBack : AxisPlan → ℕ → ℕ → ℤ
-velocityBack p d k = elim (ltb k d) [ true ↦ p .regions .start | false ↦ plannedAt p (k - d) ]
+use Rattle.planned.specs.Plans.{velocityBack, blendsBy, totalWeight}
 
 -- ---- the blends, by the weights of the plan
 
@@ -39,21 +23,13 @@ mix a b x y = pos a *ℤ x +ℤ pos b *ℤ y
 unfoldable pub blendedBack : AxisPlan → ℕ → ℕ → ℤ
 blendedBack p d k = mix (p .«first_weight») (p .«second_weight») (velocityBack p d k) (velocityBack p (d + p .«half_period») k)
 
--- the blends added up, g d being the one of delay d: that of delay 0 and, for a second sway, that of delay h₂; and how many they are
+-- the blends added up, g d being the one of delay d: that of delay 0 and, for a second sway, that of delay h₂
 abbrev pub added : SecondSway → (ℕ → ℤ) → ℤ
 added Absent g = g 0
 added (HalfPeriod d) g = g 0 +ℤ g d
 
-abbrev pub blendsBy : SecondSway → ℕ
-blendsBy Absent = 1
-blendsBy (HalfPeriod d) = 2
-
 unfoldable pub blendedVelocity : AxisPlan → ℕ → ℤ
 blendedVelocity p k = added (p .«second_sway») (λ d. blendedBack p d k)
-
--- all weights together
-abbrev pub totalWeight : AxisPlan → ℕ
-totalWeight p = blendsBy (p .«second_sway») * (p .«first_weight» + p .«second_weight»)
 
 -- each weight times its delay, together
 abbrev pub lagOf : AxisPlan → ℕ

@@ -1,6 +1,6 @@
-// Runs both engines of `profile` over legs drawn by a fixed rule: reach, and where a leg has it, cruise and remainder. It prints for each engine how many legs
+// Runs both engines of `cruise` over legs drawn by a fixed rule: reach, and where a leg has it, cruise and remainder. It prints for each engine how many legs
 // have it and a sum over the answers. tests/reference/engines.py computes the same from the method's rules 4 and 5 and writes what is expected.
-use profile::Engine;
+use cruise::Engine;
 use profile::Profile;
 ghost use Prim.Native.Nat.{_≤_, _<_};
 ghost use lib.IntN.{pos};
@@ -89,8 +89,8 @@ fn answered(engine: Engine, p: Profile, d: i64, sum: u64) -> u64
     requires { ⌜ sum < 2147483647 ⌝ }
     ensures { λ r. ⌜ r < 2147483647 ⌝ }
 {
-    if profile::feasible_by(engine, p, d) {
-        let c = profile::cruise_by(engine, p, d);
+    if cruise::feasible_by(engine, p, d) {
+        let c = cruise::cruise_by(engine, p, d);
         let with_cruise = added(sum, c.velocity);
         return added(with_cruise, (c.raised % PRIME) as i64);
     }
@@ -115,7 +115,7 @@ fn made_by(engine: Engine) -> u64 {
     let mut i: u64 = 0;
     while i < LEGS {
         let p = leg(i);
-        if profile::feasible_by(engine, p, displacement(i, p)) {
+        if cruise::feasible_by(engine, p, displacement(i, p)) {
             made += 1;
         }
         i += 1;

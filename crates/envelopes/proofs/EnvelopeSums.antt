@@ -18,8 +18,8 @@ use Rattle.model.specs.planning.Leg.{Leg, upper, lower}
 use Rattle.model.proofs.legs.Envelopes.{Joined, since, until, highest, lowest, clamped-within, clamped-lowest, clamped-highest}
 use Rattle.envelopes.specs.declared.Sums.{Sums}
 use Rattle.envelopes.specs.Sums.{crossing, peakOf, troughOf, envelopeSumsAt, stepped, SumsRanged, withTicks}
-use Rattle.profile.proofs.ThreeRegions.{before, after, up-is, up-late, before-half, after-half}
-use Rattle.profile.proofs.RampSums.{parts}
+use Rattle.regions.proofs.ThreeRegions.{before, after, up-is, up-late, before-half, after-half}
+use Rattle.areas.proofs.RampSums.{parts}
 
 -- ---- a sum with one entry more
 

@@ -7,7 +7,7 @@ use lib.IntN.{ℤ, pos, negℤ, _+ℤ_, _*ℤ_}
 use lib.Signed.{_<ℤ_}
 use Rattle.whole.specs.Integers.{sumTo}
 use Rattle.model.specs.planning.Leg.{Leg, upper}
-use Rattle.profile.specs.declared.Parts.{Parts}
+use Rattle.areas.specs.declared.Parts.{Parts}
 use Rattle.profile.specs.declared.Profile.{Profile}
 use Rattle.envelopes.specs.declared.Ramps.{Ramps}
 use Rattle.envelopes.specs.Sums.{withTicks}

@@ -7,7 +7,7 @@ ghost use mathlib.Core.Path.{_≡_};
 ghost use mathlib.Core.Bool.{true};
 ghost use lib.IntN.{pos, natAbs, _+ℤ_, _-ℤ_, _*ℤ_};
 ghost use Rattle.whole.specs.Ranges.{Within, Is};
-ghost use Rattle.profile.specs.Areas.{splitArea};
+ghost use Rattle.areas.specs.Areas.{splitArea};
 ghost use Rattle.profile.specs.Profiles.{legOf, Ranged, Joinable};
 ghost use Rattle.envelopes.specs.Sums.{peakOf, troughOf, envelopeSumsAt, stepped, SumsRanged, Next, withinSums, betweenAt, NearFrom, withTicks};
 ghost use Rattle.envelopes.specs.Skips.{Short, ShortTo, GallopsTo, Skips, Lasting, RampsRanged, splitAt, lengthened, turnedAbout};
@@ -65,8 +65,8 @@ fn envelope_sums(p: Profile) -> Sums
     let end = p.end;
     let limit = p.acceleration_limit;
     let ticks = p.ticks;
-    let lowest = profile::area_at(p, profile::negative(p.speed_limit));
-    let highest = profile::area_at(p, profile::signed(p.speed_limit));
+    let lowest = areas::area_at(p, profile::negative(p.speed_limit));
+    let highest = areas::area_at(p, profile::signed(p.speed_limit));
     let trough = trough_of(limit, start, end, ticks);
     let later_trough = trough_of(limit, start, end, ticks + 1);
     let peak = peak_of(limit, start, end, ticks);
@@ -289,8 +289,8 @@ fn split_area(p: Profile, rising: u64, falling: u64) -> i64
     let end = p.end;
     let limit = profile::signed(p.speed_limit);
     let steep = profile::signed(p.acceleration_limit);
-    let first = profile::ramp_area(start, steep, rising);
-    let last = profile::ramp_area(end, steep, falling);
+    let first = areas::ramp_area(start, steep, rising);
+    let last = areas::ramp_area(end, steep, falling);
     first + level * limit + last
 }
 

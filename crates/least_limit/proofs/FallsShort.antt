@@ -21,11 +21,11 @@ use Rattle.model.specs.declared.Limit.the-variants.{Acceleration, Speed}
 use Rattle.model.specs.planning.Leg.{Leg, upper}
 use Rattle.model.specs.calls.Raises.{highest}
 use Rattle.model.proofs.legs.Envelopes.{Joined}
-use Rattle.profile.specs.declared.Parts.{Parts}
+use Rattle.areas.specs.declared.Parts.{Parts}
 use Rattle.profile.specs.Profiles.{legOf, Joinable}
-use Rattle.profile.specs.Areas.{triangle, rampArea, splitArea, upperParts}
+use Rattle.areas.specs.Areas.{triangle, rampArea, splitArea, upperParts}
 use Rattle.profile.proofs.FeasibleParts.{joined-ends}
-use Rattle.profile.proofs.UpperSplits.{split-above, split-is, parts-all}
+use Rattle.areas.proofs.UpperSplits.{split-above, split-is, parts-all}
 use Rattle.least_limit.specs.declared.Task.{Task}
 use Rattle.least_limit.specs.Limits.{profileAt, speedWith, accelerationWith, other, limitIn, need, unit, enough, enoughWith, gainOf}
 use Rattle.least_limit.specs.Limits.{TaskRanged, Allowed, PartsRanged}

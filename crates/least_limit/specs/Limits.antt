@@ -11,10 +11,10 @@ use Rattle.model.specs.declared.Limit.{Limit}
 use Rattle.model.specs.declared.Limit.the-variants.{Acceleration, Speed}
 use Rattle.model.specs.planning.Leg.{upper}
 use Rattle.model.specs.calls.Raises.{highest}
-use Rattle.profile.specs.declared.Parts.{Parts}
+use Rattle.areas.specs.declared.Parts.{Parts}
 use Rattle.profile.specs.declared.Profile.{Profile}
 use Rattle.profile.specs.Profiles.{legOf, Joinable}
-use Rattle.profile.specs.Areas.{triangle}
+use Rattle.areas.specs.Areas.{triangle}
 use Rattle.least_limit.specs.declared.Task.{Task}
 
 -- ---- a task with other limits

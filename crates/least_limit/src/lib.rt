@@ -3,15 +3,15 @@
 //
 // A test takes the area under the upper envelope at one value. Where the area falls short, it also says how much each unit more can gain at most, so that every
 // value is passed over at which the area still falls short. After ten tests that lead on from below, each further one halves what is left.
+use areas::Parts;
 use model::Limit;
-use profile::Parts;
 use profile::Profile;
 ghost use Prim.Native.Nat.{suc, _-_, _*_, _^_, _≤_, _<_};
 ghost use mathlib.Core.Path.{_≡_};
 ghost use lib.Dec.{leb};
 ghost use Rattle.model.specs.calls.Raises.{highest};
 ghost use Rattle.envelopes.specs.Sums.{Next};
-ghost use Rattle.profile.specs.Areas.{triangle};
+ghost use Rattle.areas.specs.Areas.{triangle};
 ghost use Rattle.least_limit.specs.Limits.{profileAt, other, limitIn, need, unit, gainOf, enoughWith};
 ghost use Rattle.least_limit.specs.Limits.{TaskRanged, Allowed, PartsRanged, ProfileFor, FirstAllowed, Leads, Led};
 
@@ -190,7 +190,7 @@ fn lead(t: Task, limit: Limit, value: u64, after: u64) -> u64
     ensures { λ r. ⌜ Leads (enoughWith limit t) value after r ⌝ }
 {
     let p = profile_with(t, limit, value);
-    let area = profile::upper_area(p);
+    let area = areas::upper_area(p);
     let sum = t.sum;
     let reached = area.sum;
     if sum <= reached {

@@ -12,9 +12,9 @@ use Rattle.model.specs.planning.Motion.{leg, displacement, landingVelocity, arr
 use Rattle.model.proofs.motions.Grid.{acceleration-some}
 use Rattle.model.proofs.motions.Reaches.{reach-feasible}
 use Rattle.profile.specs.Profiles.{endsAllowed, sumBetween}
-use Rattle.profile.specs.Areas.{EnginesAgree}
+use Rattle.cruise.specs.Engines.{EnginesAgree}
 use Rattle.profile.proofs.FeasibleParts.{feasible-parts}
-use Rattle.profile.proofs.Engines.{engines-agree}
+use Rattle.cruise.proofs.Engines.{engines-agree}
 use Rattle.motion.specs.Engines.{OneAnswer, OneAnswers}
 
 module _ (x : Axis) (some : 0 < accelerationLimit x) (n : ℕ) where

@@ -9,7 +9,7 @@ use Rattle.model.specs.declared.Axis.{Axis}
 use Rattle.model.specs.planning.Quantities.{accelerationLimit, delay, speedSteps}
 use Rattle.model.specs.planning.Leg.{cruise, remainder}
 use Rattle.model.specs.planning.Motion.{leg, displacement, landingVelocity, arrivalVelocity, reachable, requiredSum}
-use Rattle.profile.specs.Areas.{feasibleByAreas, cruiseByAreas, remainderByAreas}
+use Rattle.cruise.specs.Engines.{feasibleByAreas, cruiseByAreas, remainderByAreas}
 
 -- `reachable`, with the areas under the envelopes in place of their sums
 abbrev pub reachableByAreas : Axis → ℕ → Bool

@@ -1,15 +1,15 @@
--- The leg of `model` that a profile stands for, the ranges in which its code does not overflow, and what the functions of this crate give back.
-use Prim.Native.Nat.{ℕ, _-_, _*_, _^_, _≤_, _<_}
+-- The leg of `model` that a profile stands for, the ranges in which its code does not overflow, and
+-- rule 4 in parts.
+use Prim.Native.Nat.{_-_, _*_, _^_, _≤_, _<_}
 use mathlib.Core.Path.{_≡_}
-use mathlib.Core.Bool.{Bool, true, false, _&&_}
-use lib.IntN.{ℤ, pos, natAbs, _+ℤ_, _-ℤ_}
+use mathlib.Core.Bool.{Bool, true, _&&_}
+use lib.IntN.{ℤ, natAbs, _-ℤ_}
 use lib.Signed.{leZ}
 use lib.Dec.{leb}
-use Rattle.whole.specs.Ranges.{Within, Is}
+use Rattle.whole.specs.Ranges.{Within}
 use Rattle.whole.specs.Integers.{sumTo}
-use Rattle.model.specs.planning.Leg.{Leg, upper, lower, fitsAt, cruise, remainder}
+use Rattle.model.specs.planning.Leg.{Leg, upper, lower}
 use Rattle.profile.specs.declared.Profile.{Profile}
-use Rattle.profile.specs.declared.CruisePlan.{CruisePlan}
 
 -- the velocities, in the model's terms
 abbrev pub legOf : Profile → Leg
@@ -48,16 +48,3 @@ pub record Joinable (p : Profile) : Type 0 where
 -- the sum s is between the sums of the two envelopes
 abbrev pub sumBetween : Leg → ℤ → Bool
 sumBetween g s = leZ (sumTo (lower g) (g .ticks - 1)) s && leZ s (sumTo (upper g) (g .ticks - 1))
-
--- ---- rule 5
-
--- one step of `climbByBits`: c + step where that keeps to the speed limit and fits the required sum s, else c
-abbrev pub climbStep : Leg → ℤ → ℤ → ℕ → ℤ
-climbStep g s c step =
-    let d : ℤ = c +ℤ pos step in
-    elim (leZ d (pos (g .speedLimit)) && fitsAt g s d) [ true ↦ d | false ↦ c ]
-
--- what `cruise` gives, for the required sum s
-pub record CruiseIs (g : Leg) (s : ℤ) (r : CruisePlan) : Type 0 where
-  pub velocity : Is (2 ^ 37) (r .velocity) (cruise g s)
-  pub raised : r .raised ≡ remainder g s

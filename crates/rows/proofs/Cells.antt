@@ -11,7 +11,7 @@ use lib.ListN.{length, getD, take}
 use lib.Seq.{take-suc, take-length, length-take-le}
 use Rattle.model.specs.declared.Order.{Order}
 use Rattle.model.specs.planning.Rows.{tabulate, rowAt}
-use Rattle.blended.specs.declared.AxisPlan.{AxisPlan}
+use Rattle.planned.specs.declared.AxisPlan.{AxisPlan}
 use Rattle.rows.specs.Plans.{unsetPlan}
 use Rattle.blended.specs.BlendedStates.{axisCells}
 use Rattle.rows.specs.Table.{planRow}

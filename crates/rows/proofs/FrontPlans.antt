@@ -10,8 +10,8 @@ use lib.ListN.{length, getD, set, take, drop}
 use lib.Seq.{take-suc-set, drop-cons, drop-length, length-take-le, getD-take}
 use Rattle.model.specs.declared.Axis.{Axis}
 use Rattle.model.specs.planning.Job.{JobAxis, setAxes, unsetAxis}
-use Rattle.blended.specs.declared.AxisPlan.{AxisPlan}
-use Rattle.blended.specs.Plans.{planOf}
+use Rattle.planned.specs.declared.AxisPlan.{AxisPlan}
+use Rattle.planned.specs.Plans.{planOf}
 use Rattle.rows.specs.Plans.{unsetPlan, plansFor, Each}
 
 -- the plans of the axes from number i on, m being the bits from there on

@@ -14,8 +14,8 @@ use Rattle.model.specs.planning.Outcome.{partOver}
 use Rattle.model.proofs.tables.CellPlaces.{row-place}
 use Rattle.model.proofs.tables.Reversed.{tabulate-same}
 use Rattle.rows.specs.Plans.{plansFor, plansOf, PlanIs, Each, Fillable}
-use Rattle.blended.specs.Plans.{arrivalOf, PlanRanges}
-use Rattle.blended.specs.declared.AxisPlan.{AxisPlan}
+use Rattle.planned.specs.Plans.{arrivalOf, PlanRanges}
+use Rattle.planned.specs.declared.AxisPlan.{AxisPlan}
 use Rattle.rows.specs.declared.Plan.{Plan}
 use Rattle.blended.specs.BlendedStates.{LandsAt}
 use Rattle.rows.specs.Table.{planRow, planPart, rowsOver}

@@ -12,9 +12,9 @@ use Rattle.model.specs.planning.Motion.{reachable}
 use Rattle.model.specs.planning.Job.{JobAxis, setAxes, unsetAxis}
 use Rattle.model.specs.planning.Outcome.{allReach}
 use Rattle.model.specs.planning.Refusals.{lastTick, AllPassed, Plannable}
-use Rattle.blended.specs.Plans.{arrivalOf, PlanRanges}
+use Rattle.planned.specs.Plans.{arrivalOf, PlanRanges}
 use Rattle.rows.specs.Plans.{plansFor, Each}
-use Rattle.blended.proofs.PlannableAxis.{plan-ranges, plan-arrives}
+use Rattle.planned.proofs.PlannableAxis.{plan-ranges, plan-arrives}
 
 -- ---- a list of axes
 

@@ -14,11 +14,11 @@ use lib.Seq.{getD-set-same, getD-set-other}
 use Rattle.model.specs.declared.Order.{Order}
 use Rattle.model.specs.declared.Order.the-variants.{Forwards, Backwards}
 use Rattle.model.specs.planning.Rows.{rowAt}
-use Rattle.blended.specs.declared.AxisPlan.{AxisPlan}
+use Rattle.planned.specs.declared.AxisPlan.{AxisPlan}
 use Rattle.blended.specs.declared.BlendedState.{BlendedState}
 use Rattle.rows.specs.Plans.{unsetPlan}
 use Rattle.blended.specs.BlendedStates.{blendedStateAt, comesTo}
-use Rattle.rows.specs.Rows.{comesAt, goesOnAt}
+use Rattle.cells.specs.Rows.{comesAt, goesOnAt}
 use Rattle.whole.proofs.Tests.{choice-yes, choice-no}
 
 -- the tick of axis a in a row, when the axes before axis i are stepped from tick k to tick l

@@ -6,8 +6,8 @@ use lib.IntN.{pos}
 use lib.ListN.{length, getD, take}
 use Rattle.model.specs.declared.SecondSway.the-variants.{Absent}
 use Rattle.model.specs.planning.Job.{JobAxis}
-use Rattle.blended.specs.declared.AxisPlan.{AxisPlan}
-use Rattle.blended.specs.Plans.{planOf, arrivalOf, PlanRanges}
+use Rattle.planned.specs.declared.AxisPlan.{AxisPlan}
+use Rattle.planned.specs.Plans.{planOf, arrivalOf, PlanRanges}
 use Rattle.rows.specs.declared.Plan.{Plan}
 use Rattle.blended.specs.BlendedStates.{LandsAt}
 

@@ -93,22 +93,7 @@ module _ (first after n dwell : ℕ) (w : Window) where
           some-dwell : (d : ℕ) → (d ≡ 0 → ⊥) → n + d ≤ w .closing → n < w .closing
           some-dwell d z h = omega (arith, z)
 
--- no tick from `after` on, and none before `first`
-pub last-ticks : (after dwell : ℕ) (w : Window) → afterLast dwell after w ≤ after
-last-ticks after dwell w = go (eqb dwell 0) (ltb (w .closing) dwell)
-  where
-    capped : (m : ℕ) → upTo after m ≤ after
-    capped m = by (ltb after m) (ltb-false after m)
-      where
-        by : (b : Bool) → (b ≡ false → m ≤ after) → cond b after m ≤ after
-        by true f = omega arith
-        by false f = f refl
-
-    go : (a b : Bool) → cond a (upTo after (w .closing)) (cond b 0 (upTo after (w .closing - dwell + 1))) ≤ after
-    go true b = capped (w .closing)
-    go false true = omega arith
-    go false false = capped (w .closing - dwell + 1)
-
+-- no tick before `first`
 pub first-above : (first : ℕ) (w : Window) → first ≤ firstTick first w
 first-above first w = go (ltb (w .opening) first) (ltb-false (w .opening) first)
   where

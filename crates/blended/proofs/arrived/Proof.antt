@@ -2,8 +2,8 @@ use Prim.Native.Nat.{_^_}
 use Rattle.whole.specs.Ranges.{Within}
 use Rattle.whole.proofs.Bounds.{exact, sfits, exactly}
 use native.Mathlib.Omega.{arith}
-use Rattle.blended.proofs.Ranges.{landed-within}
-use Rattle.blended.proofs.Velocities.{state-landed}
+use Rattle.blended.proofs.BlendedRanges.{landed-within}
+use Rattle.blended.proofs.BlendedSteps.{state-landed}
 use Rattle.blended.proofs.arrived.Statement.{statement}
 use Rattle.blended.proofs.arrived.Tie as tie
 

@@ -4,8 +4,8 @@ use native.Mathlib.Omega.{arith}
 use mir.Syntax.{w64}
 use mir.Val.{toZ, ofZ}
 use Rattle.whole.proofs.Bounds.{exact, exactly, within}
-use Rattle.blended.specs.BlendedStates.{velocityBack}
-use Rattle.blended.proofs.Ranges.{blend-is, weights-small}
+use Rattle.planned.specs.Plans.{velocityBack}
+use Rattle.blended.proofs.BlendedRanges.{blend-is, weights-small}
 use borrow.Author.Needs.{needs}
 use Rattle.blended.proofs.blended_back.Statement.{statement}
 use Rattle.blended.proofs.blended_back.Tie as tie
@@ -19,8 +19,8 @@ add-velocity-back c = omega (arith, c .before .before .pre .0 .«half_period»)
 velocity-back-requires-2 : tie.Need-velocity-back-requires-2
 velocity-back-requires-2 c κs = search needs
 
-blended-requires : tie.Need-blended-requires
-blended-requires c κs =
+mix-requires : tie.Need-mix-requires
+mix-requires c κs =
     let a = c .before .before .before in
     let h = weights-small (a .args .p) (a .pre .0) in
     (omega arith, (omega arith, (within (search exact depth 9) tt, within (search exact depth 9) tt)))
@@ -42,5 +42,5 @@ blended-back-spec =
     velocity-back-requires
     add-velocity-back
     velocity-back-requires-2
-    blended-requires
+    mix-requires
     returns)

@@ -4,8 +4,8 @@ use native.Mathlib.Omega.{arith}
 use Rattle.whole.specs.Ranges.{Is}
 use Rattle.whole.proofs.Bounds.{exact, sfits, exactly}
 use Rattle.blended.specs.BlendedStates.{blendedPosition, blendedVelocity, blendedStateAt}
-use Rattle.blended.proofs.Ranges.{position-is, velocity-is}
-use Rattle.blended.proofs.Sums.{state-by-sum}
+use Rattle.blended.proofs.BlendedRanges.{position-is, velocity-is}
+use Rattle.blended.proofs.BlendedSums.{state-by-sum}
 use borrow.Author.Needs.{needs}
 use Rattle.blended.proofs.blended_state_at.Statement.{statement}
 use Rattle.blended.proofs.blended_state_at.Tie as tie

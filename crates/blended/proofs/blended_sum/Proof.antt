@@ -7,9 +7,9 @@ use Rattle.whole.specs.Integers.{sumTo}
 use Rattle.whole.proofs.Bounds.{exact, exactly, sfits}
 use Rattle.model.specs.declared.SecondSway.{SecondSway}
 use Rattle.model.specs.planning.Quantities.{swayDelay}
-use Rattle.blended.specs.declared.AxisPlan.{AxisPlan}
+use Rattle.planned.specs.declared.AxisPlan.{AxisPlan}
 use Rattle.blended.specs.BlendedStates.{blendedBack, added}
-use Rattle.blended.proofs.Sums.{blends-sum-is}
+use Rattle.blended.proofs.BlendedSums.{blends-sum-is}
 use borrow.Author.Needs.{needs}
 use Rattle.blended.proofs.blended_sum.Statement.{statement}
 use Rattle.blended.proofs.blended_sum.Tie as tie

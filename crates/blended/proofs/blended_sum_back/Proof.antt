@@ -7,9 +7,9 @@ use mir.Val.{toZ, ofZ}
 use Rattle.whole.specs.Integers.{sumTo}
 use Rattle.whole.specs.Ranges.{Is}
 use Rattle.whole.proofs.Bounds.{exact, sfits, exactly, cast-small}
-use Rattle.blended.specs.BlendedStates.{velocityBack}
-use Rattle.blended.proofs.Ranges.{weights-small}
-use Rattle.blended.proofs.Sums.{weighed-within, weights-light, blend-sum-is}
+use Rattle.planned.specs.Plans.{velocityBack}
+use Rattle.blended.proofs.BlendedRanges.{weights-small}
+use Rattle.blended.proofs.BlendedSums.{weighed-within, weights-light, blend-sum-is}
 use borrow.Author.Needs.{needs}
 use Rattle.blended.proofs.blended_sum_back.Statement.{statement}
 use Rattle.blended.proofs.blended_sum_back.Tie as tie

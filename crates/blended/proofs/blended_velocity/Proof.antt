@@ -6,9 +6,9 @@ use mir.Val.{toZ, ofZ}
 use Rattle.whole.proofs.Bounds.{exact, exactly, sfits}
 use Rattle.model.specs.declared.SecondSway.{SecondSway}
 use Rattle.model.specs.planning.Quantities.{swayDelay}
-use Rattle.blended.specs.declared.AxisPlan.{AxisPlan}
+use Rattle.planned.specs.declared.AxisPlan.{AxisPlan}
 use Rattle.blended.specs.BlendedStates.{blendedBack, added}
-use Rattle.blended.proofs.Ranges.{blends-are}
+use Rattle.blended.proofs.BlendedRanges.{blends-are}
 use borrow.Author.Needs.{needs}
 use Rattle.blended.proofs.blended_velocity.Statement.{statement}
 use Rattle.blended.proofs.blended_velocity.Tie as tie

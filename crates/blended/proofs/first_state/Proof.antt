@@ -19,14 +19,14 @@ enum-told-2 c = search needs
 arrived-requires : tie.Need-arrived-requires
 arrived-requires c κs = search needs
 
-step-requires : tie.Need-step-requires
-step-requires c κs = search needs
+next-state-requires : tie.Need-next-state-requires
+next-state-requires c κs = search needs
 
 returns : tie.Need-returns
 returns c =
     let e = c .before .before in
     let a = e .before .before .before .args in
-    c .step .ensures
+    c .next-state .ensures
     ∙ ap (blendedStateAt (a .p)) {x = suc (a .n)} {y = suc (a .n) - a .place} (omega (arith, e .if1 .taken))
     ∙ sym (ap (λ (o : Order). blendedStateAt (a .p) (comesTo o (a .n) (a .place))) (e .before .enum-told2 .given .1))
 
@@ -60,7 +60,7 @@ first-state-spec =
     blended-state-at-requires
     enum-told-2
     arrived-requires
-    step-requires
+    next-state-requires
     returns
     add-blended-state-at
     sub-blended-state-at

@@ -2,8 +2,8 @@ use Prim.Native.Nat.{ℕ, _+_, _*_, _^_, _≤_}
 use mathlib.Core.Path.{sym, ap₂, subst}
 use native.Mathlib.Omega.{arith}
 use native.Mathlib.Nat.{mul-le-mul}
-use Rattle.blended.specs.BlendedStates.{blendsBy}
-use Rattle.blended.proofs.Ranges.{weights-small, lag-small}
+use Rattle.planned.specs.Plans.{blendsBy}
+use Rattle.blended.proofs.BlendedRanges.{weights-small, lag-small}
 use borrow.Author.Needs.{needs}
 use Rattle.blended.proofs.lag_of.Statement.{statement}
 use Rattle.blended.proofs.lag_of.Tie as tie

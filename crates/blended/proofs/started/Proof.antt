@@ -6,16 +6,17 @@ use native.Mathlib.Omega.{arith}
 use lib.IntN.{pos, _*ℤ_}
 use mir.Syntax.{w64}
 use mir.Val.{toZ, ofZ}
-use Rattle.blended.specs.declared.AxisPlan.{AxisPlan}
-use Rattle.blended.specs.BlendedStates.{totalWeight, lagOf}
-use Rattle.blended.proofs.Velocities.{state-0}
-use Rattle.blended.proofs.Ranges.{lag-small, lagging, origin-within}
+use Rattle.planned.specs.declared.AxisPlan.{AxisPlan}
+use Rattle.planned.specs.Plans.{totalWeight}
+use Rattle.blended.specs.BlendedStates.{lagOf}
+use Rattle.blended.proofs.BlendedSteps.{state-0}
+use Rattle.blended.proofs.BlendedRanges.{lag-small, lagging, origin-within}
 use borrow.Author.Needs.{needs}
 use Rattle.blended.proofs.started.Statement.{statement}
 use Rattle.blended.proofs.started.Tie as tie
 
-weight-of-requires : tie.Need-weight-of-requires
-weight-of-requires c κs = search needs
+total-weight-requires : tie.Need-total-weight-requires
+total-weight-requires c κs = search needs
 
 cast-weight : tie.Need-cast-weight
 cast-weight c = search needs
@@ -33,10 +34,10 @@ abbrev plan : tie.After-lag-of → AxisPlan
 plan c = start c .args .p
 
 -- all weights together, and each times its delay
-weight-is : (c : tie.After-lag-of) → Is (2 ^ 16) (toZ w64 (c .before .weight-of .result)) (pos (totalWeight (plan c)))
+weight-is : (c : tie.After-lag-of) → Is (2 ^ 16) (toZ w64 (c .before .total-weight .result)) (pos (totalWeight (plan c)))
 weight-is c =
-    let e = c .before .weight-of .ensures in
-    then-is (cast-small (2 ^ 16) (c .before .weight-of .result) (omega (arith, e, start c .pre .light)) tt) (ap pos e)
+    let e = c .before .total-weight .ensures in
+    then-is (cast-small (2 ^ 16) (c .before .total-weight .result) (omega (arith, e, start c .pre .light)) tt) (ap pos e)
 
 lag-is : (c : tie.After-lag-of) → Is (2 ^ 25) (toZ w64 (c .lag-of .result)) (pos (lagOf (plan c)))
 lag-is c =
@@ -45,7 +46,7 @@ lag-is c =
 
 -- the blended position of a head at rest
 abbrev Origin : tie.After-lag-of → Type 0
-Origin c = Is (2 ^ 60) (toZ w64 (c .before .weight-of .result) *ℤ toZ w64 (ofZ w64 (plan c .origin))) (pos (totalWeight (plan c)) *ℤ plan c .origin)
+Origin c = Is (2 ^ 60) (toZ w64 (c .before .total-weight .result) *ℤ toZ w64 (ofZ w64 (plan c .origin))) (pos (totalWeight (plan c)) *ℤ plan c .origin)
 
 origin-is : (c : tie.After-lag-of) → Origin c
 origin-is c =
@@ -92,7 +93,7 @@ pub started-spec : {M : Type 1} → statement M
 started-spec =
     tie.close
     (tie.spec
-    weight-of-requires
+    total-weight-requires
     cast-weight
     lag-of-requires
     cast-lag

@@ -6,9 +6,9 @@ use Rattle.whole.specs.Integers.{sumTo}
 use Rattle.whole.proofs.Bounds.{computed, lt-taken}
 use Rattle.whole.proofs.Differences.{whole, all₃}
 use Rattle.model.specs.planning.Leg.{upper}
-use Rattle.profile.specs.Areas.{splitArea}
+use Rattle.areas.specs.Areas.{splitArea}
 use Rattle.profile.specs.Profiles.{legOf}
-use Rattle.profile.proofs.UpperSplits.{split-above}
+use Rattle.areas.proofs.UpperSplits.{split-above}
 use Rattle.envelopes.specs.Skips.{splitAt}
 use borrow.Author.Needs.{needs}
 use Rattle.envelopes.proofs.falls_short.Statement.{statement}

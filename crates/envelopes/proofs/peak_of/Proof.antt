@@ -11,7 +11,7 @@ use Rattle.whole.proofs.Bounds.{sfits, exactly, computed, back-id, cast-up, is-
 use Rattle.model.specs.planning.Leg.{Leg}
 use Rattle.model.proofs.legs.Envelopes.{Joined}
 use Rattle.envelopes.specs.Sums.{crossing, peakOf}
-use Rattle.profile.proofs.ThreeRegions.{up-some}
+use Rattle.regions.proofs.ThreeRegions.{up-some}
 use Rattle.envelopes.proofs.EnvelopeSums.{m-late}
 use borrow.Author.Needs.{needs}
 use Rattle.envelopes.proofs.peak_of.Statement.{statement}

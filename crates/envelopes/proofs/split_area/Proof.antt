@@ -6,7 +6,7 @@ use mir.Syntax.{w64}
 use mir.Val.{toZ, ofZ}
 use Rattle.whole.specs.Ranges.{Is}
 use Rattle.whole.proofs.Bounds.{sfits, within, exactly, exact, computed, is-of, then-is, cast-small}
-use Rattle.profile.specs.Areas.{rampArea, splitArea}
+use Rattle.areas.specs.Areas.{rampArea, splitArea}
 use borrow.Author.Needs.{needs}
 use Rattle.envelopes.proofs.split_area.Statement.{statement}
 use Rattle.envelopes.proofs.split_area.Tie as tie

@@ -15,7 +15,7 @@ use Rattle.whole.proofs.Bounds.{sfits, within, exactly, computed, cast-up, back
 use Rattle.model.specs.planning.Leg.{upper}
 use Rattle.profile.specs.declared.Profile.{Profile}
 use Rattle.profile.specs.Profiles.{legOf}
-use Rattle.profile.specs.Areas.{upperParts}
+use Rattle.areas.specs.Areas.{upperParts}
 use Rattle.least_limit.specs.Limits.{gainOf, PartsRanged}
 use Rattle.least_limit.proofs.FallsShort.{legWith, upperSum, falls-short, comes-up, parts-few}
 use Rattle.least_limit.proofs.lead.Statement.{statement}

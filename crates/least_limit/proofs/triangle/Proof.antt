@@ -3,7 +3,7 @@ use mathlib.Core.Path.{refl}
 use native.Mathlib.Omega.{arith}
 use native.Mathlib.Nat.{mul-le-mul}
 use borrow.Author.Needs.{needs}
-use Rattle.profile.specs.Areas as areas
+use Rattle.areas.specs.Areas as areas
 use Rattle.least_limit.proofs.triangle.Statement.{statement}
 use Rattle.least_limit.proofs.triangle.Tie as tie
 

@@ -21,8 +21,10 @@ fill-requires c κs =
       (
         plan-arrives (a .args .mask) (a .args .n) (a .args .axes) (plannable a) (p .result) (p .ensures) (a .pre .1 .0),
         (
-          plan-inside (a .args .mask) (a .args .n) (a .args .axes) (plannable a) (p .result) (p .ensures) (a .args .first) (a .args .rows) (a .pre .1 .1 .1 .0),
-          plan-fits (a .args .mask) (a .args .n) (a .args .axes) (plannable a) (p .result) (p .ensures) (a .args .rows) (a .args .table .now) (a .pre .1 .1 .1 .1),
+          plan-inside (a .args .mask) (a .args .n) (a .args .axes) (plannable a) (p .result) (p .ensures) (a .args .first)
+              (a .args .rows) (a .pre .1 .1 .1 .0),
+          plan-fits (a .args .mask) (a .args .n) (a .args .axes) (plannable a) (p .result) (p .ensures) (a .args .rows)
+              (a .args .table .now) (a .pre .1 .1 .1 .1),
         ),
       ),
     )

@@ -9,7 +9,7 @@ use lib.ListN.{length, getD, set, take, drop, length-set, length-map, getD-repli
 use lib.Seq.{length-take-le, getD-set-other}
 use Rattle.model.specs.declared.Axis.{Axis}
 use Rattle.model.specs.planning.Job.{setAxes}
-use Rattle.blended.specs.declared.AxisPlan.{AxisPlan}
+use Rattle.planned.specs.declared.AxisPlan.{AxisPlan}
 use Rattle.rows.specs.Plans.{unsetPlan, plansFor}
 use Rattle.rows.proofs.PlannableAxes.{AllPlannable, all-plannable, plannable-here, plannable-next}
 use Rattle.rows.proofs.FrontPlans.{plansFrom, plan-put, plan-left-out, plans-put}

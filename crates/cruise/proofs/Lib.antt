@@ -1,0 +1,4 @@
+pub mod ClimbSteps
+pub mod Engines
+pub mod Variation
+pub mod ChosenVariation

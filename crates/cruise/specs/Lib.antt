@@ -1,0 +1,3 @@
+pub mod Cruise
+pub mod Engines
+pub mod Variation

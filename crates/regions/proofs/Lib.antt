@@ -1,0 +1,2 @@
+pub mod ThreeRegions
+pub mod ChosenRegions
