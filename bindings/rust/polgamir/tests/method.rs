@@ -217,19 +217,20 @@ fn files_of(folder: &Path, endings: &[&str]) -> Vec<PathBuf> {
     files
 }
 
-/// Every file of definitions is named on the page and names a section of it; files
-/// that the page names are there.
+/// Every file of definitions but the contents of a folder is named on the page; files that METHOD
+/// and BUYERS name are there.
 #[test]
 fn definitions_and_sections_name_each_other() {
     let page = page();
     for file in files_of(&folder("crates/model/specs"), &["antt"]) {
         let name = file.file_name().and_then(|name| name.to_str()).expect("a name").to_string();
-        let text = fs::read_to_string(&file).expect("a file of definitions");
-        let cited = text.lines().take_while(|line| line.starts_with("--")).any(|line| line.contains("docs/METHOD.md"));
-        assert!(name == "Lib.antt" || (cited && page.contains(&format!("{name}`"))), "{name}");
+        let is_contents = name == "Lib.antt" || file.with_extension("").is_dir();
+        assert!(is_contents || page.contains(&format!("{name}`")), "{name}");
     }
-    for path in page.split('`').filter(|text| text.starts_with("crates/") && text.contains('.')) {
-        assert!(folder(path).exists(), "{path}");
+    for page in [page, fs::read_to_string(folder("docs").join("BUYERS.md")).expect("docs/BUYERS.md")] {
+        for path in page.split('`').filter(|text| text.starts_with("crates/") && text.contains('.')) {
+            assert!(path.starts_with("crates/NAME/") || folder(path).exists(), "{path}");
+        }
     }
 }
 
@@ -244,14 +245,11 @@ fn cited_sections_are_there() {
     let mut count = 0;
     for file in files_of(&folder("crates"), &["antt", "rt"]) {
         let text = fs::read_to_string(&file).expect("a source");
-        for cited in text.split("docs/METHOD.md, ").skip(1) {
+        let text: Vec<&str> = text.split_whitespace().filter(|word| !["--", "//"].contains(word)).collect();
+        for cited in text.join(" ").split("docs/METHOD.md, ").skip(1) {
             for number in numbers_cited(cited) {
-                assert!(
-                    is_there(&number),
-                    "{}: {number} of '{}'",
-                    file.display(),
-                    cited.lines().next().unwrap_or_default()
-                );
+                let begin: String = cited.chars().take(60).collect();
+                assert!(is_there(&number), "{}: {number} of '{begin}'", file.display());
                 count += 1;
             }
         }
