@@ -29,7 +29,8 @@
  * Time     On a 2.5 GHz core the longest search takes 2 microseconds, 10 where targets accelerate;
  *          the longest call, a table of 4,097 rows of six axes, 0.2 ms. To spread it over the
  *          turns of a servo: polgamir_search_job, then polgamir_plan_job_part.
- * Link     libpolgamir (-lpolgamir, pkg-config polgamir, CMake's package polgamir). It takes
+ * Link     lib/libpolgamir.a, or the shared library by -lpolgamir, pkg-config or CMake's package
+ *          polgamir; where it is not installed, add -Llib and -Wl,-rpath,FOLDER/lib. It takes
  *          memcpy and memset from outside, and 64-bit division and floats from the compiler's own
  *          library where the processor lacks them.
  *
