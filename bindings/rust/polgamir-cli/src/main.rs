@@ -1,8 +1,9 @@
-//! The command `polgamir`: it plans set-up sheets of jobs and tours, draws and reports the plans, turns
-//! sheets into job words and back, and reads a pole's sway from a recorded tap.
+//! The command `polgamir`: it plans set-up sheets of jobs and tours, draws and reports the plans,
+//! turns sheets into job words and back, and reads a pole's sway from a recorded tap.
 //!
-//! The proved library does the planning; this crate reads, writes and draws. `polgamir --help` lists
-//! the commands, `polgamir plan --help` the options of one, and docs/SHEET.md describes the sheet.
+//! The proved library does the planning; this crate reads, writes and draws. `polgamir --help`
+//! lists the commands, `polgamir plan --help` the options of one, and docs/SHEET.md describes the
+//! sheet.
 //!
 //! Exit status: 0 where it did what was asked, 1 where the planner refuses the job, 2 for a wrong
 //! sheet, wrong words, wrong usage or a file that cannot be read, 3 where the output cannot be

@@ -331,7 +331,8 @@ fn of_header() -> Vec<(String, String)> {
     refused.collect()
 }
 
-/// A row of the list as the header says it: the named case, the place where it is not 0, and what else is said.
+/// A row of the list as the header says it: the named case, the place where it is not 0, and what
+/// else is said.
 fn sentence(row: &[String]) -> String {
     let place = if row[2] == "0" { String::new() } else { format!(" place: {}.", row[2]) };
     let also = if row[3].is_empty() { String::new() } else { format!(" {}.", row[3]) };
