@@ -12,8 +12,8 @@ from reference import Axis, Job, Outcome, RestPoint, State, Windows, encode, pla
 
 LOWEST, HIGHEST = -2 ** 63, 2 ** 63 - 1     # the ends of a 64-bit signed number
 MOST = 2 ** 32 - 1                          # the end of a 32-bit unsigned one
-BUFFER = 73760                              # the cells of the buffer of the program `fieldcases`
-UNTOUCHED = -1234567890123                  # what each of them holds before a call
+UNTOUCHED = -1234567890123                  # what each lent cell holds before a call
+PRIME = 2 ** 31 - 1
 
 REST = RestPoint(0, 0)
 UNSET = Axis(REST, 0, 0, 0, 0, REST)        # a typed axis off the mask
@@ -35,6 +35,14 @@ def outcome(case: Case, lent: List[int]) -> Outcome:
     if case.words is not None:
         return plan_words(case.words, lent)
     return plan_typed(case.mask, case.asked, case.axes, lent, case.windows)
+
+
+def sum_of(cells: List[int]) -> int:
+    """31 times the sum so far, and twice the cell's size, one more below 0."""
+    total = 0
+    for x in cells:
+        total = (31 * total + 2 * (abs(x) % PRIME) + (x < 0)) % PRIME
+    return total
 
 
 class Group(NamedTuple):

@@ -1,7 +1,5 @@
-"""The cases that are run against the reference, in groups.
-
-`groups` gives those that the program `fieldcases` runs. What is expected of a
-case is never written here: the reference computes it.
+"""The cases that are run against the reference, in groups. What is expected of
+a case is never written here: the reference computes it.
 """
 
 import random
@@ -458,8 +456,3 @@ def mirrors() -> Group:
         cases += [typed(name + ', right', [one], asked, lent=180),
                   typed(name + ', left', [mirror(one)], asked, lent=180)]
     return Group('mirrors', 'Right and left: halves go away from zero.', cases)
-
-
-def groups() -> List[Group]:
-    return [field(), readings(), accepted(), corrected(), refused_words(), refused_values(), hostile(),
-            damping(), mirrors(), rails(), drawn(), drawn_damping(count=10), drawn_rails()]

@@ -18,12 +18,12 @@ import partcases
 import raisecases
 import searchcases
 import swaycases
-from builders import UNSET, Case, outcome
+from builders import UNSET, UNTOUCHED, Case, outcome, sum_of
 from damping import Peaks, Ratio
-from make_fieldcases import UNTOUCHED, rows_listed, sum_of
 from raises import AxisRaises
 from reference import Answer, Axis, State, Windows
 from search import Found, Nothing, Report
+from spelledcases import bracketed, other_spelling, respelled
 from tourcases import UNSET as UNSET_IN_TOUR, TourCase
 
 FOLDER = os.path.join(os.path.dirname(os.path.abspath(__file__)), 'vectors')
@@ -92,6 +92,21 @@ def answer_text(answer: Answer) -> str:
     return text('answer', *answer[:4])
 
 
+def rows_listed(answer: Answer) -> List[int]:
+    """The indices of some cells of a table: all of a small one, else those of
+    row 1, of a row in the middle and of the last row, for the first axis and
+    for the last."""
+    width = 3 * bin(answer.mask).count('1')
+    need = width * (answer.arrival + 1)
+    if need <= 18:
+        return list(range(need))
+    indices = []
+    for row in (1, answer.arrival // 2, answer.arrival):
+        ends = {row * width, row * width + width - 3}
+        indices += [first + k for first in sorted(ends) for k in range(3)]
+    return indices
+
+
 def table_text(answer: Answer, cells: List[int]) -> str:
     """The cells written, the sum over them, and some of them."""
     written = 3 * bin(answer.mask).count('1') * (answer.arrival + 1) if answer.number == 0 else 0
@@ -152,13 +167,37 @@ def part_line(case: partcases.PartCase) -> str:
 
 # --- Files -----------------------------------------------------------------
 
+def jobs_of(*groups) -> List[Case]:
+    return [case for group in groups for case in group.cases]
+
+
 def group_lines(*groups) -> List[str]:
-    return [plan_line(case) for group in groups for case in group.cases]
+    return [plan_line(case) for case in jobs_of(*groups)]
 
 
-def plan_lines() -> List[str]:
-    return group_lines(cases.field(), cases.readings(), cases.accepted(), cases.corrected(), cases.refused_words(),
-                       cases.refused_values(), cases.hostile(), cases.mirrors(), cases.drawn())
+def with_more(lines: List[str], more: List[str]) -> List[str]:
+    """With those whose call is not among the lines before it."""
+    calls, lines = {line.split(' | ')[1] for line in lines}, list(lines)
+    for line in more:
+        call = line.split(' | ')[1]
+        if call not in calls:
+            calls.add(call)
+            lines.append(line)
+    return lines
+
+
+def plan_jobs() -> List[Case]:
+    return jobs_of(cases.field(), cases.readings(), cases.accepted(), cases.corrected(), cases.refused_words(),
+                   cases.refused_values(), cases.hostile(), cases.mirrors(), cases.drawn())
+
+
+def spelled_lines() -> List[str]:
+    """The jobs of the files of tables in their other spelling: nothing that these have."""
+    jobs = plan_jobs() + jobs_of(cases.damping(), cases.drawn_damping(), cases.windows(), cases.drawn_windows(), cases.rails(),
+                                 cases.drawn_rails(), swaycases.sways(), swaycases.drawn_sways(), swaycases.words_cases())
+    stored = {text('plan', case.lent, job_text(case)) for case in jobs}
+    return [line for line in with_more([], [plan_line(case) for case in respelled(jobs)])
+            if line.split(' | ')[1] not in stored]
 
 
 def tour_lines() -> List[str]:
@@ -172,13 +211,14 @@ def damping_lines() -> List[str]:
 
 
 def sway_lines() -> List[str]:
-    jobs = swaycases.sways().cases + swaycases.drawn_sways().cases
-    return [plan_line(case) for case in jobs] + [tour_line(case)
-                                                 for case in swaycases.tours() + swaycases.drawn_sway_tours()]
+    jobs = swaycases.sways().cases + swaycases.drawn_sways().cases + swaycases.words_cases().cases
+    tours = swaycases.tours() + swaycases.drawn_sway_tours()
+    return [plan_line(case) for case in jobs] + [tour_line(case) for case in tours]
 
 
 def raises_lines() -> List[str]:
-    return [raises_line(case) for case in raisecases.raises_cases().cases + raisecases.drawn_raises().cases]
+    jobs = raisecases.raises_cases().cases + raisecases.drawn_raises().cases
+    return with_more([raises_line(case) for case in jobs], [raises_line(case) for case in respelled(jobs)])
 
 
 def convert_lines() -> List[str]:
@@ -186,12 +226,20 @@ def convert_lines() -> List[str]:
 
 
 def search_lines() -> List[str]:
-    return [search_line(case) for case in searchcases.searches() + searchcases.drawn_searches()]
+    searches = searchcases.searches() + searchcases.drawn_searches()
+    more = [case._replace(job=other_spelling(case.job)) for case in searches] + bracketed()
+    return with_more([search_line(case) for case in searches], [search_line(case) for case in more])
+
+
+def backward_line(case: Case) -> str:
+    return plan_line(case, 'backwards', backwardcases.turned)
 
 
 def backward_lines() -> List[str]:
+    """The cases of this call, these in their other spelling, and the jobs of `plans.txt`."""
     jobs = backwardcases.backward_cases().cases + backwardcases.drawn_backwards().cases
-    return [plan_line(case, 'backwards', backwardcases.turned) for case in jobs]
+    more = respelled(jobs) + plan_jobs()
+    return with_more([backward_line(case) for case in jobs], [backward_line(case) for case in more])
 
 
 def part_lines() -> List[str]:
@@ -199,7 +247,8 @@ def part_lines() -> List[str]:
 
 
 FILES = {
-    'plans.txt': ('Tables, and every refusal of a job.', plan_lines),
+    'plans.txt': ('Tables, and every refusal of a job.', lambda: [plan_line(case) for case in plan_jobs()]),
+    'spelled.txt': ('Jobs of the other files of tables in their other spelling, words or typed values.', spelled_lines),
     'tours.txt': ('A tour of stops (request 2.1).', tour_lines),
     'damping.txt': ('Damping as measured (request 2.3).', damping_lines),
     'windows.txt': ('Laser windows (request 2.5).', lambda: group_lines(cases.windows(), cases.drawn_windows())),

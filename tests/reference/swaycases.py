@@ -183,7 +183,7 @@ def tours() -> List[TourCase]:
 
 
 def words_cases() -> Group:
-    """What the program `fieldcases` runs of this request: jobs by words."""
+    """Jobs by words."""
     return Group('sways', 'A second half period by words of kind 13.',
                  layouts() + payloads() + longest() + [job('rows of both blends, by words', [ROWS], lent=18)])
 

@@ -1,5 +1,5 @@
-"""What is stored of the reference is what it gives: the cases for the tests from outside, and what
-the programs `engines` and `table` are to print."""
+"""What is stored of the reference is what it gives: the cases for the tests from outside, those of
+the program `fieldcases`, and what the programs `engines` and `table` are to print."""
 
 import sys
 import unittest
@@ -9,6 +9,7 @@ REPOSITORY = Path(__file__).resolve().parents[3]
 sys.path.insert(0, str(REPOSITORY / "tests" / "reference"))
 
 import engines
+import make_fieldcases
 import make_vectors
 import reference
 import sheets
@@ -18,6 +19,9 @@ class Stored(unittest.TestCase):
     def test_vectors(self):
         for name in make_vectors.FILES:
             self.assertTrue(make_vectors.is_stored(name), name)
+
+    def test_fieldcases(self):
+        self.assertTrue(make_fieldcases.is_stored())
 
     def test_sheets(self):
         self.assertTrue(sheets.is_stored())

@@ -85,7 +85,7 @@ fn tables_and_tours(file: &str) {
 
 #[test]
 fn tables() {
-    for file in ["plans.txt", "damping.txt", "windows.txt", "rails.txt", "tours.txt", "sway.txt"] {
+    for file in ["plans.txt", "spelled.txt", "damping.txt", "windows.txt", "rails.txt", "tours.txt", "sway.txt"] {
         tables_and_tours(file);
     }
 }

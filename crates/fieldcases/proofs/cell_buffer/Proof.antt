@@ -5,7 +5,7 @@ use Rattle.fieldcases.proofs.cell_buffer.Statement.{statement}
 use Rattle.fieldcases.proofs.cell_buffer.Tie as tie
 
 returns : tie.Need-returns
-returns c = sym (length-replicate {A = ℕ} 73760 18446742839141661493)
+returns c = sym (length-replicate {A = ℕ} 8192 18446742839141661493)
 
 pub cell-buffer-spec : {M : Type 1} → statement M
 cell-buffer-spec = tie.close (tie.spec returns)

@@ -5,12 +5,6 @@ use borrow.Author.Needs.{needs}
 use Rattle.fieldcases.proofs.lent.Statement.{statement}
 use Rattle.fieldcases.proofs.lent.Tie as tie
 
-nth-low-requires : tie.Need-nth-low-requires
-nth-low-requires c κs = search needs
-
-cast-at-most : tie.Need-cast-at-most
-cast-at-most c = search needs
-
 at-most-requires : tie.Need-at-most-requires
 at-most-requires c κs = search needs
 
@@ -18,7 +12,7 @@ slice-relend-prefix-called : tie.Need-slice-relend-prefix-called
 slice-relend-prefix-called c = search needs
 
 slice-aggregate-called : tie.Need-slice-aggregate-called
-slice-aggregate-called c = sym (length-take-le (c .before .at-most .result) (c .before .before .before .before .args .buffer .now) (omega arith))
+slice-aggregate-called c = sym (length-take-le (c .before .at-most .result) (c .before .before .before .args .buffer .now) (omega arith))
 
 called-requires : tie.Need-called-requires
 called-requires c κs = search needs
@@ -33,8 +27,6 @@ pub lent-spec : {M : Type 1} → statement M
 lent-spec =
     tie.close
     (tie.spec
-    nth-low-requires
-    cast-at-most
     at-most-requires
     slice-relend-prefix-called
     slice-aggregate-called

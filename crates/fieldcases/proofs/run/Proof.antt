@@ -1,18 +1,17 @@
 use mathlib.Core.Logic.{⊎-elim}
-use lib.ListN.{length}
 use Prim.Native.Nat.{_-_, _≤_}
 use borrow.Author.Needs.{needs}
 use Rattle.fieldcases.proofs.run.Statement.{statement}
 use Rattle.fieldcases.proofs.run.Tie as tie
 
 abbrev Inv-loop : tie.InvT-loop
-Inv-loop text count at₀ right₀ done₀ at right done = (right ≤ done) × (done ≤ count) × (at ≤ length text)
+Inv-loop text at₀ count right₀ done₀ at right done = (right ≤ done) × (done ≤ count)
 
 abbrev μ-loop : tie.MeasureT-loop
-μ-loop text count at₀ right₀ done₀ at right done = count - done
+μ-loop text at₀ count right₀ done₀ at right done = count - done
 
-nth-low-requires : tie.Need-nth-low-requires Inv-loop μ-loop
-nth-low-requires c κs = search needs
+next-low-requires : tie.Need-next-low-requires Inv-loop μ-loop
+next-low-requires c κs = search needs
 
 loop-holds : tie.Need-loop-holds Inv-loop μ-loop
 loop-holds c = search needs
@@ -47,7 +46,7 @@ run-spec =
     (tie.spec
     Inv-loop
     μ-loop
-    nth-low-requires
+    next-low-requires
     loop-holds
     print-name-requires
     run-case-requires

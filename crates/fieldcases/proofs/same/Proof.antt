@@ -4,10 +4,10 @@ use Rattle.fieldcases.proofs.same.Statement.{statement}
 use Rattle.fieldcases.proofs.same.Tie as tie
 
 abbrev Inv-loop : tie.InvT-loop
-Inv-loop a b i₀ i = i ≤ 5
+Inv-loop a b i₀ i = i ≤ 8
 
 abbrev μ-loop : tie.MeasureT-loop
-μ-loop a b i₀ i = 5 - i
+μ-loop a b i₀ i = 8 - i
 
 loop-holds : tie.Need-loop-holds Inv-loop μ-loop
 loop-holds c = search needs

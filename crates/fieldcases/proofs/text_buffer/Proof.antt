@@ -5,7 +5,7 @@ use Rattle.fieldcases.proofs.text_buffer.Statement.{statement}
 use Rattle.fieldcases.proofs.text_buffer.Tie as tie
 
 returns : tie.Need-returns
-returns c = sym (length-replicate {A = ℕ} 524288 0)
+returns c = sym (length-replicate {A = ℕ} 65536 0)
 
 pub text-buffer-spec : {M : Type 1} → statement M
 text-buffer-spec = tie.close (tie.spec returns)

@@ -1,0 +1,58 @@
+use lib.ListN.{length}
+use Prim.Native.Nat.{_-_, _≤_}
+use borrow.Author.Needs.{needs}
+use Rattle.fieldcases.proofs.printing.print.Statement.{statement}
+use Rattle.fieldcases.proofs.printing.print.Tie as tie
+
+abbrev Inv-loop : tie.InvT-loop
+Inv-loop text numbers at₀ i₀ at i = at ≤ length text
+
+abbrev μ-loop : tie.MeasureT-loop
+μ-loop text numbers at₀ i₀ at i = length numbers - i
+
+loop-holds : tie.Need-loop-holds Inv-loop μ-loop
+loop-holds c = search needs
+
+print-to-requires : tie.Need-print-to-requires Inv-loop μ-loop
+print-to-requires c κs = search needs
+
+mul-print-signed : tie.Need-mul-print-signed Inv-loop μ-loop
+mul-print-signed c = search needs
+
+shared-slice-copy-out-print-signed : tie.Need-shared-slice-copy-out-print-signed Inv-loop μ-loop
+shared-slice-copy-out-print-signed c = search needs
+
+print-signed-requires : tie.Need-print-signed-requires Inv-loop μ-loop
+print-signed-requires c κs = search needs
+
+add-i : tie.Need-add-i Inv-loop μ-loop
+add-i c = search needs
+
+loop-less : tie.Need-loop-less Inv-loop μ-loop
+loop-less c = search needs
+
+loop-again : tie.Need-loop-again Inv-loop μ-loop
+loop-again c = search needs
+
+print-to-requires-2 : tie.Need-print-to-requires-2 Inv-loop μ-loop
+print-to-requires-2 c κs = search needs
+
+returns : tie.Need-returns Inv-loop μ-loop
+returns c = search needs
+
+pub print-spec : {M : Type 1} → statement M
+print-spec =
+    tie.close
+    (tie.spec
+    Inv-loop
+    μ-loop
+    loop-holds
+    print-to-requires
+    mul-print-signed
+    shared-slice-copy-out-print-signed
+    print-signed-requires
+    add-i
+    loop-less
+    loop-again
+    print-to-requires-2
+    returns)
