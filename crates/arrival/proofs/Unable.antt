@@ -3,14 +3,11 @@ use Prim.Native.Nat.{ℕ, zero, suc, _+_, _/_, _%_, _^_, _<_, _≤_}
 use native.Mathlib.Omega.{arith}
 use mathlib.Core.Path.{_≡_, refl, sym, ap, _∙_}
 use mathlib.Core.Bool.{Bool, true, false, cond, not, false≢true}
-use mathlib.Core.Logic.{_⊎_, inl, inr}
 use mathlib.Core.Option.{Option, none, some}
 use mathlib.Core.List.{List, [], _∷_}
 use lib.ListN.{length}
 use lib.Dec.{eqb}
-use borrow.Author.Tests.{eq-eqb, ne-eqb}
-use Rattle.whole.proofs.Tests.{lt-or-le}
-use Rattle.envelopes.specs.Sums.{Next}
+use Rattle.reach.specs.Halving.{ReachesSome}
 use Rattle.model.specs.declared.Axis.{Axis}
 use Rattle.model.specs.planning.Motion.{reachable}
 use Rattle.model.specs.planning.Job.{JobAxis, setAxes, maskWhere}
@@ -32,24 +29,20 @@ module _ (x : Axis) where
       go true = refl
       go false = refl
 
-  -- one past the last stands for none
-  past-is-none : (n : ℕ) (o : Option ℕ) → Next (reachable x) 1 4096 n → Result (allReach alone) 1 4096 o
-      → eqb n 4097 ≡ elim o as (λ _. Bool) [ some n ↦ false | none ↦ true ]
-  past-is-none n none w h = go (lt-or-le n 4097)
-    where
-      go : (n < 4097) ⊎ (4097 ≤ n) → eqb n 4097 ≡ true
-      go (inl l) = absurd (h n (w .low) l (alone-is n ∙ w .passed (omega arith)))
-      go (inr l) = eq-eqb n 4097 (omega (arith, w .high))
-  past-is-none n (some m) w h = go (lt-or-le m n)
-    where
-      go : (m < n) ⊎ (n ≤ m) → eqb n 4097 ≡ false
-      go (inl l) = absurd (false≢true (sym (w .missed m (h .first) l) ∙ sym (alone-is m) ∙ h .passes))
-      go (inr l) = ne-eqb n 4097 (λ e. omega (arith, h .last))
+  none-reached : (r : Bool) (o : Option ℕ) → ReachesSome (reachable x) 4096 r → Result (allReach alone) 1 4096 o
+      → not r ≡ elim o as (λ _. Bool) [ some n ↦ false | none ↦ true ]
+  none-reached true none w h =
+      let k = w .some refl in
+      absurd (h (k .0) (k .1 .0) (omega (arith, k .1 .1 .0)) (alone-is (k .0) ∙ k .1 .1 .1))
+  none-reached false none w h = refl
+  none-reached true (some m) w h = refl
+  none-reached false (some m) w h =
+      absurd (false≢true (sym (w .none refl m (omega (arith, h .last))) ∙ sym (alone-is m) ∙ h .passes))
 
-  pub reaches-none : (n asked : ℕ) → asked ≡ 0 → Next (reachable x) 1 4096 n → eqb n 4097 ≡ cannotArrive asked x
+  pub reaches-none : (r : Bool) (asked : ℕ) → asked ≡ 0 → ReachesSome (reachable x) 4096 r → not r ≡ cannotArrive asked x
   unfolding cannotArrive
-  reaches-none n asked z w =
-      past-is-none n (leastArrival alone) w (result (allReach alone) 1 4096) ∙ sym (ap (λ (k : ℕ). cannotArrive k x) z)
+  reaches-none r asked z w =
+      none-reached r (leastArrival alone) w (result (allReach alone) 1 4096) ∙ sym (ap (λ (k : ℕ). cannotArrive k x) z)
 
 pub misses-asked : (asked : ℕ) (x : Axis) → (asked ≡ 0 → ⊥) → not (reachable x asked) ≡ cannotArrive asked x
 unfolding cannotArrive

@@ -13,7 +13,7 @@ use Rattle.whole.proofs.Tests.{and-yes, and-no, leb-no, lt-or-le}
 use Rattle.model.specs.planning.Leg.{Leg}
 use Rattle.model.proofs.legs.Envelopes.{Joined}
 use Rattle.profile.specs.Profiles.{endsAllowed, sumBetween}
-use Rattle.envelopes.specs.declared.Sums.{Sums}
+use Rattle.envelopes.specs.declared.sums.Sums.{Sums}
 use Rattle.envelopes.specs.Sums.{envelopeSumsAt, withinSums, withTicks, betweenAt, Next, NearFrom}
 use Rattle.profile.proofs.FeasibleParts.{joined-ends}
 

@@ -3,13 +3,14 @@
 use Prim.Native.Nat.{ℕ, suc, _+_, _-_, _≤_, _<_}
 use mathlib.Core.Path.{_≡_}
 use mathlib.Core.Bool.{Bool, true, false}
+use mathlib.Core.Logic.{_⊎_}
 use lib.IntN.{ℤ, pos, negℤ, _+ℤ_, _*ℤ_}
 use lib.Signed.{_<ℤ_}
 use Rattle.whole.specs.Integers.{sumTo}
 use Rattle.model.specs.planning.Leg.{Leg, upper}
 use Rattle.areas.specs.declared.Parts.{Parts}
 use Rattle.profile.specs.declared.Profile.{Profile}
-use Rattle.envelopes.specs.declared.Ramps.{Ramps}
+use Rattle.envelopes.specs.declared.skips.Ramps.{Ramps}
 use Rattle.envelopes.specs.Sums.{withTicks}
 
 -- ---- a test of candidates
@@ -17,6 +18,21 @@ use Rattle.envelopes.specs.Sums.{withTicks}
 -- where it holds it holds from there on
 abbrev pub Lasting : (ℕ → Bool) → ℕ → Type 0
 Lasting test first = (j k : ℕ) → first ≤ j → j ≤ k → test j ≡ true → test k ≡ true
+
+-- the same up to a last one
+abbrev pub LastingTo : (ℕ → Bool) → ℕ → ℕ → Type 0
+LastingTo test first last = (j k : ℕ) → first ≤ j → j ≤ k → k ≤ last → test j ≡ true → test k ≡ true
+
+-- r is so many further than low, where that does not pass and is not past the last; else low
+abbrev pub Further : (ℕ → Bool) → ℕ → ℕ → ℕ → ℕ → Type 0
+Further test last low step r =
+    ((r ≡ low + step) × ((r ≤ last) × (test r ≡ false))) ⊎ ((r ≡ low) × (low + step ≤ last → test (low + step) ≡ true))
+
+-- low does not pass, and the one so many further does unless it is past the last
+pub record Bracket (test : ℕ → Bool) (last low width : ℕ) : Type 0 where
+  pub high : low ≤ last
+  pub missed : test low ≡ false
+  pub passed : low + width ≤ last → test (low + width) ≡ true
 
 -- none from first on and before r passes
 pub record Skips (test : ℕ → Bool) (first last r : ℕ) : Type 0 where

@@ -9,7 +9,7 @@ use lib.Signed.{leZ}
 use Rattle.whole.specs.Integers.{least, greatest, sumTo}
 use Rattle.whole.specs.Ranges.{Within}
 use Rattle.model.specs.planning.Leg.{Leg, upper, lower}
-use Rattle.envelopes.specs.declared.Sums.{Sums}
+use Rattle.envelopes.specs.declared.sums.Sums.{Sums}
 use Rattle.profile.specs.Profiles.{endsAllowed, sumBetween}
 
 -- the last tick at which the ramp up from s is not above the ramp down to e, of t ticks, at limit a a tick

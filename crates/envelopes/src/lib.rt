@@ -1,127 +1,103 @@
 // Envelope sums (docs/METHOD.md, section 11): the sums of both envelopes of a leg, carried to the leg that has one tick more by a step without a loop;
 // and by them the least number of ticks in which a displacement can be made. Numbers of ticks that surely fall short are passed over first, by areas that are
-// no smaller than an envelope's.
+// no smaller than an envelope's. And whether a displacement can be made in a number of ticks, by one area.
+mod one_envelope;
+mod skips;
+mod sums;
+
+pub use one_envelope::makes;
 use profile::Profile;
-ghost use Prim.Native.Nat.{_+_, _-_, _*_, _/_, _^_, _≤_, _<_, min};
+use skips::STRETCH;
+use skips::lesser;
+use skips::skip_missed;
+use skips::with_ticks;
+use sums::envelope_sums;
+use sums::step;
+use sums::within_sums;
+ghost use Prim.Native.Nat.{_*_, _^_, _≤_, _<_};
 ghost use mathlib.Core.Path.{_≡_};
-ghost use mathlib.Core.Bool.{true};
-ghost use lib.IntN.{pos, natAbs, _+ℤ_, _-ℤ_, _*ℤ_};
-ghost use Rattle.whole.specs.Ranges.{Within, Is};
-ghost use Rattle.areas.specs.Areas.{splitArea};
+ghost use mathlib.Core.Bool.{false};
+ghost use lib.IntN.{natAbs};
+ghost use Rattle.whole.specs.Ranges.{Within};
 ghost use Rattle.profile.specs.Profiles.{legOf, Ranged, Joinable};
-ghost use Rattle.envelopes.specs.Sums.{peakOf, troughOf, envelopeSumsAt, stepped, SumsRanged, Next, withinSums, betweenAt, NearFrom, withTicks};
-ghost use Rattle.envelopes.specs.Skips.{Short, ShortTo, GallopsTo, Skips, Lasting, RampsRanged, splitAt, lengthened, turnedAbout};
+ghost use Rattle.envelopes.specs.Sums.{Next, betweenAt, NearFrom};
+ghost use Rattle.envelopes.specs.Skips.{Lasting, Further};
 
-// The sums of both envelopes over ticks 1 to the last but one of a leg, and the velocities that come to them with one and with two ticks more,
-// before the speed limit is heeded.
-struct Sums {
-    pub lowest: i64,
-    pub highest: i64,
-    pub trough: i64,
-    pub later_trough: i64,
-    pub peak: i64,
-    pub later_peak: i64,
-}
+// No leg has more ticks: twelve turns halve them down to one.
+const WIDEST_SPAN: u64 = 4096;
 
-// ---- the sums
+// ---- by halving
 
-// The velocity that comes to the upper envelope of ramps from `start` and to `end` with one tick more, before the speed limit is heeded.
-fn peak_of(limit: u64, start: i64, end: i64, ticks: u64) -> i64
-    requires { ⌜ 0 < limit ⌝ }
-    requires { ⌜ limit ≤ 2 ^ 33 ⌝ }
-    requires { ⌜ Within (2 ^ 37) start ⌝ }
-    requires { ⌜ Within (2 ^ 37) end ⌝ }
-    requires { ⌜ ticks ≤ 4097 ⌝ }
-    requires { ⌜ Within (limit * ticks) (end -ℤ start) ⌝ }
-    ensures { λ r. ⌜ Is (2 ^ 47) r (peakOf limit start end ticks) ⌝ }
-{
-    let way = end - start + profile::change_after(limit, ticks);
-    let crossing = way as u64 / (2 * limit);
-    let rising = start + profile::change_after(limit, crossing + 1);
-    let falling = end + profile::change_after(limit, ticks - crossing);
-    whole::least(rising, falling)
-}
-
-// The same of the lower envelope.
-fn trough_of(limit: u64, start: i64, end: i64, ticks: u64) -> i64
-    requires { ⌜ 0 < limit ⌝ }
-    requires { ⌜ limit ≤ 2 ^ 33 ⌝ }
-    requires { ⌜ Within (2 ^ 37) start ⌝ }
-    requires { ⌜ Within (2 ^ 37) end ⌝ }
-    requires { ⌜ ticks ≤ 4097 ⌝ }
-    requires { ⌜ Within (limit * ticks) (end -ℤ start) ⌝ }
-    ensures { λ r. ⌜ Is (2 ^ 47) r (troughOf limit start end ticks) ⌝ }
-{
-    let peak = peak_of(limit, -start, -end, ticks);
-    -peak
-}
-
-// The envelope sums of a profile, with no tick visited.
-fn envelope_sums(p: Profile) -> Sums
+// Whether t ticks will do: the sum, which changes by `change` a tick, is between the areas under the two envelopes.
+fn will_do(p: Profile, sum: i64, change: i64, t: u64) -> bool
     requires { ⌜ Joinable p ⌝ }
-    ensures { λ r. ⌜ r ≡ envelopeSumsAt (legOf p) ⌝ }
+    requires { ⌜ Within (2 ^ 62) sum ⌝ }
+    requires { ⌜ Within (2 ^ 37) change ⌝ }
+    requires { ⌜ p .ticks ≤ t ⌝ }
+    requires { ⌜ t ≤ 4096 ⌝ }
+    ensures { λ r. ⌜ r ≡ betweenAt (legOf p) sum change t ⌝ }
 {
-    let start = p.start;
-    let end = p.end;
-    let limit = p.acceleration_limit;
-    let ticks = p.ticks;
-    let lowest = areas::area_at(p, profile::negative(p.speed_limit));
-    let highest = areas::area_at(p, profile::signed(p.speed_limit));
-    let trough = trough_of(limit, start, end, ticks);
-    let later_trough = trough_of(limit, start, end, ticks + 1);
-    let peak = peak_of(limit, start, end, ticks);
-    let later_peak = peak_of(limit, start, end, ticks + 1);
-    Sums {
-        lowest: lowest,
-        highest: highest,
-        trough: trough,
-        later_trough: later_trough,
-        peak: peak,
-        later_peak: later_peak,
-    }
+    let later = (t - p.ticks) as i64;
+    let longer = with_ticks(p, t);
+    within_sums(envelope_sums(longer), sum + later * change)
 }
 
-// The envelope sums of one tick more, at a speed limit and an acceleration limit: no loop and no division.
-fn step(r: Sums, limit: i64, change: i64) -> Sums
-    requires { ⌜ SumsRanged r ⌝ }
-    requires { ⌜ Within (2 ^ 37) limit ⌝ }
-    requires { ⌜ Within (2 ^ 33) change ⌝ }
-    ensures { λ x. ⌜ x ≡ stepped limit change r ⌝ }
+// `step` ticks more than `low`, where that is not past the last and will not do; else `low`.
+fn further(p: Profile, sum: i64, change: i64, last: u64, low: u64, step: u64) -> u64
+    requires { ⌜ Joinable p ⌝ }
+    requires { ⌜ Within (2 ^ 62) sum ⌝ }
+    requires { ⌜ Within (2 ^ 37) change ⌝ }
+    requires { ⌜ last ≤ 4096 ⌝ }
+    requires { ⌜ p .ticks ≤ low ⌝ }
+    requires { ⌜ low ≤ last ⌝ }
+    requires { ⌜ step ≤ 4096 ⌝ }
+    ensures { λ r. ⌜ Further (betweenAt (legOf p) sum change) last low step r ⌝ }
 {
-    let lowest = r.lowest;
-    let highest = r.highest;
-    let trough = r.trough;
-    let peak = r.peak;
-    Sums {
-        lowest: lowest + whole::greatest(-limit, trough),
-        highest: highest + whole::least(limit, peak),
-        trough: r.later_trough,
-        later_trough: trough - change,
-        peak: r.later_peak,
-        later_peak: peak + change,
+    let next = low + step;
+    if next <= last {
+        if will_do(p, sum, change, next) {
+            return low;
+        }
+        return next;
     }
+    low
 }
 
-// Whether a sum is between the sums of the two envelopes.
-fn within_sums(r: Sums, sum: i64) -> bool
-    ensures { λ b. ⌜ b ≡ withinSums r sum ⌝ }
+// The least number of ticks to the last that will do, or one past the last, where one that will not is known: each turn halves what is left.
+fn next_by_halving(p: Profile, sum: i64, change: i64, missed: u64, last: u64) -> u64
+    requires { ⌜ Joinable p ⌝ }
+    requires { ⌜ Within (2 ^ 62) sum ⌝ }
+    requires { ⌜ Within (2 ^ 37) change ⌝ }
+    requires { ⌜ p .ticks ≤ missed ⌝ }
+    requires { ⌜ missed ≤ last ⌝ }
+    requires { ⌜ last ≤ 4096 ⌝ }
+    requires { ⌜ Lasting (betweenAt (legOf p) sum change) (p .ticks) ⌝ }
+    requires { ⌜ betweenAt (legOf p) sum change missed ≡ false ⌝ }
+    ensures { λ r. ⌜ Next (betweenAt (legOf p) sum change) (p .ticks) last r ⌝ }
 {
-    let low = r.lowest;
-    let high = r.highest;
-    if low <= sum {
-        return sum <= high;
+    let mut low = missed;
+    let mut width = WIDEST_SPAN;
+    while 1 < width {
+        let half = width - width / 2;
+        let next = further(p, sum, change, last, low, half);
+        low = next;
+        width = half;
     }
-    false
+    low + 1
 }
+
+// ---- by sums
 
 // The least number of ticks, from those of a profile to the last, at which a sum that changes by `change` a tick is between the sums of the two
-// envelopes; or one past the last. The ends of the profile can be joined.
+// envelopes; or one past the last. The ends of the profile can be joined, and a number of ticks that will do is followed by others that will. The sums are carried
+// over a stretch, and the rest is halved.
 fn next_between(p: Profile, sum: i64, change: i64, last: u64) -> u64
     requires { ⌜ Joinable p ⌝ }
     requires { ⌜ Within (2 ^ 62) sum ⌝ }
     requires { ⌜ Within (2 ^ 37) change ⌝ }
     requires { ⌜ p .ticks ≤ last ⌝ }
     requires { ⌜ last ≤ 4096 ⌝ }
+    requires { ⌜ Lasting (betweenAt (legOf p) sum change) (p .ticks) ⌝ }
     ensures { λ r. ⌜ Next (betweenAt (legOf p) sum change) (p .ticks) last r ⌝ }
 {
     let first = envelope_sums(p);
@@ -131,7 +107,8 @@ fn next_between(p: Profile, sum: i64, change: i64, last: u64) -> u64
     let mut sums = first;
     let mut wanted = sum;
     let mut t = p.ticks;
-    while t <= last {
+    let stop = lesser(p.ticks + STRETCH, last);
+    while t <= stop {
         if within_sums(sums, wanted) {
             return t;
         }
@@ -144,7 +121,10 @@ fn next_between(p: Profile, sum: i64, change: i64, last: u64) -> u64
         wanted = wanted + change;
         t += 1;
     }
-    t
+    if last < t {
+        return t;
+    }
+    next_by_halving(p, sum, change, stop, last)
 }
 
 // The least number of ticks, from those of a profile on, at which its ends are near enough to one another.
@@ -161,251 +141,6 @@ fn near_tick(p: Profile) -> u64
         return ticks;
     }
     first
-}
-
-// ---- numbers of ticks that surely fall short
-
-// So many ticks are tried by sums before it is asked whether a leg falls short.
-const STRETCH: u64 = 64;
-
-// The widest leap over numbers of ticks that fall short, and the narrowest: each leap is half as wide as the one before.
-const WIDEST_LEAP: u64 = 2048;
-
-const NARROWEST_LEAP: u64 = 8;
-
-// How a leg's ticks are split for an area that is no smaller than its upper envelope's: the most on the ramp from the start and on the one to the end, and by how
-// many the first ramp has more or fewer of them than the other. However they are split, the area will do; this split is nearly the envelope's own.
-struct Ramps {
-    pub rise: u64,
-    pub fall: u64,
-    pub ahead: u64,
-    pub behind: u64,
-}
-
-fn lesser(a: u64, b: u64) -> u64
-    ensures { λ r. ⌜ r ≡ min a b ⌝ }
-{
-    if a < b {
-        return a;
-    }
-    b
-}
-
-// Half of what n is more than m.
-fn half_more(n: u64, m: u64) -> u64
-    ensures { λ r. ⌜ r ≡ (n - m) / 2 ⌝ }
-{
-    if n < m {
-        return 0;
-    }
-    (n - m) / 2
-}
-
-// The profile with another number of ticks.
-fn with_ticks(p: Profile, ticks: u64) -> Profile
-    requires { ⌜ Ranged p ⌝ }
-    ensures { λ r. ⌜ r ≡ lengthened p ticks ⌝ }
-{
-    let start = p.start;
-    let end = p.end;
-    Profile {
-        speed_limit: p.speed_limit,
-        acceleration_limit: p.acceleration_limit,
-        start: start,
-        end: end,
-        ticks: ticks,
-    }
-}
-
-// The profile with every sign turned: its upper envelope mirrors the lower one.
-fn mirrored(p: Profile) -> Profile
-    requires { ⌜ Ranged p ⌝ }
-    ensures { λ r. ⌜ r ≡ turnedAbout p ⌝ }
-{
-    let start = p.start;
-    let end = p.end;
-    Profile {
-        speed_limit: p.speed_limit,
-        acceleration_limit: p.acceleration_limit,
-        start: -start,
-        end: -end,
-        ticks: p.ticks,
-    }
-}
-
-// The ticks of a ramp from a velocity to a limit.
-fn ramp_room(limit: i64, v: i64, steep: u64) -> u64
-    requires { ⌜ Within (2 ^ 37) limit ⌝ }
-    requires { ⌜ Within (2 ^ 37) v ⌝ }
-    requires { ⌜ 0 < steep ⌝ }
-    ensures { λ r. ⌜ r ≤ 4096 ⌝ }
-{
-    lesser(whole::size(limit - v) / steep, 4096)
-}
-
-fn ramps_of(p: Profile) -> Ramps
-    requires { ⌜ Ranged p ⌝ }
-    requires { ⌜ 0 < p .«acceleration_limit» ⌝ }
-    ensures { λ r. ⌜ RampsRanged r ⌝ }
-{
-    let start = p.start;
-    let end = p.end;
-    let limit = profile::signed(p.speed_limit);
-    let rise = ramp_room(limit, start, p.acceleration_limit);
-    if start == end {
-        return Ramps {
-            rise: rise,
-            fall: rise,
-            ahead: 0,
-            behind: 0,
-        };
-    }
-    let fall = ramp_room(limit, end, p.acceleration_limit);
-    let lean = ramp_room(end, start, p.acceleration_limit);
-    if start < end {
-        return Ramps {
-            rise: rise,
-            fall: fall,
-            ahead: lean,
-            behind: 0,
-        };
-    }
-    Ramps {
-        rise: rise,
-        fall: fall,
-        ahead: 0,
-        behind: lean,
-    }
-}
-
-// The area of a ramp up from the start, a level part at the speed limit and a ramp down to the end.
-fn split_area(p: Profile, rising: u64, falling: u64) -> i64
-    requires { ⌜ Ranged p ⌝ }
-    requires { ⌜ rising + falling < p .ticks ⌝ }
-    ensures { λ r. ⌜ Is (2 ^ 60) r (splitArea (legOf p) (splitAt p rising falling)) ⌝ }
-{
-    let level = (p.ticks - 1 - rising - falling) as i64;
-    let start = p.start;
-    let end = p.end;
-    let limit = profile::signed(p.speed_limit);
-    let steep = profile::signed(p.acceleration_limit);
-    let first = areas::ramp_area(start, steep, rising);
-    let last = areas::ramp_area(end, steep, falling);
-    first + level * limit + last
-}
-
-// Whether the upper envelope of a leg surely has too little for a sum.
-fn falls_short(p: Profile, sum: i64, r: Ramps) -> bool
-    requires { ⌜ Ranged p ⌝ }
-    requires { ⌜ 0 < p .ticks ⌝ }
-    requires { ⌜ Within (2 ^ 62) sum ⌝ }
-    requires { ⌜ RampsRanged r ⌝ }
-    ensures { λ b. ⌜ (b ≡ true → Short (legOf p) sum) ⌝ }
-{
-    let inner = p.ticks - 1;
-    let half = half_more(p.ticks + r.ahead, r.behind);
-    let rising = lesser(lesser(r.rise, half), inner);
-    let falling = lesser(r.fall, inner - rising);
-    split_area(p, rising, falling) < sum
-}
-
-// The same of the leg with t ticks, for a sum that changes by `change` a tick.
-fn short_at(p: Profile, sum: i64, change: i64, t: u64, r: Ramps) -> bool
-    requires { ⌜ Ranged p ⌝ }
-    requires { ⌜ 0 < p .ticks ⌝ }
-    requires { ⌜ Within (3 * 2 ^ 60) sum ⌝ }
-    requires { ⌜ Within (2 ^ 37) change ⌝ }
-    requires { ⌜ p .ticks ≤ t ⌝ }
-    requires { ⌜ t ≤ 4096 ⌝ }
-    requires { ⌜ RampsRanged r ⌝ }
-    ensures { λ b. ⌜ (b ≡ true → Short (withTicks (legOf p) t) (sum +ℤ pos (t - p .ticks) *ℤ change)) ⌝ }
-{
-    let later = (t - p.ticks) as i64;
-    falls_short(with_ticks(p, t), sum + later * change, r)
-}
-
-// A number of ticks that falls short: `step` more than t, or t where that is past the last or may not fall short.
-fn leapt(p: Profile, sum: i64, change: i64, last: u64, r: Ramps, t: u64, step: u64) -> u64
-    requires { ⌜ Ranged p ⌝ }
-    requires { ⌜ 0 < p .ticks ⌝ }
-    requires { ⌜ Within (3 * 2 ^ 60) sum ⌝ }
-    requires { ⌜ Within (2 ^ 37) change ⌝ }
-    requires { ⌜ last ≤ 4096 ⌝ }
-    requires { ⌜ RampsRanged r ⌝ }
-    requires { ⌜ step ≤ 2048 ⌝ }
-    requires { ⌜ GallopsTo (legOf p) sum change last t ⌝ }
-    ensures { λ n. ⌜ GallopsTo (legOf p) sum change last n ⌝ }
-{
-    let next = t + step;
-    if next <= last {
-        if short_at(p, sum, change, next, r) {
-            return next;
-        }
-    }
-    t
-}
-
-// The greatest number of ticks that was found to fall short, by leaps from one that does.
-fn gallop(p: Profile, sum: i64, change: i64, last: u64, r: Ramps, from: u64) -> u64
-    requires { ⌜ Ranged p ⌝ }
-    requires { ⌜ 0 < p .ticks ⌝ }
-    requires { ⌜ Within (3 * 2 ^ 60) sum ⌝ }
-    requires { ⌜ Within (2 ^ 37) change ⌝ }
-    requires { ⌜ last ≤ 4096 ⌝ }
-    requires { ⌜ RampsRanged r ⌝ }
-    requires { ⌜ GallopsTo (legOf p) sum change last from ⌝ }
-    ensures { λ n. ⌜ GallopsTo (legOf p) sum change last n ⌝ }
-{
-    let mut t = from;
-    let mut step = WIDEST_LEAP;
-    while NARROWEST_LEAP <= step {
-        let next = leapt(p, sum, change, last, r, t, step);
-        t = next;
-        step = step / 2;
-    }
-    t
-}
-
-// One more than a number of ticks that falls short, or the profile's own number.
-fn skip_short(p: Profile, sum: i64, change: i64, last: u64) -> u64
-    requires { ⌜ Ranged p ⌝ }
-    requires { ⌜ 0 < p .«acceleration_limit» ⌝ }
-    requires { ⌜ 0 < p .ticks ⌝ }
-    requires { ⌜ Within (3 * 2 ^ 60) sum ⌝ }
-    requires { ⌜ Within (2 ^ 37) change ⌝ }
-    requires { ⌜ p .ticks + 64 ≤ last ⌝ }
-    requires { ⌜ last ≤ 4096 ⌝ }
-    ensures { λ n. ⌜ ShortTo (legOf p) sum change last n ⌝ }
-{
-    let r = ramps_of(p);
-    let far = p.ticks + STRETCH;
-    if short_at(p, sum, change, far, r) {
-        return gallop(p, sum, change, last, r, far) + 1;
-    }
-    p.ticks
-}
-
-// A number of ticks, from those of a profile on, before which none will do: only one of the two envelopes can fall short, the upper one where the sum is at least
-// that of the straight line from one end to the other.
-fn skip_missed(p: Profile, sum: i64, change: i64, last: u64) -> u64
-    requires { ⌜ Joinable p ⌝ }
-    requires { ⌜ Within (3 * 2 ^ 60) sum ⌝ }
-    requires { ⌜ Within (2 ^ 37) change ⌝ }
-    requires { ⌜ p .ticks ≤ last ⌝ }
-    requires { ⌜ last ≤ 4096 ⌝ }
-    requires { ⌜ Lasting (betweenAt (legOf p) sum change) (p .ticks) ⌝ }
-    ensures { λ r. ⌜ Skips (betweenAt (legOf p) sum change) (p .ticks) last r ⌝ }
-{
-    if last < p.ticks + STRETCH {
-        return p.ticks;
-    }
-    let inner = (p.ticks - 1) as i64;
-    let start = p.start;
-    let end = p.end;
-    if inner * (start + end) <= 2 * sum {
-        return skip_short(p, sum, change, last);
-    }
-    skip_short(mirrored(p), -sum, -change, last)
 }
 
 // ---- the next number of ticks

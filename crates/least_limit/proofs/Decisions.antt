@@ -29,8 +29,8 @@ use Rattle.model.proofs.legs.WholeSum.{sum-is-whole}
 use Rattle.envelopes.proofs.EnvelopeSums.{mirrored}
 use Rattle.least_limit.specs.Limits.{enough, TaskRanged}
 use Rattle.least_limit.specs.Tasks.{taskWith, fastestOf, TaskIs}
-use Rattle.least_limit.proofs.Mirrors.{same-truth, feasible-mirrored}
-use Rattle.least_limit.proofs.StraightLine.{above-lower}
+use Rattle.envelopes.proofs.Mirrors.{same-truth, feasible-mirrored}
+use Rattle.envelopes.proofs.StraightLine.{above-lower}
 
 -- ---- a leg, whose displacement is d and whose velocity at the arrival is w
 

@@ -1,4 +1,2 @@
 pub mod FallsShort
-pub mod Mirrors
-pub mod StraightLine
 pub mod Decisions

@@ -90,17 +90,3 @@ pub record ProfileIs (x : Axis) (n : ℕ) (r : Profile) : Type 0 where
   pub ranged : Ranged r
   pub acceleration : 0 < r .«acceleration_limit»
   pub some : 0 < r .ticks
-
--- ---- from one arrival to the next, where the target does not accelerate: by how much the required sum changes
-
-abbrev pub speedOf : Target → ℤ
-speedOf (Fixed r) = r .velocity
-speedOf (Moving m) = m .velocity
-
--- in fine steps, and on the axis's grid
-abbrev pub driftOf : Target → ℤ
-driftOf (Fixed r) = pos 0
-driftOf (Moving m) = pos fineSteps *ℤ m .velocity
-
-abbrev pub drift : Axis → ℤ
-drift x = onGrid x (driftOf (x .target))

@@ -6,13 +6,13 @@ use Rattle.arrival.proofs.Unable.{reaches-none, misses-asked}
 use Rattle.arrival.proofs.cannot_arrive.Statement.{statement}
 use Rattle.arrival.proofs.cannot_arrive.Tie as tie
 
-next-reached-requires : tie.Need-next-reached-requires
-next-reached-requires c κs = (c .before .pre .0, (omega arith, omega arith))
+reaches-some-requires : tie.Need-reaches-some-requires
+reaches-some-requires c κs = (c .before .pre .0, omega arith)
 
 returns : tie.Need-returns
 returns c =
     let a = c .before .before .args in
-    reaches-none (a .axis) (c .next-reached .result) (a .asked) (c .before .if1 .taken) (c .next-reached .ensures)
+    reaches-none (a .axis) (c .reaches-some .result) (a .asked) (c .before .if1 .taken) (c .reaches-some .ensures)
 
 reaches-requires : tie.Need-reaches-requires
 reaches-requires c κs = search needs
@@ -23,4 +23,4 @@ returns-2 c =
     ap not (c .reaches .ensures) ∙ misses-asked (a .asked) (a .axis) (c .before .if1 .left)
 
 pub cannot-arrive-spec : {M : Type 1} → statement M
-cannot-arrive-spec = tie.close (tie.spec next-reached-requires returns reaches-requires returns-2)
+cannot-arrive-spec = tie.close (tie.spec reaches-some-requires returns reaches-requires returns-2)

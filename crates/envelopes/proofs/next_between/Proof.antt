@@ -1,5 +1,5 @@
 use Prim.Native.Nat.{ℕ, _+_, _-_, _*_, _^_, _≤_, _<_}
-use mathlib.Core.Path.{_≡_, sym, ap, subst, _∙_}
+use mathlib.Core.Path.{_≡_, sym, ap, subst, subst₂, _∙_}
 use mathlib.Core.Bool.{Bool, false}
 use native.Mathlib.Numerals.{add-one}
 use native.Mathlib.Omega.{arith}
@@ -12,6 +12,7 @@ use Rattle.whole.proofs.Laws.{natAbs-+}
 use Rattle.model.proofs.legs.Envelopes.{Joined}
 use Rattle.profile.specs.Profiles.{legOf}
 use Rattle.envelopes.specs.Sums.{envelopeSumsAt, stepped, SumsRanged, withTicks, Next, betweenAt}
+use Rattle.envelopes.specs.Skips.{Lasting}
 use Rattle.profile.proofs.FeasibleParts.{ends-joined}
 use Rattle.envelopes.proofs.EnvelopeSums.{more-ticks, step-is, sums-ranged}
 use Rattle.envelopes.proofs.NextTicks.{between-is, wanted-first, wanted-next, missed-next}
@@ -19,10 +20,12 @@ use Rattle.envelopes.proofs.next_between.Statement.{statement}
 use Rattle.envelopes.proofs.next_between.Tie as tie
 
 abbrev Inv-loop : tie.InvT-loop
-Inv-loop p sum change last sums₀ wanted₀ t₀ sums wanted t =
+Inv-loop p sum change last sums₀ wanted₀ t₀ stop sums wanted t =
     record {
       low : p .ticks ≤ t;
-      high : t ≤ last + 1;
+      start : p .ticks ≤ stop;
+      end : stop ≤ last;
+      high : t ≤ stop + 1;
       are : sums ≡ envelopeSumsAt (withTicks (legOf p) t);
       is : toZ w64 wanted ≡ toZ w64 sum +ℤ pos (t - p .ticks) *ℤ toZ w64 change;
       small : natAbs (toZ w64 wanted) ≤ 2 ^ 62 + t * 2 ^ 37;
@@ -30,7 +33,7 @@ Inv-loop p sum change last sums₀ wanted₀ t₀ sums wanted t =
     }
 
 abbrev μ-loop : tie.MeasureT-loop
-μ-loop p sum change last sums₀ wanted₀ t₀ sums wanted t = last + 1 - t
+μ-loop p sum change last sums₀ wanted₀ t₀ stop sums wanted t = stop + 1 - t
 
 joined : (a : tie.Start Inv-loop μ-loop) (t : ℕ) → a .args .p .ticks ≤ t → Joined (withTicks (legOf (a .args .p)) t)
 joined a t h = let g = legOf (a .args .p) in more-ticks g t (ends-joined g (a .pre .0 .ends)) h
@@ -75,14 +78,22 @@ returns c =
           ∙ c .if1 .taken;
     })
 
+add-lesser : tie.Need-add-lesser Inv-loop μ-loop
+add-lesser c = omega (arith, c .before .before .before .before .pre .0 .ranged .ticks)
+
+lesser-requires : tie.Need-lesser-requires Inv-loop μ-loop
+lesser-requires c κs = tt
+
 loop-holds : tie.Need-loop-holds Inv-loop μ-loop
 loop-holds c =
-    let r = c .before .before in
+    let r = c .before .before .before .before in
     let a = r .before in
     let w : Within (2 ^ 62) (sum a) = within (search exact depth 9) tt in
     record {
       low = omega arith;
-      high = omega (arith, a .pre .1 .1 .1 .0);
+      start = omega (arith, c .lesser .ensures, a .pre .1 .1 .1 .0);
+      end = omega (arith, c .lesser .ensures);
+      high = omega (arith, c .lesser .ensures, a .pre .1 .1 .1 .0);
       are = r .envelope-sums .ensures;
       is = wanted-first (sum a) (change a) (a .args .p .ticks);
       small = omega (arith, w .within);
@@ -94,7 +105,7 @@ within-sums-requires-2 c κs = tt
 
 -- the test of a candidate
 abbrev start : tie.After-within-sums2 Inv-loop μ-loop → tie.Start Inv-loop μ-loop
-start c = c .before .before .before .before .before .before
+start c = c .before .before .before .before .before .before .before .before
 
 tested : (c : tie.After-within-sums2 Inv-loop μ-loop)
     → c .within-sums2 .result ≡ betweenAt (legOf (start c .args .p)) (sum (start c)) (change (start c)) (c .before .before .loop .t)
@@ -109,7 +120,7 @@ returns-2 c =
     let b = c .before in
     let l = b .before .before .loop in
     given (start b) (l .t)
-    (record { low = l .inv .low; high = omega (arith, l .inv .high); missed = l .inv .missed; passed = λ h. sym (tested b) ∙ c .if2 .taken })
+    (record { low = l .inv .low; high = omega (arith, l .inv .high, l .inv .end); missed = l .inv .missed; passed = λ h. sym (tested b) ∙ c .if2 .taken })
 
 signed-requires : tie.Need-signed-requires Inv-loop μ-loop
 signed-requires c κs = omega (arith, start (c .before) .pre .0 .ranged .«speed_limit»)
@@ -133,7 +144,7 @@ step-requires c κs =
     let l = b .before .before .loop in
     let longer = joined a (l .t) (l .inv .low) in
     let ranged = sums-ranged (withTicks (legOf (a .args .p)) (l .t)) longer (a .pre .0 .acceleration) (r .«speed_limit») (r .«acceleration_limit») in (
-      subst SumsRanged (sym (l .inv .are)) (ranged (omega (arith, l .inv .high, a .pre .1 .1 .1 .1))),
+      subst SumsRanged (sym (l .inv .are)) (ranged (omega (arith, l .inv .high, l .inv .end, a .pre .1 .1 .1 .1 .0))),
       (
         subst (Within (2 ^ 37)) (sym (speed-is (c .before))) (record { within = r .«speed_limit» }),
         subst (Within (2 ^ 33)) (sym (steep-is c)) (record { within = r .«acceleration_limit» }),
@@ -144,13 +155,14 @@ add-wanted : tie.Need-add-wanted Inv-loop μ-loop
 add-wanted c =
     let b = c .before .before .before .before in
     let l = b .before .before .loop in
-    let w : Within (2 ^ 62 + 2 ^ 50) (toZ w64 (l .wanted)) = record { within = omega (arith, l .inv .small, l .inv .high, start b .pre .1 .1 .1 .1) } in
+    let w : Within (2 ^ 62 + 2 ^ 50) (toZ w64 (l .wanted)) = record { within = omega (arith, l .inv .small, l .inv .high, l .inv .end, start b .pre .1 .1 .1 .1 .0) } in
+    let d = start b .pre .1 .1 .0 in
     sfits (search exact depth 9) tt
 
 add-t : tie.Need-add-t Inv-loop μ-loop
 add-t c =
     let b = c .before .before .before .before in
-    omega (arith, b .before .before .loop .inv .high, start b .pre .1 .1 .1 .1)
+    omega (arith, b .before .before .loop .inv .high, b .before .before .loop .inv .end, start b .pre .1 .1 .1 .1 .0)
 
 loop-less : tie.Need-loop-less Inv-loop μ-loop
 loop-less c = omega (arith, c .before .before .before .before .before .loop-test .taken)
@@ -168,6 +180,8 @@ loop-again c =
     let some : 0 < l .t = omega (arith, l .inv .low, a .pre .0 .some) in
     record {
       low = omega (arith, l .inv .low);
+      start = l .inv .start;
+      end = l .inv .end;
       high = omega (arith, b .before .loop-test .taken);
       are =
           c .step .ensures
@@ -181,11 +195,49 @@ loop-again c =
       missed = missed-next (betweenAt g (sum a) (change a)) T (l .t) (l .inv .missed) (sym (tested b) ∙ c .before .before .before .if2 .left);
     }
 
+-- past the last
 returns-3 : tie.Need-returns-3 Inv-loop μ-loop
 returns-3 c =
-    let l = c .before .loop in
-    given (c .before .before .before .before .before) (l .t)
-    (record { low = l .inv .low; high = omega (arith, l .inv .high); missed = l .inv .missed; passed = λ h. absurd (omega (arith, c .loop-test .left)) })
+    let b = c .before in
+    let l = b .before .loop in
+    let a = b .before .before .before .before .before .before .before in
+    given a (l .t)
+    (record { low = l .inv .low; high = omega (arith, l .inv .high, l .inv .end); missed = l .inv .missed; passed = λ h. absurd (omega (arith, c .if3 .taken)) })
+
+-- the stretch is behind, and its last candidate missed
+next-by-halving-requires : tie.Need-next-by-halving-requires Inv-loop μ-loop
+next-by-halving-requires c κs =
+    let b = c .before in
+    let l = b .before .loop in
+    let a = b .before .before .before .before .before .before .before in
+    let x : a .args .sum ≡ sum a = sym (exactly (search exact depth 9) tt) in
+    let y : a .args .change ≡ change a = sym (exactly (search exact depth 9) tt) in (
+      a .pre .0,
+      (
+        within (search exact depth 9) tt,
+        (
+          within (search exact depth 9) tt,
+          (
+            l .inv .start,
+            (
+              l .inv .end,
+              (
+                a .pre .1 .1 .1 .1 .0,
+                (
+                  subst₂ (λ (s d : ℤ). Lasting (betweenAt (legOf (a .args .p)) s d) (a .args .p .ticks)) x y (a .pre .1 .1 .1 .1 .1),
+                  l .inv .missed _ (l .inv .start) (omega (arith, b .loop-test .left)),
+                ),
+              ),
+            ),
+          ),
+        ),
+      ),
+    )
+
+returns-4 : tie.Need-returns-4 Inv-loop μ-loop
+returns-4 c =
+    let a = c .before .before .before .before .before .before .before .before .before in
+    given a (c .next-by-halving .result) (c .next-by-halving .ensures)
 
 pub next-between-spec : {M : Type 1} → statement M
 next-between-spec =
@@ -196,6 +248,8 @@ next-between-spec =
     envelope-sums-requires
     within-sums-requires
     returns
+    add-lesser
+    lesser-requires
     loop-holds
     within-sums-requires-2
     returns-2
@@ -206,4 +260,6 @@ next-between-spec =
     add-t
     loop-less
     loop-again
-    returns-3)
+    returns-3
+    next-by-halving-requires
+    returns-4)

@@ -9,11 +9,10 @@ use Rattle.whole.specs.Ranges.{Is}
 use Rattle.whole.proofs.Bounds.{sfits, within, exactly, exact, cast-small}
 use Rattle.profile.specs.declared.Profile.{Profile}
 use Rattle.profile.specs.Profiles.{legOf, Joinable}
-use Rattle.profile.proofs.FeasibleParts.{joined-ends, ends-joined}
 use Rattle.envelopes.specs.Sums.{Next, betweenAt, withTicks}
 use Rattle.envelopes.specs.Skips.{Skips, Lasting, lengthened}
-use Rattle.envelopes.proofs.EnvelopeSums.{more-ticks}
-use Rattle.envelopes.proofs.Skipping.{next-past, next-skipped}
+use Rattle.envelopes.proofs.Longer.{longer-joinable}
+use Rattle.envelopes.proofs.Skipping.{next-past, next-skipped, lasting-later}
 use borrow.Author.Needs.{needs}
 use Rattle.envelopes.proofs.next_lasting.Statement.{statement}
 use Rattle.envelopes.proofs.next_lasting.Tie as tie
@@ -66,28 +65,34 @@ later-is c = cast-small 4096 (c .before .skip-missed .result - start c .args .p 
 
 longer : (c : tie.Else1) → Joinable (lengthened (start c .args .p) (c .before .skip-missed .result))
 longer c =
-    let j = start c .pre .0 in
-    let w = skipped (c .before) in
-    let g = legOf (start c .args .p) in
-    record {
-      ranged =
-          record {
-            «speed_limit» = j .ranged .«speed_limit»;
-            «acceleration_limit» = j .ranged .«acceleration_limit»;
-            ticks = omega (arith, c .if1 .left, start c .pre .1 .1 .1 .1 .0);
-            start = j .ranged .start;
-            end = j .ranged .end;
-          };
-      acceleration = j .acceleration;
-      some = omega (arith, j .some, w .low);
-      ends = joined-ends (legOf (lengthened (start c .args .p) (c .before .skip-missed .result))) (more-ticks g (c .before .skip-missed .result) (ends-joined g (j .ends)) (w .low));
-    }
+    let a = start c in
+    longer-joinable (a .args .p) (c .before .skip-missed .result) (a .pre .0) (skipped (c .before) .low) (omega (arith, c .if1 .left, a .pre .1 .1 .1 .1 .0))
 
 mul-next-between : tie.Need-mul-next-between
 mul-next-between c = let l = later-is (c .before .before) in sfits (search exact depth 9) tt
 
 add-next-between : tie.Need-add-next-between
 add-next-between c = let l = later-is (c .before .before) in sfits (search exact depth 20) tt
+
+-- the required sum there, as the code has it
+abbrev sumThere : tie.Else1 → ℤ
+sumThere b =
+    let a = start b in
+    toZ w64 (ofZ w64 (toZ w64 (ofZ w64 (a .args .sum)) +ℤ toZ w64 (ofZ w64 (toZ w64 (b .before .skip-missed .result - a .args .p .ticks) *ℤ toZ w64 (ofZ w64 (a .args .change))))))
+
+sum-there : (b : tie.Else1) → sumThere b ≡ start b .args .sum +ℤ pos (b .before .skip-missed .result - start b .args .p .ticks) *ℤ start b .args .change
+sum-there b = let l = later-is b in exactly (search exact depth 20) tt
+
+lasting-there : (c : tie.After-with-ticks)
+    → Lasting (betweenAt (legOf (c .with-ticks .result)) (sumThere (c .before .before)) (toZ w64 (ofZ w64 (start (c .before .before) .args .change)))) (c .with-ticks .result .ticks)
+lasting-there c =
+    let b = c .before .before in
+    let a = start b in
+    let g = legOf (a .args .p) in
+    let r = b .before .skip-missed .result in
+    subst (λ (p : Profile). Lasting (betweenAt (legOf p) (sumThere b) (toZ w64 (ofZ w64 (a .args .change)))) (p .ticks)) (sym (c .with-ticks .ensures))
+    (subst₂ (λ (s d : ℤ). Lasting (betweenAt (withTicks g r) s d) r) (sym (sum-there b)) (sym (change-is a))
+    (lasting-later g (a .args .sum) (a .args .change) (a .args .last) (a .pre .1 .1 .1 .1 .1) r (skipped (b .before) .low)))
 
 next-between-requires : tie.Need-next-between-requires
 next-between-requires c κs =
@@ -97,7 +102,10 @@ next-between-requires c κs =
       subst Joinable (sym e) (longer b),
       (
         within (search exact depth 20) tt,
-        (within (search exact depth 9) tt, (subst (λ (p : Profile). p .ticks ≤ start b .args .last) (sym e) (b .if1 .left), start b .pre .1 .1 .1 .1 .0)),
+        (
+          within (search exact depth 9) tt,
+          (subst (λ (p : Profile). p .ticks ≤ start b .args .last) (sym e) (b .if1 .left), (start b .pre .1 .1 .1 .1 .0, lasting-there c)),
+        ),
       ),
     )
 
@@ -105,16 +113,11 @@ returns-2 : tie.Need-returns-2
 returns-2 c =
     let b = c .before .before .before in
     let a = start b in
-    let l = later-is b in
     let r = b .before .skip-missed .result in
-    let change : toZ w64 (ofZ w64 (a .args .change)) ≡ a .args .change = exactly (search exact depth 9) tt in
-    let code : ℤ =
-    toZ w64 (ofZ w64 (toZ w64 (ofZ w64 (a .args .sum)) +ℤ toZ w64 (ofZ w64 (toZ w64 (r - a .args .p .ticks) *ℤ toZ w64 (ofZ w64 (a .args .change)))))) in
-    let sum : code ≡ a .args .sum +ℤ pos (r - a .args .p .ticks) *ℤ a .args .change = exactly (search exact depth 20) tt in
     next-skipped (legOf (a .args .p)) (a .args .sum) (a .args .change) (a .args .last) (a .pre .1 .1 .1 .1 .1) r (c .next-between .result) (skipped (b .before))
     (subst (λ (f : ℕ → Bool). Next f r (a .args .last) (c .next-between .result))
-    (λ i. betweenAt (withTicks (legOf (a .args .p)) r) (sum i) (change i))
-    (subst (λ (p : Profile). Next (betweenAt (legOf p) code (toZ w64 (ofZ w64 (a .args .change)))) (p .ticks) (a .args .last) (c .next-between .result))
+    (λ i. betweenAt (withTicks (legOf (a .args .p)) r) (sum-there b i) (change-is a i))
+    (subst (λ (p : Profile). Next (betweenAt (legOf p) (sumThere b) (toZ w64 (ofZ w64 (a .args .change)))) (p .ticks) (a .args .last) (c .next-between .result))
     (c .before .with-ticks .ensures) (c .next-between .ensures)))
 
 pub next-lasting-spec : {M : Type 1} → statement M

@@ -1,0 +1,3 @@
+pub mod Drift
+pub mod Halving
+pub mod Approaches
