@@ -36,10 +36,10 @@ sub-level-segment-2 : tie.Need-sub-level-segment-2
 sub-level-segment-2 c = search needs
 
 level-segment-requires : tie.Need-level-segment-requires
-level-segment-requires c κs = search needs
+level-segment-requires c κs = let a = c .before .before .before in (a .pre .0, (a .pre .1 .0, (omega arith, omega arith)))
 
 returns-2 : tie.Need-returns-2
-returns-2 c = search needs
+returns-2 c = c .level-segment .ensures
 
 pub later-segment-spec : {M : Type 1} → statement M
 later-segment-spec =
