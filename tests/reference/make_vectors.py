@@ -193,8 +193,9 @@ def plan_jobs() -> List[Case]:
 
 def spelled_lines() -> List[str]:
     """The jobs of the files of tables in their other spelling: nothing that these have."""
-    jobs = plan_jobs() + jobs_of(cases.damping(), cases.drawn_damping(), cases.windows(), cases.drawn_windows(), cases.rails(),
-                                 cases.drawn_rails(), swaycases.sways(), swaycases.drawn_sways(), swaycases.words_cases())
+    jobs = plan_jobs() + jobs_of(
+        cases.damping(), cases.drawn_damping(), cases.windows(), cases.drawn_windows(),
+        cases.rails(), cases.drawn_rails(), swaycases.sways(), swaycases.drawn_sways(), swaycases.words_cases())
     stored = {text('plan', case.lent, job_text(case)) for case in jobs}
     return [line for line in with_more([], [plan_line(case) for case in respelled(jobs)])
             if line.split(' | ')[1] not in stored]

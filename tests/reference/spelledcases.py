@@ -50,5 +50,6 @@ def respelled(cases: List[Case]) -> List[Case]:
 def bracketed() -> List[SearchCase]:
     return (all_of(job('asked 5,000 is read as 0', [to(4)], asked=5000), (1, 9))
             + all_of(windowed('a window from 7 to 9', [(7, 9)]), (1, 6), (1, 7))
-            + all_of(job('reached at 9, 10 and 11 only', [axis(target=(8, -1, 1, 0))]), (1, 8), (1, 9), (11, 1), (12, 4085))
+            + all_of(job('reached at 9, 10 and 11 only', [axis(target=(8, -1, 1, 0))]),
+                     (1, 8), (1, 9), (11, 1), (12, 4085))
             + all_of(windowed('two windows far apart', [(4, 5), (2000, 3000)]), (1, 4096), (5, 1995), (5, 1996)))
