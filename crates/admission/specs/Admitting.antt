@@ -9,6 +9,8 @@ use Rattle.model.specs.planning.Admission.{Rules, planningRules}
 use Rattle.model.specs.calls.Search.{searchRules}
 use Rattle.model.specs.calls.Converter.{conversionRules}
 use Rattle.motion.specs.Motions.{measured}
+-- what admission comes to, without the job
+pub use Rattle.refusals.specs.Checks.{withoutJob}
 use Rattle.admission.specs.declared.Purpose.{Purpose}
 use Rattle.admission.specs.declared.Purpose.the-variants.{Planning, Searching, Converting}
 

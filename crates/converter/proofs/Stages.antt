@@ -1,163 +1,28 @@
 -- The stages of a conversion, in checking order.
-use Prim.Native.Nat.{ℕ, zero, suc, _≤_, _<_}
+use Prim.Native.Nat.{ℕ, _≤_, _<_}
 use native.Mathlib.Omega.{arith}
-use mathlib.Core.Path.{_≡_, refl, sym, ap, subst, _∙_}
-use mathlib.Core.Bool.{Bool, true, false, cond}
-use mathlib.Core.Option.{Option, none, some}
-use mathlib.Core.List.{List, [], _∷_, _++_}
-use lib.Dec.{eqb, leb}
+use mathlib.Core.Path.{_≡_, sym, ap, subst, _∙_}
+use mathlib.Core.Bool.{Bool, true, false}
+use mathlib.Core.List.{List, _++_}
 use lib.ListN.{length, take, drop}
-use borrow.Author.Tests.{le-leb, lt-leb, leb-true, eq-eqb, ne-eqb, lt-ltb, le-ltb}
+use borrow.Author.Tests.{lt-ltb, le-ltb}
 use Rattle.whole.specs.Lists.{over}
 use Rattle.whole.proofs.Lists.{over-front}
 use Rattle.model.specs.declared.Answer.{Answer}
-use Rattle.model.specs.declared.Job as Typed
-use Rattle.model.specs.planning.Windows.{noWindows}
-use Rattle.model.specs.planning.Job.{JobAxis, setAxes, jobOf}
-use Rattle.model.specs.planning.Words.{Decoded, noMask, badWord, badLong, job, decode}
+use Rattle.model.specs.declared.Checked.{Checked}
+use Rattle.model.specs.declared.Checked.the-variants.{Passed, Refused}
 use Rattle.model.specs.planning.Refusals.{lastTick}
-use Rattle.model.specs.planning.Outcome.{firstAxis, Tests, outcomeOfWords}
-use Rattle.model.specs.calls.Converter.{oldOutcome, converted, Conversion, unconverted, written, conversionRefusals, unlessRefused, jobConversion, conversion}
+use Rattle.model.specs.planning.Admission.{words, typed, admission}
+use Rattle.model.specs.planning.Outcome.{call}
+use Rattle.model.specs.calls.Converter.{oldOutcome, converted, Conversion, unconverted, written, conversionRules, conversionAfter, conversion}
 use Rattle.model.specs.calls.Converter.{ConversionVerdict}
-use Rattle.model.proofs.calls.Conversion.{conversion-kept, conversion-plans, conversion-verdict}
+use Rattle.model.proofs.calls.Conversion.{conversion-kept, conversion-plans, conversion-verdict, conversion-numbered}
 use Rattle.words.specs.declared.DecodedJob.{DecodedJob}
-use Rattle.words.specs.Decoding.{decodedJob, Decodes}
-use Rattle.refusals.specs.declared.Refusal.{Refusal}
-use Rattle.refusals.specs.Checks.{testsFor, firstRefusal}
-use Rattle.model.proofs.jobs.CheckingOrder.{Lacks, lacks}
-use Rattle.converter.specs.Promise.{Converts, refusalOf, Answers}
-
--- ---- refusals 1, 2 and 14
-
-by-words : List ℕ → List ℕ → Decoded → Conversion
-by-words ws lent d =
-    elim d [
-      | noMask ↦ unconverted 1 0 lent
-      | badWord p ↦ unconverted 2 p lent
-      | badLong p ↦ unconverted 14 p lent
-      | job j ↦ jobConversion j ws lent
-    ]
-
-module _ (ws lent : List ℕ) (r : DecodedJob) (d : Decodes ws r) where
-  words-refused : (r .number ≡ 0 → ⊥) → unconverted (r .number) (r .place) lent ≡ conversion ws lent
-  unfolding by-words
-  words-refused z =
-      ap (λ (q : DecodedJob). unconverted (q .number) (q .place) lent) (d .decoded)
-      ∙ go (decode ws) (λ e. z (ap (λ (q : DecodedJob). q .number) (d .decoded) ∙ e))
-    where
-      go : (o : Decoded) → (decodedJob o .number ≡ 0 → ⊥)
-          → unconverted (decodedJob o .number) (decodedJob o .place) lent
-          ≡ (elim o as (λ _. Conversion) [
-            | noMask ↦ unconverted 1 0 lent
-            | badWord p ↦ unconverted 2 p lent
-            | badLong p ↦ unconverted 14 p lent
-            | job j ↦ jobConversion j ws lent
-          ])
-      go noMask h = refl
-      go (badWord p) h = refl
-      go (badLong p) h = refl
-      go (job j) h = absurd (h refl)
-
-  words-pass : r .number ≡ 0 → jobConversion (jobOf (r .job)) ws lent ≡ conversion ws lent
-  unfolding by-words
-  words-pass z = sym (ap (by-words ws lent) (d .typed z))
-
-  -- words bring no windows
-  no-windows : r .job .windows ≡ noWindows
-  no-windows = ap (λ (q : DecodedJob). q .job .windows) (d .decoded) ∙ go (decode ws)
-    where
-      go : (o : Decoded) → decodedJob o .job .windows ≡ noWindows
-      go noMask = refl
-      go (badWord p) = refl
-      go (badLong p) = refl
-      go (job j) = refl
-
--- ---- refusals 3 to 17
-
-abbrev afterRefusal : Refusal → List ℕ → Conversion → Conversion
-afterRefusal r lent c = cond (eqb (r .number) 0) c (unconverted (r .number) (r .place) lent)
-
-tests-are : (ts : Tests) (xs : List JobAxis) (lent : List ℕ) (c : Conversion) → Lacks 0 ts
-    → unlessRefused ts xs lent c ≡ afterRefusal (firstRefusal ts xs noWindows) lent c
-tests-are [] xs lent c n = refl
-tests-are (t ∷ ts) xs lent c (n, ns) = go (firstAxis (t .1) xs) (tests-are ts xs lent c ns)
-  where
-    go : (o : Option ℕ) → unlessRefused ts xs lent c ≡ afterRefusal (firstRefusal ts xs noWindows) lent c
-        → (elim o as (λ _. Conversion) [ some i ↦ unconverted (t .0) i lent | none ↦ unlessRefused ts xs lent c ])
-        ≡ afterRefusal (elim o [ some i ↦ record { number = t .0; place = i } | none ↦ firstRefusal ts xs noWindows ]) lent c
-    go (some i) h = sym (ap (λ (b : Bool). cond b c (unconverted (t .0) i lent)) (ne-eqb (t .0) 0 n))
-    go none h = h
-
--- the least arrival is sought where 0 is asked
-tests-for : (n : ℕ) → (conversionRefusals n ≡ testsFor (eqb n 0)) × Lacks 0 (conversionRefusals n)
-tests-for zero = (refl, lacks 0 (conversionRefusals 0) refl)
-tests-for (suc n) = (ap testsFor (sym (ne-eqb (suc n) 0 (λ e. omega arith))), lacks 0 (conversionRefusals (suc n)) refl)
-
-module _ (t : Typed.Job) (ws lent : List ℕ) (w : t .windows ≡ noWindows) where
-  abbrev c : Conversion
-  c = written (converted (t .asked) ws) lent
-
-  abbrev xs : List JobAxis
-  xs = setAxes 0 (t .mask) (t .axes)
-
-  refused-or-written : jobConversion (jobOf t) ws lent ≡ afterRefusal (refusalOf t) lent c
-  refused-or-written = go (leb (t .asked) lastTick)
-    where
-      tested : unlessRefused (conversionRefusals (t .asked)) xs lent c ≡ afterRefusal (firstRefusal (testsFor (eqb (t .asked) 0)) xs (t .windows)) lent c
-      tested =
-          let f = tests-for (t .asked) in
-          tests-are (conversionRefusals (t .asked)) xs lent c (f .1)
-          ∙ (λ i. afterRefusal (firstRefusal (f .0 i) xs (sym w i)) lent c)
-
-      go : (b : Bool) → (elim b as (λ _. Conversion) [
-        | true ↦ unlessRefused (conversionRefusals (t .asked)) xs lent c
-        | false ↦ unconverted 3 1 lent
-      ]) ≡ afterRefusal (elim b as (λ _. Refusal) [
-        | true ↦ firstRefusal (testsFor (eqb (t .asked) 0)) xs (t .windows)
-        | false ↦ record { number = 3; place = 1 }
-      ]) lent c
-      go true = tested
-      go false = refl
-
-  -- a refusal from 3 to 17
-  job-refused : (refusalOf t .number ≡ 0 → ⊥) → unconverted (refusalOf t .number) (refusalOf t .place) lent ≡ jobConversion (jobOf t) ws lent
-  job-refused z =
-      sym
-      (refused-or-written ∙ ap (λ (b : Bool). cond b c (unconverted (refusalOf t .number) (refusalOf t .place) lent)) (ne-eqb (refusalOf t .number) 0 z))
-
-  job-passes : refusalOf t .number ≡ 0 → c ≡ jobConversion (jobOf t) ws lent
-  job-passes z =
-      sym
-      (refused-or-written ∙ ap (λ (b : Bool). cond b c (unconverted (refusalOf t .number) (refusalOf t .place) lent)) (eq-eqb (refusalOf t .number) 0 z))
-
--- the code's tests of the asked arrival
-by-asked : Typed.Job → Bool → Refusal
-by-asked t b =
-    elim b [
-      | true ↦ firstRefusal (testsFor (eqb (t .asked) 0)) (setAxes 0 (t .mask) (t .axes)) (t .windows)
-      | false ↦ record { number = 3; place = 1 }
-    ]
-
-pub asked-late : (t : Typed.Job) → lastTick < t .asked → record { number = 3; place = 1 } ≡ refusalOf t
-unfolding by-asked
-asked-late t h = sym (ap (by-asked t) (lt-leb (t .asked) lastTick h))
-
-pub asked-in-time : (t : Typed.Job) → t .asked ≤ lastTick
-    → firstRefusal (testsFor (eqb (t .asked) 0)) (setAxes 0 (t .mask) (t .axes)) (t .windows) ≡ refusalOf t
-unfolding by-asked
-asked-in-time t h = sym (ap (by-asked t) (le-leb (t .asked) lastTick h))
-
--- a job that goes on to 10 asks in time
-in-time : (t : Typed.Job) → refusalOf t .number ≡ 0 → t .asked ≤ lastTick
-in-time t z = go (leb (t .asked) lastTick) (leb-true (t .asked) lastTick) z
-  where
-    go : (b : Bool) → (b ≡ true → t .asked ≤ lastTick) → (elim b as (λ _. Refusal) [
-      | true ↦ firstRefusal (testsFor (eqb (t .asked) 0)) (setAxes 0 (t .mask) (t .axes)) (t .windows)
-      | false ↦ record { number = 3; place = 1 }
-    ]) .number ≡ 0
-        → t .asked ≤ lastTick
-    go true f z = f refl
-    go false f z = absurd (omega arith)
+use Rattle.words.specs.Decoding.{Decodes}
+use Rattle.admission.specs.Admitting.{withoutJob}
+use Rattle.admission.proofs.Admitted.{Goes, refused, passed}
+use Rattle.admission.proofs.ReadWords.{words-refused, words-passed}
+use Rattle.converter.specs.Promise.{Converts, Answers}
 
 -- ---- refusal 10, or the words
 
@@ -211,7 +76,7 @@ promised ws lent r exit g =
           ap (λ (q : Conversion). oldOutcome (take (q .place) (q .words)) cells) (g .conversion)
           ∙ conversion-kept ws lent (sym (ap (λ (q : Conversion). q .number) (g .conversion)) ∙ z) cells;
       plans = λ z cells.
-          ap (λ (q : Conversion). outcomeOfWords (take (q .place) (q .words)) cells) (g .conversion)
+          ap (λ (q : Conversion). call (words (take (q .place) (q .words))) cells) (g .conversion)
           ∙ conversion-plans ws lent (sym (ap (λ (q : Conversion). q .number) (g .conversion)) ∙ z) cells;
     }
 
@@ -221,37 +86,35 @@ module _ (ws lent : List ℕ) (r : DecodedJob) (d : Decodes ws r) where
   ends-at-words z a e =
       promised ws lent a lent
       (record {
-        conversion = ap (λ (q : Answer). unconverted (q .number) (q .place) lent) e ∙ words-refused ws lent r d z;
+        conversion = ap (λ (q : Answer). unconverted (q .number) (q .place) lent) e ∙ sym (ap (conversionAfter ws lent) (words-refused conversionRules ws r d z));
         mask = ap (λ (q : Answer). q .mask) e;
         arrival = ap (λ (q : Answer). q .arrival) e;
       })
 
-  module _ (z : r .number ≡ 0) (q : Refusal) (is : q ≡ refusalOf (r .job)) where
-    same-number : refusalOf (r .job) .number ≡ q .number
-    same-number = sym (ap (λ (s : Refusal). s .number) is)
-
-    pub ends-at-job : (q .number ≡ 0 → ⊥) → (a : Answer) → a ≡ answered (q .number) (q .place) → Converts ws lent a lent
-    ends-at-job n a e =
+  module _ (z : r .number ≡ 0) (c : Checked) (is : c ≡ withoutJob (admission conversionRules (typed (r .job)))) where
+    pub ends-at-job : (n p : ℕ) → c ≡ Refused n p → (a : Answer) → a ≡ answered n p → Converts ws lent a lent
+    ends-at-job n p e a f =
         promised ws lent a lent
         (record {
           conversion =
-              ap (λ (q : Answer). unconverted (q .number) (q .place) lent) e
-              ∙ ap (λ (s : Refusal). unconverted (s .number) (s .place) lent) is
-              ∙ job-refused (r .job) ws lent (no-windows ws lent r d) (λ k. n (sym same-number ∙ k))
-              ∙ words-pass ws lent r d z;
-          mask = ap (λ (q : Answer). q .mask) e;
-          arrival = ap (λ (q : Answer). q .arrival) e;
+              ap (λ (q : Answer). unconverted (q .number) (q .place) lent) f
+              ∙ ap (conversionAfter ws lent)
+              (sym (refused conversionRules conversion-numbered (typed (r .job)) c is n p e .is) ∙ words-passed conversionRules ws r d z);
+          mask = ap (λ (q : Answer). q .mask) f;
+          arrival = ap (λ (q : Answer). q .arrival) f;
         })
 
-    pub soon : q .number ≡ 0 → r .job .asked ≤ lastTick
-    soon n = in-time (r .job) (same-number ∙ n)
+    goes : c ≡ Passed → Goes conversionRules (typed (r .job))
+    goes e = passed conversionRules conversion-numbered (typed (r .job)) c is e
 
-    pub ends-written : q .number ≡ 0 → (a : Answer) (exit : List ℕ) → Answers (written (converted (r .job .asked) ws) lent) a exit
-        → Converts ws lent a exit
-    ends-written n a exit g =
+    pub soon : c ≡ Passed → r .job .asked ≤ lastTick
+    soon e = goes e .asked
+
+    pub ends-written : c ≡ Passed → (a : Answer) (exit : List ℕ) → Answers (written (converted (r .job .asked) ws) lent) a exit → Converts ws lent a exit
+    ends-written e a exit g =
         promised ws lent a exit
         (record {
-          conversion = g .conversion ∙ job-passes (r .job) ws lent (no-windows ws lent r d) (same-number ∙ n) ∙ words-pass ws lent r d z;
+          conversion = g .conversion ∙ ap (conversionAfter ws lent) (sym (goes e .is) ∙ words-passed conversionRules ws r d z);
           mask = g .mask;
           arrival = g .arrival;
         })

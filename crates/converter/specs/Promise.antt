@@ -1,19 +1,12 @@
 -- What the converter promises of any words and any lent words.
 use Prim.Native.Nat.{ℕ}
 use mathlib.Core.Path.{_≡_}
-use mathlib.Core.Bool.{true, false}
 use mathlib.Core.List.{List}
 use lib.IntN.{ℤ}
-use lib.Dec.{eqb, leb}
 use lib.ListN.{take}
 use Rattle.model.specs.declared.Answer.{Answer}
-use Rattle.model.specs.declared.Job.{Job}
-use Rattle.model.specs.planning.Job.{setAxes}
-use Rattle.model.specs.planning.Refusals.{lastTick}
-use Rattle.model.specs.planning.Outcome.{outcomeOfWords}
+use Rattle.model.specs.planning.Outcome.{words, call}
 use Rattle.model.specs.calls.Converter.{oldOutcome, Conversion, conversion, ConversionVerdict}
-use Rattle.refusals.specs.declared.Refusal.{Refusal}
-use Rattle.refusals.specs.Checks.{testsFor, firstRefusal}
 
 -- ws are the words of the job, entry and exit the lent words before and after the call, r is the answer
 pub record Converts (ws entry : List ℕ) (r : Answer) (exit : List ℕ) : Type 0 where
@@ -26,17 +19,9 @@ pub record Converts (ws entry : List ℕ) (r : Answer) (exit : List ℕ) : Type 
   pub arrival : r .arrival ≡ 0
   -- number 0: for every lent table the written words have, by the old rules and in planning, the outcome that the old rules give the old words
   pub kept : r .number ≡ 0 → (cells : List ℤ) → oldOutcome (take (r .place) exit) cells ≡ oldOutcome ws cells
-  pub plans : r .number ≡ 0 → (cells : List ℤ) → outcomeOfWords (take (r .place) exit) cells ≡ oldOutcome ws cells
+  pub plans : r .number ≡ 0 → (cells : List ℤ) → call (words (take (r .place) exit)) cells ≡ oldOutcome ws cells
 
 -- ---- the stages
-
--- the first refusal from 3 to 17 of a job of words, or number 0; 17 where it seeks the least arrival
-abbrev pub refusalOf : Job → Refusal
-refusalOf t =
-    elim (leb (t .asked) lastTick) [
-      | true ↦ firstRefusal (testsFor (eqb (t .asked) 0)) (setAxes 0 (t .mask) (t .axes)) (t .windows)
-      | false ↦ record { number = 3; place = 1 }
-    ]
 
 -- a stage that ends the call: the answer and the lent words are a conversion of the definitions
 pub record Answers (c : Conversion) (r : Answer) (exit : List ℕ) : Type 0 where

@@ -2,12 +2,12 @@
 // for, the converter turns each such target into a moving one of acceleration 0 at that tick: the same job by the old rules, and one that planning takes.
 //
 // The way of a job:
-//     convert           words::decode          refusals 1, 2 and 14
-//                       refusal                3, 4, 5, 15, 6, 16, and 17 where the least arrival is sought
-//                       write_converted        10, or the converted words
+//     convert           words::decode       refusals 1, 2 and 14
+//                       admission::check    3, 4, 5, 15, 6, 16, and 17 where the least arrival is sought
+//                       write_converted     10, or the converted words
+use admission::Purpose;
 use model::Answer;
-use model::Job;
-use refusals::Refusal;
+use model::Checked;
 ghost use mathlib.Core.Path.{_≡_};
 ghost use Prim.Native.Nat.{_<_, _≤_};
 ghost use lib.ListN.{length};
@@ -15,7 +15,7 @@ ghost use Rattle.whole.specs.Lists.{over, Room, Written};
 ghost use Rattle.model.specs.planning.Refusals.{lastTick};
 ghost use Rattle.model.specs.calls.Converter.{converted, written};
 ghost use Rattle.converter.specs.Pieces.{flyingAt, pieceAt, neededFor};
-ghost use Rattle.converter.specs.Promise.{Converts, Answers, refusalOf};
+ghost use Rattle.converter.specs.Promise.{Converts, Answers};
 
 // Writes the converted words of a job at the start of the lent ones. Words that are not the velocity of a fixed target that flies are copied; such a one
 // is followed by an acceleration of 0 and the asked arrival as tick.
@@ -30,27 +30,11 @@ pub fn convert(words: &[u32], lent: &mut [u32]) -> Answer
         return answer(decoded.number, decoded.place);
     }
     let job = decoded.job;
-    let refused = refusal(job);
-    if refused.number != 0 {
-        return answer(refused.number, refused.place);
+    let checked = admission::check(job, Purpose::Converting);
+    if let Checked::Refused(number, place) = checked {
+        return answer(number, place);
     }
     write_converted(words, job.asked, lent)
-}
-
-// The first refusal of a job from 3 to 17, or number 0; 17 only where it seeks the least arrival.
-fn refusal(job: Job) -> Refusal
-    ensures { λ r. ⌜ r ≡ refusalOf job ⌝ }
-{
-    let asked = job.asked;
-    if 4096 < asked {
-        return Refusal {
-            number: 3,
-            place: 1,
-        };
-    }
-    let axes = job.axes;
-    let windows = job.windows;
-    refusals::check(job.mask, axes, windows, asked == 0)
 }
 
 // ---- refusal 10, or the converted words

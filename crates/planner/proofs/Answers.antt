@@ -11,21 +11,24 @@ use Rattle.model.specs.declared.Job as Typed
 use Rattle.model.specs.declared.Order.the-variants.{Forwards}
 use Rattle.model.specs.declared.PartAnswer.{PartAnswer}
 use Rattle.model.specs.planning.Job.{Job, jobOf, axesOf}
-use Rattle.model.specs.planning.Words.{Decoded, noMask, badWord, badLong, job, decode}
 use Rattle.model.specs.planning.Refusals.{lastTick}
 use Rattle.model.specs.planning.Outcome.{Outcome, Input, call, inputAxes, ordered}
-use Rattle.model.specs.planning.Outcome.{words, typed, jobRead, inputJob, beforeTen, answerOf}
+use Rattle.model.specs.planning.Outcome.{outcomeAfter, beforeTen, answerOf}
+use Rattle.model.specs.planning.Admission.{words, typed, jobRead, inputJob, Admission, planningRules}
 use Rattle.model.specs.theorems.Verdict.{Verdict, refused3, refused4, refused12, refused5, refused15, refused6, refused16, refused17, refused13, refused8, refused9, refused10}
 use Rattle.model.specs.theorems.Verdict.{accepted, CallVerdict, words1, words2, words14, wordsJob, typed1, typedJobs}
 use Rattle.model.specs.calls.Parts.{PartOutcome, partAccepted, partRefused, partWith, partCall}
 use Rattle.model.proofs.calls.CallVerdict.{call-verdict}
+use Rattle.model.proofs.jobs.BeforeTen.{planning-numbered}
 use Rattle.words.specs.declared.DecodedJob.{DecodedJob}
-use Rattle.words.specs.Decoding.{decodedJob, Decodes}
+use Rattle.words.specs.Decoding.{Decodes}
+use Rattle.admission.proofs.Admitted.{Refusal, refusal}
+use Rattle.admission.proofs.ReadWords.{words-refused, words-passed}
 use Rattle.planner.specs.declared.Wanted.{Wanted}
 use Rattle.planner.specs.declared.Wanted.the-variants.{Whole, From}
 use Rattle.planner.specs.Promise.{PromiseIn, Answered, partOutcome}
 use Rattle.planner.proofs.Stages.{before-ten}
-use Rattle.planner.proofs.Calls.{promise, words-refused, words-passed}
+use Rattle.planner.proofs.Calls.{promise}
 
 -- ---- the answer before 10
 
@@ -91,22 +94,16 @@ module _ (ws : List ℕ) (d : DecodedJob) (is : Decodes ws d) where
 
   pub answer-of-words : d .number ≡ 0 → answerOf (typed (d .job)) ≡ answerOf (words ws)
   unfolding answerOf
-  answer-of-words z = ap₂ (λ (j : Job). beforeTen (j .mask)) (job-of-words z) (words-passed ws [] d is z)
+  answer-of-words z = ap₂ (λ (j : Job). beforeTen (j .mask)) (job-of-words z) (ap (outcomeAfter []) (words-passed planningRules ws d is z))
 
-  pub words-not-ten : d .number ≡ 10 → ⊥
-  words-not-ten e = absurd (go (decode ws) (sym (ap (λ (r : DecodedJob). r .number) (is .decoded)) ∙ e))
-    where
-      go : (w : Decoded) → decodedJob w .number ≡ 10 → ⊥
-      go noMask e = omega arith
-      go (badWord p) e = omega arith
-      go (badLong p) e = omega arith
-      go (job j) e = omega arith
+  pub of-words : (d .number ≡ 0 → ⊥) → Refusal planningRules (words ws) (d .number) (d .place)
+  of-words h = refusal planningRules planning-numbered (words ws) (d .number) (d .place) (words-refused planningRules ws d is h)
 
   pub refusal-of-words : (d .number ≡ 0 → ⊥) → record { number = d .number; place = d .place; mask = 0; arrival = 0 } ≡ answerOf (words ws)
   unfolding answerOf
   refusal-of-words h =
-      before-ten (inputJob (words ws) .mask) (record { number = d .number; place = d .place; mask = 0; arrival = 0 }) [] words-not-ten
-      ∙ ap (beforeTen (inputJob (words ws) .mask)) (words-refused ws [] d is h)
+      before-ten (inputJob (words ws) .mask) (record { number = d .number; place = d .place; mask = 0; arrival = 0 }) [] (of-words h .not-10)
+      ∙ sym (ap (λ (a : Admission). beforeTen (inputJob (words ws) .mask) (outcomeAfter [] a)) (of-words h .is))
 
   -- what is promised of the typed values is promised of the words
   pub words-promise : (w : Wanted) (entry : List ℤ) (r : PartAnswer) (exit : List ℤ) → d .number ≡ 0
@@ -115,7 +112,7 @@ module _ (ws : List ℕ) (d : DecodedJob) (is : Decodes ws d) where
   words-promise (Whole o) entry r exit z p =
       promise o (words ws) entry (r .answer) exit
       (record {
-        outcome = p .outcome ∙ ap₂ (λ (j : Job) (r : Outcome). ordered o (axesOf j) entry r) (job-of-words z) (words-passed ws entry d is z);
+        outcome = p .outcome ∙ ap₂ (λ (j : Job) (r : Outcome). ordered o (axesOf j) entry r) (job-of-words z) (ap (outcomeAfter entry) (words-passed planningRules ws d is z));
         fitted = p .fitted;
       })
   words-promise (From k) entry r exit z p =

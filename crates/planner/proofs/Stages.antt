@@ -5,10 +5,10 @@ use native.Mathlib.Omega.{arith}
 use mathlib.Core.Path.{_≡_, refl, sym, ap, subst, _∙_}
 use mathlib.Core.Bool.{Bool, true, false, cond}
 use mathlib.Core.Option.{Option, none, some}
-use mathlib.Core.List.{List, [], _∷_}
+use mathlib.Core.List.{List}
 use lib.IntN.{ℤ}
 use lib.ListN.{length, length-map}
-use lib.Dec.{eqb, leb, lit<}
+use lib.Dec.{eqb, lit<}
 use borrow.Author.Tests.{eq-eqb, ne-eqb}
 use Rattle.whole.proofs.Tests.{choice-no}
 use Rattle.model.specs.declared.Axis.{Axis}
@@ -17,23 +17,20 @@ use Rattle.model.specs.declared.Order.the-variants.{Forwards}
 use Rattle.model.specs.declared.PartAnswer.{PartAnswer}
 use Rattle.model.specs.declared.Windows.{Windows}
 use Rattle.model.specs.planning.Job.{Job, JobAxis, setBits, axesOf, jobWith, jobWithWeight}
-use Rattle.model.specs.planning.Windows.{refused13}
 use Rattle.model.specs.planning.Refusals.{lastTick}
-use Rattle.model.specs.planning.Outcome.{Outcome, Tests, axisRefusals, firstAxis, outcomeOf, refuse, leastFrom, arrives, partOver, filled, arrived, jobOutcome, ordered, beforeTen}
+use Rattle.model.specs.planning.Outcome.{Outcome, outcomeOf, refuse, leastFrom, arrives, partOver, filled, arrived, ordered, beforeTen}
 use Rattle.model.specs.calls.Parts.{PartOutcome, partRows, partAccepted, partRefused, partWith}
 use Rattle.arrival.specs.declared.Arrival.{Arrival}
 use Rattle.arrival.specs.Arrivals.{leastOr, askedOr, arrivalFor}
 use Rattle.arrival.proofs.SetAxes.{six-bits}
 use Rattle.model.proofs.jobs.Ordered.{refusal-stays}
 use Rattle.model.proofs.jobs.GivenWeights.{ordered-with-weight, arrived-with-weight, part-with-weight}
-use Rattle.refusals.specs.declared.Refusal.{Refusal}
-use Rattle.refusals.specs.Checks.{firstRefusal, checkedFor, namedWithWeight}
+use Rattle.admission.specs.Admitting.{namedWithWeight}
 use Rattle.planner.specs.declared.Wanted.{Wanted}
 use Rattle.planner.specs.declared.Wanted.the-variants.{Whole, From}
 use Rattle.planner.specs.Promise.{partOutcome}
 use Rattle.planner.specs.Stages.{GivesAll, Gives, GivesFrom}
-use Rattle.refusals.proofs.Checks.{afterChecks, checks-are}
-use Rattle.refusals.proofs.Weights.{axes-given}
+use Rattle.admission.proofs.Weights.{axes-given}
 
 -- ---- where a stage ends a call
 
@@ -64,51 +61,7 @@ module _ (m : ℕ) (xs : List Axis) (lent : List ℤ) where
       ∙ ap (λ (x : Answer). partWith x xs f lent) (before-ten m a lent t)
       ∙ ap (λ (x : Outcome). partWith (beforeTen m x) xs f lent) q
 
--- ---- after the checks
-
-module _ (j : Job) (lent : List ℤ) (c : Refusal) (is : c ≡ checkedFor j) where
-  by-checks : (b : Bool) → eqb (c .number) 0 ≡ b → cond b (arrived j (j .asked) lent) (refuse (c .number) (c .place) 0 0 lent) ≡ jobOutcome j lent
-  by-checks b e =
-      sym (ap (λ (t : Bool). cond t (arrived j (j .asked) lent) (refuse (c .number) (c .place) 0 0 lent)) e)
-      ∙ ap (afterChecks j lent) is
-      ∙ checks-are j lent
-
-  pub checks-refuse : (c .number ≡ 0 → ⊥) → refuse (c .number) (c .place) 0 0 lent ≡ jobOutcome j lent
-  checks-refuse h = by-checks false (ne-eqb (c .number) 0 h)
-
-  pub checks-pass : c .number ≡ 0 → arrived j (j .asked) lent ≡ jobOutcome j lent
-  checks-pass h = by-checks true (eq-eqb (c .number) 0 h)
-
--- no test of an axis has the number 10
-abbrev NoTen : Tests → Type 0
-NoTen [] = Unit
-NoTen (t ∷ ts) = (t .0 ≡ 10 → ⊥) × NoTen ts
-
-tests-not-ten : (ts : Tests) (xs : List JobAxis) (v : Windows) → NoTen ts → firstRefusal ts xs v .number ≡ 10 → ⊥
-tests-not-ten [] xs v n = go (refused13 v)
-  where
-    go : (o : Option ℕ) → (elim o as (λ _. Refusal) [ some p ↦ record { number = 13; place = p } | none ↦ record { number = 0; place = 0 } ]) .number ≡ 10 → ⊥
-    go (some p) e = omega arith
-    go none e = omega arith
-tests-not-ten (t ∷ ts) xs v n = go (firstAxis (t .1) xs) (tests-not-ten ts xs v (n .1))
-  where
-    go : (o : Option ℕ) → (firstRefusal ts xs v .number ≡ 10 → ⊥)
-        → (elim o as (λ _. Refusal) [ some i ↦ record { number = t .0; place = i } | none ↦ firstRefusal ts xs v ]) .number ≡ 10 → ⊥
-    go (some i) h e = n .0 e
-    go none h e = h e
-
-no-ten : NoTen axisRefusals
-no-ten = (λ e. omega arith, (λ e. omega arith, (λ e. omega arith, (λ e. omega arith, (λ e. omega arith, (λ e. omega arith, (λ e. omega arith, tt)))))))
-
-pub checks-not-ten : (j : Job) (c : Refusal) → c ≡ checkedFor j → c .number ≡ 10 → ⊥
-checks-not-ten j c is e = go (leb (j .asked) lastTick) (sym (ap (λ (r : Refusal). r .number) is) ∙ e)
-  where
-    go : (b : Bool)
-        → (elim b as (λ _. Refusal) [ true ↦ firstRefusal axisRefusals (j .axes) (j .windows) | false ↦ record { number = 3; place = 1 } ]) .number ≡ 10 → ⊥
-    go true e = tests-not-ten axisRefusals (j .axes) (j .windows) no-ten e
-    go false e = omega arith
-
--- ---- with the weights by hand
+-- ---- with the weights given
 
 part-with-with-weight : (j : Job) (k : ℕ) (lent : List ℤ) (a : Answer) → partWith a (axesOf (jobWithWeight j)) k lent ≡ partWith a (axesOf j) k lent
 part-with-with-weight j k lent a =

@@ -2,13 +2,14 @@
 // on with. specs/Promise.antt says what both calls promise of any job, first candidate and budget. No candidate past the budget is looked at.
 //
 // The way of a job:
-//     search_words      words::decode          the refusals of words, then as search_job
-//     search_job        words::mask_allowed    refusal 1
-//     search_allowed    refusals::check         the refusals of an axis, and 13; the asked arrival is read as 0, so that 3 never comes
-//                       first_allowed          refusal 18
-//                       refusals::with_weight       damping as measured to a number B
-//                       search_from            the search
+//     search_words      words::decode               the refusals of words, then as search_job
+//     search_job        admission::check            refusal 1, those of an axis, and 13; the asked arrival is read as 0, so that 3 never comes
+//                       first_allowed               refusal 18
+//                       admission::given_weights    damping as measured to a number B
+//                       search_from                 the search
+use admission::Purpose;
 use model::Axis;
+use model::Checked;
 use model::Job;
 use model::Report;
 use model::SearchAnswer;
@@ -19,11 +20,11 @@ ghost use mathlib.Core.Bool.{cond};
 ghost use mathlib.Core.Option.{none};
 ghost use Prim.Native.Nat.{_+_, _≤_};
 ghost use lib.Dec.{ltb};
-ghost use Rattle.model.specs.planning.Job.{setAxes, jobWith};
+ghost use Rattle.model.specs.planning.Job.{setAxes};
 ghost use Rattle.model.specs.planning.Refusals.{AllPassed, lastTick};
 ghost use Rattle.model.specs.planning.Windows.{refused13};
 ghost use Rattle.model.specs.planning.Outcome as Input;
-ghost use Rattle.model.specs.calls.Search.{refuseSearch, searchAnswer, foundTick, firstAllowed, searchFrom, searchJob};
+ghost use Rattle.model.specs.calls.Search.{refuseSearch, searchAnswer, foundTick, firstAllowed, searchFrom};
 ghost use Rattle.arrival.specs.Arrivals.{arrivesIn};
 ghost use Rattle.search.specs.Promise.{SearchPromise};
 
@@ -34,12 +35,18 @@ ghost use Rattle.search.specs.Promise.{SearchPromise};
 pub fn search_job(job: Job, first: u32, budget: u32) -> SearchAnswer
     ensures { λ r. ⌜ SearchPromise (Input.typed job) first budget r ⌝ }
 {
-    if !words::mask_allowed(job.mask) {
-        return refused(1, 0);
+    let checked = admission::check(job, Purpose::Searching);
+    if let Checked::Refused(number, place) = checked {
+        return refused(number, place);
+    }
+    if !first_allowed(first) {
+        return refused(18, 0);
     }
     let axes = job.axes;
     let windows = job.windows;
-    search_allowed(job.mask, axes, windows, first, budget)
+    let given = admission::given_weights(job.mask, axes);
+    let found = search_from(job.mask, given, windows, first, budget);
+    answered(job.mask, found)
 }
 
 // The same for a job as words: the refusals of `planner::plan_words` before 8, but for 3, and then 18.
@@ -52,32 +59,6 @@ pub fn search_words(words: &[u32], first: u32, budget: u32) -> SearchAnswer
     }
     let job = decoded.job;
     search_job(job, first, budget)
-}
-
-// The answer to a job whose mask is allowed.
-fn search_allowed(
-    mask: u32,
-    axes: [Axis; 6],
-    windows: Windows,
-    first: u32,
-    budget: u32,
-) -> SearchAnswer
-    ensures { λ r. ⌜ r ≡ searchJob (jobWith mask 0 axes windows) first budget ⌝ }
-{
-    let mut given = axes;
-    let checked = refusals::check(mask, given, windows, true);
-    if checked.number != 0 {
-        return refused(checked.number, checked.place);
-    }
-    if !first_allowed(first) {
-        return refused(18, 0);
-    }
-    if refusals::any_measured(mask, given) {
-        let weighed = refusals::with_weight(mask, given);
-        given = weighed;
-    }
-    let found = search_from(mask, given, windows, first, budget);
-    answered(mask, found)
 }
 
 // Whether a first candidate is allowed: from 1 to 4,097, which leaves none to try.

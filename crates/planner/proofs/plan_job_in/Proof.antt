@@ -1,55 +1,83 @@
-use native.Mathlib.Omega.{arith}
-use mathlib.Core.Path.{sym, _∙_}
-use borrow.Author.Tests.{not-true, not-false}
-use Rattle.model.specs.planning.Outcome.{typed}
-use Rattle.planner.proofs.Calls.{promise-in, mask-refused, mask-passed, good-mask}
-use Rattle.planner.proofs.Stages.{refuses, onward}
+use mathlib.Core.Path.{sym, ap}
+use Rattle.model.specs.planning.Job.{setAxes}
+use Rattle.model.specs.planning.Admission.{typed, planningRules}
+use Rattle.model.specs.planning.Outcome.{outcomeAfter}
+use Rattle.model.proofs.jobs.CheckingOrder.{clear-passed}
+use Rattle.model.proofs.jobs.BeforeTen.{planning-numbered}
+use Rattle.admission.proofs.Weights.{given-passed}
+use Rattle.admission.proofs.Admitted.{refused, passed, good-mask}
+use Rattle.planner.proofs.Calls.{promise-in}
+use Rattle.planner.proofs.Stages.{refuses, onward, given-arrives}
 use borrow.Author.Needs.{needs}
 use Rattle.planner.proofs.plan_job_in.Statement.{statement}
 use Rattle.planner.proofs.plan_job_in.Tie as tie
 
-mask-allowed-requires : tie.Need-mask-allowed-requires
-mask-allowed-requires c κs = search needs
+check-requires : tie.Need-check-requires
+check-requires c κs = search needs
+
+enum-known-checked : tie.Need-enum-known-checked
+enum-known-checked c = search needs
 
 refused-requires : tie.Need-refused-requires
 refused-requires c κs = search needs
 
 returns : tie.Need-returns
 returns c =
-    let a = c .before .before .before .args in
+    let a = c .before .before .before .before .before .args in
     let t = a .job in
     let lent = a .table .now in
+    let k = c .before .before .before .before .check in
+    let v = c .before .before .checked .given in
     let r = c .refused in
-    let bad = sym (c .before .before .mask-allowed .ensures) ∙ not-true _ (c .before .if1 .taken) in
+    let q = refused planningRules planning-numbered (typed t) (k .result) (k .ensures) (v .0 .0) (v .0 .1 .0) (v .1) in
     promise-in (a .wanted) (typed t) lent (r .result) lent
-    (refuses (t .mask) _ lent (a .wanted) (r .result) 1 0 0 _ (r .ensures) (λ z. omega arith) (λ z. omega arith) (mask-refused t lent bad))
+    (refuses (t .mask) _ lent (a .wanted) (r .result) (v .0 .0) (v .0 .1 .0) 0 _ (r .ensures) (q .not-0) (q .not-10) (sym (ap (outcomeAfter lent) (q .is))))
 
-plan-allowed-requires : tie.Need-plan-allowed-requires
-plan-allowed-requires c κs =
-    let good = sym (c .before .before .before .before .mask-allowed .ensures) ∙ not-false _ (c .before .before .before .if1 .left) in
-    good-mask (c .before .before .before .before .before .args .job .mask) good
+enum-told : tie.Need-enum-told
+enum-told c = search needs
+
+given-weights-requires : tie.Need-given-weights-requires
+given-weights-requires c κs = search needs
+
+plan-checked-requires : tie.Need-plan-checked-requires
+plan-checked-requires c κs =
+    let g = c .before .given-weights in
+    let e = c .before .before .before .before in
+    let k = e .before .before .check in
+    let t = e .before .before .before .args .job in
+    let q = passed planningRules planning-numbered (typed t) (k .result) (k .ensures) (e .enum-told .given .1) in
+    let mask = good-mask planningRules t _ (q .is) in
+    let given = given-passed (t .mask) (t .axes) (g .result) (g .ensures) (clear-passed (setAxes 0 (t .mask) (t .axes)) (q .clear)) in
+    (mask .0, (mask .1, (q .asked, (given, q .windows))))
 
 same-length : tie.Need-same-length
 same-length c = search needs
 
 returns-2 : tie.Need-returns-2
 returns-2 c =
-    let a = c .before .before .before .before .before .before .before .args in
+    let w = c .before .plan-checked in
+    let g = c .before .before .before .given-weights in
+    let e = c .before .before .before .before .before .before in
+    let k = e .before .before .check in
+    let a = e .before .before .before .args in
     let t = a .job in
     let lent = a .table .now in
-    let w = c .before .plan-allowed in
-    let e = c .before .before .before .before .before in
-    let good = sym (e .before .mask-allowed .ensures) ∙ not-false _ (e .if1 .left) in
     let exit = w .last .1 .1 .1 .1 .1 .0 in
-    promise-in (a .wanted) (typed t) lent (w .result) exit (onward (t .mask) _ lent (a .wanted) _ _ (w .result) exit (mask-passed t lent good) (w .ensures))
+    let q = passed planningRules planning-numbered (typed t) (k .result) (k .ensures) (e .enum-told .given .1) in
+    promise-in (a .wanted) (typed t) lent (w .result) exit
+    (onward (t .mask) _ lent (a .wanted) _ _ (w .result) exit (sym (ap (outcomeAfter lent) (q .is)))
+    (given-arrives (t .mask) (t .asked) (t .axes) (g .result) (t .windows) (g .ensures) lent (w .result) exit (a .wanted) (w .ensures)))
 
 pub plan-job-in-spec : {M : Type 1} → statement M
 plan-job-in-spec =
     tie.close
     (tie.spec
-    mask-allowed-requires
+    check-requires
+    enum-known-checked
     refused-requires
     returns
-    plan-allowed-requires
+    enum-told
+    given-weights-requires
+    plan-checked-requires
     same-length
     returns-2)

@@ -1,6 +1,7 @@
-use Rattle.model.specs.planning.Outcome.{words, inputJob}
-use Rattle.planner.proofs.Calls.{promise-in, words-refused}
-use Rattle.planner.proofs.Answers.{words-not-ten, words-promise}
+use mathlib.Core.Path.{sym, ap}
+use Rattle.model.specs.planning.Outcome.{words, inputJob, outcomeAfter}
+use Rattle.planner.proofs.Calls.{promise-in}
+use Rattle.planner.proofs.Answers.{of-words, words-promise}
 use Rattle.planner.proofs.Stages.{refuses}
 use borrow.Author.Needs.{needs}
 use Rattle.planner.proofs.plan_words_in.Statement.{statement}
@@ -20,9 +21,10 @@ returns c =
     let no = c .before .if1 .taken in
     let ws = a .words .now in
     let lent = a .table .now in
+    let w = of-words ws (d .result) (d .ensures) no in
     promise-in (a .wanted) (words ws) lent (r .result) lent
-    (refuses (inputJob (words ws) .mask) _ lent (a .wanted) (r .result) (d .result .number) (d .result .place) 0 _ (r .ensures) no
-    (words-not-ten ws (d .result) (d .ensures)) (words-refused ws lent (d .result) (d .ensures) no))
+    (refuses (inputJob (words ws) .mask) _ lent (a .wanted) (r .result) (d .result .number) (d .result .place) 0 _ (r .ensures) no (w .not-10)
+    (sym (ap (outcomeAfter lent) (w .is))))
 
 plan-job-in-requires : tie.Need-plan-job-in-requires
 plan-job-in-requires c κs = search needs

@@ -1,32 +1,98 @@
-use mathlib.Core.Path.{sym, _∙_}
+use native.Mathlib.Omega.{arith}
+use mathlib.Core.Path.{sym, ap, _∙_}
 use borrow.Author.Needs.{needs}
 use borrow.Author.Tests.{not-true, not-false}
-use Rattle.model.specs.planning.Outcome.{typed}
-use Rattle.search.proofs.Ways.{promise, mask-refused, mask-passed}
+use Rattle.model.specs.planning.Job.{setAxes}
+use Rattle.model.specs.planning.Admission.{typed}
+use Rattle.model.specs.calls.Search.{searchAnswer}
+use Rattle.model.proofs.jobs.CheckingOrder.{clear-passed}
+use Rattle.admission.proofs.Weights.{given-passed}
+use Rattle.search.proofs.Ways.{promise, job-refused, goes, first-range, first-refused, searched}
 use Rattle.search.proofs.search_job.Statement.{statement}
 use Rattle.search.proofs.search_job.Tie as tie
 
-mask-allowed-requires : tie.Need-mask-allowed-requires
-mask-allowed-requires c κs = search needs
+check-requires : tie.Need-check-requires
+check-requires c κs = search needs
+
+enum-known-checked : tie.Need-enum-known-checked
+enum-known-checked c = search needs
 
 refused-requires : tie.Need-refused-requires
 refused-requires c κs = search needs
 
 returns : tie.Need-returns
 returns c =
-    let a = c .before .before .before .args in
-    let bad = sym (c .before .before .mask-allowed .ensures) ∙ not-true _ (c .before .if1 .taken) in
-    promise (typed (a .job)) (a .first) (a .budget) (c .refused .result) (c .refused .ensures ∙ mask-refused (a .job) (a .first) (a .budget) bad)
+    let a = c .before .before .before .before .before .args in
+    let k = c .before .before .before .before .check in
+    let v = c .before .before .checked .given in
+    promise (typed (a .job)) (a .first) (a .budget) (c .refused .result)
+    (c .refused .ensures ∙ job-refused (a .job) (a .first) (a .budget) (k .result) (k .ensures) (v .0 .0) (v .0 .1 .0) (v .1))
 
-search-allowed-requires : tie.Need-search-allowed-requires
-search-allowed-requires c κs = search needs
+enum-told : tie.Need-enum-told
+enum-told c = search needs
+
+first-allowed-requires : tie.Need-first-allowed-requires
+first-allowed-requires c κs = search needs
+
+refused-requires-2 : tie.Need-refused-requires-2
+refused-requires-2 c κs = search needs
 
 returns-2 : tie.Need-returns-2
 returns-2 c =
-    let a = c .before .before .before .before .before .args in
-    let r = c .search-allowed in
-    let good = sym (c .before .before .before .before .mask-allowed .ensures) ∙ not-false _ (c .before .before .before .if1 .left) in
-    promise (typed (a .job)) (a .first) (a .budget) (r .result) (r .ensures ∙ mask-passed (a .job) (a .first) (a .budget) good)
+    let e = c .before .before .before in
+    let k = e .before .before .check in
+    let a = e .before .before .before .args in
+    let bad = sym (c .before .before .first-allowed .ensures) ∙ not-true _ (c .before .if1 .taken) in
+    promise (typed (a .job)) (a .first) (a .budget) (c .refused2 .result)
+    (c .refused2 .ensures ∙ first-refused (a .job) (a .first) (a .budget) (k .result) (k .ensures) (e .enum-told .given .1) bad)
+
+given-weights-requires : tie.Need-given-weights-requires
+given-weights-requires c κs = search needs
+
+search-from-requires : tie.Need-search-from-requires
+search-from-requires c κs =
+    let f = c .before .before .before in
+    let e = f .before .before in
+    let k = e .before .before .check in
+    let a = e .before .before .before .args in
+    let t = a .job in
+    let g = c .given-weights in
+    let q = goes t (a .first) (a .budget) (k .result) (k .ensures) (e .enum-told .given .1) in
+    let given = given-passed (t .mask) (t .axes) (g .result) (g .ensures) (clear-passed (setAxes 0 (t .mask) (t .axes)) (q .clear)) in
+    let range = first-range (a .first) (sym (f .before .first-allowed .ensures) ∙ not-false _ (f .if1 .left)) in
+    (given, (q .windows, (range .0, omega (arith, range .1))))
+
+answered-requires : tie.Need-answered-requires
+answered-requires c κs = search needs
+
+returns-3 : tie.Need-returns-3
+returns-3 c =
+    let d = c .before .before in
+    let f = d .before .before .before in
+    let e = f .before .before in
+    let k = e .before .before .check in
+    let a = e .before .before .before .args in
+    let t = a .job in
+    let g = d .given-weights in
+    let allowed = sym (f .before .first-allowed .ensures) ∙ not-false _ (f .if1 .left) in
+    promise (typed t) (a .first) (a .budget) (c .answered .result)
+    (c .answered .ensures
+    ∙ ap (searchAnswer (t .mask)) (c .before .search-from .ensures)
+    ∙ searched t (a .first) (a .budget) (k .result) (k .ensures) (e .enum-told .given .1) allowed (g .result) (g .ensures))
 
 pub search-job-spec : {M : Type 1} → statement M
-search-job-spec = tie.close (tie.spec mask-allowed-requires refused-requires returns search-allowed-requires returns-2)
+search-job-spec =
+    tie.close
+    (tie.spec
+    check-requires
+    enum-known-checked
+    refused-requires
+    returns
+    enum-told
+    first-allowed-requires
+    refused-requires-2
+    returns-2
+    given-weights-requires
+    search-from-requires
+    answered-requires
+    returns-3)
