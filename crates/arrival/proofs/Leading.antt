@@ -14,6 +14,7 @@ use Rattle.model.specs.declared.Axis.{Axis}
 use Rattle.model.specs.planning.Motion.{reachable}
 use Rattle.model.specs.planning.Outcome.{allReach}
 use Rattle.envelopes.specs.Sums.{Next}
+use Rattle.reach.specs.Halving.{Loses}
 use Rattle.model.specs.planning.Job.{JobAxis, setAxes}
 use Rattle.model.specs.planning.Refusals.{Passed, AllPassed}
 use Rattle.model.proofs.motions.Threshold.{reached-slow, reached-later}
@@ -47,6 +48,17 @@ next-unnamed m x n last e h =
       missed = λ k p q. absurd (omega arith);
       passed = λ p. ap (λ (b : Bool). not (cond b (not (reachable x n)) false)) (ne-eqb (m % 2) 1 e);
     }
+
+pub loses-named : (m : ℕ) (x : Axis) (n : ℕ) (r : Bool) → m % 2 ≡ 1 → Loses (reachable x) n r → Loses (reachedBy m x) n r
+loses-named m x n r e w =
+    record {
+      lost = λ h. sym (named m x n e) ∙ w .lost h;
+      kept = λ h i p q. sym (named m x n e) ∙ w .kept h i p (named m x i e ∙ q);
+    }
+
+pub loses-unnamed : (m : ℕ) (x : Axis) (n : ℕ) → (m % 2 ≡ 1 → ⊥) → Loses (reachedBy m x) n false
+loses-unnamed m x n e =
+    record { lost = λ h. absurd (subst T (sym h) tt); kept = λ h i p q. next-unnamed m x n n e (omega arith) .passed (omega arith) }
 
 -- an axis that reaches two candidates reaches every one between them
 between : (m : ℕ) (x : Axis) → (m % 2 ≡ 1 → Passed x) → (j n k : ℕ) → j ≤ n → n ≤ k → reachedBy m x j ≡ true → reachedBy m x k ≡ true → reachedBy m x n ≡ true
@@ -139,13 +151,9 @@ module _ (m : ℕ) (six : List Axis) where
   every-axis n e = all-on (length six) 0 n (omega arith) e
 
   -- what a test of one axis says
-  pub reach-not : (i bits n : ℕ) → bits ≡ bitsFrom m i → missedBy bits (axisAt six i) n ≡ true → reach i n ≡ false
+  pub reach-loses : (i bits n : ℕ) (r : Bool) → bits ≡ bitsFrom m i → Loses (reachedBy bits (axisAt six i)) n r → Loses (reach i) n r
   unfolding reach
-  reach-not i bits n e h = ap (λ (k : ℕ). not (missedBy k (axisAt six i) n)) (sym e) ∙ ap not h
-
-  pub reach-yes : (i bits n : ℕ) → bits ≡ bitsFrom m i → missedBy bits (axisAt six i) n ≡ false → reach i n ≡ true
-  unfolding reach
-  reach-yes i bits n e h = ap (λ (k : ℕ). not (missedBy k (axisAt six i) n)) (sym e) ∙ ap not h
+  reach-loses i bits n r e w = subst (λ (k : ℕ). Loses (reachedBy k (axisAt six i)) n r) e w
 
   pub reach-unnamed : (i n : ℕ) → bitsFrom m i ≡ 0 → reach i n ≡ true
   unfolding reach
@@ -169,6 +177,8 @@ pub record Led (test : ℕ → Bool) (reaches : ℕ → ℕ → Bool) (first las
   pub missed : (k : ℕ) → first ≤ k → k < n → test k ≡ false
   -- an axis that had its turn and reaches a later candidate reaches n
   pub held : (j : ℕ) → j < number → (k : ℕ) → n ≤ k → k ≤ last → reaches j k ≡ true → reaches j n ≡ true
+  -- and it reaches n or an earlier one
+  pub turned : (j : ℕ) → j < number → n ≤ last → (i : ℕ) × ((i ≤ n) × (reaches j i ≡ true))
   -- the one that led on last and those after it reach n
   pub few : again ≤ number
   pub upper : (j : ℕ) → again ≤ j → j < number → n ≤ last → reaches j n ≡ true
@@ -181,7 +191,7 @@ module _ (test : ℕ → Bool) (reaches : ℕ → ℕ → Bool) (first last numb
 
   pub turn-done : (a : ℕ) → Again again number n r a → Led test reaches first last (number + 1) a r
   turn-done a c =
-      record { low = omega (arith, s .low, w .low); high = w .high; missed = missed; held = held; few = few c; upper = upper c }
+      record { low = omega (arith, s .low, w .low); high = w .high; missed = missed; held = held; turned = turned; few = few c; upper = upper c }
     where
       missed : (k : ℕ) → first ≤ k → k < r → test k ≡ false
       missed k p q = go (lt-or-le k n)
@@ -196,6 +206,15 @@ module _ (test : ℕ → Bool) (reaches : ℕ → ℕ → Bool) (first last numb
           go : (j < number) ⊎ (number ≤ j) → reaches j r ≡ true
           go (inl u) = between j (omega arith) n r k (w .low) p (s .held j u k (omega (arith, w .low)) q e) e
           go (inr u) = here j (omega arith) (omega arith)
+
+      turned : (j : ℕ) → j < number + 1 → r ≤ last → (i : ℕ) × ((i ≤ r) × (reaches j i ≡ true))
+      turned j h l = go (lt-or-le j number)
+        where
+          go : (j < number) ⊎ (number ≤ j) → (i : ℕ) × ((i ≤ r) × (reaches j i ≡ true))
+          go (inl u) =
+              let t = s .turned j u (omega (arith, w .low)) in
+              (t .0, (omega (arith, t .1 .0, w .low), t .1 .1))
+          go (inr u) = (r, (omega arith, here j (omega arith) l))
 
       few : Again again number n r a → a ≤ number + 1
       few (inl (e, f)) = omega (arith, s .few)
@@ -213,8 +232,15 @@ module _ (test : ℕ → Bool) (reaches : ℕ → ℕ → Bool) (first last numb
 pub led-rest : (test : ℕ → Bool) (reaches : ℕ → ℕ → Bool) (first last i again n : ℕ) → Led test reaches first last i again n → i ≤ 6
     → ((j k : ℕ) → i ≤ j → reaches j k ≡ true) → Led test reaches first last 6 again n
 led-rest test reaches first last i again n s h rest =
-    record { low = s .low; high = s .high; missed = s .missed; held = held; few = omega (arith, s .few); upper = upper }
+    record { low = s .low; high = s .high; missed = s .missed; held = held; turned = turned; few = omega (arith, s .few); upper = upper }
   where
+    turned : (j : ℕ) → j < 6 → n ≤ last → (k : ℕ) × ((k ≤ n) × (reaches j k ≡ true))
+    turned j p l = go (lt-or-le j i)
+      where
+        go : (j < i) ⊎ (i ≤ j) → (k : ℕ) × ((k ≤ n) × (reaches j k ≡ true))
+        go (inl u) = s .turned j u l
+        go (inr u) = (n, (omega arith, rest j n u))
+
     held : (j : ℕ) → j < 6 → (k : ℕ) → n ≤ k → k ≤ last → reaches j k ≡ true → reaches j n ≡ true
     held j p k a b e = go (lt-or-le j i)
       where

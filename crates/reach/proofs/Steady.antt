@@ -197,7 +197,7 @@ module _ (x : Axis) where
           (and-yes (leb (natAbs (arrivalVelocity x k)) (speedSteps x)) _
           (leb-yes (subst (λ (z : ℤ). natAbs z ≤ speedSteps x) (sym (arrival-is k)) (landing-slow k))) moves))
 
-    always-slow : (n : ℕ) → Slow x n
+    pub always-slow : (n : ℕ) → Slow x n
     always-slow n = record { landed = landing-slow n; arrived = subst (λ (z : ℤ). natAbs z ≤ speedSteps x) (sym (arrival-is n)) (landing-slow n) }
 
     -- what is reached stays reached

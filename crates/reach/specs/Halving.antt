@@ -28,3 +28,8 @@ pub record LastPassing (test : ℕ → Bool) (first last r : ℕ) : Type 0 where
 pub record ReachesSome (test : ℕ → Bool) (last : ℕ) (r : Bool) : Type 0 where
   pub none : r ≡ false → (k : ℕ) → k ≤ last → test k ≡ false
   pub some : r ≡ true → (k : ℕ) × ((1 ≤ k) × ((k ≤ last) × (test k ≡ true)))
+
+-- whether n does not pass, where one up to it does
+pub record Loses (test : ℕ → Bool) (n : ℕ) (r : Bool) : Type 0 where
+  pub lost : r ≡ true → test n ≡ false
+  pub kept : r ≡ false → (i : ℕ) → i ≤ n → test i ≡ true → test n ≡ true

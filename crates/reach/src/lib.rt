@@ -15,7 +15,7 @@ ghost use Rattle.model.specs.planning.Motion.{reachable};
 ghost use Rattle.model.specs.planning.Refusals.{lastTick, Passed};
 ghost use Rattle.envelopes.specs.Sums.{Next};
 ghost use Rattle.reach.specs.Drift.{driftOf, drift, speedOf};
-ghost use Rattle.reach.specs.Halving.{LastPassing, ReachesSome};
+ghost use Rattle.reach.specs.Halving.{LastPassing, ReachesSome, Loses};
 
 // Fine steps in a unit.
 const FINE_STEPS: i64 = 256;
@@ -70,6 +70,19 @@ pub fn reaches_some(x: Axis, last: u32) -> bool
     if delay < last {
         let high = last_slow(x, delay + 1, last);
         return reaches(x, high);
+    }
+    false
+}
+
+// Whether the axis, where it reaches a tick up to n, does not reach n: only a target that accelerates can be too fast by then.
+pub fn loses(x: Axis, n: u32) -> bool
+    requires { ⌜ Passed x ⌝ }
+    requires { ⌜ n ≤ lastTick ⌝ }
+    ensures { λ r. ⌜ Loses (reachable x) n r ⌝ }
+{
+    let target = x.target;
+    if motion::accelerates(target) {
+        return !reaches(x, n);
     }
     false
 }

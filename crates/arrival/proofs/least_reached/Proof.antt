@@ -10,7 +10,7 @@ use Rattle.model.specs.planning.Outcome.{allReach}
 use Rattle.model.specs.declared.Axis.{Axis}
 use Rattle.model.specs.planning.Job.{setAxes}
 use Rattle.arrival.specs.Arrivals.{After}
-use Rattle.arrival.proofs.Leading.{bitsFrom, bits-first, bits-later, reach, passed-at, reach-of, axis-misses, every-axis, reach-between, reach-not, reach-yes}
+use Rattle.arrival.proofs.Leading.{bitsFrom, bits-first, bits-later, reach, passed-at, reach-of, axis-misses, every-axis, reach-between, reach-loses}
 use Rattle.arrival.proofs.Leading.{Led, turn-done, led-rest, bits-none, reach-unnamed, led-all, led-nowhere}
 use Rattle.arrival.proofs.least_reached.Statement.{statement}
 use Rattle.arrival.proofs.least_reached.Tie as tie
@@ -80,6 +80,7 @@ loop-holds c =
             high = c .pre .1 .0;
             missed = λ k p q. absurd (omega arith);
             held = λ j p. absurd (omega arith);
+            turned = λ j p. absurd (omega arith);
             few = omega arith;
             upper = λ j p q. absurd (omega arith);
           };
@@ -173,8 +174,8 @@ mul-axis-2 c = omega (arith, c .loop2-test .taken, c .before .loop2 .inv .led .f
 array-copy-out-axis-2 : tie.Need-array-copy-out-axis-2 Inv-loop μ-loop Inv-loop2 μ-loop2
 array-copy-out-axis-2 c = omega (arith, c .loop2-test .taken, c .before .loop2 .inv .led .few)
 
-misses-requires : tie.Need-misses-requires Inv-loop μ-loop Inv-loop2 μ-loop2
-misses-requires c κs =
+drops-out-requires : tie.Need-drops-out-requires Inv-loop μ-loop Inv-loop2 μ-loop2
+drops-out-requires c κs =
     let l = c .before .before .loop2 in
     let a = c .before .before .before .before .before in
     let few = c .before .loop2-test .taken in (
@@ -194,7 +195,7 @@ returns-2 c =
     let few : l .asked < 6 = omega (arith, c .before .before .before .loop2-test .taken, l .inv .led .few) in
     led-nowhere (allReach (setAxes 0 (a .mask) (a .t2))) (reach (a .mask) (a .t2)) (a .first) (a .last) (f .again) (f .n) (l .inv .led)
     (λ i h. axis-misses (a .mask) (a .t2) i (omega (arith, h, six))) (λ k e. every-axis (a .mask) (a .t2) k (λ j h. e j (omega (arith, h, six))))
-    (l .asked) few (reach-not (a .mask) (a .t2) (l .asked) (l .left) (f .n) (l .inv .bits) (sym (c .before .misses .ensures) ∙ c .if2 .taken))
+    (l .asked) few (reach-loses (a .mask) (a .t2) (l .asked) (l .left) (f .n) _ (l .inv .bits) (c .before .drops-out .ensures) .lost (c .if2 .taken))
 
 add-asked : tie.Need-add-asked Inv-loop μ-loop Inv-loop2 μ-loop2
 add-asked c = omega (arith, c .before .before .before .loop2-test .taken, c .before .before .before .before .loop2 .inv .led .few)
@@ -207,7 +208,9 @@ loop2-again c =
     let l = c .before .before .before .before .loop2 in
     let f = c .before .before .before .before .before .before .loop in
     let a = c .before .before .before .before .before .before .before .args in
-    let here = reach-yes (a .mask) (a .t2) (l .asked) (l .left) (f .n) (l .inv .bits) (sym (c .before .misses .ensures) ∙ c .if2 .left) in
+    let few : l .asked < 6 = omega (arith, c .before .before .before .loop2-test .taken, l .inv .led .few) in
+    let t = l .inv .led .turned (l .asked) few (l .inv .inside) in
+    let here = reach-loses (a .mask) (a .t2) (l .asked) (l .left) (f .n) _ (l .inv .bits) (c .before .drops-out .ensures) .kept (c .if2 .left) (t .0) (t .1 .0) (t .1 .1) in
     record {
       six = l .inv .six;
       few = omega (arith, c .before .before .before .loop2-test .taken);
@@ -247,7 +250,7 @@ least-reached-spec =
     loop2-holds
     mul-axis-2
     array-copy-out-axis-2
-    misses-requires
+    drops-out-requires
     add-result
     returns-2
     add-asked
