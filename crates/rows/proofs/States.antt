@@ -8,6 +8,7 @@ use native.Mathlib.Omega.{arith}
 use native.Mathlib.Decide.{decLt}
 use lib.Dec.{ltb}
 use borrow.Author.Tests.{lt-ltb, le-ltb}
+use lib.IntN.{pos}
 use lib.ListN.{length, getD, set}
 use lib.Seq.{getD-set-same, getD-set-other}
 use Rattle.model.specs.declared.Order.{Order}
@@ -19,7 +20,6 @@ use Rattle.rows.specs.Plans.{unsetPlan}
 use Rattle.blended.specs.BlendedStates.{blendedStateAt, comesTo}
 use Rattle.cells.specs.Rows.{comesAt, goesOnAt}
 use Rattle.whole.proofs.Tests.{choice-yes, choice-no}
-use Rattle.rows.specs.Table.{noState, At}
 
 -- the tick of axis a in a row, when the axes before axis i are stepped from tick k to tick l
 unfoldable pub tickOf : ℕ → ℕ → ℕ → ℕ → ℕ
@@ -33,9 +33,16 @@ pub tick-before : (i k l a : ℕ) → i ≤ a → tickOf i k l a ≡ k
 unfolding tickOf
 tick-before i k l a h = sym (choice-no (ltb a i) l k (le-ltb a i h))
 
--- the states of the first `count` axes while those before axis i are stepped
+-- what stands where no state is
+abbrev pub noStates : BlendedState
+noStates = record { position = pos 0; velocity = pos 0 }
+
+-- the states of the first `count` axes
+abbrev pub At : List AxisPlan → ℕ → ℕ → List BlendedState → Type 0
+At axes count k states = (a : ℕ) → a < count → getD states a noStates ≡ blendedStateAt (getD axes a unsetPlan) k
+
 abbrev pub States : List AxisPlan → ℕ → ℕ → ℕ → ℕ → List BlendedState → Type 0
-States axes count k l i states = (a : ℕ) → a < count → getD states a noState ≡ blendedStateAt (getD axes a unsetPlan) (tickOf i k l a)
+States axes count k l i states = (a : ℕ) → a < count → getD states a noStates ≡ blendedStateAt (getD axes a unsetPlan) (tickOf i k l a)
 
 -- all at tick k: no axis is stepped yet
 pub row-begins : (axes : List AxisPlan) (count k l : ℕ) (states : List BlendedState) → At axes count k states → States axes count k l 0 states
@@ -47,7 +54,7 @@ row-ends axes count k l states h a q = h a q ∙ ap (blendedStateAt (getD axes a
 
 -- axis i, which is the next to be stepped
 pub next-state : (axes : List AxisPlan) (count k l i : ℕ) (states : List BlendedState) → States axes count k l i states → i < count
-    → getD states i noState ≡ blendedStateAt (getD axes i unsetPlan) k
+    → getD states i noStates ≡ blendedStateAt (getD axes i unsetPlan) k
 next-state axes count k l i states h q = h i q ∙ ap (blendedStateAt (getD axes i unsetPlan)) (tick-before i k l i (omega arith))
 
 -- axis i is stepped
@@ -56,16 +63,16 @@ pub steps : (axes : List AxisPlan) (count k l i : ℕ) (states : List BlendedSta
 steps axes count k l i states u m six long e h a q = go (decLt a i) (decLt i a)
   where
     Goal : ℕ → Type 0
-    Goal b = getD (set states i u) b noState ≡ blendedStateAt (getD axes b unsetPlan) (tickOf (i + 1) k l b)
+    Goal b = getD (set states i u) b noStates ≡ blendedStateAt (getD axes b unsetPlan) (tickOf (i + 1) k l b)
 
     own : Goal i
     own =
-        getD-set-same states i u noState (omega arith)
+        getD-set-same states i u noStates (omega arith)
         ∙ e
         ∙ ap (blendedStateAt (getD axes i unsetPlan)) (sym (tick-after (i + 1) k l i (omega arith)))
 
     other : (a ≡ i → ⊥) → tickOf i k l a ≡ tickOf (i + 1) k l a → Goal a
-    other n t = getD-set-other states i a u noState n ∙ h a q ∙ ap (blendedStateAt (getD axes a unsetPlan)) t
+    other n t = getD-set-other states i a u noStates n ∙ h a q ∙ ap (blendedStateAt (getD axes a unsetPlan)) t
 
     go : Dec (a < i) → Dec (i < a) → Goal a
     go (yes r) d = other (λ w. omega arith) (tick-after i k l a r ∙ sym (tick-after (i + 1) k l a (omega arith)))
