@@ -5,7 +5,7 @@
 //     check           words::mask_allowed    refusal 1
 //                     asked_read             the asked arrival as the call reads it, and refusal 3
 //                     refusals::check        refusals 4, 12, 5, 15, 6, 16, 17 and 13
-//     given_weights   any_measured           damping as measured to a number B
+// A caller then has the weights worked out where `any_measured` says so: `with_weight` copies the axes, which most jobs need not pay for.
 use model::Axis;
 use model::Checked;
 use model::Job;
@@ -61,18 +61,8 @@ fn must_rest(purpose: Purpose, asked: u32) -> bool
     }
 }
 
-// The axes with the number B of each that the mask names given, so that it is worked out once. The other axes are not read, and stay.
-pub fn given_weights(mask: u32, axes: [Axis; 6]) -> [Axis; 6]
-    ensures { λ r. ⌜ r ≡ namedWithWeight mask axes ⌝ }
-{
-    if any_measured(mask, axes) {
-        return with_weight(mask, axes);
-    }
-    axes
-}
-
 // Whether the number B of an axis that the mask names is to be worked out from damping as measured. The other axes are not read.
-fn any_measured(mask: u32, axes: [Axis; 6]) -> bool
+pub fn any_measured(mask: u32, axes: [Axis; 6]) -> bool
     ensures { λ r. ⌜ r ≡ anyMeasured (setAxes 0 mask axes) ⌝ }
 {
     let mut bits = mask;
@@ -90,8 +80,8 @@ fn any_measured(mask: u32, axes: [Axis; 6]) -> bool
     false
 }
 
-// The axes with the number B of each that the mask names worked out.
-fn with_weight(mask: u32, axes: [Axis; 6]) -> [Axis; 6]
+// The axes with the number B of each that the mask names given, so that it is worked out once. The other axes are not read, and stay.
+pub fn with_weight(mask: u32, axes: [Axis; 6]) -> [Axis; 6]
     ensures { λ r. ⌜ r ≡ namedWithWeight mask axes ⌝ }
 {
     let mut given = axes;

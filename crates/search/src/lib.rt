@@ -5,7 +5,7 @@
 //     search_words      words::decode               the refusals of words, then as search_job
 //     search_job        admission::check            refusal 1, those of an axis, and 13; the asked arrival is read as 0, so that 3 never comes
 //                       first_allowed               refusal 18
-//                       admission::given_weights    damping as measured to a number B
+//                       admission::with_weight      damping as measured to a number B, where there is any
 //                       search_from                 the search
 use admission::Purpose;
 use model::Axis;
@@ -42,9 +42,12 @@ pub fn search_job(job: Job, first: u32, budget: u32) -> SearchAnswer
     if !first_allowed(first) {
         return refused(18, 0);
     }
-    let axes = job.axes;
     let windows = job.windows;
-    let given = admission::given_weights(job.mask, axes);
+    let mut given = job.axes;
+    if admission::any_measured(job.mask, given) {
+        let weighed = admission::with_weight(job.mask, given);
+        given = weighed;
+    }
     let found = search_from(job.mask, given, windows, first, budget);
     answered(job.mask, found)
 }
