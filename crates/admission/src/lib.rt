@@ -8,7 +8,7 @@
 // A caller then has the weights worked out where `any_measured` says so: `with_weight` copies the axes, which most jobs need not pay for.
 use model::Axis;
 use model::Checked;
-use model::Job;
+use model::Windows;
 ghost use mathlib.Core.Path.{_≡_};
 ghost use Rattle.model.specs.planning.Job.{setAxes};
 ghost use Rattle.model.specs.planning.Admission.{typed, admission};
@@ -23,20 +23,19 @@ pub enum Purpose {
     Converting,
 }
 
-// The first refusal of a job before its arrival is looked for, or none. Axes that the mask does not name are not looked at.
-pub fn check(job: Job, purpose: Purpose) -> Checked
-    ensures { λ r. ⌜ r ≡ withoutJob (admission (rulesFor purpose) (typed job)) ⌝ }
+// The first refusal of a job, by its parts, before its arrival is looked for, or none. Axes that the mask does not name are not looked at.
+pub fn check(mask: u32, asked: u32, axes: [Axis; 6], windows: Windows, purpose: Purpose) -> Checked
+    ensures { λ r. ⌜ r ≡ withoutJob (admission (rulesFor purpose)
+        (typed (record { mask = mask; asked = asked; axes = axes; windows = windows }))) ⌝ }
 {
-    if !words::mask_allowed(job.mask) {
+    if !words::mask_allowed(mask) {
         return Checked::Refused(1, 0);
     }
-    let asked = asked_read(purpose, job.asked);
-    if 4096 < asked {
+    let read = asked_read(purpose, asked);
+    if 4096 < read {
         return Checked::Refused(3, 1);
     }
-    let axes = job.axes;
-    let windows = job.windows;
-    refusals::check(job.mask, axes, windows, must_rest(purpose, asked))
+    refusals::check(mask, axes, windows, must_rest(purpose, read))
 }
 
 // The asked arrival as a call reads it.

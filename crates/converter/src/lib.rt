@@ -30,7 +30,9 @@ pub fn convert(words: &[u32], lent: &mut [u32]) -> Answer
         return answer(decoded.number, decoded.place);
     }
     let job = decoded.job;
-    let checked = admission::check(job, Purpose::Converting);
+    let axes = job.axes;
+    let windows = job.windows;
+    let checked = admission::check(job.mask, job.asked, axes, windows, Purpose::Converting);
     if let Checked::Refused(number, place) = checked {
         return answer(number, place);
     }

@@ -35,15 +35,15 @@ ghost use Rattle.search.specs.Promise.{SearchPromise};
 pub fn search_job(job: Job, first: u32, budget: u32) -> SearchAnswer
     ensures { λ r. ⌜ SearchPromise (Input.typed job) first budget r ⌝ }
 {
-    let checked = admission::check(job, Purpose::Searching);
+    let windows = job.windows;
+    let mut given = job.axes;
+    let checked = admission::check(job.mask, job.asked, given, windows, Purpose::Searching);
     if let Checked::Refused(number, place) = checked {
         return refused(number, place);
     }
     if !first_allowed(first) {
         return refused(18, 0);
     }
-    let windows = job.windows;
-    let mut given = job.axes;
     if admission::any_measured(job.mask, given) {
         let weighed = admission::with_weight(job.mask, given);
         given = weighed;

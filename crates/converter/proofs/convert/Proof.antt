@@ -29,9 +29,9 @@ returns-2 c =
     let v = c .before .before .checked .given in
     let b = c .before .before .before .before in
     let k = b .check in
-    let z = b .before .before .if1 .left in
-    let d = b .before .before .before .before .decode in
-    let a = b .before .before .before .before .before .before .before .args in
+    let z = b .before .before .before .before .if1 .left in
+    let d = b .before .before .before .before .before .before .decode in
+    let a = b .before .before .before .before .before .before .before .before .before .args in
     ends-at-job (a .words .now) (a .lent .now) (d .result) (d .ensures) z (k .result) (k .ensures) (v .0 .0) (v .0 .1 .0) (v .1) (c .answer2 .result)
     (c .answer2 .ensures)
 
@@ -43,9 +43,9 @@ write-converted-requires c κs =
     let e = c .before in
     let b = e .before .before in
     let k = b .check in
-    let z = b .before .before .if1 .left in
-    let d = b .before .before .before .before .decode in
-    let a = b .before .before .before .before .before .before .before .args in
+    let z = b .before .before .before .before .if1 .left in
+    let d = b .before .before .before .before .before .before .decode in
+    let a = b .before .before .before .before .before .before .before .before .before .args in
     soon (a .words .now) (a .lent .now) (d .result) (d .ensures) z (k .result) (k .ensures) (e .enum-told .given .1)
 
 same-length : tie.Need-same-length
@@ -56,9 +56,9 @@ returns-3 c =
     let e = c .before .before .before .before in
     let b = e .before .before in
     let k = b .check in
-    let z = b .before .before .if1 .left in
-    let d = b .before .before .before .before .decode in
-    let a = b .before .before .before .before .before .before .before .args in
+    let z = b .before .before .before .before .if1 .left in
+    let d = b .before .before .before .before .before .before .decode in
+    let a = b .before .before .before .before .before .before .before .before .before .args in
     let w = c .before .before .write-converted in
     ends-written (a .words .now) (a .lent .now) (d .result) (d .ensures) z (k .result) (k .ensures) (e .enum-told .given .1) (w .result)
     (w .last .1 .1 .0) (w .ensures)

@@ -25,7 +25,7 @@ refused-requires c κs = search needs
 
 returns : tie.Need-returns
 returns c =
-    let a = c .before .before .before .before .before .args in
+    let a = c .before .before .before .before .before .before .before .args in
     let t = a .job in
     let lent = a .table .now in
     let k = c .before .before .before .before .check in
@@ -56,9 +56,9 @@ with-weight c =
 plan-checked-requires : tie.Need-plan-checked-requires
 plan-checked-requires c κs =
     let g = c .before in
-    let e = g .before .before .before .before in
+    let e = g .before .before in
     let k = e .before .before .check in
-    let t = e .before .before .before .args .job in
+    let t = e .before .before .before .before .before .args .job in
     let q = passed planningRules planning-numbered (typed t) (k .result) (k .ensures) (e .enum-told .given .1) in
     let mask = good-mask planningRules t _ (q .is) in
     let given = given-passed (t .mask) (t .axes) (g .if1 .given) (with-weight g) (clear-passed (setAxes 0 (t .mask) (t .axes)) (q .clear)) in
@@ -71,9 +71,9 @@ returns-2 : tie.Need-returns-2
 returns-2 c =
     let w = c .before .plan-checked in
     let g = c .before .before .before in
-    let e = g .before .before .before .before in
+    let e = g .before .before in
     let k = e .before .before .check in
-    let a = e .before .before .before .args in
+    let a = e .before .before .before .before .before .args in
     let t = a .job in
     let lent = a .table .now in
     let exit = w .last .1 .1 .1 .1 .1 .0 in

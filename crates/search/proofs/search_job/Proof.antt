@@ -24,7 +24,7 @@ refused-requires c κs = search needs
 
 returns : tie.Need-returns
 returns c =
-    let a = c .before .before .before .before .before .args in
+    let a = c .before .before .before .before .before .before .before .args in
     let k = c .before .before .before .before .check in
     let v = c .before .before .checked .given in
     promise (typed (a .job)) (a .first) (a .budget) (c .refused .result)
@@ -43,7 +43,7 @@ returns-2 : tie.Need-returns-2
 returns-2 c =
     let e = c .before .before .before in
     let k = e .before .before .check in
-    let a = e .before .before .before .args in
+    let a = e .before .before .before .before .before .args in
     let bad = sym (c .before .before .first-allowed .ensures) ∙ not-true _ (c .before .if1 .taken) in
     promise (typed (a .job)) (a .first) (a .budget) (c .refused2 .result)
     (c .refused2 .ensures ∙ first-refused (a .job) (a .first) (a .budget) (k .result) (k .ensures) (e .enum-told .given .1) bad)
@@ -65,10 +65,10 @@ with-weight c =
 
 search-from-requires : tie.Need-search-from-requires
 search-from-requires c κs =
-    let f = c .before .before .before .before in
+    let f = c .before .before in
     let e = f .before .before in
     let k = e .before .before .check in
-    let a = e .before .before .before .args in
+    let a = e .before .before .before .before .before .args in
     let t = a .job in
     let q = goes t (a .first) (a .budget) (k .result) (k .ensures) (e .enum-told .given .1) in
     let given = given-passed (t .mask) (t .axes) (c .if2 .given) (with-weight c) (clear-passed (setAxes 0 (t .mask) (t .axes)) (q .clear)) in
@@ -81,10 +81,10 @@ answered-requires c κs = search needs
 returns-3 : tie.Need-returns-3
 returns-3 c =
     let d = c .before .before in
-    let f = d .before .before .before .before in
+    let f = d .before .before in
     let e = f .before .before in
     let k = e .before .before .check in
-    let a = e .before .before .before .args in
+    let a = e .before .before .before .before .before .args in
     let t = a .job in
     let allowed = sym (f .before .first-allowed .ensures) ∙ not-false _ (f .if1 .left) in
     promise (typed t) (a .first) (a .budget) (c .answered .result)
