@@ -158,8 +158,22 @@ impl Leg {
         self.first.abs() <= self.limit
             && self.last.abs() <= self.limit
             && (self.last - self.first).abs() <= self.slope * self.ticks
-            && self.sum_by(engine, -self.limit) <= self.sum
-            && self.sum <= self.sum_by(engine, self.limit)
+            && match engine {
+                Engine::Areas => self.comes_up(),
+                Engine::Ticks => {
+                    self.sum_by(engine, -self.limit) <= self.sum && self.sum <= self.sum_by(engine, self.limit)
+                }
+            }
+    }
+
+    /// Whether the envelope that can fall short of the sum does not: the upper one where
+    /// the sum is at least that of the straight line from one end to the other.
+    fn comes_up(&self) -> bool {
+        if (self.ticks - 1) * (self.first + self.last) <= 2 * self.sum {
+            return self.sum <= self.area_at(self.limit);
+        }
+        let turned = Leg { first: -self.first, last: -self.last, sum: -self.sum, ..*self };
+        turned.sum <= turned.area_at(self.limit)
     }
 
     fn cruise(&self, engine: Engine) -> i64 {
@@ -289,47 +303,62 @@ pub fn reaches(engine: Engine, axis: &Axis, arrival: u32) -> bool {
     (leg.last + change_after * i64::from(delay)).abs() <= leg.limit && leg.has_list(engine)
 }
 
-/// The last tick from n to the last at which a target that accelerates is not too
-/// fast, if it is at one of them.
-fn last_slow(axis: &Axis, n: u32, last: u32) -> u32 {
-    let Ends { change_after, leg, .. } = ends(axis, n);
-    let arrived = leg.last + change_after * i64::from(delay_of(axis));
-    let room = if change_after < 0 { leg.limit + arrived } else { leg.limit - arrived };
-    if room < 0 {
-        return n;
+/// How many ticks after a leg's arrival the target is slow enough for the last time, of
+/// those up to `most`, if it is at one of them.
+fn last_slow(ends: &Ends, delay: i64, most: i64) -> i64 {
+    let Ends { change_after, leg, .. } = ends;
+    let arrived = leg.last + change_after * delay;
+    let room = if *change_after < 0 { leg.limit + arrived } else { leg.limit - arrived };
+    match change_after.abs() {
+        0 => most,
+        _ if room < 0 => 0,
+        change => quotient(room, change).min(most),
     }
-    n + quotient(room, change_after.abs()).min(i64::from(last - n)) as u32
+}
+
+/// Whether the arrival that is some ticks later than that of a leg is reached: with each
+/// tick the velocity of its end changes by as much.
+fn reaches_later(ends: &Ends, delay: i64, later: i64) -> bool {
+    let Ends { change_after, leg, .. } = ends;
+    let last = leg.last + later * change_after;
+    let travel = 2 * leg.sum + leg.first + leg.last + later * (2 * leg.last + later * change_after);
+    let leg = Leg { last, ticks: leg.ticks + later, sum: (travel - leg.first - last) >> 1, ..*leg };
+    (last + change_after * delay).abs() <= leg.limit && leg.has_list(Engine::Areas)
 }
 
 /// The least arrival from n to the last that an axis whose target accelerates reaches, or
 /// one past the last, by halving.
 fn next_by_halving(axis: &Axis, n: u32, last: u32) -> u32 {
-    let reach = |k: u32| reaches(Engine::Areas, axis, k);
-    if last < n {
-        return n;
-    }
-    if reach(n) {
-        return n;
-    }
-    let mut low = (n + 1).max(delay_of(axis) + 1);
-    if last < low {
+    let delay = delay_of(axis);
+    let first = n.max(delay + 1);
+    if last < first {
         return last + 1;
     }
-    let mut high = last_slow(axis, low, last);
+    let ends = ends(axis, first);
+    let reach = |later: i64| reaches_later(&ends, i64::from(delay), later);
+    if reach(0) {
+        return first;
+    }
+    let high = last_slow(&ends, i64::from(delay), i64::from(last - first));
     if !reach(high) {
         return last + 1;
     }
-    let mut step = 128;
-    while low < high {
-        let middle = low + step.min((high - low) / 2);
-        if reach(middle) {
-            high = middle;
-        } else {
-            low = middle + 1;
+    let (mut low, mut width) = (0, 4096);
+    while 1 < width {
+        width -= width / 2;
+        if low + width <= high && !reach(low + width) {
+            low += width;
         }
-        step *= 2;
     }
-    low
+    first + low as u32 + 1
+}
+
+/// Whether the axis reaches an arrival at all.
+fn reaches_some(axis: &Axis) -> bool {
+    let delay = delay_of(axis);
+    let ends = ends(axis, delay + 1);
+    let high = last_slow(&ends, i64::from(delay), i64::from(LATEST - delay - 1));
+    reaches(Engine::Areas, axis, delay + 1 + high as u32)
 }
 
 /// The least arrival from n to the last that the axis reaches, or one past the last.
@@ -364,7 +393,8 @@ fn least_reached(job: &Job) -> Option<u32> {
         }
         n = next;
     }
-    job.set().take_while(|&(number, _)| number < again).all(|(_, axis)| reaches(Engine::Areas, axis, n)).then_some(n)
+    let kept = |axis: &Axis| axis.target.acceleration() == 0 || reaches(Engine::Areas, axis, n);
+    job.set().take_while(|&(number, _)| number < again).all(|(_, axis)| kept(axis)).then_some(n)
 }
 
 /// The least common arrival; of a job with windows the first tick from there that fits
@@ -614,13 +644,16 @@ fn arrival(job: &Job, engine: Engine) -> Result<u32, Answer> {
     let failing =
         |fails: &dyn Fn(&Axis) -> bool| -> u32 { job.set().filter(|(_, axis)| fails(axis)).map(|(i, _)| 1 << i).sum() };
     if job.asked == 0 {
-        let alone = |axis: &Axis| least(&Job { mask: 1, asked: 0, axes: [*axis; 6], windows: None });
-        return least(job).ok_or_else(|| refusal(9, failing(&|axis| alone(axis).is_none()), 0));
+        let alone = |axis: &Axis| match engine {
+            Engine::Areas => reaches_some(axis),
+            Engine::Ticks => least(&Job { mask: 1, asked: 0, axes: [*axis; 6], windows: None }).is_some(),
+        };
+        return least(job).ok_or_else(|| refusal(9, failing(&|axis| !alone(axis)), 0));
     }
-    if job.set().all(|(_, axis)| reaches(engine, axis, job.asked)) {
-        return Ok(job.asked);
+    match failing(&|axis| !reaches(engine, axis, job.asked)) {
+        0 => Ok(job.asked),
+        unable => Err(refusal(8, unable, 0)),
     }
-    Err(refusal(8, failing(&|axis| !reaches(engine, axis, job.asked)), 0))
 }
 
 /// Plans a job that no refusal before 8 comes to.
