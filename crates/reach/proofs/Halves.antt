@@ -6,21 +6,22 @@ use mathlib.Core.Bool.{Bool, true, false, cond}
 use mathlib.Core.Logic.{_⊎_, inl, inr}
 use native.Mathlib.Omega.{arith}
 use native.Mathlib.Nat.{mul-le-mul, le-div-iff-mul-le}
-use lib.Dec.{T}
+use lib.Dec.{T, eqb, eqb→eq}
 use lib.IntN.{ℤ, pos, negsuc, natAbs, _+ℤ_, _-ℤ_, _*ℤ_}
 use lib.Signed.{_≤ℤ_, _<ℤ_}
+use borrow.Author.Tests.{eq-eqb}
 use Rattle.whole.proofs.Differences.{whole, all₁}
 use Rattle.whole.proofs.Laws.{natAbs-zero}
-use Rattle.whole.proofs.Tests.{T-true, T-false, lt-or-le, ltb-no}
+use Rattle.whole.proofs.Tests.{T-true, T-false, true-T, lt-or-le, ltb-no}
 use Rattle.model.specs.declared.Axis.{Axis}
-use Rattle.model.specs.planning.Quantities.{delay, speedSteps}
+use Rattle.model.specs.planning.Quantities.{delay, accelerates, speedSteps}
 use Rattle.model.specs.planning.Motion.{landingAcceleration, arrivalVelocity, reachable}
 use Rattle.model.specs.planning.Refusals.{Passed}
 use Rattle.model.specs.theorems.Threshold.{Slow}
 use Rattle.model.proofs.motions.Threshold.{arrival-later, slow-ahead, reached-slow, reached-later}
 use Rattle.envelopes.specs.Sums.{Next}
 use Rattle.reach.specs.Halving.{roomToward, TicksWithin, LastPassing, ReachesSome}
-use Rattle.reach.proofs.Steady.{reach-after}
+use Rattle.reach.proofs.Steady.{reach-after, always-slow}
 
 -- ---- a velocity that changes by the same number each tick
 
@@ -184,3 +185,20 @@ module _ (test : ℕ → Bool) where
       go : (high < r) ⊎ (r ≤ high) → Next test n last r
       go (inl p) = absurd (clash high e (w .missed high (l .low) p))
       go (inr p) = record { low = w .low; high = omega (arith, l .high); missed = w .missed; passed = λ _. w .passed p }
+
+-- where the target does not accelerate, the last tick says it of all
+pub last-decides : (x : Axis) → Passed x → accelerates (x .target) ≡ false → (last r : ℕ) → 1 ≤ last → Next (reachable x) last last r
+    → ReachesSome (reachable x) last (eqb r last)
+last-decides x passed steady last r one w = record { none = none; some = some }
+  where
+    none : eqb r last ≡ false → (k : ℕ) → k ≤ last → reachable x k ≡ false
+    none h k q =
+        let past : (r ≡ last → ⊥) = (λ e. subst T (sym (eq-eqb r last e) ∙ h) tt) in
+        let missed = w .missed last (omega arith) (omega (arith, w .low, past)) in
+        T-false (reachable x k)
+        (λ t. clash (reachable x) last (reached-later x passed k last last q (omega arith) (always-slow x passed steady last) (T-true (reachable x k) t)) missed)
+
+    some : eqb r last ≡ true → (k : ℕ) × ((1 ≤ k) × ((k ≤ last) × (reachable x k ≡ true)))
+    some h =
+        let e = eqb→eq r last (true-T h) in
+        (last, (one, (omega arith, subst (λ (k : ℕ). reachable x k ≡ true) e (w .passed (omega arith)))))

@@ -61,7 +61,7 @@ fn last_slow(x: Axis, n: u32, last: u32) -> u32
 }
 
 // Whether the axis can arrive at some tick up to the last: at the last of those at which its target is slow enough.
-pub fn reaches_some(x: Axis, last: u32) -> bool
+fn reaches_while_slow(x: Axis, last: u32) -> bool
     requires { ⌜ Passed x ⌝ }
     requires { ⌜ last ≤ lastTick ⌝ }
     ensures { λ r. ⌜ ReachesSome (reachable x) last r ⌝ }
@@ -72,6 +72,20 @@ pub fn reaches_some(x: Axis, last: u32) -> bool
         return reaches(x, high);
     }
     false
+}
+
+// The same of any axis: at the last tick, where its target does not accelerate.
+pub fn reaches_some(x: Axis, last: u32) -> bool
+    requires { ⌜ Passed x ⌝ }
+    requires { ⌜ 1 ≤ last ⌝ }
+    requires { ⌜ last ≤ lastTick ⌝ }
+    ensures { λ r. ⌜ ReachesSome (reachable x) last r ⌝ }
+{
+    let target = x.target;
+    if motion::accelerates(target) {
+        return reaches_while_slow(x, last);
+    }
+    next_reached(x, last, last) == last
 }
 
 // Whether the axis, where it reaches a tick up to n, does not reach n: only a target that accelerates can be too fast by then.

@@ -7,7 +7,7 @@ use Rattle.arrival.proofs.cannot_arrive.Statement.{statement}
 use Rattle.arrival.proofs.cannot_arrive.Tie as tie
 
 reaches-some-requires : tie.Need-reaches-some-requires
-reaches-some-requires c κs = (c .before .pre .0, omega arith)
+reaches-some-requires c κs = (c .before .pre .0, (omega arith, omega arith))
 
 returns : tie.Need-returns
 returns c =
