@@ -26,7 +26,7 @@
  *          starts, save one that is linked with gcc's -ffast-math. In another environment a
  *          measured weight may differ, or refusal 12 come in its place.
  * Stack    Up to 12,000 bytes a call, its job among them, and 20,500 a tour: POLGAMIR_STACK.
- * Time     On a 2.5 GHz core the longest search takes 2 microseconds, 10 where targets accelerate;
+ * Time     On a 2.5 GHz core the longest search takes 2 microseconds, with any targets;
  *          the longest call, a table of 4,097 rows of six axes, 0.2 ms. To spread it over the
  *          turns of a servo: polgamir_search_job, then polgamir_plan_job_part.
  * Link     lib/libpolgamir.a, or the shared library by -lpolgamir, pkg-config or CMake's package

@@ -53,28 +53,28 @@ fn six_of(axes: [([u32; 4], i64, Target); 6]) -> Job {
     Job { mask: 63, asked: 0, axes, windows: None }
 }
 
-/// The longest search of 785,000 random jobs of six axes whose targets do not accelerate.
+/// The longest search that was found by 20,000 changes of random jobs of six axes whose targets
+/// do not accelerate.
 pub fn longest_steady() -> Job {
     let fixed = |position| Target::Fixed { position, velocity: 0 };
     six_of([
-        ([6_063, 64, 15, 128], 3_170, fixed(41_760)),
-        ([3_255, 65_536, 16, 128], 0, fixed(2_541_415)),
-        ([287, 27_882, 26, 2], -210, fixed(-238_198)),
-        ([1_090, 65_536, 0, 102], 515, moving(-171_519, [-948, 0, 26])),
-        ([498, 27, 34, 128], -196, moving(14_030, [-230, 0, 25])),
-        ([498_195, 36, 39, 124], -93_371, fixed(-4_839)),
+        ([89, 14, 0, 128], 0, moving(-5_128, [16, 0, 39])),
+        ([16, 14, 0, 128], 0, moving(-20_481, [16, 0, 39])),
+        ([373_841, 312, 0, 128], 0, fixed(74_693_955)),
+        ([1_048_576, 312, 0, 128], 0, fixed(83_438_979)),
+        ([21_395, 18, 33, 128], 511, moving(-6_076_246, [1_591, 0, 144])),
+        ([74_495, 3, 0, 128], 0, moving(-690_519_644, [-5_588, 0, 42])),
     ])
 }
 
-/// The longest search of 145,000 random jobs of six axes whose targets accelerate: in the common
-/// search and then alone nearly every axis is halved down.
+/// The same of jobs whose targets accelerate: nearly every axis is halved down.
 pub fn longest_accelerating() -> Job {
     six_of([
-        ([13_434, 480, 10, 24], 0, moving(-3_529, [2_703, 1, 23])),
-        ([1_048_576, 365, 0, 4], 0, moving(-3_971, [15_089, -7, 81])),
-        ([2_348, 114, 0, 128], -1_697, moving(1_060_556, [-10, 1, 29])),
-        ([496_396, 20, 1, 128], 0, moving(263, [-14_255, 1, 53])),
-        ([70_140, 70, 30, 128], 58_511, moving(-39_804_559, [6_256, 1, 131])),
-        ([204_176, 44, 27, 128], -53_782, moving(-161_585_164, [46_951, 1, 0])),
+        ([462_542, 3_786, 14, 128], 462_542, moving(8_358_235, [374_281, 4, 110])),
+        ([462_542, 1_000, 14, 128], 462_542, moving(8_836_356, [389_235, -13, 110])),
+        ([1_030_072, 1_691, 0, 15], 298_754, moving(1_672_895, [-288_556, -15, 80])),
+        ([1_030_072, 1_691, 0, 15], 298_754, moving(-577_029, [-289_542, -7, 80])),
+        ([879, 462, 38, 117], -571, moving(-368_685, [-879, 1, 77])),
+        ([211_609, 52, 0, 128], 0, moving(85_827_623, [2_990, -3, 96])),
     ])
 }
