@@ -1,4 +1,4 @@
-"""What a sway leaves that fits the pole's numbers only nearly (docs/METHOD.md, 25),
+"""What a sway leaves that fits the pole's numbers only nearly (docs/METHOD.md, 5.5),
 in exact fractions: misfits, what the planned acceleration changes, the bounds.
 
 It is written from the method. `checks(rng)` holds the bounds against lists and

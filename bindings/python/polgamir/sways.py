@@ -1,7 +1,7 @@
 """What a table can leave of a sway on a pole that is not quite as entered: the proved bound, as a
 number.
 
-The theorems are `sway-most` and `measured-most` (docs/METHOD.md, section 25). Everything is worked
+The theorems are `sway-most` and `measured-most` (docs/METHOD.md, 5.5). Everything is worked
 out in whole numbers and exact fractions, and a number that is handed out is rounded upward. An
 error is the true number less the entered one. It may be a whole number, a `Fraction`, a `Decimal`
 or a float, which is taken for exactly the number that it is.

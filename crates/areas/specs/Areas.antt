@@ -1,4 +1,4 @@
--- Sums of velocities as areas (docs/METHOD.md, section 16), with no tick visited: an area is a
+-- Sums of velocities as areas (docs/METHOD.md, 3.9), with no tick visited: an area is a
 -- ramp, a level part and a ramp, each of which may be missing. That the area at a cruise is the sum
 -- of the velocities is the theorem `area-is-sum`.
 use Prim.Native.Nat.{ℕ, _+_, _-_, _*_, _/_, _^_, min}

@@ -1,5 +1,5 @@
 // Sums of velocities from the areas under their regions, with no tick visited (docs/METHOD.md,
-// section 16): of all ticks at a cruise, of the upper envelope, and of the first ticks of a list.
+// 3.9): of all ticks at a cruise, of the upper envelope, and of the first ticks of a list.
 use profile::Profile;
 use regions::CruisePlan;
 use regions::Regions;

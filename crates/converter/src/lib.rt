@@ -1,4 +1,4 @@
-// The converter of old jobs (docs/METHOD.md, section 20). A fixed target must be at rest; an old job may have one that flies. Where its arrival is asked
+// The converter of old jobs (docs/METHOD.md, 8.3). A fixed target must be at rest; an old job may have one that flies. Where its arrival is asked
 // for, the converter turns each such target into a moving one of acceleration 0 at that tick: the same job by the old rules, and one that planning takes.
 //
 // The way of a job:

@@ -1,4 +1,4 @@
--- The engine by areas (docs/METHOD.md, section 16): reach, cruise and remainder from the areas
+-- The engine by areas (docs/METHOD.md, 3.9): reach, cruise and remainder from the areas
 -- under the velocities, with no tick visited. That both engines give one answer is the theorem
 -- `engines-agree`.
 use Prim.Native.Nat.{ℕ, zero, suc, _^_}

@@ -1,6 +1,6 @@
 // Whether a displacement can be made, and the cruise and the velocities that make it
 // (docs/METHOD.md, section 3, rules 4 and 5). Sums of velocities are taken by one of two engines,
-// tick by tick or from areas; both give one answer (docs/METHOD.md, section 16).
+// tick by tick or from areas; both give one answer (docs/METHOD.md, 3.9).
 use profile::Profile;
 use regions::CruisePlan;
 use regions::Regions;

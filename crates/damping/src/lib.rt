@@ -1,4 +1,4 @@
-// The second weight of a blend from damping as measured (docs/METHOD.md, section 12), in single precision: each division and each product is rounded once,
+// The second weight of a blend from damping as measured (docs/METHOD.md, 2.4), in single precision: each division and each product is rounded once,
 // and the weight is found by comparisons.
 use model::Damping;
 use model::Weight;

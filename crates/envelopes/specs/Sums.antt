@@ -1,4 +1,4 @@
--- Envelope sums (docs/METHOD.md, section 11): the sums of both envelopes of a leg, carried to the leg that has one tick more. With a tick more the upper
+-- Envelope sums (docs/METHOD.md, 3.10): the sums of both envelopes of a leg, carried to the leg that has one tick more. With a tick more the upper
 -- envelope has one velocity more, where its two ramps cross; the others stay, so that the sum grows by it. That `stepped` gives the next leg's sums is
 -- the theorem `step-is`.
 use Prim.Native.Nat.{ℕ, suc, _-_, _*_, _/_, _^_, _≤_, _<_}

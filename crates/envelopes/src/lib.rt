@@ -1,4 +1,4 @@
-// Envelope sums (docs/METHOD.md, section 11): the sums of both envelopes of a leg, carried to the leg that has one tick more by a step without a loop;
+// Envelope sums (docs/METHOD.md, 3.10): the sums of both envelopes of a leg, carried to the leg that has one tick more by a step without a loop;
 // and by them the least number of ticks in which a displacement can be made. Numbers of ticks that surely fall short are passed over first, by areas that are
 // no smaller than an envelope's. And whether a displacement can be made in a number of ticks, by one area.
 mod one_envelope;

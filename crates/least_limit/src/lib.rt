@@ -1,4 +1,4 @@
-// The least limit at which a leg can be made (docs/METHOD.md, section 19): of the two limits of a leg the one is as it is, and the least value of the other is
+// The least limit at which a leg can be made (docs/METHOD.md, 8.2): of the two limits of a leg the one is as it is, and the least value of the other is
 // found for which the ends can be joined and the upper envelope's sum comes up to the required one.
 //
 // A test takes the area under the upper envelope at one value. Where the area falls short, it also says how much each unit more can gain at most, so that every

@@ -1,4 +1,4 @@
--- Both engines for an axis and its arrival (docs/METHOD.md, section 16): reach, cruise and remainder by areas are those of the definitions. That they are
+-- Both engines for an axis and its arrival (docs/METHOD.md, 3.9): reach, cruise and remainder by areas are those of the definitions. That they are
 -- is the theorem `one-answer`, for every axis with an acceleration limit of at least 1 and every arrival.
 use Prim.Native.Nat.{ℕ, _<_}
 use mathlib.Core.Path.{_≡_}

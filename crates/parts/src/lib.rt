@@ -1,4 +1,4 @@
-// Rows in parts (docs/METHOD.md, section 24), for a caller that cannot lend the whole table: a job goes in, as words or as a struct of typed values, with
+// Rows in parts (docs/METHOD.md, 4.8), for a caller that cannot lend the whole table: a job goes in, as words or as a struct of typed values, with
 // a first row and a lent table of any size. Where the answer's number is 0 the table holds the rows from the first one on in front, as many whole rows as it
 // has room for, up to the arrival's; its other cells are as they were. Where it is not 0 all cells are as they were. No row before the first one is worked out.
 // A job goes the way of every call (`planner`). specs/Promise.antt says what both calls promise of any job, any first row and any table.

@@ -1,4 +1,4 @@
-// The smallest change that makes it (docs/METHOD.md, section 19): the answer to a job before refusal 10 and, where an asked arrival is turned down with 8,
+// The smallest change that makes it (docs/METHOD.md, 8.2): the answer to a job before refusal 10 and, where an asked arrival is turned down with 8,
 // the least raise of each limit alone for which an axis that the mask names can arrive. specs/Promise.antt says what both calls promise of any job.
 //
 // The way of a job:

@@ -1,4 +1,4 @@
--- An axis whose target accelerates, from a first arrival on (docs/METHOD.md, section 11): its legs to all arrivals by the one to the first.
+-- An axis whose target accelerates, from a first arrival on (docs/METHOD.md, 3.10): its legs to all arrivals by the one to the first.
 use Prim.Native.Nat.{ℕ, _+_, _-_, _^_, _≤_, _<_}
 use mathlib.Core.Path.{_≡_}
 use mathlib.Core.Bool.{Bool, true, _&&_}

@@ -1,4 +1,4 @@
--- What the functions promise that find the last arrival at which a target is slow enough (docs/METHOD.md, section 11).
+-- What the functions promise that find the last arrival at which a target is slow enough (docs/METHOD.md, 3.10).
 use Prim.Native.Nat.{ℕ, _≤_}
 use mathlib.Core.Path.{_≡_}
 use mathlib.Core.Bool.{Bool, true, false, cond}

@@ -1,4 +1,4 @@
-// Whether an axis reaches an arrival, and which it reaches next (docs/METHOD.md, section 3, rule 4, and section 11).
+// Whether an axis reaches an arrival, and which it reaches next (docs/METHOD.md, section 3, rule 4, and 3.10).
 mod approach;
 
 use approach::approach_of;

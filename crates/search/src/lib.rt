@@ -1,4 +1,4 @@
-// Planning between servo turns (docs/METHOD.md, section 21): a search for the common arrival of a job over a budget of candidates, which a later call goes
+// Planning between servo turns (docs/METHOD.md, 8.4): a search for the common arrival of a job over a budget of candidates, which a later call goes
 // on with. specs/Promise.antt says what both calls promise of any job, first candidate and budget. No candidate past the budget is looked at.
 //
 // The way of a job:

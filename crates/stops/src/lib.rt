@@ -1,4 +1,4 @@
-// The stops of a tour by value, the job of each leg, and what a tour promises (docs/METHOD.md, section 10): all of a tour that asks for no answer of the planner.
+// The stops of a tour by value, the job of each leg, and what a tour promises (docs/METHOD.md, 8.1): all of a tour that asks for no answer of the planner.
 // `stop_row` is the only function here over a slice of structs.
 use model::Axis;
 use model::AxisLimits;

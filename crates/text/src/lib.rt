@@ -1,4 +1,4 @@
-// What the table program reads and prints: the job words of its input bytes, and the text of an answer and its table (docs/METHOD.md, sections 6 and 8).
+// What the table program reads and prints: the job words of its input bytes, and the text of an answer and its table (docs/METHOD.md, sections 6 and 9).
 // No public function has a `requires`.
 mod lines;
 mod numbers;

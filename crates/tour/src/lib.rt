@@ -1,4 +1,4 @@
-// A tour of stops (docs/METHOD.md, section 10). The stops go in as a lent row of records, with a lent list for their arrivals; an answer comes back.
+// A tour of stops (docs/METHOD.md, 8.1). The stops go in as a lent row of records, with a lent list for their arrivals; an answer comes back.
 // Where its number is 0 the list has each stop's arrival in front, counted from the tour's start, and its later entries are as they were.
 // Where it is not 0 the whole list is as it was. crates/stops/specs/Promise.antt says what the call promises of any tour.
 //

@@ -1,4 +1,4 @@
-// The windows of a job (docs/METHOD.md, section 14): whether an arrival fits one, and refusal 13.
+// The windows of a job (docs/METHOD.md, 3.8): whether an arrival fits one, and refusal 13.
 use model::Window;
 use model::Windows;
 ghost use mathlib.Core.Path.{_≡_};

@@ -1,4 +1,4 @@
-//! Section 25 of docs/METHOD.md on the tables that the library writes: no list leaves more sway
+//! Part 5.5 of docs/METHOD.md on the tables that the library writes: no list leaves more sway
 //! than what the planned acceleration changes at most, times the list's greatest misfit; as rounded
 //! N times its greatest entry more. Lists of any entries, and lists that fit another half period
 //! and another ratio, with several entries to a tick.

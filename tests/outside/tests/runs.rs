@@ -79,7 +79,7 @@ fn reach_goes_on_while_the_target_is_slow_enough() {
     assert!(seen, "alone {counts:?}, of which {ended} ended; together {together:?}");
 }
 
-/// The target of docs/METHOD.md, 20.5: it is met at ticks 9, 10 and 11 and never after them.
+/// The target of docs/METHOD.md, 3.7: it is met at ticks 9, 10 and 11 and never after them.
 #[test]
 fn a_run_that_ends_is_found() {
     let target = Target::Moving { position: 8, velocity: -1, acceleration: 1, tick: 0 };

@@ -1,7 +1,7 @@
 //! What a table can leave of a sway on a pole that is not quite as entered: the proved bound, as a
 //! number.
 //!
-//! The theorems are `sway-most` and `measured-most` (docs/METHOD.md, section 25). Everything here
+//! The theorems are `sway-most` and `measured-most` (docs/METHOD.md, 5.5). Everything here
 //! is worked out exactly in whole numbers, and a number that is handed out is rounded upward.
 
 mod fraction;

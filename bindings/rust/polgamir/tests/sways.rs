@@ -184,7 +184,7 @@ fn a_leg_in_phase_nearly_meets_the_bound() {
     }
 }
 
-/// The two legs that docs/METHOD.md, section 25, tells in numbers: what is left before
+/// The two legs that docs/METHOD.md, 5.5, tells in numbers: what is left before
 /// rounding and its bounds, in units.
 #[test]
 fn the_methods_legs_leave_what_it_says() {

@@ -1,4 +1,4 @@
--- The search for the least tick that passes a test, with a budget (docs/METHOD.md, section 21): how an undivided search falls into two.
+-- The search for the least tick that passes a test, with a budget (docs/METHOD.md, 8.4): how an undivided search falls into two.
 use Prim.Native.Nat.{ℕ, zero, suc, _+_, _-_, _<_, _≤_}
 use native.Mathlib.Omega.{arith}
 use mathlib.Core.Path.{_≡_, refl, sym, ap, _∙_}

@@ -1,4 +1,4 @@
--- The converter (docs/METHOD.md, section 20): from the words of an old job, whose fixed targets may fly, to words of a job whose fixed targets are all at rest.
+-- The converter (docs/METHOD.md, 8.3): from the words of an old job, whose fixed targets may fly, to words of a job whose fixed targets are all at rest.
 use Prim.Native.Nat.{ℕ, zero, suc}
 use mathlib.Core.Path.{_≡_}
 use mathlib.Core.Bool.{Bool, true, false, not, _&&_}

@@ -1,4 +1,4 @@
--- Rows in parts (docs/METHOD.md, section 24): a call for the rows from a first one on, as many whole rows as the lent table holds. The theorem
+-- Rows in parts (docs/METHOD.md, 4.8): a call for the rows from a first one on, as many whole rows as the lent table holds. The theorem
 -- `parts-hold` says that they are rows of the table for which demand 3 holds, and `parts-make-the-table` that the parts put together are that table.
 use Prim.Native.Nat.{ℕ, suc, _+_, _-_, _*_, _/_, _≤_, min}
 use mathlib.Core.Path.{_≡_}

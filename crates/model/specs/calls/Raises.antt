@@ -1,4 +1,4 @@
--- The smallest change that makes it (docs/METHOD.md, section 19): the least raise of one limit alone, within its range, for which an axis reaches an
+-- The smallest change that makes it (docs/METHOD.md, 8.2): the least raise of one limit alone, within its range, for which an axis reaches an
 -- arrival; both raises of an axis in order; and the call. The theorem `raises-hold` says what an answer claims, by the existence of a list.
 use Prim.Native.Nat.{ℕ, _+_, _-_, _≤_, _<_}
 use mathlib.Core.Path.{_≡_}

@@ -1,4 +1,4 @@
--- Planning between servo turns (docs/METHOD.md, section 21): the search for a common arrival from a first candidate on, with a budget of candidates, and its
+-- Planning between servo turns (docs/METHOD.md, 8.4): the search for a common arrival from a first candidate on, with a budget of candidates, and its
 -- call. What a report says, and what calls that go on from spent come to.
 use Prim.Native.Nat.{ℕ, suc, _+_, _-_, _≤_, _<_}
 use mathlib.Core.Path.{_≡_}

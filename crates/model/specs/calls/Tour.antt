@@ -1,4 +1,4 @@
--- A tour of stops (docs/METHOD.md, section 10): the leg to each stop is a typed job, from rest to rest, that seeks its least arrival.
+-- A tour of stops (docs/METHOD.md, 8.1): the leg to each stop is a typed job, from rest to rest, that seeks its least arrival.
 use Prim.Native.Nat.{ℕ, suc, _+_}
 use mathlib.Core.Bool.{true, false}
 use mathlib.Core.Option.{Option, none, some}

@@ -7,7 +7,7 @@ use Rattle.model.specs.planning.Outcome.{words}
 use Rattle.model.specs.calls.Converter.{Conversion, conversion, converted}
 use Rattle.model.specs.cases.Case.{axisF, wordsF, wordsC}
 
--- ---- what the converter answers (docs/METHOD.md, section 20): number, place, and the lent words as it leaves them
+-- ---- what the converter answers (docs/METHOD.md, 8.3): number, place, and the lent words as it leaves them
 
 pub record Converting : Type 0 where
   pub words : List ℕ

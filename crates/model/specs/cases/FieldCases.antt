@@ -1,4 +1,4 @@
--- The starred field cases of docs/METHOD.md, F and G as converted jobs (docs/METHOD.md, section 20), as one table: what each call is given, and what the
+-- The starred field cases of docs/METHOD.md, F and G as converted jobs (docs/METHOD.md, 8.3), as one table: what each call is given, and what the
 -- method says of its outcome. The theorem `starred` proves them all, by computing the definitions.
 use mathlib.Core.Path.{_≡_}
 use mathlib.Core.List.{List, [], _∷_, map}

@@ -1,4 +1,4 @@
--- Positions past 28 bits, as one table: the words of an axis at rest where it starts, which arrives at tick 1 (docs/METHOD.md, section 17).
+-- Positions past 28 bits, as one table: the words of an axis at rest where it starts, which arrives at tick 1 (docs/METHOD.md, 6.3).
 -- The theorem `long-cases` proves them all, by computing the definitions.
 use Prim.Native.Nat.{ℕ, _*_, _-_, _^_}
 use mathlib.Core.Path.{_≡_}

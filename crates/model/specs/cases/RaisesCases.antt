@@ -14,7 +14,7 @@ use Rattle.model.specs.planning.Outcome.{Input, typed}
 use Rattle.model.specs.calls.Raises.{noRaises, noneRaised, raisesCall}
 use Rattle.model.specs.cases.Case.{axis, fixed, restTo, oneAxis, twoAxes, window}
 
--- ---- the smallest change that makes it (docs/METHOD.md, section 19)
+-- ---- the smallest change that makes it (docs/METHOD.md, 8.2)
 
 pub record RaisesCase : Type 0 where
   pub input : Input

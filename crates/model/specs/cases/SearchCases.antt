@@ -1,4 +1,4 @@
--- Searches with a budget (docs/METHOD.md, section 21) of field case B, whose axis reaches tick 4 and every later one, as one table: what each call is
+-- Searches with a budget (docs/METHOD.md, 8.4) of field case B, whose axis reaches tick 4 and every later one, as one table: what each call is
 -- given, and what it gives. The theorem `search-cases` proves them all, by computing the definitions.
 use Prim.Native.Nat.{ℕ}
 use mathlib.Core.Path.{_≡_}

@@ -12,7 +12,7 @@ use Rattle.model.specs.declared.Weight.the-variants.{Given}
 use Rattle.model.specs.planning.Outcome.{words}
 use Rattle.model.specs.cases.Case.{positions, velocities, accelerations, Case, found, fixed, oneAxis, twoAxes, accepted, refused, case}
 
--- ---- a second sway (docs/METHOD.md, section 18), on one axis from rest at 0 with L = 10, M = 1
+-- ---- a second sway (docs/METHOD.md, 2.5), on one axis from rest at 0 with L = 10, M = 1
 
 -- half period, second weight, second sway, target
 abbrev pub pole : ℕ → ℕ → SecondSway → Target → Axis

@@ -26,7 +26,7 @@ runCases =
 abbrev pub RunCasesHold : Type 0
 RunCasesHold = map found runCases ≡ map (λ (c : Case). c .says) runCases
 
--- ---- laser windows (docs/METHOD.md, section 14), on field case B, whose axis reaches tick 4 and every later one
+-- ---- laser windows (docs/METHOD.md, 3.8), on field case B, whose axis reaches tick 4 and every later one
 
 abbrev pub windowCases : List Case
 windowCases =

@@ -1,5 +1,5 @@
 -- What a call for a table gives, from words and from typed values (docs/METHOD.md, section 7, and the common arrival of 3.6): its answer and the lent
--- table as it leaves it, with the rows in either order (section 22); and the answer to a call before refusal 10, which no table is needed for.
+-- table as it leaves it, with the rows in either order (4.7); and the answer to a call before refusal 10, which no table is needed for.
 use Prim.Native.Nat.{ℕ, zero, suc, _*_}
 use mathlib.Core.Bool.{Bool, true, false, not, _&&_}
 use mathlib.Core.Option.{Option, none, some}
@@ -117,7 +117,7 @@ jobOutcomeBy r j lent = outcomeAfter lent (jobAdmission r j)
 abbrev pub jobOutcome : Job → List ℤ → Outcome
 jobOutcome = jobOutcomeBy planningRules
 
--- ---- the same call with its rows in an order (docs/METHOD.md, section 22)
+-- ---- the same call with its rows in an order (docs/METHOD.md, 4.7)
 
 -- an outcome of a call that was lent the cells `lent`: the answer and the refusals stay, and an accepted job's rows stand in the order o
 abbrev pub ordered : Order → List Axis → List ℤ → Outcome → Outcome

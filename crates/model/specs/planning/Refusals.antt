@@ -52,7 +52,7 @@ abbrev pub swayRefused : Axis → Bool
 swayRefused x = not (swayAllowed (x .«second_sway»))
 
 -- ---- 6: start or target velocity exceeds L in size, target acceleration exceeds M in size, target tick exceeds 4,096 in size, or a
--- position is outside −17,179,869,184 to 17,179,869,183, which two words hold (docs/METHOD.md, section 17)
+-- position is outside −17,179,869,184 to 17,179,869,183, which two words hold (docs/METHOD.md, 6.3)
 
 abbrev pub positionAllowed : ℤ → Bool
 positionAllowed p = leZ (negsuc 17179869183) p && leZ p (pos 17179869183)

@@ -68,7 +68,7 @@ tabulate f k (suc n) = f k ∷ tabulate f (suc k) n
 abbrev pub row : List PlannedAxis → ℕ → List ℤ
 row ts k = flatten (map (cells k) ts)
 
--- the tick of the row that stands at place j, of rows 0 to n: row 0 first and row n last, or row n first and row 0 last (docs/METHOD.md, section 22).
+-- the tick of the row that stands at place j, of rows 0 to n: row 0 first and row n last, or row n first and row 0 last (docs/METHOD.md, 4.7).
 -- It is also the place of the row of tick j
 abbrev pub rowAt : Order → ℕ → ℕ → ℕ
 rowAt Forwards n j = j
@@ -84,7 +84,7 @@ part o xs n j c =
 abbrev pub table : Order → List Axis → ℕ → List ℤ
 table o xs n = part o xs n 0 (suc n)
 
--- ---- the position sums taken from the landing end (docs/METHOD.md, section 22), for the rows that begin there
+-- ---- the position sums taken from the landing end (docs/METHOD.md, 4.7), for the rows that begin there
 
 -- The exact position of row n − i, times 2 × divisor as in `cells`: at the arrival it is the target's, 256 times which is 128 times twice it; each tick back
 -- takes off the velocities at the tick's two ends. The theorem `sums-from-landing` says that these are the positions that are summed from the start.

@@ -1,4 +1,4 @@
--- The windows of a job (docs/METHOD.md, section 14): which arrivals fit them, and which windows are refused.
+-- The windows of a job (docs/METHOD.md, 3.8): which arrivals fit them, and which windows are refused.
 use Prim.Native.Nat.{ℕ, suc, _+_, _≤_, _<_}
 use mathlib.Core.Path.{_≡_}
 use mathlib.Core.Bool.{Bool, true, false, _&&_}

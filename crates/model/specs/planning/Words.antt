@@ -1,4 +1,4 @@
--- The job words (docs/METHOD.md, section 6, and refusals 1 and 2; sections 17 and 18, with refusal 14).
+-- The job words (docs/METHOD.md, section 6, and refusals 1 and 2; 6.3 and 2.5, with refusal 14).
 use Prim.Native.Nat.{ℕ, suc, _-_, _/_, _%_, _^_}
 use mathlib.Core.Bool.{Bool, true, false, not, _&&_}
 use mathlib.Core.Option.{Option, none, some}

@@ -1,4 +1,4 @@
--- Planned velocities on a grid f times finer than the axis's own, with the limits unchanged (docs/METHOD.md, section 23). The theorem
+-- Planned velocities on a grid f times finer than the axis's own, with the limits unchanged (docs/METHOD.md, 5.4). The theorem
 -- `finer-gains-nothing` says that the same arrivals can be reached on it.
 use Prim.Native.Nat.{ℕ, _*_, _≤_, _<_}
 use mathlib.Core.Path.{_≡_}

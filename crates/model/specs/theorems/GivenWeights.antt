@@ -1,4 +1,4 @@
--- Damping as measured gives what the same job with each B entered by hand gives (docs/METHOD.md, section 12), unless 12 refuses it: in every call from typed
+-- Damping as measured gives what the same job with each B entered by hand gives (docs/METHOD.md, 2.4), unless 12 refuses it: in every call from typed
 -- values. That it does is the theorem `measured-is-given`.
 use Prim.Native.Nat.{ℕ}
 use mathlib.Core.Path.{_≡_}

@@ -1,4 +1,4 @@
--- Which words may follow one another in a job (docs/METHOD.md, sections 6, 17 and 18), said without a reader of words; and refusal 2 by it: the first word
+-- Which words may follow one another in a job (docs/METHOD.md, sections 6, 6.3 and 2.5), said without a reader of words; and refusal 2 by it: the first word
 -- that is not of a kind allowed next. Only kinds count, the mask and the payload of the end word: the values of the others are other refusals' business.
 use Prim.Native.Nat.{ℕ, suc, _≤_, _<_}
 use mathlib.Core.Path.{_≡_}

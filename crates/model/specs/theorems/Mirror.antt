@@ -1,4 +1,4 @@
--- A planned motion negated, as pan right is to pan left (docs/METHOD.md, section 13). The theorem `mirrored` says that every cell is then negated.
+-- A planned motion negated, as pan right is to pan left (docs/METHOD.md, 4.5). The theorem `mirrored` says that every cell is then negated.
 use Prim.Native.Nat.{ℕ}
 use mathlib.Core.Path.{_≡_}
 use mathlib.Core.List.{map}

@@ -1,4 +1,4 @@
--- What is left of a sway that the pole's numbers fit only nearly (docs/METHOD.md, section 25). Demand 3 is of swing lists that fit them exactly.
+-- What is left of a sway that the pole's numbers fit only nearly (docs/METHOD.md, 5.5). Demand 3 is of swing lists that fit them exactly.
 use Prim.Native.Nat.{ℕ, zero, suc, _+_, _-_, _*_, _≤_}
 use mathlib.Core.Path.{_≡_}
 use mathlib.Core.List.{List}

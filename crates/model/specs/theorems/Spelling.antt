@@ -1,4 +1,4 @@
--- The words of a job, and which job words spell, for "a position has one spelling only" and "old jobs keep their meaning" (docs/METHOD.md, section 17).
+-- The words of a job, and which job words spell, for "a position has one spelling only" and "old jobs keep their meaning" (docs/METHOD.md, 6.3).
 use Prim.Native.Nat.{ℕ, suc, _-_, _+_, _*_, _/_, _%_, _^_, _≤_, _<_}
 use mathlib.Core.Path.{_≡_}
 use mathlib.Core.Bool.{true, false, _&&_}
@@ -142,7 +142,7 @@ OneSpelling = (ws : List ℕ) (j : Job) → (decode ws ≡ job j) ↔ SpellsJob 
 
 -- ---- old jobs keep their meaning
 
--- the reading of docs/METHOD.md, section 6, alone: each position is one word, no axis has a second sway, and 1 and 2 are the only refusals
+-- the reading of docs/METHOD.md, 6.1 and 6.2, without kinds 13 and 14: each position is one word, no axis has a second sway, and 1 and 2 are the only refusals
 abbrev pub oldDecode : List ℕ → Decoded
 oldDecode [] = noMask
 oldDecode (w ∷ ws) =

@@ -24,7 +24,7 @@ pub struct Record {
 /// What the section tells.
 const TOLD: &str = "A record is held to the pole that its axis is planned for. Its misfit is what the blend leaves of \
     the recorded swing, tick by tick, noise and all. From the greatest misfit E and the greatest deflection G it is \
-    proved how much sway a table of the axis leaves at most of such a swing (docs/METHOD.md, section 25): V × E before \
+    proved how much sway a table of the axis leaves at most of such a swing (docs/METHOD.md, 5.5): V × E before \
     rounding, N × G more as rounded. The record is scaled so that its strongest swing is that of an oscillator of its \
     half period after a push of 1 unit per tick²; the numbers are in proportion to the real pole's sway. Misfits after \
     the record's end are taken to be no greater. Beside it stands what an oscillator with the fitted half period and \
