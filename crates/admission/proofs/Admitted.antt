@@ -1,4 +1,5 @@
--- What a call knows once a job is checked: what admission comes to, and what a job that is admitted has.
+-- What a call knows once a job is checked: what admission comes to, and what a job that is admitted
+-- has.
 use Prim.Native.Nat.{ℕ, _<_, _≤_}
 use native.Mathlib.Omega.{arith}
 use mathlib.Core.Path.{_≡_, refl, sym, _∙_}
@@ -13,7 +14,8 @@ use Rattle.model.specs.planning.Windows.{refused13}
 use Rattle.model.specs.planning.Job.{Job, jobOf}
 use Rattle.model.specs.planning.Words.{goodMask}
 use Rattle.model.specs.planning.Refusals.{lastTick}
-use Rattle.model.specs.planning.Admission.{Input, typed, inputJob, Admission, refusedAt, admitted, Rules, jobAdmission, admission}
+use Rattle.model.specs.planning.Admission.{Input, typed, inputJob, Admission, refusedAt, admitted, Rules, jobAdmission}
+use Rattle.model.specs.planning.Admission.{admission}
 use Rattle.model.proofs.jobs.OutsideWindows.{Clear}
 use Rattle.model.proofs.jobs.Admissions.{Numbered, Comes, refuses, goes, comes}
 use Rattle.refusals.specs.Checks.{withoutJob}
@@ -71,10 +73,12 @@ mask-range m e =
     both true b e = (refl, e)
     both false b e = absurd (false≢true e)
 
-pub good-mask : (r : Rules) (t : Typed.Job) (j : Job) → admission r (typed t) ≡ admitted j → (0 < t .mask) × (t .mask < 64)
+pub good-mask : (r : Rules) (t : Typed.Job) (j : Job) → admission r (typed t) ≡ admitted j
+    → (0 < t .mask) × (t .mask < 64)
 good-mask r t j = go (goodMask (t .mask)) refl
   where
-    go : (b : Bool) → goodMask (t .mask) ≡ b → (elim b as (λ _. Admission) [ true ↦ jobAdmission r (jobOf t) | false ↦ refusedAt 1 0 ]) ≡ admitted j
+    go : (b : Bool) → goodMask (t .mask) ≡ b
+        → (elim b as (λ _. Admission) [ true ↦ jobAdmission r (jobOf t) | false ↦ refusedAt 1 0 ]) ≡ admitted j
         → (0 < t .mask) × (t .mask < 64)
     go true e w = mask-range (t .mask) e
     go false e w = absurd (let z : _≡_ {A = ℕ} 0 1 = cc in omega arith)

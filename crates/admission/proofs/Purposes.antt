@@ -11,7 +11,8 @@ use Rattle.model.specs.declared.Job as Typed
 use Rattle.model.specs.planning.Job.{Job, jobOf, jobWith, setAxes}
 use Rattle.model.specs.planning.Words.{goodMask}
 use Rattle.model.specs.planning.Refusals.{lastTick}
-use Rattle.model.specs.planning.Admission.{typed, Tests, Admission, refusedAt, Rules, tested, askedAdmission, jobAdmission, admission}
+use Rattle.model.specs.planning.Admission.{typed, Tests, Admission, refusedAt, Rules, tested, askedAdmission}
+use Rattle.model.specs.planning.Admission.{jobAdmission, admission}
 use Rattle.model.specs.calls.Converter.{conversionRefusals}
 use Rattle.refusals.specs.Checks.{testsFor, firstRefusal, withoutJob}
 use Rattle.refusals.proofs.Checks.{first-tested}
@@ -44,12 +45,14 @@ tests-for (suc n) = ap testsFor (sym (ne-eqb (suc n) 0 (λ e. omega arith)))
 abbrev read : Purpose → Typed.Job → Job
 read p t = jobWith (t .mask) (askedRead p (t .asked)) (t .axes) (t .windows)
 
-by-purpose : (p : Purpose) (t : Typed.Job) → jobAdmission (rulesFor p) (jobOf t) ≡ askedAdmission (λ n. testsFor (mustRest p n)) (read p t)
+by-purpose : (p : Purpose) (t : Typed.Job)
+    → jobAdmission (rulesFor p) (jobOf t) ≡ askedAdmission (λ n. testsFor (mustRest p n)) (read p t)
 by-purpose Planning t = refl
 by-purpose Searching t = refl
 by-purpose Converting t = λ i. askedAdmission (λ n. tests-for n i) (jobOf t)
 
-module _ (p : Purpose) (t : Typed.Job) (good : goodMask (t .mask) ≡ true) (asked : ℕ) (is : asked ≡ askedRead p (t .asked)) where
+module _ (p : Purpose) (t : Typed.Job) (good : goodMask (t .mask) ≡ true) (asked : ℕ)
+    (is : asked ≡ askedRead p (t .asked)) where
   abbrev j : Job
   j = jobWith (t .mask) asked (t .axes) (t .windows)
 
@@ -68,7 +71,8 @@ module _ (p : Purpose) (t : Typed.Job) (good : goodMask (t .mask) ≡ true) (ask
   asked-late h = ap withoutJob (sym (ap by-asked (lt-leb asked lastTick h)) ∙ from-three)
 
   pub asked-in-time : asked ≤ lastTick → (rests : Bool) → rests ≡ mustRest p asked → (c : Checked)
-      → c ≡ firstRefusal (testsFor rests) (setAxes 0 (t .mask) (t .axes)) (t .windows) → c ≡ withoutJob (admission (rulesFor p) (typed t))
+      → c ≡ firstRefusal (testsFor rests) (setAxes 0 (t .mask) (t .axes)) (t .windows)
+      → c ≡ withoutJob (admission (rulesFor p) (typed t))
   unfolding by-asked
   asked-in-time h rests e c q =
       q

@@ -1,4 +1,5 @@
--- Axes of which no weight is to be worked out are the axes with their weights given, and these pass and reach what the axes do.
+-- Axes of which no weight is to be worked out are the axes with their weights given, and these
+-- pass and reach what the axes do.
 use Prim.Native.Nat.{ℕ, zero, suc, _+_, _/_, _%_, _<_, _≤_}
 use native.Mathlib.Numerals.{add-one}
 use native.Mathlib.Omega.{arith}
@@ -26,7 +27,8 @@ given-are i m [] e = refl
 given-are i m (x ∷ xs) e = go (eqb (m % 2) 1) e (given-are (suc i) (m / 2) xs)
   where
     named : (b : Bool) → measured x ≡ b → cond b true (anyMeasured (setAxes (suc i) (m / 2) xs)) ≡ false
-        → (anyMeasured (setAxes (suc i) (m / 2) xs) ≡ false → xs ≡ namedWithWeight (m / 2) xs) → x ∷ xs ≡ withWeight x ∷ namedWithWeight (m / 2) xs
+        → (anyMeasured (setAxes (suc i) (m / 2) xs) ≡ false → xs ≡ namedWithWeight (m / 2) xs)
+        → x ∷ xs ≡ withWeight x ∷ namedWithWeight (m / 2) xs
     named true t e h = absurd (false≢true (sym e))
     named false t e h = ap₂ (λ (y : Axis) (ys : List Axis). y ∷ ys) (given-is x t) (h e)
 
@@ -56,7 +58,8 @@ module _ (six : List Axis) where
   pub measured-here : (i m : ℕ) → i < length six → m % 2 ≡ 1 → measured (axisAt six i) ≡ true → measuredOn i m ≡ true
   measured-here i m h e f = measured-named i m h e true f
 
-  pub measured-later : (i m : ℕ) → i < length six → m % 2 ≡ 1 → measured (axisAt six i) ≡ false → measuredOn i m ≡ measuredOn (i + 1) (m / 2)
+  pub measured-later : (i m : ℕ) → i < length six → m % 2 ≡ 1 → measured (axisAt six i) ≡ false
+      → measuredOn i m ≡ measuredOn (i + 1) (m / 2)
   measured-later i m h e f = measured-named i m h e false f
 
   pub measured-unnamed : (i m : ℕ) → i < length six → (m % 2 ≡ 1 → ⊥) → measuredOn i m ≡ measuredOn (i + 1) (m / 2)
@@ -71,7 +74,8 @@ module _ (six : List Axis) where
 abbrev pub handAt : List Axis → ℕ → ℕ → Axis
 handAt l i m = getD (namedWithWeight m (drop i l)) 0 unsetAxis
 
-hand-more : (l : List Axis) (i m : ℕ) → i < length l → (b : Bool) → eqb (m % 2) 1 ≡ b → cond b (withWeight (axisAt l i)) (axisAt l i) ≡ handAt l i m
+hand-more : (l : List Axis) (i m : ℕ) → i < length l → (b : Bool) → eqb (m % 2) 1 ≡ b
+    → cond b (withWeight (axisAt l i)) (axisAt l i) ≡ handAt l i m
 hand-more l i m h b e =
     sym (ap (λ (r : List Axis). getD (namedWithWeight m r) 0 unsetAxis) (drop-cons l i unsetAxis h)
     ∙ ap (λ (t : Bool). cond t (withWeight (axisAt l i)) (axisAt l i)) e)
@@ -87,7 +91,8 @@ abbrev pub handFrom : ℕ → ℕ → List Axis → List Axis
 handFrom i m l = take i l ++ namedWithWeight m (drop i l)
 
 -- axis i is stored, and its bit taken off
-pub hand-next : (i m : ℕ) (l : List Axis) → i < length l → handFrom (i + 1) (m / 2) (set l i (handAt l i m)) ≡ handFrom i m l
+pub hand-next : (i m : ℕ) (l : List Axis) → i < length l
+    → handFrom (i + 1) (m / 2) (set l i (handAt l i m)) ≡ handFrom i m l
 hand-next i m l h = ap (λ (j : ℕ). handFrom j (m / 2) (set l i (handAt l i m))) (add-one i) ∙ go i l h
   where
     go : (i : ℕ) (l : List Axis) → i < length l → handFrom (suc i) (m / 2) (set l i (handAt l i m)) ≡ handFrom i m l
@@ -99,7 +104,8 @@ hand-next i m l h = ap (λ (j : ℕ). handFrom j (m / 2) (set l i (handAt l i m)
 pub hand-all : (i m : ℕ) (l : List Axis) → i ≡ length l → handFrom i m l ≡ l
 hand-all i m l e =
     ap (λ (j : ℕ). handFrom j m l) e
-    ∙ ap (λ (r : List Axis). take (length l) l ++ namedWithWeight m r) (drop-of-length-le l {i = length l} (omega arith))
+    ∙ ap (λ (r : List Axis). take (length l) l ++ namedWithWeight m r)
+    (drop-of-length-le l {i = length l} (omega arith))
     ∙ append-nil (take (length l) l)
     ∙ take-length l
 
@@ -110,7 +116,8 @@ set-with-weight i m [] = refl
 set-with-weight i m (x ∷ xs) = go (eqb (m % 2) 1) (set-with-weight (suc i) (m / 2) xs)
   where
     go : (b : Bool) → setAxes (suc i) (m / 2) (namedWithWeight (m / 2) xs) ≡ axesWithWeight (setAxes (suc i) (m / 2) xs)
-        → pick b i (cond b (withWeight x) x) (setAxes (suc i) (m / 2) (namedWithWeight (m / 2) xs)) ≡ axesWithWeight (pick b i x (setAxes (suc i) (m / 2) xs))
+        → pick b i (cond b (withWeight x) x) (setAxes (suc i) (m / 2) (namedWithWeight (m / 2) xs))
+        ≡ axesWithWeight (pick b i x (setAxes (suc i) (m / 2) xs))
     go true h = ap (λ (l : List JobAxis). record { number = i; axis = withWeight x } ∷ l) h
     go false h = h
 

@@ -1,4 +1,5 @@
--- What the code's admission stands for: the rules of each purpose, and the weights that are to be worked out.
+-- What the code's admission stands for: the rules of each purpose, and the
+-- weights that are to be worked out.
 use Prim.Native.Nat.{ℕ, _/_, _%_}
 use mathlib.Core.Bool.{Bool, true, false, cond}
 use mathlib.Core.List.{List, [], _∷_}

@@ -1,11 +1,13 @@
-// Which jobs a call goes on with (docs/METHOD.md, section 7): the first refusal of a job before its arrival is looked for, or none; and the weights of its
-// axes, worked out once. The calls for a table, rows in parts, raises, searches and conversions all go on from here.
+// Which jobs a call goes on with (docs/METHOD.md, section 7): the first refusal of a job before its
+// arrival is looked for, or none; and the weights of its axes, worked out once. The calls for a
+// table, rows in parts, raises, searches and conversions all go on from here.
 //
 // The way of a job, after its words have been read (words::decode, refusals 1, 2 and 14):
 //     check           words::mask_allowed    refusal 1
 //                     asked_read             the asked arrival as the call reads it, and refusal 3
 //                     refusals::check        refusals 4, 12, 5, 15, 6, 16, 17 and 13
-// A caller then has the weights worked out where `any_measured` says so: `with_weight` copies the axes, which most jobs need not pay for.
+// A caller then has the weights worked out where `any_measured` says so: `with_weight` copies the
+// axes, which most jobs need not pay for.
 use model::Axis;
 use model::Checked;
 use model::Windows;
@@ -15,15 +17,16 @@ ghost use Rattle.model.specs.planning.Admission.{typed, admission};
 ghost use Rattle.refusals.specs.Checks.{withoutJob};
 ghost use Rattle.admission.specs.Admitting.{rulesFor, askedRead, mustRest, anyMeasured, namedWithWeight};
 
-// What a call admits a job for: planning; a search, which reads 0 for the asked arrival; or conversion, where a fixed target may have a velocity unless the
-// least arrival is sought.
+// What a call admits a job for: planning; a search, which reads 0 for the asked arrival; or
+// conversion, where a fixed target may have a velocity unless the least arrival is sought.
 pub enum Purpose {
     Planning,
     Searching,
     Converting,
 }
 
-// The first refusal of a job, by its parts, before its arrival is looked for, or none. Axes that the mask does not name are not looked at.
+// The first refusal of a job, by its parts, before its arrival is looked for, or none. Axes that
+// the mask does not name are not looked at.
 pub fn check(mask: u32, asked: u32, axes: [Axis; 6], windows: Windows, purpose: Purpose) -> Checked
     ensures { λ r. ⌜ r ≡ withoutJob (admission (rulesFor purpose)
         (typed (record { mask = mask; asked = asked; axes = axes; windows = windows }))) ⌝ }
@@ -60,7 +63,8 @@ fn must_rest(purpose: Purpose, asked: u32) -> bool
     }
 }
 
-// Whether the number B of an axis that the mask names is to be worked out from damping as measured. The other axes are not read.
+// Whether the number B of an axis that the mask names is to be worked out from damping as
+// measured. The other axes are not read.
 pub fn any_measured(mask: u32, axes: [Axis; 6]) -> bool
     ensures { λ r. ⌜ r ≡ anyMeasured (setAxes 0 mask axes) ⌝ }
 {
@@ -79,7 +83,8 @@ pub fn any_measured(mask: u32, axes: [Axis; 6]) -> bool
     false
 }
 
-// The axes with the number B of each that the mask names given, so that it is worked out once. The other axes are not read, and stay.
+// The axes with the number B of each that the mask names given, so that it is worked out once. The
+// other axes are not read, and stay.
 pub fn with_weight(mask: u32, axes: [Axis; 6]) -> [Axis; 6]
     ensures { λ r. ⌜ r ≡ namedWithWeight mask axes ⌝ }
 {

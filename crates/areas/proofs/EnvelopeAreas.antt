@@ -1,4 +1,5 @@
--- The area at a cruise is the sum of the velocities there, and so are the areas under both envelopes.
+-- The area at a cruise is the sum of the velocities there, and so are the areas under both
+-- envelopes.
 use Prim.Native.Nat.{ℕ, _-_, _<_}
 use mathlib.Core.Path.{_≡_, _∙_}
 use mathlib.Core.Bool.{true}

@@ -48,17 +48,20 @@ module _ (r : Regions) (k : ℕ) (below : k ≤ r .ticks - 1) where
   first : sumTo f (risingTo r k) ≡ rampArea (r .start) (r .up) (risingTo r k)
   first = ramp-sum f _ _ (risingTo r k) (λ j h q. in-start r j (omega arith))
 
-  second : sumTo (λ j. f (risingTo r k + j)) (levelTo r k) ≡ pos (levelTo r k) *ℤ r .cruise +ℤ pos (min (r .raised) (levelTo r k))
+  second : sumTo (λ j. f (risingTo r k + j)) (levelTo r k)
+      ≡ pos (levelTo r k) *ℤ r .cruise +ℤ pos (min (r .raised) (levelTo r k))
   second =
       raised-sum _ (r .cruise) (r .raised) (levelTo r k)
       (λ j h q u.
       let e = level-from (r .rise) k (lastLevel r) j h q in
       let l = level-to (r .rise) k (lastLevel r) j h q in
-      in-raised r (risingTo r k + j) (after j h e) (before-fall (r .ticks) (r .fall) (risingTo r k + j) (some j h) l) (low j u e))
+      in-raised r (risingTo r k + j) (after j h e)
+      (before-fall (r .ticks) (r .fall) (risingTo r k + j) (some j h) l) (low j u e))
       (λ j h q u.
       let e = level-from (r .rise) k (lastLevel r) j h q in
       let l = level-to (r .rise) k (lastLevel r) j h q in
-      in-level r (risingTo r k + j) (after j h e) (before-fall (r .ticks) (r .fall) (risingTo r k + j) (some j h) l) (high j u e))
+      in-level r (risingTo r k + j) (after j h e)
+      (before-fall (r .ticks) (r .fall) (risingTo r k + j) (some j h) l) (high j u e))
     where
       some : (j : ℕ) → 0 < j → 0 < risingTo r k + j
       some j h = omega arith
@@ -80,7 +83,8 @@ module _ (r : Regions) (k : ℕ) (below : k ≤ r .ticks - 1) where
       in-end r (risingTo r k + levelTo r k + j) (fall-from (r .rise) k (lastLevel r) j h q)
       (on-fall (r .ticks) (r .fall) (risingTo r k + levelTo r k + j) (fall-past (r .rise) k (lastLevel r) j h q))
       ∙ ap (λ (m : ℕ). r .end +ℤ pos m *ℤ r .down)
-      (until (r .ticks) k (risingTo r k + levelTo r k) (fallingTo r k) j below (parts-all (r .rise) k (lastLevel r)) h q)
+      (until (r .ticks) k (risingTo r k + levelTo r k) (fallingTo r k) j below
+      (parts-all (r .rise) k (lastLevel r)) h q)
       ∙ further (r .end) (r .down) (pos (r .ticks - 1 - k)) (pos (suc (fallingTo r k) - j)))
     where
       further : (e d x y : ℤ) → e +ℤ (x +ℤ y) *ℤ d ≡ e +ℤ x *ℤ d +ℤ y *ℤ d

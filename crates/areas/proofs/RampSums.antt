@@ -23,7 +23,8 @@ parts f m (suc n) =
 
 triangle-next : (n : ℕ) → triangle (suc n) ≡ triangle n + suc n
 unfolding triangle
-triangle-next n = halves (suc n * (suc n + 1)) (n * (n + 1)) (suc n) (omega (arith, mul-suc (suc n) (suc n), mul-comm (suc n) (suc n)))
+triangle-next n = halves (suc n * (suc n + 1)) (n * (n + 1)) (suc n)
+    (omega (arith, mul-suc (suc n) (suc n), mul-comm (suc n) (suc n)))
   where
     halves : (x y m : ℕ) → x ≡ y + (m + m) → x / 2 ≡ y / 2 + m
     halves x y m e = omega arith
@@ -46,10 +47,12 @@ ramp-next v u n =
     law v u n t m = same (v ∷ u ∷ n ∷ t ∷ m ∷ []) (search pol depth 20 fits 9000) tt
 
 -- n ticks of a ramp that begins there, of a level part, and of a ramp that ends after them
-pub ramp-sum : (f : ℕ → ℤ) (v u : ℤ) (n : ℕ) → ((k : ℕ) → 0 < k → k ≤ n → f k ≡ v +ℤ pos k *ℤ u) → sumTo f n ≡ rampArea v u n
+pub ramp-sum : (f : ℕ → ℤ) (v u : ℤ) (n : ℕ) → ((k : ℕ) → 0 < k → k ≤ n → f k ≡ v +ℤ pos k *ℤ u)
+    → sumTo f n ≡ rampArea v u n
 ramp-sum f v u zero e = sym (ramp-none v u)
 ramp-sum f v u (suc n) e =
-    ap₂ (λ (a b : ℤ). a +ℤ b) (ramp-sum f v u n (λ k h q. e k h (omega arith))) (e (suc n) (omega arith) (omega arith)) ∙ sym (ramp-next v u n)
+    ap₂ (λ (a b : ℤ). a +ℤ b) (ramp-sum f v u n (λ k h q. e k h (omega arith))) (e (suc n) (omega arith) (omega arith))
+    ∙ sym (ramp-next v u n)
 
 pub level-sum : (f : ℕ → ℤ) (c : ℤ) (n : ℕ) → ((k : ℕ) → 0 < k → k ≤ n → f k ≡ c) → sumTo f n ≡ pos n *ℤ c
 level-sum f c zero e = same (c ∷ []) (search pol depth 20 fits 9000) tt
@@ -68,20 +71,24 @@ raised-sum f c r n up level =
     ap (sumTo f) {x = n} {y = min r n + (n - min r n)} (omega arith)
     ∙ parts f (min r n) (n - min r n)
     ∙ ap₂ (λ (x y : ℤ). x +ℤ y) (level-sum f (c +ℤ pos 1) (min r n) (λ k h q. up k h (omega arith) (omega arith)))
-    (level-sum (λ k. f (min r n + k)) c (n - min r n) (λ k h q. level (min r n + k) (omega arith) (omega arith) (omega arith)))
+    (level-sum (λ k. f (min r n + k)) c (n - min r n)
+    (λ k h q. level (min r n + k) (omega arith) (omega arith) (omega arith)))
     ∙ ring c (pos (min r n)) (pos (n - min r n))
     ∙ ap (λ (m : ℕ). pos m *ℤ c +ℤ pos (min r n)) {x = min r n + (n - min r n)} {y = n} (omega arith)
   where
     ring : (c a b : ℤ) → a *ℤ (c +ℤ pos 1) +ℤ b *ℤ c ≡ (a +ℤ b) *ℤ c +ℤ a
     ring c a b = same (c ∷ a ∷ b ∷ []) (search pol depth 20 fits 9000) tt
 
-pub back-sum : (f : ℕ → ℤ) (v u : ℤ) (n : ℕ) → ((k : ℕ) → 0 < k → k ≤ n → f k ≡ v +ℤ pos (suc n - k) *ℤ u) → sumTo f n ≡ rampArea v u n
+pub back-sum : (f : ℕ → ℤ) (v u : ℤ) (n : ℕ) → ((k : ℕ) → 0 < k → k ≤ n → f k ≡ v +ℤ pos (suc n - k) *ℤ u)
+    → sumTo f n ≡ rampArea v u n
 back-sum f v u zero e = sym (ramp-none v u)
 back-sum f v u (suc n) e =
     sum-first f n
-    ∙ ap₂ (λ (a b : ℤ). a +ℤ b) (e 1 (omega arith) (omega arith) ∙ ap (λ (m : ℕ). v +ℤ pos m *ℤ u) {x = suc (suc n) - 1} {y = suc n} (omega arith))
+    ∙ ap₂ (λ (a b : ℤ). a +ℤ b) (e 1 (omega arith) (omega arith)
+    ∙ ap (λ (m : ℕ). v +ℤ pos m *ℤ u) {x = suc (suc n) - 1} {y = suc n} (omega arith))
     (back-sum (λ k. f (suc k)) v u n
-    (λ k h q. e (suc k) (omega arith) (omega arith) ∙ ap (λ (m : ℕ). v +ℤ pos m *ℤ u) {x = suc (suc n) - suc k} {y = suc n - k} (omega arith)))
+    (λ k h q. e (suc k) (omega arith) (omega arith)
+    ∙ ap (λ (m : ℕ). v +ℤ pos m *ℤ u) {x = suc (suc n) - suc k} {y = suc n - k} (omega arith)))
     ∙ swap (v +ℤ pos (suc n) *ℤ u) (rampArea v u n)
     ∙ sym (ramp-next v u n)
   where

@@ -1,5 +1,6 @@
--- The upper envelope is the least of three lines. So however its ticks are split into a ramp up from the start, a level part and a ramp down to the end, their
--- area is at least its sum (`split-above`), and it is its sum where they are its own parts (`split-is`).
+-- The upper envelope is the least of three lines. So however its ticks are split into a ramp up
+-- from the start, a level part and a ramp down to the end, their area is at least its sum
+-- (`split-above`), and it is its sum where they are its own parts (`split-is`).
 use Prim.Native.Nat.{ℕ, suc, _+_, _-_, _<_}
 use mathlib.Core.Path.{_≡_, refl, sym, ap, ap₂, subst, _∙_}
 use native.Mathlib.Omega.{arith}
@@ -81,7 +82,8 @@ module _ (g : Leg) where
           subst (λ (z : ℤ). sumTo (λ k. upper g (m + n + k)) q ≤ℤ z)
           (back-sum _ (g .end) (pos a) q
           (λ k h l. ap (λ (j : ℕ). g .end +ℤ pos j *ℤ pos a) {x = T - (m + n + k)} {y = suc q - k} (omega arith)))
-          (sum-mono (λ k. upper g (m + n + k)) (λ k. g .end +ℤ pos (T - (m + n + k)) *ℤ pos a) q (λ k h. on-end (m + n + k)))
+          (sum-mono (λ k. upper g (m + n + k)) (λ k. g .end +ℤ pos (T - (m + n + k)) *ℤ pos a) q
+          (λ k h. on-end (m + n + k)))
 
       whole-sum : sumTo (upper g) (T - 1)
           ≡ (sumTo (upper g) m +ℤ sumTo (λ k. upper g (m + k)) n) +ℤ sumTo (λ k. upper g (m + n + k)) q

@@ -20,7 +20,8 @@ triangle n = n * (n + 1) / 2
 unfoldable pub rampArea : ℤ → ℤ → ℕ → ℤ
 rampArea v u n = pos n *ℤ v +ℤ pos (triangle n) *ℤ u
 
--- how many of ticks 1 to T − 1 are on the first ramp, on the other one, and level; where the ramps meet, no tick is level
+-- how many of ticks 1 to T − 1 are on the first ramp, on the other one, and level; where
+-- the ramps meet, no tick is level
 abbrev pub risingTicks : Regions → ℕ
 risingTicks r = min (r .rise) (r .ticks - 1)
 
@@ -35,7 +36,8 @@ partsOf r = record { rising = risingTicks r; level = levelTicks r; falling = fal
 
 -- the area under the velocities of ticks 1 to T − 1, before any is raised
 unfoldable pub areaOf : Regions → ℤ
-areaOf r = rampArea (r .start) (r .up) (risingTicks r) +ℤ pos (levelTicks r) *ℤ r .cruise +ℤ rampArea (r .end) (r .down) (fallingTicks r)
+areaOf r = rampArea (r .start) (r .up) (risingTicks r) +ℤ pos (levelTicks r) *ℤ r .cruise
+    +ℤ rampArea (r .end) (r .down) (fallingTicks r)
 
 -- ---- the first k of these ticks
 
@@ -81,7 +83,8 @@ pub record UpperAreaIs (g : Leg) (r : UpperArea) : Type 0 where
   pub sum : Is (2 ^ 60) (r .sum) (sumTo (upper g) (g .ticks - 1))
   pub parts : r .parts ≡ upperParts g
 
--- a ramp up from the start, a level part at the speed limit and a ramp down to the end, of given numbers of ticks
+-- a ramp up from the start, a level part at the speed limit and a ramp down to the
+-- end, of given numbers of ticks
 unfoldable pub splitArea : Leg → Parts → ℤ
 splitArea g p =
     rampArea (g .start) (pos (g .accelerationLimit)) (p .rising)

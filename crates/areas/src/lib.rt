@@ -12,7 +12,8 @@ ghost use Rattle.areas.specs.Areas.{rampArea, partsOf, areaOf, partsTo, 
 ghost use Rattle.profile.specs.Profiles.{legOf, Joinable};
 ghost use Rattle.regions.specs.Regions.{velocityIn, RegionsRanged};
 
-// How many of ticks 1 to the last but one are on the first ramp, level, and on the other ramp; each may be none.
+// How many of ticks 1 to the last but one are on the first ramp, level, and on
+// the other ramp; each may be none.
 pub struct Parts {
     pub rising: u64,
     pub level: u64,
@@ -66,7 +67,8 @@ fn parts_of(r: Regions) -> Parts
     }
 }
 
-// The area under the velocities of ticks 1 to r.ticks - 1, before any is raised: a ramp, a level part and a ramp, each of which may be missing.
+// The area under the velocities of ticks 1 to r.ticks - 1, before any is raised: a ramp, a level
+// part and a ramp, each of which may be missing.
 fn area_of(r: Regions) -> i64
     requires { ⌜ RegionsRanged r ⌝ }
     requires { ⌜ 0 < r .ticks ⌝ }

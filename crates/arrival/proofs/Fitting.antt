@@ -1,4 +1,5 @@
--- The least tick that fits a window, from the tick on that the axes lead to: where all reach it, it is the least common arrival, and else there is none.
+-- The least tick that fits a window, from the tick on that the axes lead to: where all reach it, it
+-- is the least common arrival, and else there is none.
 use Prim.Native.Nat.{ℕ, _-_, _≤_, _<_}
 use mathlib.Core.Path.{_≡_, refl, sym, ap, subst, _∙_}
 use lib.Dec.{T}
@@ -25,8 +26,10 @@ pub record LedTo (test : ℕ → Bool) (first last r : ℕ) : Type 0 where
 pub fit-some : (fit : ℕ → Bool) (n count t : ℕ) → t ≡ orZero (leastFrom fit n count) → (t ≡ 0 → ⊥) → Least fit n count t
 fit-some fit n count t e h = least-is fit n count t (is-some (leastFrom fit n count) (λ z. h (e ∙ z)) ∙ ap some (sym e))
 
-pub fit-none : (fit : ℕ → Bool) (n count t : ℕ) → 1 ≤ n → t ≡ orZero (leastFrom fit n count) → t ≡ 0 → Result fit n count none
-fit-none fit n count t low e z = none-is fit n count (is-none fit n count (leastFrom fit n count) low (result fit n count) (sym e ∙ z))
+pub fit-none : (fit : ℕ → Bool) (n count t : ℕ) → 1 ≤ n → t ≡ orZero (leastFrom fit n count)
+    → t ≡ 0 → Result fit n count none
+fit-none fit n count t low e z =
+    none-is fit n count (is-none fit n count (leastFrom fit n count) low (result fit n count) (sym e ∙ z))
 
 pub nowhere-else : (test : ℕ → Bool) (first last n : ℕ) → LedTo test first last n → (n ≤ last → test n ≡ false)
     → (k : ℕ) → first ≤ k → k ≤ last → test k ≡ false
@@ -37,8 +40,15 @@ nowhere-else test first last n w e k p q = go (lt-or-le k n)
     go (inr l) = T-false (test k) (λ t. subst T (sym (w .held k l q (T-true (test k) t)) ∙ e (omega arith)) tt)
 
 -- a first candidate that passes where it is one
-pub at-first : (reach : ℕ → Bool) (first after : ℕ) → 1 ≤ first → (first < after → reach first ≡ true) → first ≤ after → Next reach first (after - 1) first
-at-first reach first after s h l = record { low = omega arith; high = omega arith; missed = λ k p q. absurd (omega arith); passed = λ q. h (omega arith) }
+pub at-first : (reach : ℕ → Bool) (first after : ℕ) → 1 ≤ first → (first < after → reach first ≡ true) → first ≤ after
+    → Next reach first (after - 1) first
+at-first reach first after s h l =
+    record {
+      low = omega arith;
+      high = omega arith;
+      missed = λ k p q. absurd (omega arith);
+      passed = λ q. h (omega arith);
+    }
 
 module _ (fit reach : ℕ → Bool) (first after n : ℕ) (led : Next reach first (after - 1) n) where
   abbrev test : ℕ → Bool
@@ -63,7 +73,8 @@ module _ (fit reach : ℕ → Bool) (first after n : ℕ) (led : Next reach firs
       go (inr u) = no-fit k (λ e. r k u (omega arith) e)
 
   -- the axes lead to the least that fits
-  module _ (t : ℕ) (l : Least fit n (after - n) t) (between : (j i k : ℕ) → j ≤ i → i ≤ k → reach j ≡ true → reach k ≡ true → reach i ≡ true) where
+  module _ (t : ℕ) (l : Least fit n (after - n) t)
+      (between : (j i k : ℕ) → j ≤ i → i ≤ k → reach j ≡ true → reach k ≡ true → reach i ≡ true) where
     pub led-fitting : LedTo test first (after - 1) t
     led-fitting = record { low = omega (arith, led .low, l .first); missed = missed; held = held }
       where

@@ -1,4 +1,5 @@
--- The search for the least common arrival: each turn of an axis leads on to a candidate before which every one is missed by some axis.
+-- The search for the least common arrival: each turn of an axis leads on to a candidate before
+-- which every one is missed by some axis.
 use Prim.Native.Nat.{ℕ, zero, suc, _+_, _-_, _/_, _%_, _≤_, _<_}
 use mathlib.Core.Path.{_≡_, refl, sym, ap, subst, _∙_}
 use mathlib.Core.Bool.{Bool, true, false, cond, not}
@@ -26,7 +27,13 @@ use Rattle.arrival.proofs.Reaching.{missed, not-missed, no-more, later-
 
 same-test : {f g : ℕ → Bool} {n last r : ℕ} → ((k : ℕ) → f k ≡ g k) → Next f n last r → Next g n last r
 same-test e w =
-    record { low = w .low; high = w .high; missed = λ k p q. sym (e k) ∙ w .missed k p q; passed = λ p. sym (e _) ∙ w .passed p }
+    record {
+      low = w .low;
+      high = w .high;
+      missed = λ k p q. sym (e k)
+          ∙ w .missed k p q;
+      passed = λ p. sym (e _) ∙ w .passed p;
+    }
 
 twice-not : (b : Bool) → b ≡ not (not b)
 twice-not true = refl
@@ -34,9 +41,11 @@ twice-not false = refl
 
 named : (m : ℕ) (x : Axis) (k : ℕ) → m % 2 ≡ 1 → reachable x k ≡ reachedBy m x k
 unfolding missedBy
-named m x k e = twice-not (reachable x k) ∙ ap (λ (b : Bool). not (cond b (not (reachable x k)) false)) (sym (eq-eqb (m % 2) 1 e))
+named m x k e =
+    twice-not (reachable x k) ∙ ap (λ (b : Bool). not (cond b (not (reachable x k)) false)) (sym (eq-eqb (m % 2) 1 e))
 
-pub next-named : (m : ℕ) (x : Axis) (n last r : ℕ) → m % 2 ≡ 1 → Next (reachable x) n last r → Next (reachedBy m x) n last r
+pub next-named : (m : ℕ) (x : Axis) (n last r : ℕ) → m % 2 ≡ 1 → Next (reachable x) n last r
+    → Next (reachedBy m x) n last r
 next-named m x n last r e w = same-test (λ k. named m x k e) w
 
 pub next-unnamed : (m : ℕ) (x : Axis) (n last : ℕ) → (m % 2 ≡ 1 → ⊥) → n ≤ suc last → Next (reachedBy m x) n last n
@@ -49,7 +58,8 @@ next-unnamed m x n last e h =
       passed = λ p. ap (λ (b : Bool). not (cond b (not (reachable x n)) false)) (ne-eqb (m % 2) 1 e);
     }
 
-pub loses-named : (m : ℕ) (x : Axis) (n : ℕ) (r : Bool) → m % 2 ≡ 1 → Loses (reachable x) n r → Loses (reachedBy m x) n r
+pub loses-named : (m : ℕ) (x : Axis) (n : ℕ) (r : Bool) → m % 2 ≡ 1
+    → Loses (reachable x) n r → Loses (reachedBy m x) n r
 loses-named m x n r e w =
     record {
       lost = λ h. sym (named m x n e) ∙ w .lost h;
@@ -58,10 +68,14 @@ loses-named m x n r e w =
 
 pub loses-unnamed : (m : ℕ) (x : Axis) (n : ℕ) → (m % 2 ≡ 1 → ⊥) → Loses (reachedBy m x) n false
 loses-unnamed m x n e =
-    record { lost = λ h. absurd (subst T (sym h) tt); kept = λ h i p q. next-unnamed m x n n e (omega arith) .passed (omega arith) }
+    record {
+      lost = λ h. absurd (subst T (sym h) tt);
+      kept = λ h i p q. next-unnamed m x n n e (omega arith) .passed (omega arith);
+    }
 
 -- an axis that reaches two candidates reaches every one between them
-between : (m : ℕ) (x : Axis) → (m % 2 ≡ 1 → Passed x) → (j n k : ℕ) → j ≤ n → n ≤ k → reachedBy m x j ≡ true → reachedBy m x k ≡ true → reachedBy m x n ≡ true
+between : (m : ℕ) (x : Axis) → (m % 2 ≡ 1 → Passed x) → (j n k : ℕ) → j ≤ n → n ≤ k → reachedBy m x j ≡ true
+    → reachedBy m x k ≡ true → reachedBy m x n ≡ true
 between m x f j n k p q d e = go (either (eqb (m % 2) 1))
   where
     go : (eqb (m % 2) 1 ≡ true) ⊎ (eqb (m % 2) 1 ≡ false) → reachedBy m x n ≡ true
@@ -69,7 +83,8 @@ between m x f j n k p q d e = go (either (eqb (m % 2) 1))
         let h = eqb→eq (m % 2) 1 (true-T t) in
         let y = f h in
         sym (named m x n h) ∙ reached-later x y j n k p q (reached-slow x y k (named m x k h ∙ e)) (named m x j h ∙ d)
-    go (inr t) = next-unnamed m x n n (λ h. subst T (sym (eq-eqb (m % 2) 1 h) ∙ t) tt) (omega arith) .passed (omega arith)
+    go (inr t) =
+        next-unnamed m x n n (λ h. subst T (sym (eq-eqb (m % 2) 1 h) ∙ t) tt) (omega arith) .passed (omega arith)
 
 -- ---- the axes by their numbers
 
@@ -117,10 +132,13 @@ module _ (m : ℕ) (six : List Axis) where
   passed-on p (suc i) h =
       subst AllPassed (next-on i) (passed-from i (bitsFrom m i) six (omega arith) (passed-on p i (omega arith)) .later)
 
-  pub passed-at : AllPassed (setAxes 0 m six) → (i bits : ℕ) → bits ≡ bitsFrom m i → i < length six → bits % 2 ≡ 1 → Passed (axisAt six i)
-  passed-at p i bits e h = passed-from i bits six h (subst (λ (k : ℕ). AllPassed (from i k six)) (sym e) (passed-on p i (omega arith))) .here
+  pub passed-at : AllPassed (setAxes 0 m six) → (i bits : ℕ) → bits ≡ bitsFrom m i → i < length six
+      → bits % 2 ≡ 1 → Passed (axisAt six i)
+  passed-at p i bits e h =
+      passed-from i bits six h (subst (λ (k : ℕ). AllPassed (from i k six)) (sym e) (passed-on p i (omega arith))) .here
 
-  pub reach-of : (i bits n last r : ℕ) → bits ≡ bitsFrom m i → Next (reachedBy bits (axisAt six i)) n last r → Next (reach i) n last r
+  pub reach-of : (i bits n last r : ℕ) → bits ≡ bitsFrom m i
+      → Next (reachedBy bits (axisAt six i)) n last r → Next (reach i) n last r
   unfolding reach
   reach-of i bits n last r e w = subst (λ (k : ℕ). Next (reachedBy k (axisAt six i)) n last r) e w
 
@@ -142,7 +160,8 @@ module _ (m : ℕ) (six : List Axis) where
   unfolding reach
   all-on zero i n h e = no-more n i (bitsFrom m i) six (omega arith)
   all-on (suc d) i n h e =
-      not-missed n i (bitsFrom m i) six (omega arith) (not-true (missedBy (bitsFrom m i) (axisAt six i) n) (e i (omega arith)))
+      not-missed n i (bitsFrom m i) six (omega arith)
+      (not-true (missedBy (bitsFrom m i) (axisAt six i) n) (e i (omega arith)))
       ∙ ap (λ (l : List JobAxis). allReach l n) (next-on i)
       ∙ all-on d (suc i) n (omega arith) e
 
@@ -151,25 +170,29 @@ module _ (m : ℕ) (six : List Axis) where
   every-axis n e = all-on (length six) 0 n (omega arith) e
 
   -- what a test of one axis says
-  pub reach-loses : (i bits n : ℕ) (r : Bool) → bits ≡ bitsFrom m i → Loses (reachedBy bits (axisAt six i)) n r → Loses (reach i) n r
+  pub reach-loses : (i bits n : ℕ) (r : Bool) → bits ≡ bitsFrom m i
+      → Loses (reachedBy bits (axisAt six i)) n r → Loses (reach i) n r
   unfolding reach
   reach-loses i bits n r e w = subst (λ (k : ℕ). Loses (reachedBy k (axisAt six i)) n r) e w
 
   pub reach-unnamed : (i n : ℕ) → bitsFrom m i ≡ 0 → reach i n ≡ true
   unfolding reach
   reach-unnamed i n e =
-      next-unnamed (bitsFrom m i) (axisAt six i) n n (λ h. none (subst (λ (k : ℕ). k % 2 ≡ 1) e h)) (omega arith) .passed (omega arith)
+      next-unnamed (bitsFrom m i) (axisAt six i) n n (λ h. none (subst (λ (k : ℕ). k % 2 ≡ 1) e h))
+      (omega arith) .passed (omega arith)
     where
       none : 0 % 2 ≡ 1 → ⊥
       none h = omega arith
 
   -- an axis that reaches two candidates reaches every one between them
-  pub reach-between : AllPassed (setAxes 0 m six) → (i : ℕ) → i < length six → (j n k : ℕ) → j ≤ n → n ≤ k → reach i j ≡ true → reach i k ≡ true
+  pub reach-between : AllPassed (setAxes 0 m six) → (i : ℕ) → i < length six → (j n k : ℕ) → j ≤ n → n ≤ k
+      → reach i j ≡ true → reach i k ≡ true
       → reach i n ≡ true
   unfolding reach
   reach-between p i h = between (bitsFrom m i) (axisAt six i) (passed-at p i (bitsFrom m i) refl h)
 
--- ---- the axes lead on: the search began at first and has come to n before the turn of axis `number`
+-- ---- the axes lead on: the search began at first and has come to n before the turn of axis
+-- `number`
 
 pub record Led (test : ℕ → Bool) (reaches : ℕ → ℕ → Bool) (first last number again n : ℕ) : Type 0 where
   pub low : first ≤ n
@@ -183,15 +206,25 @@ pub record Led (test : ℕ → Bool) (reaches : ℕ → ℕ → Bool) (first las
   pub few : again ≤ number
   pub upper : (j : ℕ) → again ≤ j → j < number → n ≤ last → reaches j n ≡ true
 
-module _ (test : ℕ → Bool) (reaches : ℕ → ℕ → Bool) (first last number again n : ℕ) (s : Led test reaches first last number again n) (r : ℕ)
+module _ (test : ℕ → Bool) (reaches : ℕ → ℕ → Bool) (first last number again n : ℕ)
+    (s : Led test reaches first last number again n) (r : ℕ)
     (w : Next (reaches number) n last r) (one : (k : ℕ) → reaches number k ≡ false → test k ≡ false)
-    (between : (i : ℕ) → i ≤ number → (j k l : ℕ) → j ≤ k → k ≤ l → reaches i j ≡ true → reaches i l ≡ true → reaches i k ≡ true) where
+    (between : (i : ℕ) → i ≤ number → (j k l : ℕ) → j ≤ k → k ≤ l → reaches i j ≡ true
+    → reaches i l ≡ true → reaches i k ≡ true) where
   here : (j : ℕ) → j ≡ number → r ≤ last → reaches j r ≡ true
   here j e h = ap (λ (i : ℕ). reaches i r) e ∙ w .passed h
 
   pub turn-done : (a : ℕ) → Again again number n r a → Led test reaches first last (number + 1) a r
   turn-done a c =
-      record { low = omega (arith, s .low, w .low); high = w .high; missed = missed; held = held; turned = turned; few = few c; upper = upper c }
+      record {
+        low = omega (arith, s .low, w .low);
+        high = w .high;
+        missed = missed;
+        held = held;
+        turned = turned;
+        few = few c;
+        upper = upper c;
+      }
     where
       missed : (k : ℕ) → first ≤ k → k < r → test k ≡ false
       missed k p q = go (lt-or-le k n)
@@ -229,10 +262,19 @@ module _ (test : ℕ → Bool) (reaches : ℕ → ℕ → Bool) (first last numb
       upper (inr (e, f)) j p q h = here j (omega arith) h
 
 -- where no other axis is named, every axis had its turn
-pub led-rest : (test : ℕ → Bool) (reaches : ℕ → ℕ → Bool) (first last i again n : ℕ) → Led test reaches first last i again n → i ≤ 6
+pub led-rest : (test : ℕ → Bool) (reaches : ℕ → ℕ → Bool) (first last i again n : ℕ)
+    → Led test reaches first last i again n → i ≤ 6
     → ((j k : ℕ) → i ≤ j → reaches j k ≡ true) → Led test reaches first last 6 again n
 led-rest test reaches first last i again n s h rest =
-    record { low = s .low; high = s .high; missed = s .missed; held = held; turned = turned; few = omega (arith, s .few); upper = upper }
+    record {
+      low = s .low;
+      high = s .high;
+      missed = s .missed;
+      held = held;
+      turned = turned;
+      few = omega (arith, s .few);
+      upper = upper;
+    }
   where
     turned : (j : ℕ) → j < 6 → n ≤ last → (k : ℕ) × ((k ≤ n) × (reaches j k ≡ true))
     turned j p l = go (lt-or-le j i)
@@ -258,7 +300,8 @@ led-rest test reaches first last i again n s h rest =
 -- ---- what they lead to: it is reached by all, or no candidate is
 
 module _ (test : ℕ → Bool) (reaches : ℕ → ℕ → Bool) (first last again n : ℕ) (s : Led test reaches first last 6 again n)
-    (one : (i : ℕ) → i < 6 → (k : ℕ) → reaches i k ≡ false → test k ≡ false) (all : (k : ℕ) → ((i : ℕ) → i < 6 → reaches i k ≡ true) → test k ≡ true) where
+    (one : (i : ℕ) → i < 6 → (k : ℕ) → reaches i k ≡ false → test k ≡ false)
+    (all : (k : ℕ) → ((i : ℕ) → i < 6 → reaches i k ≡ true) → test k ≡ true) where
   -- past the last
   pub led-past : last < n → Next test first last n
   led-past h = record { low = s .low; high = s .high; missed = s .missed; passed = λ l. absurd (omega arith) }
@@ -277,7 +320,12 @@ module _ (test : ℕ → Bool) (reaches : ℕ → ℕ → Bool) (first last agai
   -- one of them does not
   pub led-nowhere : (i : ℕ) → i < 6 → reaches i n ≡ false → Next test first last (last + 1)
   led-nowhere i o e =
-      record { low = omega (arith, s .low, s .high); high = omega arith; missed = missed; passed = λ l. absurd (omega arith) }
+      record {
+        low = omega (arith, s .low, s .high);
+        high = omega arith;
+        missed = missed;
+        passed = λ l. absurd (omega arith);
+      }
     where
       missed : (k : ℕ) → first ≤ k → k < last + 1 → test k ≡ false
       missed k p q = go (lt-or-le k n)

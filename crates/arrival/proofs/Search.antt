@@ -51,7 +51,8 @@ module _ (test : ℕ → Bool) (after : ℕ) where
 -- ---- what a search from a first candidate on gives back, none before n passing
 
 module _ (test : ℕ → Bool) (first after : ℕ) where
-  past : (n : ℕ) → first ≤ n → n ≤ after → ((k : ℕ) → first ≤ k → k < n → test k ≡ false) → leastFrom test first (after - first) ≡ rest test after n
+  past : (n : ℕ) → first ≤ n → n ≤ after → ((k : ℕ) → first ≤ k → k < n → test k ≡ false)
+      → leastFrom test first (after - first) ≡ rest test after n
   past n h l e =
       let there : first + (n - first) ≡ n = omega arith in
       sym (begun test after first)
@@ -63,7 +64,8 @@ module _ (test : ℕ → Bool) (first after : ℕ) where
       → leastFrom test n (after - n) ≡ leastFrom test first (after - first)
   from-later n h l e = sym (past n h l e ∙ begun test after n)
 
-  pub none-passes : ((k : ℕ) → first ≤ k → k < after → test k ≡ false) → first ≤ after → 0 ≡ orZero (leastFrom test first (after - first))
+  pub none-passes : ((k : ℕ) → first ≤ k → k < after → test k ≡ false) → first ≤ after
+      → 0 ≡ orZero (leastFrom test first (after - first))
   none-passes e h = sym (ap orZero (past after h (omega arith) e ∙ nowhere test after after (omega arith)))
 
   pub none-to-try : after ≤ first → 0 ≡ orZero (leastFrom test first (after - first))

@@ -1,4 +1,5 @@
--- The axes of a mask, one by one: what a loop over six axes has before it that takes the lowest bit of the mask off with each. And their number.
+-- The axes of a mask, one by one: what a loop over six axes has before it that takes the lowest bit
+-- of the mask off with each. And their number.
 use Prim.Native.Nat.{ℕ, zero, suc, _+_, _/_, _%_, _^_, _<_, _≤_}
 use Rattle.whole.proofs.Counting.{next-one}
 use native.Mathlib.Omega.{arith}
@@ -28,7 +29,8 @@ from i m six = setAxes i m (drop i six)
 abbrev pub axisAt : List Axis → ℕ → Axis
 axisAt six i = getD six i unsetAxis
 
-pub from-more : (i m : ℕ) (six : List Axis) → i < length six → from i m six ≡ pick (eqb (m % 2) 1) i (axisAt six i) (from (i + 1) (m / 2) six)
+pub from-more : (i m : ℕ) (six : List Axis) → i < length six
+    → from i m six ≡ pick (eqb (m % 2) 1) i (axisAt six i) (from (i + 1) (m / 2) six)
 from-more i m six h =
     ap (setAxes i m) (drop-cons six i unsetAxis h)
     ∙ ap (λ (k : ℕ). pick (eqb (m % 2) 1) i (axisAt six i) (setAxes k (m / 2) (drop k six))) (next-one i)
@@ -43,7 +45,8 @@ pub record PassedFrom (m : ℕ) (x : Axis) (xs : List JobAxis) : Type 0 where
   pub here : m % 2 ≡ 1 → Passed x
   pub later : AllPassed xs
 
-pub passed-from : (i m : ℕ) (six : List Axis) → i < length six → AllPassed (from i m six) → PassedFrom m (axisAt six i) (from (i + 1) (m / 2) six)
+pub passed-from : (i m : ℕ) (six : List Axis) → i < length six → AllPassed (from i m six)
+    → PassedFrom m (axisAt six i) (from (i + 1) (m / 2) six)
 passed-from i m six h s =
     let p = split (eqb (m % 2) 1) (axisAt six i) (from (i + 1) (m / 2) six) (subst AllPassed (from-more i m six h) s) in
     record { here = λ e. p .0 (eq-eqb (m % 2) 1 e); later = p .1 }
@@ -55,7 +58,8 @@ passed-from i m six h s =
 -- ---- how many there are
 
 -- the lowest digit, counted
-lowest : (b : ℕ) → b < 2 → (i : ℕ) (is : List ℕ) → length {A = ℕ} (elim (eqb b 1) [ true ↦ i ∷ is | false ↦ is ]) ≡ b + length is
+lowest : (b : ℕ) → b < 2 → (i : ℕ) (is : List ℕ)
+    → length {A = ℕ} (elim (eqb b 1) [ true ↦ i ∷ is | false ↦ is ]) ≡ b + length is
 lowest zero h i is = omega arith
 lowest (suc zero) h i is = next-one (length is) ∙ omega arith
 lowest (suc (suc b)) h i is = absurd (omega arith)

@@ -39,7 +39,8 @@ module _ (x : Axis) where
   none-reached false (some m) w h =
       absurd (false≢true (sym (w .none refl m (omega (arith, h .last))) ∙ sym (alone-is m) ∙ h .passes))
 
-  pub reaches-none : (r : Bool) (asked : ℕ) → asked ≡ 0 → ReachesSome (reachable x) 4096 r → not r ≡ cannotArrive asked x
+  pub reaches-none : (r : Bool) (asked : ℕ) → asked ≡ 0 → ReachesSome (reachable x) 4096 r
+      → not r ≡ cannotArrive asked x
   unfolding cannotArrive
   reaches-none r asked z w =
       none-reached r (leastArrival alone) w (result (allReach alone) 1 4096) ∙ sym (ap (λ (k : ℕ). cannotArrive k x) z)
@@ -55,7 +56,8 @@ weighed : (f : Axis → Bool) (b : Bool) (i : ℕ) (x : Axis) (xs : List JobAxis
     → maskWhere f (pick b i x xs) ≡ cond (cond b (f x) false) (2 ^ i) 0 + maskWhere f xs
 weighed f true i x xs = go (f x)
   where
-    go : (t : Bool) → elim t as (λ _. ℕ) [ true ↦ 2 ^ i + maskWhere f xs | false ↦ maskWhere f xs ] ≡ cond t (2 ^ i) 0 + maskWhere f xs
+    go : (t : Bool) → elim t as (λ _. ℕ) [ true ↦ 2 ^ i + maskWhere f xs | false ↦ maskWhere f xs ]
+        ≡ cond t (2 ^ i) 0 + maskWhere f xs
     go true = refl
     go false = omega arith
 weighed f false i x xs = omega arith

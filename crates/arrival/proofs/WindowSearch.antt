@@ -1,5 +1,6 @@
--- Searching the ticks of each window in turn, from a first one on and before another, finds the least of these that fits a window and passes: `searched-is`.
--- Windows in order do not overlap, so that a tick of a later window is later.
+-- Searching the ticks of each window in turn, from a first one on and before another, finds the
+-- least of these that fits a window and passes: `searched-is`. Windows in order do not overlap, so
+-- that a tick of a later window is later.
 use Prim.Native.Nat.{ℕ, suc, _+_, _-_, _<_, _≤_}
 use native.Mathlib.Omega.{arith}
 use native.Mathlib.Nat.{le-trans}
@@ -12,7 +13,8 @@ use lib.ListN.{length, getD, take, drop}
 use Rattle.whole.proofs.Elements.{none-some}
 use Rattle.model.specs.declared.Window.{Window}
 use Rattle.model.specs.declared.Windows.{Windows}
-use Rattle.model.specs.planning.Windows.{brought, fitsWindow, fitsOne, inOrderAfter, firstWrongWindow, windowsRefused, refused13, inWindows}
+use Rattle.model.specs.planning.Windows.{brought, fitsWindow, fitsOne, inOrderAfter, firstWrongWindow, windowsRefused}
+use Rattle.model.specs.planning.Windows.{refused13, inWindows}
 use Rattle.model.specs.planning.Outcome.{leastFrom}
 use Rattle.model.proofs.jobs.WindowsInWords.{none-wrong}
 use Rattle.windows.specs.Ticks.{firstTick, afterLast}
@@ -34,7 +36,8 @@ ordered i c w l e =
     let r = none-wrong i c (w ∷ l) e 0 w refl in
     record { closes = r .closes; follows = r .follows; later = go (inOrderAfter c w) e }
   where
-    go : (b : Bool) → _≡_ {A = Option ℕ} (elim b as (λ _. Option ℕ) [ true ↦ firstWrongWindow (suc i) (w .closing) l | false ↦ some i ]) none
+    go : (b : Bool) → _≡_ {A = Option ℕ}
+        (elim b as (λ _. Option ℕ) [ true ↦ firstWrongWindow (suc i) (w .closing) l | false ↦ some i ]) none
         → firstWrongWindow (suc i) (w .closing) l ≡ none
     go true e = e
     go false e = absurd (none-some (sym e))
@@ -47,7 +50,8 @@ module _ (test : ℕ → Bool) (first end dwell : ℕ) where
       let o = ordered i c w l e in
       go (fitsWindow n dwell w) (fit-is n dwell w) o f (after (suc i) (w .closing) l (o .later) n)
     where
-      go : (b : Bool) → (b ≡ true → Fit n dwell w) → Ordered i c w l → (elim b as (λ _. Bool) [ true ↦ true | false ↦ fitsOne n dwell l ]) ≡ true
+      go : (b : Bool) → (b ≡ true → Fit n dwell w) → Ordered i c w l
+          → (elim b as (λ _. Bool) [ true ↦ true | false ↦ fitsOne n dwell l ]) ≡ true
           → (fitsOne n dwell l ≡ true → w .closing ≤ n) → c ≤ n
       go true g o f h = let k = g refl in omega (arith, k .opened, o .follows)
       go false g o f h = let k = h f in omega (arith, o .closes, o .follows)
@@ -59,10 +63,12 @@ module _ (test : ℕ → Bool) (first end dwell : ℕ) where
 
   module _ (w : Window) (l : List Window) where
     -- a tick that fits one of them and passes: in the first window, or in one of the later ones
-    of-first : (Q : Type 0) (n : ℕ) → both (w ∷ l) n ≡ true → (fitsWindow n dwell w ≡ true → test n ≡ true → Q) → (fitsWindow n dwell w ≡ false → both l n ≡ true → Q) → Q
+    of-first : (Q : Type 0) (n : ℕ) → both (w ∷ l) n ≡ true → (fitsWindow n dwell w ≡ true → test n ≡ true → Q)
+        → (fitsWindow n dwell w ≡ false → both l n ≡ true → Q) → Q
     of-first Q n e f g = go (fitsWindow n dwell w) refl e
       where
-        go : (b : Bool) → fitsWindow n dwell w ≡ b → (elim b as (λ _. Bool) [ true ↦ true | false ↦ fitsOne n dwell l ]) && test n ≡ true → Q
+        go : (b : Bool) → fitsWindow n dwell w ≡ b
+            → (elim b as (λ _. Bool) [ true ↦ true | false ↦ fitsOne n dwell l ]) && test n ≡ true → Q
         go true p e = f p e
         go false p e = g p e
 
@@ -88,7 +94,8 @@ module _ (test : ℕ → Bool) (first end dwell : ℕ) where
     count = afterLast dwell end w - firstTick first w
 
     -- found in the first window
-    found : (n : ℕ) → ((k : ℕ) → both l k ≡ true → w .closing ≤ k) → Least test (firstTick first w) count n → Least (both (w ∷ l)) first (end - first) n
+    found : (n : ℕ) → ((k : ℕ) → both l k ≡ true → w .closing ≤ k) → Least test (firstTick first w) count n
+        → Least (both (w ∷ l)) first (end - first) n
     found n far r =
         let t = ticks-fit first end n dwell w (r .first) (omega (arith, r .last, r .first)) in
         let f = fit-is n dwell w (t .2) in
@@ -102,32 +109,38 @@ module _ (test : ℕ → Bool) (first end dwell : ℕ) where
               (λ p q. let s = far k q in omega (arith, f .within));
         }
 
-    missed : Result test (firstTick first w) count none → (k : ℕ) → first ≤ k → k < end → fitsWindow k dwell w ≡ true → test k ≡ true → ⊥
+    missed : Result test (firstTick first w) count none → (k : ℕ) → first ≤ k → k < end
+        → fitsWindow k dwell w ≡ true → test k ≡ true → ⊥
     missed r k a b p q = let s = fit-ticks first end k dwell w a b p in r k (s .0) (omega (arith, s .1, s .0)) q
 
     -- not found there
-    onward : (o : Option ℕ) → Result test (firstTick first w) count none → Result (both l) first (end - first) o → Result (both (w ∷ l)) first (end - first) o
+    onward : (o : Option ℕ) → Result test (firstTick first w) count none → Result (both l) first (end - first) o
+        → Result (both (w ∷ l)) first (end - first) o
     onward none none-here h = λ k a b e. of-first ⊥ k e (missed none-here k a (omega arith)) (λ p q. h k a b q)
     onward (some n) none-here h =
         record {
           first = h .first;
           last = h .last;
           passes = in-later n (h .passes);
-          least = λ k a b e. of-first ⊥ k e (missed none-here k a (omega (arith, h .first, h .last))) (λ p q. h .least k a b q);
+          least = λ k a b e. of-first ⊥ k e (missed none-here k a (omega (arith, h .first, h .last)))
+              (λ p q. h .least k a b q);
         }
 
   -- ---- all windows
 
-  searched-least : (i c : ℕ) (l : List Window) → firstWrongWindow i c l ≡ none → Result (both l) first (end - first) (searched test first end dwell l)
+  searched-least : (i c : ℕ) (l : List Window) → firstWrongWindow i c l ≡ none
+      → Result (both l) first (end - first) (searched test first end dwell l)
   searched-least i c [] e = λ k a b f. absurd (false≢true f)
   searched-least i c (w ∷ l) e =
       let o = ordered i c w l e in
       go (leastFrom test (firstTick first w) (count w l)) (result test (firstTick first w) (count w l)) (o .later)
       (searched-least (suc i) (w .closing) l (o .later))
     where
-      go : (o : Option ℕ) → Result test (firstTick first w) (count w l) o → firstWrongWindow (suc i) (w .closing) l ≡ none
+      go : (o : Option ℕ) → Result test (firstTick first w) (count w l) o
+          → firstWrongWindow (suc i) (w .closing) l ≡ none
           → Result (both l) first (end - first) (searched test first end dwell l)
-          → Result (both (w ∷ l)) first (end - first) (elim o as (λ _. Option ℕ) [ some n ↦ some n | none ↦ searched test first end dwell l ])
+          → Result (both (w ∷ l)) first (end - first)
+          (elim o as (λ _. Option ℕ) [ some n ↦ some n | none ↦ searched test first end dwell l ])
       go none r s h = onward w l (searched test first end dwell l) r h
       go (some n) r s h = found w l n (λ k q. after (suc i) (w .closing) l s k (fits-of w l k q)) r
 
@@ -135,11 +148,13 @@ module _ (test : ℕ → Bool) (first end dwell : ℕ) where
       → searched test first end dwell l ≡ leastFrom (λ n. fitsOne n dwell l && test n) first (end - first)
   searched-is l e =
       let c = end - first in
-      one-result (both l) first c (searched test first end dwell l) (leastFrom (both l) first c) (searched-least 0 0 l e) (result (both l) first c)
+      one-result (both l) first c (searched test first end dwell l) (leastFrom (both l) first c)
+      (searched-least 0 0 l e) (result (both l) first c)
 
 -- ---- what a loop over the first `count` windows of a list has before it
 
-module _ (test : ℕ → Bool) (first end dwell : ℕ) (low : 1 ≤ first) (list : List Window) (count i : ℕ) (inside : i < length (take count list))
+module _ (test : ℕ → Bool) (first end dwell : ℕ) (low : 1 ≤ first) (list : List Window) (count i : ℕ)
+    (inside : i < length (take count list))
     (below : i < count) where
   abbrev others : List Window
   others = drop (i + 1) (take count list)
@@ -151,7 +166,8 @@ module _ (test : ℕ → Bool) (first end dwell : ℕ) (low : 1 ≤ first) (list
   by-window o = elim o [ some n ↦ some n | none ↦ searched test first end dwell others ]
 
   -- the least tick n of window i, its first tick being a and the one after its last b
-  module _ (a b n : ℕ) (from : a ≡ firstTick first window) (last : b ≡ afterLast dwell end window) (is : n ≡ orZero (leastFrom test a (b - a))) where
+  module _ (a b n : ℕ) (from : a ≡ firstTick first window) (last : b ≡ afterLast dwell end window)
+      (is : n ≡ orZero (leastFrom test a (b - a))) where
     opened : searched test first end dwell (drop i (take count list)) ≡ by-window (leastFrom test a (b - a))
     unfolding by-window
     opened =
@@ -162,12 +178,14 @@ module _ (test : ℕ → Bool) (first end dwell : ℕ) (low : 1 ≤ first) (list
     unfolding by-window
     in-window h = opened ∙ ap by-window (is-some (leastFrom test a (b - a)) (λ z. h (is ∙ z))) ∙ ap some (sym is)
 
-    pub past-window : n ≡ 0 → searched test first end dwell (drop i (take count list)) ≡ searched test first end dwell others
+    pub past-window : n ≡ 0
+        → searched test first end dwell (drop i (take count list)) ≡ searched test first end dwell others
     unfolding by-window
     past-window z =
         opened
         ∙ ap by-window
-        (is-none test a (b - a) (leastFrom test a (b - a)) (subst (λ (k : ℕ). 1 ≤ k) (sym from) (le-trans low (first-above first window)))
+        (is-none test a (b - a) (leastFrom test a (b - a))
+        (subst (λ (k : ℕ). 1 ≤ k) (sym from) (le-trans low (first-above first window)))
         (result test a (b - a)) (sym is ∙ z))
 
 -- ---- with windows and without
@@ -185,7 +203,8 @@ in-order w e t = by-given (w .given) t e
     by-count false true e = e
     by-count false false e = absurd (none-some (sym e))
 
-    by-given : (b : Bool) → b ≡ true → _≡_ {A = Option ℕ} (elim b as (λ _. Option ℕ) [ true ↦ windowsRefused w | false ↦ none ]) none
+    by-given : (b : Bool) → b ≡ true
+        → _≡_ {A = Option ℕ} (elim b as (λ _. Option ℕ) [ true ↦ windowsRefused w | false ↦ none ]) none
         → firstWrongWindow 0 0 (brought w) ≡ none
     by-given true t e = by-count (eqb (w .count) 0) (leb (w .count) 32 && leb (w .dwell) 4096) e
     by-given false t e = absurd (false≢true t)
@@ -199,7 +218,8 @@ pub with-windows : (w : Windows) (first end : ℕ) → refused13 w ≡ none → 
 with-windows w first end e t =
     searched-is (λ n. true) first end (w .dwell) (brought w) (in-order w e t)
     ∙ (λ i. leastFrom (λ n. and-true (fitsOne n (w .dwell) (brought w)) i) first (end - first))
-    ∙ ap (λ (b : Bool). leastFrom (λ n. elim b as (λ _. Bool) [ true ↦ fitsOne n (w .dwell) (brought w) | false ↦ true ]) first (end - first)) (sym t)
+    ∙ ap (λ (b : Bool). leastFrom
+    (λ n. elim b as (λ _. Bool) [ true ↦ fitsOne n (w .dwell) (brought w) | false ↦ true ]) first (end - first)) (sym t)
 
 pub no-windows : (w : Windows) (n : ℕ) → w .given ≡ false → inWindows w n ≡ true
 no-windows w n t = ap (λ (b : Bool). elim b as (λ _. Bool) [ true ↦ fitsOne n (w .dwell) (brought w) | false ↦ true ]) t

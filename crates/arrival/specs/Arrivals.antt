@@ -53,7 +53,8 @@ pub record ArrivalIs (w : Windows) (xs : List JobAxis) (asked : ℕ) (r : Arriva
 
 -- ---- its parts
 
--- the least that passes a test, of the ticks of each window in turn, from a first one on and before another
+-- the least that passes a test, of the ticks of each window in turn, from a
+-- first one on and before another
 abbrev pub searched : (ℕ → Bool) → ℕ → ℕ → ℕ → List Window → Option ℕ
 searched test first after dwell [] = none
 searched test first after dwell (w ∷ ws) =
@@ -85,7 +86,8 @@ bitOf m x asked bit = cond (cond (eqb (m % 2) 1) (cannotArrive asked x) false) b
 abbrev pub reachedBy : ℕ → Axis → ℕ → Bool
 reachedBy m x n = not (missedBy m x n)
 
--- r axes are asked again after a turn of axis `number`: as many as before where it left n, else those before it
+-- r axes are asked again after a turn of axis `number`: as many as before where
+-- it left n, else those before it
 abbrev pub Again : ℕ → ℕ → ℕ → ℕ → ℕ → Type 0
 Again again number n next r = ((next ≡ n) × (r ≡ again)) ⊎ ((next ≡ n → ⊥) × (r ≡ number))
 

@@ -26,7 +26,8 @@ added-by (HalfPeriod d) g m h = omega (arith, natAbs-+ (g 0) (g d), h 0, h d)
 module _ (p : AxisPlan) (s : PlanRanges p) where
   pub origin-within : Within (2 ^ 52) (p .origin)
   origin-within =
-      let o : totalWeight p * natAbs (p .origin) ≤ 2 ^ 60 = subst (λ (n : ℕ). n ≤ 2 ^ 60) (weighed (totalWeight p) (p .origin)) (s .origin .within) in
+      let o : totalWeight p * natAbs (p .origin) ≤ 2 ^ 60 =
+      subst (λ (n : ℕ). n ≤ 2 ^ 60) (weighed (totalWeight p) (p .origin)) (s .origin .within) in
       record { within = omega (arith, o, mul-le-mul-right (natAbs (p .origin)) (s .weighs)) }
 
   -- ---- the blends
@@ -49,7 +50,8 @@ module _ (p : AxisPlan) (s : PlanRanges p) where
   once-by d k h =
       let v = velocityBack p d k in
       let w = velocityBack p (d + p .«half_period») k in
-      let sum : natAbs (blendedBack p d k) ≤ A * natAbs v + B * natAbs w = omega (arith, natAbs-+ (pos A *ℤ v) (pos B *ℤ w), weighed A v, weighed B w) in
+      let sum : natAbs (blendedBack p d k) ≤ A * natAbs v + B * natAbs w =
+      omega (arith, natAbs-+ (pos A *ℤ v) (pos B *ℤ w), weighed A v, weighed B w) in
       omega (arith, mul-le-mul-left count sum, back-weighed p s d k h, back-weighed p s (d + p .«half_period») k h)
 
   velocity-by : (k : ℕ) → k ≤ suc (arrivalOf p) → natAbs (blendedVelocity p k) ≤ 2 ^ 46
@@ -87,12 +89,18 @@ module _ (p : AxisPlan) (s : PlanRanges p) where
 
   way-by : natAbs way ≤ 2 ^ 55
   way-by =
-      subst (λ (n : ℕ). n ≤ 2 ^ 55) (sym (natAbs-* (pos 2) (pos (lagOf p) *ℤ p .regions .start))) (omega (arith, lagging))
+      subst (λ (n : ℕ). n ≤ 2 ^ 55) (sym (natAbs-* (pos 2) (pos (lagOf p) *ℤ p .regions .start)))
+      (omega (arith, lagging))
 
   position-by : (k : ℕ) → k ≤ suc (arrivalOf p) → natAbs (blendedPosition p k) ≤ 2 ^ 60 + 2 ^ 55 + k * 2 ^ 47
   unfolding blendedPosition
   position-by zero h =
-      omega (arith, natAbs-+ (pos (totalWeight p) *ℤ p .origin) (negℤ way), s .origin .within, neg-holds way (2 ^ 55) way-by)
+      omega (
+        arith,
+        natAbs-+ (pos (totalWeight p) *ℤ p .origin) (negℤ way),
+        s .origin .within,
+        neg-holds way (2 ^ 55) way-by,
+      )
   position-by (suc k) h =
       omega (
         arith,
@@ -110,18 +118,22 @@ module _ (p : AxisPlan) (s : PlanRanges p) where
   pub landed-within : (n : ℕ) → n ≤ suc (arrivalOf p) → LandsAt n p → Within (2 ^ 37) (p .destination)
   landed-within n h a =
       record {
-        within = omega (arith, natAbs-* (pos halfUnit) (p .destination), ap natAbs (a .position), position-within n h .within);
+        within = omega
+            (arith, natAbs-* (pos halfUnit) (p .destination), ap natAbs (a .position), position-within n h .within);
       }
 
   -- ---- of numbers that are known to be these
 
-  pub position-is : (k : ℕ) (t : BlendedState) → k ≤ suc (arrivalOf p) → t ≡ blendedStateAt p k → Is (2 ^ 61) (t .position) (blendedPosition p k)
+  pub position-is : (k : ℕ) (t : BlendedState) → k ≤ suc (arrivalOf p) → t ≡ blendedStateAt p k
+      → Is (2 ^ 61) (t .position) (blendedPosition p k)
   position-is k t h e = record { is = ap (λ (u : BlendedState). u .position) e; within = position-within k h .within }
 
-  pub velocity-is : (k : ℕ) (t : BlendedState) → k ≤ suc (arrivalOf p) → t ≡ blendedStateAt p k → Is (2 ^ 46) (t .velocity) (blendedVelocity p k)
+  pub velocity-is : (k : ℕ) (t : BlendedState) → k ≤ suc (arrivalOf p) → t ≡ blendedStateAt p k
+      → Is (2 ^ 46) (t .velocity) (blendedVelocity p k)
   velocity-is k t h e = record { is = ap (λ (u : BlendedState). u .velocity) e; within = velocity-within k h .within }
 
-  pub blend-is : (d k : ℕ) (v a b : ℤ) → k ≤ suc (arrivalOf p) → v ≡ mix A B a b → a ≡ velocityBack p d k → b ≡ velocityBack p (d + p .«half_period») k
+  pub blend-is : (d k : ℕ) (v a b : ℤ) → k ≤ suc (arrivalOf p) → v ≡ mix A B a b → a ≡ velocityBack p d k
+      → b ≡ velocityBack p (d + p .«half_period») k
       → Is (2 ^ 46) v (blendedBack p d k)
   unfolding blendedBack
   blend-is d k v a b h e f g =
@@ -130,6 +142,7 @@ module _ (p : AxisPlan) (s : PlanRanges p) where
         within = omega (arith, once-by d k h, mul-le-mul-right (natAbs (blendedBack p d k)) some-blends);
       }
 
-  pub blends-are : (k : ℕ) (v : ℤ) → k ≤ suc (arrivalOf p) → v ≡ added (p .«second_sway») (λ d. blendedBack p d k) → Is (2 ^ 46) v (blendedVelocity p k)
+  pub blends-are : (k : ℕ) (v : ℤ) → k ≤ suc (arrivalOf p) → v ≡ added (p .«second_sway») (λ d. blendedBack p d k)
+      → Is (2 ^ 46) v (blendedVelocity p k)
   unfolding blendedVelocity
   blends-are k v h e = record { is = e; within = velocity-by k h }

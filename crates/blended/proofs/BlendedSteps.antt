@@ -49,11 +49,15 @@ pub state-before : (p : AxisPlan) (k : ℕ) (q v : ℤ)
     → _≡_ {A = BlendedState} (record { position = q; velocity = v }) (blendedStateAt p k)
 unfolding blendedPosition
 state-before p k q v e f =
-    λ i. record { position = (e ∙ undone (blendedPosition p k) (blendedVelocity p k) (blendedVelocity p (suc k))) i; velocity = f i }
+    λ i. record {
+      position = (e ∙ undone (blendedPosition p k) (blendedVelocity p k) (blendedVelocity p (suc k))) i;
+      velocity = f i;
+    }
   where
     undone : (q v w : ℤ) → q +ℤ v +ℤ w -ℤ w -ℤ v ≡ q
     undone q v w = same (q ∷ v ∷ w ∷ []) (search pol depth 20 fits 9000) tt
 
-pub state-landed : (p : AxisPlan) (n : ℕ) (q v : ℤ) → LandsAt n p → q ≡ pos halfUnit *ℤ p .destination → v ≡ blendedVelocity p n
+pub state-landed : (p : AxisPlan) (n : ℕ) (q v : ℤ) → LandsAt n p
+    → q ≡ pos halfUnit *ℤ p .destination → v ≡ blendedVelocity p n
     → _≡_ {A = BlendedState} (record { position = q; velocity = v }) (blendedStateAt p n)
 state-landed p n q v a e f = λ i. record { position = (e ∙ a .position) i; velocity = f i }

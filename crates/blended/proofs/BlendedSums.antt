@@ -1,4 +1,5 @@
--- The sums of the velocities of ticks 1 to k after the blends, and the state at tick k by them: no tick before it is visited.
+-- The sums of the velocities of ticks 1 to k after the blends, and the state at tick k by
+-- them: no tick before it is visited.
 use Prim.Native.Nat.{ℕ, zero, suc, _+_, _*_, _^_, _≤_}
 use mathlib.Core.Path.{_≡_, refl, sym, ap, subst, _∙_}
 use mathlib.Core.List.{[], _∷_}
@@ -34,7 +35,8 @@ sum-mix a b f g (suc n) =
     ring : (a b x y u v : ℤ) → a *ℤ (x +ℤ y) +ℤ b *ℤ (u +ℤ v) ≡ (a *ℤ x +ℤ b *ℤ u) +ℤ (a *ℤ y +ℤ b *ℤ v)
     ring a b x y u v = same (a ∷ b ∷ x ∷ y ∷ u ∷ v ∷ []) (search pol depth 20 fits 9000) tt
 
-sum-added : (s : SecondSway) (f : ℕ → ℕ → ℤ) (n : ℕ) → added s (λ d. sumTo (f d) n) ≡ sumTo (λ k. added s (λ d. f d k)) n
+sum-added : (s : SecondSway) (f : ℕ → ℕ → ℤ) (n : ℕ)
+    → added s (λ d. sumTo (f d) n) ≡ sumTo (λ k. added s (λ d. f d k)) n
 sum-added Absent f n = refl
 sum-added (HalfPeriod d) f zero = refl
 sum-added (HalfPeriod d) f (suc n) =
@@ -47,14 +49,16 @@ sum-added (HalfPeriod d) f (suc n) =
 -- ---- the state at tick k, from that at tick 0
 
 pub position-by-sum : (p : AxisPlan) (k : ℕ)
-    → blendedPosition p 0 +ℤ blendedVelocity p 0 +ℤ pos 2 *ℤ sumTo (blendedVelocity p) k -ℤ blendedVelocity p k ≡ blendedPosition p k
+    → blendedPosition p 0 +ℤ blendedVelocity p 0 +ℤ pos 2 *ℤ sumTo (blendedVelocity p) k -ℤ blendedVelocity p k
+    ≡ blendedPosition p k
 unfolding blendedPosition
 position-by-sum p zero = ring (blendedPosition p 0) (blendedVelocity p 0)
   where
     ring : (q v : ℤ) → q +ℤ v +ℤ pos 2 *ℤ pos 0 -ℤ v ≡ q
     ring q v = same (q ∷ v ∷ []) (search pol depth 20 fits 9000) tt
 position-by-sum p (suc k) =
-    ring (blendedPosition p 0) (blendedVelocity p 0) (sumTo (blendedVelocity p) k) (blendedVelocity p k) (blendedVelocity p (suc k))
+    ring (blendedPosition p 0) (blendedVelocity p 0) (sumTo (blendedVelocity p) k)
+    (blendedVelocity p k) (blendedVelocity p (suc k))
     ∙ ap (λ (z : ℤ). z +ℤ blendedVelocity p k +ℤ blendedVelocity p (suc k)) (position-by-sum p k)
   where
     ring : (q v s w u : ℤ) → q +ℤ v +ℤ pos 2 *ℤ (s +ℤ u) -ℤ u ≡ q +ℤ v +ℤ pos 2 *ℤ s -ℤ w +ℤ w +ℤ u
@@ -71,7 +75,13 @@ module _ (p : AxisPlan) (s : PlanRanges p) (k : ℕ) (last : k ≤ suc (arrivalO
 
   -- each weight times its sum is small
   back-sum-by : (d : ℕ) → totalWeight p * natAbs (sumTo (velocityBack p d) k) ≤ 2 ^ 58
-  back-sum-by d = omega (arith, few p s k last, weighed-sum (totalWeight p) (2 ^ 45) (velocityBack p d) k (λ j q. back-weighed p s d j (omega arith)))
+  back-sum-by d =
+      omega (
+        arith,
+        few p s k last,
+        weighed-sum (totalWeight p) (2 ^ 45) (velocityBack p d) k
+            (λ j q. back-weighed p s d j (omega arith)),
+      )
 
   pub weighed-within : (w d : ℕ) → w ≤ totalWeight p → natAbs (pos w *ℤ sumTo (velocityBack p d) k) ≤ 2 ^ 58
   weighed-within w d h =
@@ -83,7 +93,8 @@ module _ (p : AxisPlan) (s : PlanRanges p) (k : ℕ) (last : k ≤ suc (arrivalO
       let h = mul-le-mul-right (A + B) (blends-some (p .«second_sway»)) in
       (omega (arith, h), omega (arith, h))
 
-  pub blend-sum-is : (d : ℕ) (v a b : ℤ) → v ≡ mix A B a b → a ≡ sumTo (velocityBack p d) k → b ≡ sumTo (velocityBack p (d + p .«half_period»)) k
+  pub blend-sum-is : (d : ℕ) (v a b : ℤ) → v ≡ mix A B a b → a ≡ sumTo (velocityBack p d) k
+      → b ≡ sumTo (velocityBack p (d + p .«half_period»)) k
       → Is (2 ^ 59) v (sumTo (blendedBack p d) k)
   unfolding blendedBack
   blend-sum-is d v a b e f g =
@@ -93,19 +104,28 @@ module _ (p : AxisPlan) (s : PlanRanges p) (k : ℕ) (last : k ≤ suc (arrivalO
       }
     where
       once : (j : ℕ) → j ≤ suc (arrivalOf p) → natAbs (blendedBack p d j) ≤ 2 ^ 46
-      once j h = omega (arith, once-by p s d j h, mul-le-mul-right (natAbs (blendedBack p d j)) (blends-some (p .«second_sway»)))
+      once j h = omega
+          (arith, once-by p s d j h, mul-le-mul-right (natAbs (blendedBack p d j)) (blends-some (p .«second_sway»)))
 
-  pub blends-sum-is : (v : ℤ) → v ≡ added (p .«second_sway») (λ d. sumTo (blendedBack p d) k) → Is (2 ^ 59) v (sumTo (blendedVelocity p) k)
+  pub blends-sum-is : (v : ℤ) → v ≡ added (p .«second_sway») (λ d. sumTo (blendedBack p d) k)
+      → Is (2 ^ 59) v (sumTo (blendedVelocity p) k)
   unfolding blendedVelocity
   blends-sum-is v e =
       record {
         is = e ∙ sum-added (p .«second_sway») (blendedBack p) k;
-        within = omega (arith, few p s k last, small-sum (2 ^ 46) (blendedVelocity p) k (λ j q. velocity-within p s j (omega arith) .within));
+        within =
+            omega (
+              arith,
+              few p s k last,
+              small-sum (2 ^ 46) (blendedVelocity p) k
+                  (λ j q. velocity-within p s j (omega arith) .within),
+            );
       }
 
 -- ---- the state, from its parts
 
 pub state-by-sum : (p : AxisPlan) (k : ℕ) (q v : ℤ)
-    → q ≡ blendedPosition p 0 +ℤ blendedVelocity p 0 +ℤ pos 2 *ℤ sumTo (blendedVelocity p) k -ℤ blendedVelocity p k → v ≡ blendedVelocity p k
+    → q ≡ blendedPosition p 0 +ℤ blendedVelocity p 0 +ℤ pos 2 *ℤ sumTo (blendedVelocity p) k -ℤ blendedVelocity p k
+    → v ≡ blendedVelocity p k
     → _≡_ {A = BlendedState} (record { position = q; velocity = v }) (blendedStateAt p k)
 state-by-sum p k q v e f = λ i. record { position = (e ∙ position-by-sum p k) i; velocity = f i }

@@ -1,4 +1,5 @@
--- The blends of the definition, tick by tick: the position and the velocity that are carried on are those of the blends, and so are the cells.
+-- The blends of the definition, tick by tick: the position and the velocity that are carried on are
+-- those of the blends, and so are the cells.
 use mathlib.Core.Path.{_≡_, refl, sym, ap, ap₂, _∙_}
 use Rattle.whole.proofs.Ring.{pol, same}
 use Rattle.whole.proofs.Tests.{choice-yes, choice-no}
@@ -17,7 +18,8 @@ use Rattle.model.specs.declared.SecondSway.{SecondSway}
 use Rattle.model.specs.declared.SecondSway.the-variants.{Absent, HalfPeriod}
 use Rattle.model.specs.planning.Quantities.{halfPeriod, secondWeight, asMoving, twicePositionAt}
 use Rattle.model.specs.planning.Motion.{Tick, earlier}
-use Rattle.model.specs.planning.Rows.{plannedAxis, tickAt, tickBack, blendOnce, blendBy, blend, divisor, cells, fromLanding}
+use Rattle.model.specs.planning.Rows.{plannedAxis, tickAt, tickBack, blendOnce, blendBy, blend, divisor, cells}
+use Rattle.model.specs.planning.Rows.{fromLanding}
 use Rattle.model.specs.planning.Refusals.{Plannable}
 use Rattle.model.proofs.tables.FromLanding.{sums-from-landing}
 use Rattle.model.proofs.tables.TwoBlends.{divisor-some}
@@ -25,9 +27,11 @@ use Rattle.motion.proofs.PlannableAxis.{plannable-after}
 use Rattle.planned.specs.declared.AxisPlan.{AxisPlan}
 use Rattle.planned.specs.Plans.{scale, planOf}
 use Rattle.planned.specs.Plans.{plannedAt, velocityBack}
-use Rattle.blended.specs.BlendedStates.{mix, blendedBack, added, blendedVelocity, blendedPosition, axisCells, halfUnit, LandsAt}
+use Rattle.blended.specs.BlendedStates.{mix, blendedBack, added, blendedVelocity, blendedPosition, axisCells}
+use Rattle.blended.specs.BlendedStates.{halfUnit, LandsAt}
 use Rattle.planned.proofs.Scale.{scale-some, scale-divides}
-use Rattle.blended.proofs.Blend.{mix-sum, mix-change, mix-start, mix-times, added-sum, added-change, added-times, added-start}
+use Rattle.blended.proofs.Blend.{mix-sum, mix-change, mix-start, mix-times, added-sum, added-change, added-times}
+use Rattle.blended.proofs.Blend.{added-start}
 use Rattle.planned.proofs.Velocities.{back-early, back-late}
 use Rattle.planned.proofs.PlannedTicks.{plannedPosition, tick-is}
 
@@ -80,19 +84,23 @@ back-goes-on p h k some = go (decLt k h)
 
     -- one more tick before tick 0
     earlier-by : k < h → backPosition p h k ≡ earlyPosition p (h - suc k + 1)
-    earlier-by l = early-position p h k (omega arith) ∙ ap (earlyPosition p) {x = h - k} {y = h - suc k + 1} (omega arith)
+    earlier-by l =
+        early-position p h k (omega arith) ∙ ap (earlyPosition p) {x = h - k} {y = h - suc k + 1} (omega arith)
 
     -- one tick later
     later-by : h ≤ k → velocityBack p h (suc k) ≡ plannedAt p (suc (k - h))
-    later-by l = sym (back-late p h (suc k) (omega arith)) ∙ ap (plannedAt p) {x = suc k - h} {y = suc (k - h)} (omega arith)
+    later-by l = sym (back-late p h (suc k) (omega arith))
+        ∙ ap (plannedAt p) {x = suc k - h} {y = suc (k - h)} (omega arith)
 
     go : Dec (k < h) → backPosition p h k +ℤ velocityBack p h k +ℤ velocityBack p h (suc k) ≡ backPosition p h (suc k)
     go (Dec.yes l) =
-        sum _ _ _ _ v v (earlier-by l) (sym (back-early p h k some (omega arith))) (sym (back-early p h (suc k) some (omega arith)))
+        sum _ _ _ _ v v (earlier-by l) (sym (back-early p h k some (omega arith)))
+        (sym (back-early p h (suc k) some (omega arith)))
         ∙ ring (p .origin) v (pos (h - suc k))
         ∙ sym (early-position p h (suc k) (omega arith))
     go (Dec.no l) =
-        sum _ _ _ _ _ _ (late-position p h k (omega arith)) (sym (back-late p h k (omega arith))) (later-by (omega arith))
+        sum _ _ _ _ _ _ (late-position p h k (omega arith))
+        (sym (back-late p h k (omega arith))) (later-by (omega arith))
         ∙ ap (plannedPosition p) {x = suc (k - h)} {y = suc k - h} (omega arith)
         ∙ sym (late-position p h (suc k) (omega arith))
 
@@ -100,7 +108,8 @@ back-goes-on p h k some = go (decLt k h)
 
 -- of positions, d ticks before
 abbrev positionBack : AxisPlan → ℕ → ℕ → ℤ
-positionBack p k d = mix (p .«first_weight») (p .«second_weight») (backPosition p d k) (backPosition p (d + p .«half_period») k)
+positionBack p k d =
+    mix (p .«first_weight») (p .«second_weight») (backPosition p d k) (backPosition p (d + p .«half_period») k)
 
 module _ (p : AxisPlan) (some : 0 < p .regions .ticks) where
   abbrev A : ℕ
@@ -109,7 +118,8 @@ module _ (p : AxisPlan) (some : 0 < p .regions .ticks) where
   abbrev B : ℕ
   B = p .«second_weight»
 
-  start-back : (d : ℕ) → pos (A + B) *ℤ p .origin -ℤ pos 2 *ℤ (pos (B * p .«half_period» + (A + B) * d) *ℤ p .regions .start) ≡ positionBack p 0 d
+  start-back : (d : ℕ) → pos (A + B) *ℤ p .origin
+      -ℤ pos 2 *ℤ (pos (B * p .«half_period» + (A + B) * d) *ℤ p .regions .start) ≡ positionBack p 0 d
   start-back d =
       sym (mix-start A B (p .«half_period») d (p .origin) (p .regions .start))
       ∙ (λ i. mix A B (before d i) (before (d + p .«half_period») i))
@@ -140,7 +150,11 @@ module _ (p : AxisPlan) (some : 0 < p .regions .ticks) where
 
 backTick : AxisPlan → ℕ → ℕ → Tick
 backTick p k d =
-    record { position = backPosition p d k; velocity = velocityBack p d k; acceleration = velocityBack p d (suc k) -ℤ velocityBack p d k }
+    record {
+      position = backPosition p d k;
+      velocity = velocityBack p d k;
+      acceleration = velocityBack p d (suc k) -ℤ velocityBack p d k;
+    }
 
 module _ (x : Axis) (n k : ℕ) (plannable : Plannable x n) (last : k ≤ n) where
   abbrev p : AxisPlan
@@ -160,7 +174,8 @@ module _ (x : Axis) (n k : ℕ) (plannable : Plannable x n) (last : k ≤ n) whe
       none v = same (v ∷ []) (search pol depth 20 fits 9000) tt
 
       at : (q v a q′ v′ a′ : ℤ) → q ≡ q′ → v ≡ v′ → a ≡ a′
-          → _≡_ {A = Tick} (record { position = q; velocity = v; acceleration = a }) (record { position = q′; velocity = v′; acceleration = a′ })
+          → _≡_ {A = Tick} (record { position = q; velocity = v; acceleration = a })
+          (record { position = q′; velocity = v′; acceleration = a′ })
       at q v a q′ v′ a′ e f g = λ i. record { position = e i; velocity = f i; acceleration = g i }
 
       -- one tick later
@@ -171,7 +186,8 @@ module _ (x : Axis) (n k : ℕ) (plannable : Plannable x n) (last : k ≤ n) whe
       go (Dec.yes l) =
           sym (choice-yes (ltb k h) (earlier x (h - k)) (tickAt (plannedAxis n x) (k - h)) (lt-ltb k h l))
           ∙ at _ _ _ _ _ _ (sym (early-position p h k (omega arith))) (back-early p h k some (omega arith))
-          (none (p .regions .start) ∙ ap₂ _-ℤ_ (back-early p h (suc k) some (omega arith)) (back-early p h k some (omega arith)))
+          (none (p .regions .start)
+          ∙ ap₂ _-ℤ_ (back-early p h (suc k) some (omega arith)) (back-early p h k some (omega arith)))
       go (Dec.no l) =
           sym (choice-no (ltb k h) (earlier x (h - k)) (tickAt (plannedAxis n x) (k - h)) (le-ltb k h (omega arith)))
           ∙ tick-is x n (k - h) plannable (omega arith)
@@ -205,19 +221,23 @@ module _ (x : Axis) (n k : ℕ) (plannable : Plannable x n) (last : k ≤ n) whe
 
   -- rounded
   cell : (z y : ℤ) → z ≡ pos (scale x) *ℤ y → nearestQuotient z 65536 ≡ nearestQuotient y (divisor x)
-  cell z y e = ap₂ nearestQuotient e (sym (scale-divides x)) ∙ nearest-times (scale x) y (divisor x) (scale-some x) (divisor-some x)
+  cell z y e = ap₂ nearestQuotient e (sym (scale-divides x))
+      ∙ nearest-times (scale x) y (divisor x) (scale-some x) (divisor-some x)
 
   position-cell : (z y : ℤ) → z ≡ pos (scale x) *ℤ y → nearestQuotient z 131072 ≡ nearestQuotient y (2 * divisor x)
   position-cell z y e =
       let twice : 131072 ≡ scale x * (2 * divisor x) = omega (arith, scale-divides x) in
-      ap₂ nearestQuotient e twice ∙ nearest-times (scale x) y (2 * divisor x) (scale-some x) (omega (arith, divisor-some x))
+      ap₂ nearestQuotient e twice
+      ∙ nearest-times (scale x) y (2 * divisor x) (scale-some x) (omega (arith, divisor-some x))
 
   pub cells-are : axisCells k p ≡ cells k (plannedAxis n x)
   unfolding backTick blendedVelocity blendedBack
   cells-are =
-      λ i. position-cell (blendedPosition p k) (blend (plannedAxis n x) k (λ s. s .position)) (position-is p some k ∙ blend-is (λ s. s .position)) i
+      λ i. position-cell (blendedPosition p k) (blend (plannedAxis n x) k (λ s. s .position))
+      (position-is p some k ∙ blend-is (λ s. s .position)) i
       ∷ cell (blendedVelocity p k) (blend (plannedAxis n x) k (λ s. s .velocity)) (blend-is (λ s. s .velocity)) i
-      ∷ cell (blendedVelocity p (suc k) -ℤ blendedVelocity p k) (blend (plannedAxis n x) k (λ s. s .acceleration)) (change ∙ blend-is (λ s. s .acceleration)) i
+      ∷ cell (blendedVelocity p (suc k) -ℤ blendedVelocity p k) (blend (plannedAxis n x) k (λ s. s .acceleration))
+      (change ∙ blend-is (λ s. s .acceleration)) i
       ∷ []
     where
       A : ℕ
@@ -234,7 +254,8 @@ module _ (x : Axis) (n k : ℕ) (plannable : Plannable x n) (last : k ≤ n) whe
           once : (d : ℕ) → scaled (λ s. s .acceleration) d ≡ blendedBack p d (suc k) -ℤ blendedBack p d k
           once d =
               let e = d + halfPeriod x in
-              mix-change A B (velocityBack p d (suc k)) (velocityBack p d k) (velocityBack p e (suc k)) (velocityBack p e k)
+              mix-change A B (velocityBack p d (suc k)) (velocityBack p d k)
+              (velocityBack p e (suc k)) (velocityBack p e k)
 
 -- ---- at the arrival: the landing is exact, and the sums from the landing end begin there
 
@@ -243,16 +264,19 @@ unfolding backTick
 lands x n plannable =
     record {
       position =
-          ring (pos (scale x)) (pos (divisor x)) (twicePositionAt (asMoving (x .target) n) (pos n)) (ap pos (scale-divides x))
+          ring (pos (scale x)) (pos (divisor x))
+          (twicePositionAt (asMoving (x .target) n) (pos n)) (ap pos (scale-divides x))
           ∙ ap (λ (z : ℤ). pos (scale x) *ℤ z) landed
-          ∙ sym (position-is (planOf n x) (some x n n plannable last) n ∙ blend-is x n n plannable last (λ s. s .position));
+          ∙ sym (position-is (planOf n x) (some x n n plannable last) n
+          ∙ blend-is x n n plannable last (λ s. s .position));
     }
   where
     last : n ≤ n
     last = omega arith
 
     landed : fromLanding x n 0 ≡ blend (plannedAxis n x) n (λ s. s .position)
-    landed = sums-from-landing x n plannable 0 (omega arith) ∙ ap (λ (k : ℕ). blend (plannedAxis n x) k (λ s. s .position)) {x = n - 0} {y = n} (omega arith)
+    landed = sums-from-landing x n plannable 0 (omega arith)
+        ∙ ap (λ (k : ℕ). blend (plannedAxis n x) k (λ s. s .position)) {x = n - 0} {y = n} (omega arith)
 
     ring : (s d z : ℤ) → s *ℤ d ≡ pos 65536 → pos halfUnit *ℤ z ≡ s *ℤ (pos 2 *ℤ d *ℤ (pos 128 *ℤ z))
     ring s d z e =

@@ -21,9 +21,11 @@ mix a b x y = pos a *ℤ x +ℤ pos b *ℤ y
 
 -- one blend, d ticks before tick k
 unfoldable pub blendedBack : AxisPlan → ℕ → ℕ → ℤ
-blendedBack p d k = mix (p .«first_weight») (p .«second_weight») (velocityBack p d k) (velocityBack p (d + p .«half_period») k)
+blendedBack p d k =
+    mix (p .«first_weight») (p .«second_weight») (velocityBack p d k) (velocityBack p (d + p .«half_period») k)
 
--- the blends added up, g d being the one of delay d: that of delay 0 and, for a second sway, that of delay h₂
+-- the blends added up, g d being the one of delay d: that of delay 0 and, for a second sway, that
+-- of delay h₂
 abbrev pub added : SecondSway → (ℕ → ℤ) → ℤ
 added Absent g = g 0
 added (HalfPeriod d) g = g 0 +ℤ g d
@@ -34,9 +36,11 @@ blendedVelocity p k = added (p .«second_sway») (λ d. blendedBack p d k)
 -- each weight times its delay, together
 abbrev pub lagOf : AxisPlan → ℕ
 lagOf p =
-    blendsBy (p .«second_sway») * (p .«second_weight» * p .«half_period») + (p .«first_weight» + p .«second_weight») * swayDelay (p .«second_sway»)
+    blendsBy (p .«second_sway») * (p .«second_weight» * p .«half_period»)
+    + (p .«first_weight» + p .«second_weight») * swayDelay (p .«second_sway»)
 
--- at tick 0 the planned position by all weights, less the way 2v₀ of a tick by each weight's delay; each tick goes on by the velocities at its two ends
+-- at tick 0 the planned position by all weights, less the way 2v₀ of a tick by each weight's delay;
+-- each tick goes on by the velocities at its two ends
 unfoldable pub blendedPosition : AxisPlan → ℕ → ℤ
 blendedPosition p zero = pos (totalWeight p) *ℤ p .origin -ℤ pos 2 *ℤ (pos (lagOf p) *ℤ p .regions .start)
 blendedPosition p (suc k) = blendedPosition p k +ℤ blendedVelocity p k +ℤ blendedVelocity p (suc k)
@@ -47,7 +51,8 @@ blendedStateAt p k = record { position = blendedPosition p k; velocity = blended
 -- ---- the cells of a row: from the states at its tick and one tick on
 
 abbrev pub cellsOf : BlendedState → BlendedState → List ℤ
-cellsOf t u = nearestQuotient (t .position) 131072 ∷ nearestQuotient (t .velocity) 65536 ∷ nearestQuotient (u .velocity -ℤ t .velocity) 65536 ∷ []
+cellsOf t u = nearestQuotient (t .position) 131072 ∷ nearestQuotient (t .velocity) 65536 ∷ nearestQuotient
+    (u .velocity -ℤ t .velocity) 65536 ∷ []
 
 abbrev pub axisCells : ℕ → AxisPlan → List ℤ
 axisCells k p = cellsOf (blendedStateAt p k) (blendedStateAt p (suc k))
@@ -63,7 +68,8 @@ comesTo Backwards n j = suc n - j
 abbrev pub halfUnit : ℕ
 halfUnit = 16777216
 
--- the blended motion is on the destination at the arrival: there the position sums taken from the landing end begin (`fromLanding` in
+-- the blended motion is on the destination at the arrival: there the position sums
+-- taken from the landing end begin (`fromLanding` in
 -- `crates/model/specs/planning/Rows.antt`), and backward rows with them
 pub record LandsAt (n : ℕ) (p : AxisPlan) : Type 0 where
   pub position : pos halfUnit *ℤ p .destination ≡ blendedPosition p n

@@ -7,10 +7,12 @@ ghost use Prim.Native.Nat.{suc, _^_, _≤_};
 ghost use mathlib.Core.Path.{_≡_};
 ghost use Rattle.whole.specs.Integers.{sumTo};
 ghost use Rattle.whole.specs.Ranges.{Within, Is};
-ghost use Rattle.blended.specs.BlendedStates.{mix, blendedBack, blendedVelocity, lagOf, blendedStateAt, comesTo, LandsAt};
+ghost use Rattle.blended.specs.BlendedStates.{mix, blendedBack, blendedVelocity, lagOf, blendedStateAt, comesTo};
+ghost use Rattle.blended.specs.BlendedStates.{LandsAt};
 ghost use Rattle.planned.specs.Plans.{arrivalOf, PlanRanges, totalWeight};
 
-// An axis at a tick: its exact position after the blends, in half 1/65,536 of a fine step, and its velocity, in 1/65,536 of a fine step.
+// An axis at a tick: its exact position after the blends, in half 1/65,536 of a fine step, and its
+// velocity, in 1/65,536 of a fine step.
 pub struct BlendedState {
     pub position: i64,
     pub velocity: i64,
@@ -175,8 +177,9 @@ fn arrived(p: AxisPlan, n: u32) -> BlendedState
 
 // ---- the state that comes to a row
 
-// The state that comes to the row at a place, of rows 0 to n: forwards that of the row's tick, backwards that one tick past it. At place 0 the
-// sums begin backwards at the landing and forwards at the start.
+// The state that comes to the row at a place, of rows 0 to n: forwards that of the
+// row's tick, backwards that one tick past it. At place 0 the sums begin backwards at
+// the landing and forwards at the start.
 pub fn first_state(p: AxisPlan, order: Order, n: u32, place: u32) -> BlendedState
     requires { ⌜ PlanRanges p ⌝ }
     requires { ⌜ n ≤ arrivalOf p ⌝ }

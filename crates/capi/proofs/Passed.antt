@@ -1,4 +1,5 @@
--- What the proofs of the exported calls share: a promise goes over to an equal answer and to an equal job.
+-- What the proofs of the exported calls share: a promise goes over to an equal answer and to an
+-- equal job.
 use Prim.Native.Nat.{ℕ}
 use mathlib.Core.Path.{_≡_, sym, ap, subst, _∙_}
 use mathlib.Core.List.{List}
@@ -17,21 +18,26 @@ use Rattle.layout.specs.declared.limit_raises.PolgamirRaises.{PolgamirRaises}
 use Rattle.layout.specs.Raises.{raisesInC}
 use Rattle.capi.specs.Raises.{RaisesReturned}
 
-pub for-answer : {o : Order} {q : Input} {entry exit : List ℤ} {r s : Answer} → s ≡ r → Promise o q entry r exit → Promise o q entry s exit
+pub for-answer : {o : Order} {q : Input} {entry exit : List ℤ} {r s : Answer} → s ≡ r
+    → Promise o q entry r exit → Promise o q entry s exit
 for-answer {o} {q} {entry} {exit} same kept = subst (λ (a : Answer). Promise o q entry a exit) (sym same) kept
 
-pub for-job : {o : Order} {entry exit : List ℤ} {r : Answer} {j k : Job} → j ≡ k → Promise o (typed j) entry r exit → Promise o (typed k) entry r exit
+pub for-job : {o : Order} {entry exit : List ℤ} {r : Answer} {j k : Job} → j ≡ k → Promise o (typed j) entry r exit
+    → Promise o (typed k) entry r exit
 for-job {o} {entry} {exit} {r} same kept = subst (λ (t : Job). Promise o (typed t) entry r exit) same kept
 
 -- the same of rows in parts
-pub for-part : {q : Input} {k : ℕ} {entry exit : List ℤ} {r s : PartAnswer} → s ≡ r → PartPromise q k entry r exit → PartPromise q k entry s exit
+pub for-part : {q : Input} {k : ℕ} {entry exit : List ℤ} {r s : PartAnswer} → s ≡ r → PartPromise q k entry r exit
+    → PartPromise q k entry s exit
 for-part {q} {k} {entry} {exit} same kept = subst (λ (a : PartAnswer). PartPromise q k entry a exit) (sym same) kept
 
-pub part-for-job : {k : ℕ} {entry exit : List ℤ} {r : PartAnswer} {i j : Job} → i ≡ j → PartPromise (typed i) k entry r exit → PartPromise (typed j) k entry r exit
+pub part-for-job : {k : ℕ} {entry exit : List ℤ} {r : PartAnswer} {i j : Job} → i ≡ j
+    → PartPromise (typed i) k entry r exit → PartPromise (typed j) k entry r exit
 part-for-job {k} {entry} {exit} {r} same kept = subst (λ (t : Job). PartPromise (typed t) k entry r exit) same kept
 
 -- the same of raises
-pub in-c : {q : Input} {r : RaisesAnswer} {c : PolgamirRaises} → c ≡ raisesInC r → RaisesPromise q r → RaisesReturned q c
+pub in-c : {q : Input} {r : RaisesAnswer} {c : PolgamirRaises} → c ≡ raisesInC r
+    → RaisesPromise q r → RaisesReturned q c
 in-c {q} same kept =
     record {
       is = same ∙ ap raisesInC (kept .is);

@@ -1,4 +1,5 @@
-// The calls for the least raise of a limit that makes an asked arrival, as include/polgamir.h declares them.
+// The calls for the least raise of a limit that makes an asked arrival, as
+// include/polgamir.h declares them.
 use layout::PolgamirJob;
 use layout::job_of;
 use layout::limit_raises::PolgamirRaises;
@@ -7,8 +8,9 @@ ghost use Rattle.model.specs.planning.Outcome as Input;
 ghost use Rattle.layout.specs.Jobs.{jobFromC};
 ghost use Rattle.capi.specs.Raises.{RaisesReturned};
 
-// The answer to the job that the words hold, with no table lent, so that 10 never comes; where its number is 8, with the least raise of each limit alone
-// for which an axis that the mask names can arrive.
+// The answer to the job that the words hold, with no table lent, so that 10 never
+// comes; where its number is 8, with the least raise of each limit alone for which an
+// axis that the mask names can arrive.
 #[no_mangle]
 pub extern "C" fn polgamir_raises_words(words: &[u32]) -> PolgamirRaises
     ensures { λ r. ⌜ RaisesReturned (Input.words (now (words .entry))) r ⌝ }

@@ -42,17 +42,22 @@ module _ {p : AxisPlan} {k : ℕ} {q : Segment} (a : Kept p k q) where
   change-within s h =
       let v = velocity-within p s k (omega arith) in
       let w = velocity-within p s (suc k) (omega arith) in
-      subst (Within (2 ^ 47)) (ap (λ (z : ℤ). z -ℤ blendedVelocity p k) changes ∙ back (blendedVelocity p k) (q .change))
+      subst (Within (2 ^ 47))
+      (ap (λ (z : ℤ). z -ℤ blendedVelocity p k) changes ∙ back (blendedVelocity p k) (q .change))
       (within (search exact depth 9) tt)
 
   -- the states of the row of tick k, from the one that comes to it
-  pub row-is : (o : Order) (t : BlendedState) → t ≡ blendedStateAt p (comesAt o k) → changed o t (q .change) ≡ rowStates o p k
-  row-is Forwards t e = ap (λ (u : BlendedState). changed Forwards u (q .change)) e ∙ (λ i. record { now = blendedStateAt p k; next = next i; onward = next i })
+  pub row-is : (o : Order) (t : BlendedState) → t ≡ blendedStateAt p (comesAt o k)
+      → changed o t (q .change) ≡ rowStates o p k
+  row-is Forwards t e = ap (λ (u : BlendedState). changed Forwards u (q .change)) e
+      ∙ (λ i. record { now = blendedStateAt p k; next = next i; onward = next i })
     where
       next : _≡_ {A = BlendedState} (changed Forwards (blendedStateAt p k) (q .change) .next) (blendedStateAt p (suc k))
-      next = state-next p k _ _ (ap (λ (v : ℤ). blendedPosition p k +ℤ blendedVelocity p k +ℤ v) (sym changes)) (sym changes)
+      next = state-next p k _ _
+          (ap (λ (v : ℤ). blendedPosition p k +ℤ blendedVelocity p k +ℤ v) (sym changes)) (sym changes)
   row-is Backwards t e =
-      ap (λ (u : BlendedState). changed Backwards u (q .change)) e ∙ (λ i. record { now = now i; next = blendedStateAt p (suc k); onward = now i })
+      ap (λ (u : BlendedState). changed Backwards u (q .change)) e
+      ∙ (λ i. record { now = now i; next = blendedStateAt p (suc k); onward = now i })
     where
       undone : (v c : ℤ) → v +ℤ c -ℤ c ≡ v
       undone v c = same (v ∷ c ∷ []) (search pol depth 20 fits 9000) tt
@@ -61,21 +66,32 @@ module _ {p : AxisPlan} {k : ℕ} {q : Segment} (a : Kept p k q) where
       slower = ap (λ (v : ℤ). v -ℤ q .change) changes ∙ undone (blendedVelocity p k) (q .change)
 
       now : _≡_ {A = BlendedState} (changed Backwards (blendedStateAt p (suc k)) (q .change) .now) (blendedStateAt p k)
-      now = state-before p k _ _ (ap (λ (v : ℤ). blendedPosition p (suc k) -ℤ blendedVelocity p (suc k) -ℤ v) slower) slower
+      now = state-before p k _ _
+          (ap (λ (v : ℤ). blendedPosition p (suc k) -ℤ blendedVelocity p (suc k) -ℤ v) slower) slower
 
 -- ---- the states of a row, written out
 
-pub forwards-is : (t : BlendedState) (c x y : ℤ) → x ≡ t .position +ℤ t .velocity +ℤ (t .velocity +ℤ c) → y ≡ t .velocity +ℤ c
+pub forwards-is : (t : BlendedState) (c x y : ℤ)
+    → x ≡ t .position +ℤ t .velocity +ℤ (t .velocity +ℤ c) → y ≡ t .velocity +ℤ c
     → let next : BlendedState = record { position = x; velocity = y } in
     _≡_ {A = RowStates} (record { now = t; next = next; onward = next }) (changed Forwards t c)
 forwards-is t c x y e f =
-    λ i. record { now = t; next = record { position = e i; velocity = f i }; onward = record { position = e i; velocity = f i } }
+    λ i. record {
+      now = t;
+      next = record { position = e i; velocity = f i };
+      onward = record { position = e i; velocity = f i };
+    }
 
-pub backwards-is : (t : BlendedState) (c x y : ℤ) → x ≡ t .position -ℤ t .velocity -ℤ (t .velocity -ℤ c) → y ≡ t .velocity -ℤ c
+pub backwards-is : (t : BlendedState) (c x y : ℤ)
+    → x ≡ t .position -ℤ t .velocity -ℤ (t .velocity -ℤ c) → y ≡ t .velocity -ℤ c
     → let now : BlendedState = record { position = x; velocity = y } in
     _≡_ {A = RowStates} (record { now = now; next = t; onward = now }) (changed Backwards t c)
 backwards-is t c x y e f =
-    λ i. record { now = record { position = e i; velocity = f i }; next = t; onward = record { position = e i; velocity = f i } }
+    λ i. record {
+      now = record { position = e i; velocity = f i };
+      next = t;
+      onward = record { position = e i; velocity = f i };
+    }
 
 -- a segment that is held has tick k where its test says so
 pub kept : (p : AxisPlan) (k : ℕ) (q : Segment) → SegmentOf (blendedVelocity p) q → keptAt q k ≡ true → Kept p k q

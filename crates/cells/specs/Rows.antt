@@ -1,4 +1,5 @@
--- A row of one axis, in an order: the states at its tick and one tick on, by the change of velocity in its tick (docs/METHOD.md, section 4).
+-- A row of one axis, in an order: the states at its tick and one tick on, by the change of velocity
+-- in its tick (docs/METHOD.md, section 4).
 use Prim.Native.Nat.{ℕ, suc}
 use mathlib.Core.Bool.{Bool, _&&_}
 use lib.Dec.{leb, ltb}
@@ -11,8 +12,8 @@ use Rattle.segments.specs.declared.Segment.{Segment}
 use Rattle.blended.specs.declared.BlendedState.{BlendedState}
 use Rattle.cells.specs.declared.RowStates.{RowStates}
 
--- ---- a row, in an order: forwards the state at tick k comes to the row of tick k, and that one tick on goes on to the next row; backwards that one tick
--- on comes, and that at tick k goes on
+-- ---- a row, in an order: forwards the state at tick k comes to the row of tick k, and that one
+-- tick on goes on to the next row; backwards that one tick on comes, and that at tick k goes on
 
 abbrev pub comesAt : Order → ℕ → ℕ
 comesAt Forwards k = k
@@ -23,7 +24,8 @@ goesOnAt Forwards k = suc k
 goesOnAt Backwards k = k
 
 abbrev pub rowStates : Order → AxisPlan → ℕ → RowStates
-rowStates o p k = record { now = blendedStateAt p k; next = blendedStateAt p (suc k); onward = blendedStateAt p (goesOnAt o k) }
+rowStates o p k =
+    record { now = blendedStateAt p k; next = blendedStateAt p (suc k); onward = blendedStateAt p (goesOnAt o k) }
 
 -- whether tick k is one of a segment's
 abbrev pub keptAt : Segment → ℕ → Bool

@@ -12,7 +12,8 @@ ghost use Rattle.model.specs.planning.Rows.{rowAt};
 ghost use Rattle.blended.specs.BlendedStates.{cellsOf};
 ghost use Rattle.cells.specs.Rows.{keptAt, changed};
 
-// The states of an axis in a row: at the row's tick, one tick on, and the one of these two that goes on to the next row.
+// The states of an axis in a row: at the row's tick, one tick on, and the one of these
+// two that goes on to the next row.
 pub struct RowStates {
     pub now: BlendedState,
     pub next: BlendedState,
@@ -82,8 +83,8 @@ pub fn row_at(order: Order, n: u32, place: u32) -> u32
 
 // ---- the cells of a row
 
-// Writes the three cells that an axis has in a row, from its states at the row's tick and one tick on: the acceleration is the change of
-// velocity.
+// Writes the three cells that an axis has in a row, from its states at the row's tick and one tick
+// on: the acceleration is the change of velocity.
 pub fn write_cells(table: &mut [i64], at: usize, t: BlendedState, u: BlendedState)
     requires { ⌜ Within (2 ^ 61) (t .position) ⌝ }
     requires { ⌜ Within (2 ^ 46) (t .velocity) ⌝ }

@@ -44,7 +44,8 @@ module _ (ws : List ℕ) (i : ℕ) where
   unfolding flyingAt
   at-rest e z = sym (λ l. by-tests (e l) (eq-eqb (payloadAt ws i) 0 z l) (isKind ws (i + 1) 11))
 
-  pub by-next : isKind ws i 10 ≡ true → (payloadAt ws i ≡ 0 → ⊥) → {r : Bool} → r ≡ isKind ws (i + 1) 11 → not r ≡ flyingAt ws i
+  pub by-next : isKind ws i 10 ≡ true → (payloadAt ws i ≡ 0 → ⊥) → {r : Bool}
+      → r ≡ isKind ws (i + 1) 11 → not r ≡ flyingAt ws i
   unfolding flyingAt
   by-next e z q = sym (λ l. by-tests (e l) (ne-eqb (payloadAt ws i) 0 z l) (sym q l))
 
@@ -82,8 +83,10 @@ same-length a b [] = refl
 same-length a b (w ∷ ws) = go (flyingWord w ws) (same-length a b ws)
   where
     go : (f : Bool) → length (converted a ws) ≡ length (converted b ws)
-        → length {A = ℕ} (elim f as (λ _. List ℕ) [ true ↦ w ∷ word 11 0 ∷ word 12 a ∷ converted a ws | false ↦ w ∷ converted a ws ])
-        ≡ length {A = ℕ} (elim f as (λ _. List ℕ) [ true ↦ w ∷ word 11 0 ∷ word 12 b ∷ converted b ws | false ↦ w ∷ converted b ws ])
+        → length {A = ℕ}
+        (elim f as (λ _. List ℕ) [ true ↦ w ∷ word 11 0 ∷ word 12 a ∷ converted a ws | false ↦ w ∷ converted a ws ])
+        ≡ length {A = ℕ}
+        (elim f as (λ _. List ℕ) [ true ↦ w ∷ word 11 0 ∷ word 12 b ∷ converted b ws | false ↦ w ∷ converted b ws ])
     go true e = ap (λ (n : ℕ). suc (suc (suc n))) e
     go false e = ap suc e
 
@@ -97,14 +100,17 @@ piece-copied ws i e = ap (λ (b : Bool). length (pieceBy b 0 (getD ws i 0))) e
 
 -- a count of the words before word i
 pub count-more : (ws : List ℕ) (i n p : ℕ) → i < length ws → p ≡ length (pieceAt ws 0 i)
-    → n + length (converted 0 (drop i ws)) ≡ neededFor ws → n + p + length (converted 0 (drop (i + 1) ws)) ≡ neededFor ws
+    → n + length (converted 0 (drop i ws)) ≡ neededFor ws
+    → n + p + length (converted 0 (drop (i + 1) ws)) ≡ neededFor ws
 count-more ws i n p h e q =
     let t = ap length (turn 0 ws i h) ∙ length-append (pieceAt ws 0 i) (converted 0 (drop (i + 1) ws)) in
     omega (arith, t, q)
 
-pub count-all : (ws : List ℕ) (i n : ℕ) → length ws ≤ i → n + length (converted 0 (drop i ws)) ≡ neededFor ws → n ≡ neededFor ws
+pub count-all : (ws : List ℕ) (i n : ℕ) → length ws ≤ i
+    → n + length (converted 0 (drop i ws)) ≡ neededFor ws → n ≡ neededFor ws
 count-all ws i n h q =
-    let none : length (converted 0 (drop i ws)) ≡ 0 = ap (λ (l : List ℕ). length (converted 0 l)) (drop-of-length-le ws {i = i} h) in
+    let none : length (converted 0 (drop i ws)) ≡ 0 =
+    ap (λ (l : List ℕ). length (converted 0 l)) (drop-of-length-le ws {i = i} h) in
     omega (arith, none, q)
 
 -- ---- writing
@@ -130,15 +136,18 @@ module _ (t : List ℕ) (at asked : ℕ) (ws : List ℕ) (i : ℕ) (room : Room 
     unfolding pieceBy
     three-fit = three-room .room
 
-    pub three-written : Written t at (pieceAt ws asked i) (set (set (set t at w) (at + 1) (word 11 0)) (at + 2) (word 12 asked)) (at + 3)
+    pub three-written : Written t at (pieceAt ws asked i)
+        (set (set (set t at w) (at + 1) (word 11 0)) (at + 2) (word 12 asked)) (at + 3)
     unfolding pieceBy
     three-written =
-        subst (λ (b : Bool). Written t at (pieceBy b asked w) (set (set (set t at w) (at + 1) (word 11 0)) (at + 2) (word 12 asked)) (at + 3)) (sym e)
+        subst (λ (b : Bool). Written t at (pieceBy b asked w)
+        (set (set (set t at w) (at + 1) (word 11 0)) (at + 2) (word 12 asked)) (at + 3)) (sym e)
         (record { list = sym (over-three t at w (word 11 0) (word 12 asked) three-fit); next = refl })
 
   pub one-written : flyingAt ws i ≡ false → Written t at (pieceAt ws asked i) (set t at w) (at + 1)
   unfolding pieceBy
-  one-written e = subst (λ (b : Bool). Written t at (pieceBy b asked w) (set t at w) (at + 1)) (sym e) (written-one one-fits)
+  one-written e =
+      subst (λ (b : Bool). Written t at (pieceBy b asked w) (set t at w) (at + 1)) (sym e) (written-one one-fits)
 
 module _ (asked : ℕ) (ws : List ℕ) where
   abbrev pub pieces : ℕ → List ℕ
@@ -161,14 +170,16 @@ module _ (asked : ℕ) (ws : List ℕ) where
 
   parts-all : (i : ℕ) → length ws ≤ i → Parts i → pieces i ≡ converted asked ws
   parts-all i h e =
-      sym (append-nil (pieces i)) ∙ ap (λ (l : List ℕ). pieces i ++ converted asked l) (sym (drop-of-length-le ws {i = i} h)) ∙ e
+      sym (append-nil (pieces i))
+      ∙ ap (λ (l : List ℕ). pieces i ++ converted asked l) (sym (drop-of-length-le ws {i = i} h)) ∙ e
 
   module _ {t u : List ℕ} {i j : ℕ} (h : i < length ws) (e : Parts i) (room : length (converted asked ws) ≤ length t)
       (w : Written t 0 (pieces i) u j) where
     enough : j + length (pieceAt ws asked i) ≤ length t
     enough =
         let l = sym (ap length e) ∙ length-append (pieces i) (converted asked (drop i ws)) in
-        let m = ap length (turn asked ws i h) ∙ length-append (pieceAt ws asked i) (converted asked (drop (i + 1) ws)) in
+        let m = ap length (turn asked ws i h)
+        ∙ length-append (pieceAt ws asked i) (converted asked (drop (i + 1) ws)) in
         omega (arith, l, m, w .next, room)
 
     pub piece-room : length u ≡ length t → Room u j (pieceAt ws asked i)
@@ -177,7 +188,11 @@ module _ (asked : ℕ) (ws : List ℕ) where
     pub piece-written : {v : List ℕ} {r : ℕ} → Written u j (pieceAt ws asked i) v r → Written t 0 (pieces (i + 1)) v r
     piece-written {v} {r} x =
         let both = written-then (room-on (pieceAt ws asked i) enough w) w x in
-        record { list = both .list ∙ ap (over t 0) (sym more); next = both .next ∙ ap (λ (l : List ℕ). 0 + length l) (sym more) }
+        record {
+          list = both .list ∙ ap (over t 0) (sym more);
+          next = both .next
+              ∙ ap (λ (l : List ℕ). 0 + length l) (sym more);
+        }
       where
         more : pieces (i + 1) ≡ pieces i ++ pieceAt ws asked i
         more = upTo-more (pieceAt ws asked) i
@@ -186,5 +201,6 @@ module _ (asked : ℕ) (ws : List ℕ) where
   unfolding upTo
   nothing-written t = written-nil (omega arith)
 
-  pub all-written : {t u : List ℕ} {i j : ℕ} → length ws ≤ i → Parts i → Written t 0 (pieces i) u j → u ≡ over t 0 (converted asked ws)
+  pub all-written : {t u : List ℕ} {i j : ℕ} → length ws ≤ i → Parts i → Written t 0 (pieces i) u j
+      → u ≡ over t 0 (converted asked ws)
   all-written {t} {u} {i} h e w = w .list ∙ ap (over t 0) (parts-all i h e)

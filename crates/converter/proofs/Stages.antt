@@ -14,7 +14,8 @@ use Rattle.model.specs.declared.Checked.the-variants.{Passed, Refused}
 use Rattle.model.specs.planning.Refusals.{lastTick}
 use Rattle.model.specs.planning.Admission.{words, typed, admission}
 use Rattle.model.specs.planning.Outcome.{call}
-use Rattle.model.specs.calls.Converter.{oldOutcome, converted, Conversion, unconverted, written, conversionRules, conversionAfter, conversion}
+use Rattle.model.specs.calls.Converter.{oldOutcome, converted, Conversion, unconverted, written, conversionRules}
+use Rattle.model.specs.calls.Converter.{conversionAfter, conversion}
 use Rattle.model.specs.calls.Converter.{ConversionVerdict}
 use Rattle.model.proofs.calls.Conversion.{conversion-kept, conversion-plans, conversion-verdict, conversion-numbered}
 use Rattle.words.specs.declared.DecodedJob.{DecodedJob}
@@ -50,7 +51,8 @@ module _ (ws lent : List ℕ) (n : ℕ) (e : n ≡ length ws) where
         arrival = ap (λ (a : Answer). a .arrival) q;
       }
 
-  pub enough : n ≤ length lent → (exit : List ℕ) → exit ≡ over lent 0 ws → (r : Answer) → r ≡ answered 0 n → Answers (written ws lent) r exit
+  pub enough : n ≤ length lent → (exit : List ℕ) → exit ≡ over lent 0 ws → (r : Answer) → r ≡ answered 0 n
+      → Answers (written ws lent) r exit
   unfolding by-room
   enough h exit x r q =
       record {
@@ -65,7 +67,8 @@ module _ (ws lent : List ℕ) (n : ℕ) (e : n ≡ length ws) where
 -- ---- the promise
 
 -- what a stage that ends the call gives is what the call promises
-pub promised : (ws lent : List ℕ) (r : Answer) (exit : List ℕ) → Answers (conversion ws lent) r exit → Converts ws lent r exit
+pub promised : (ws lent : List ℕ) (r : Answer) (exit : List ℕ)
+    → Answers (conversion ws lent) r exit → Converts ws lent r exit
 promised ws lent r exit g =
     record {
       conversion = g .conversion;
@@ -86,7 +89,8 @@ module _ (ws lent : List ℕ) (r : DecodedJob) (d : Decodes ws r) where
   ends-at-words z a e =
       promised ws lent a lent
       (record {
-        conversion = ap (λ (q : Answer). unconverted (q .number) (q .place) lent) e ∙ sym (ap (conversionAfter ws lent) (words-refused conversionRules ws r d z));
+        conversion = ap (λ (q : Answer). unconverted (q .number) (q .place) lent) e
+            ∙ sym (ap (conversionAfter ws lent) (words-refused conversionRules ws r d z));
         mask = ap (λ (q : Answer). q .mask) e;
         arrival = ap (λ (q : Answer). q .arrival) e;
       })
@@ -99,7 +103,8 @@ module _ (ws lent : List ℕ) (r : DecodedJob) (d : Decodes ws r) where
           conversion =
               ap (λ (q : Answer). unconverted (q .number) (q .place) lent) f
               ∙ ap (conversionAfter ws lent)
-              (sym (refused conversionRules conversion-numbered (typed (r .job)) c is n p e .is) ∙ words-passed conversionRules ws r d z);
+              (sym (refused conversionRules conversion-numbered (typed (r .job)) c is n p e .is)
+              ∙ words-passed conversionRules ws r d z);
           mask = ap (λ (q : Answer). q .mask) f;
           arrival = ap (λ (q : Answer). q .arrival) f;
         })
@@ -110,11 +115,13 @@ module _ (ws lent : List ℕ) (r : DecodedJob) (d : Decodes ws r) where
     pub soon : c ≡ Passed → r .job .asked ≤ lastTick
     soon e = goes e .asked
 
-    pub ends-written : c ≡ Passed → (a : Answer) (exit : List ℕ) → Answers (written (converted (r .job .asked) ws) lent) a exit → Converts ws lent a exit
+    pub ends-written : c ≡ Passed → (a : Answer) (exit : List ℕ)
+        → Answers (written (converted (r .job .asked) ws) lent) a exit → Converts ws lent a exit
     ends-written e a exit g =
         promised ws lent a exit
         (record {
-          conversion = g .conversion ∙ ap (conversionAfter ws lent) (sym (goes e .is) ∙ words-passed conversionRules ws r d z);
+          conversion =
+              g .conversion ∙ ap (conversionAfter ws lent) (sym (goes e .is) ∙ words-passed conversionRules ws r d z);
           mask = g .mask;
           arrival = g .arrival;
         })

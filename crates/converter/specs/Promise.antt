@@ -8,16 +8,19 @@ use Rattle.model.specs.declared.Answer.{Answer}
 use Rattle.model.specs.planning.Outcome.{words, call}
 use Rattle.model.specs.calls.Converter.{oldOutcome, Conversion, conversion, ConversionVerdict}
 
--- ws are the words of the job, entry and exit the lent words before and after the call, r is the answer
+-- ws are the words of the job, entry and exit the lent words before and after the call, r is the
+-- answer
 pub record Converts (ws entry : List ℕ) (r : Answer) (exit : List ℕ) : Type 0 where
   -- number, place and every lent word are those of the definition, refused or not
   pub conversion : record { number = r .number; place = r .place; words = exit } ≡ conversion ws entry
-  -- 1, 2 and 14 come only in their named cases, and which job is converted is said of the words, without a reader of words
+  -- 1, 2 and 14 come only in their named cases, and which job is converted is said of the
+  -- words, without a reader of words
   pub verdict : ConversionVerdict ws entry (record { number = r .number; place = r .place; words = exit })
   -- left free by the method
   pub mask : r .mask ≡ 0
   pub arrival : r .arrival ≡ 0
-  -- number 0: for every lent table the written words have, by the old rules and in planning, the outcome that the old rules give the old words
+  -- number 0: for every lent table the written words have, by the old rules and in planning, the
+  -- outcome that the old rules give the old words
   pub kept : r .number ≡ 0 → (cells : List ℤ) → oldOutcome (take (r .place) exit) cells ≡ oldOutcome ws cells
   pub plans : r .number ≡ 0 → (cells : List ℤ) → call (words (take (r .place) exit)) cells ≡ oldOutcome ws cells
 

@@ -1,9 +1,12 @@
-// The converter of old jobs (docs/METHOD.md, 8.3). A fixed target must be at rest; an old job may have one that flies. Where its arrival is asked
-// for, the converter turns each such target into a moving one of acceleration 0 at that tick: the same job by the old rules, and one that planning takes.
+// The converter of old jobs (docs/METHOD.md, 8.3). A fixed target must be at rest; an old
+// job may have one that flies. Where its arrival is asked for, the converter turns each
+// such target into a moving one of acceleration 0 at that tick: the same job by the old
+// rules, and one that planning takes.
 //
 // The way of a job:
 //     convert           words::decode       refusals 1, 2 and 14
-//                       admission::check    3, 4, 5, 15, 6, 16, and 17 where the least arrival is sought
+//                       admission::check    3, 4, 5, 15, 6, 16, and 17 where the least arrival is
+//                                           sought
 //                       write_converted     10, or the converted words
 use admission::Purpose;
 use model::Answer;
@@ -17,11 +20,13 @@ ghost use Rattle.model.specs.calls.Converter.{converted, written};
 ghost use Rattle.converter.specs.Pieces.{flyingAt, pieceAt, neededFor};
 ghost use Rattle.converter.specs.Promise.{Converts, Answers};
 
-// Writes the converted words of a job at the start of the lent ones. Words that are not the velocity of a fixed target that flies are copied; such a one
-// is followed by an acceleration of 0 and the asked arrival as tick.
-// Answers back number 0 with the number of words written as place, and later lent words stay; or, with every lent word as it was, the first of refusals 1, 2,
-// 14, 3, 4, 5, 15, 6, 16 and 17 with its place, 17 only where the least arrival is sought; or 10 with the number of words needed as place. Mask and arrival
-// are 0. Whether the asked arrival can be reached is not looked at.
+// Writes the converted words of a job at the start of the lent ones. Words that are not the
+// velocity of a fixed target that flies are copied; such a one is followed by an acceleration of 0
+// and the asked arrival as tick.
+// Answers back number 0 with the number of words written as place, and later lent words stay; or,
+// with every lent word as it was, the first of refusals 1, 2, 14, 3, 4, 5, 15, 6, 16 and 17 with
+// its place, 17 only where the least arrival is sought; or 10 with the number of words needed as
+// place. Mask and arrival are 0. Whether the asked arrival can be reached is not looked at.
 pub fn convert(words: &[u32], lent: &mut [u32]) -> Answer
     ensures { λ r. ⌜ Converts (now (words .entry)) (now (lent .entry)) r (now (lent .exit)) ⌝ }
 {
@@ -43,7 +48,8 @@ pub fn convert(words: &[u32], lent: &mut [u32]) -> Answer
 
 fn write_converted(words: &[u32], asked: u32, lent: &mut [u32]) -> Answer
     requires { ⌜ asked ≤ lastTick ⌝ }
-    ensures { λ r. ⌜ Answers (written (converted asked (now (words .entry))) (now (lent .entry))) r (now (lent .exit)) ⌝ }
+    ensures { λ r.
+        ⌜ Answers (written (converted asked (now (words .entry))) (now (lent .entry))) r (now (lent .exit)) ⌝ }
 {
     let needed = words_needed(words);
     if lent.len() < needed {
@@ -53,7 +59,8 @@ fn write_converted(words: &[u32], asked: u32, lent: &mut [u32]) -> Answer
     answer(0, needed)
 }
 
-// The number of converted words: three for each velocity of a fixed target that flies, one for each other word.
+// The number of converted words: three for each velocity of a fixed target that
+// flies, one for each other word.
 fn words_needed(words: &[u32]) -> usize
     ensures { λ r. ⌜ r ≡ neededFor (now (words .entry)) ⌝ }
 {
@@ -91,7 +98,8 @@ fn put_words(words: &[u32], asked: u32, lent: &mut [u32])
     }
 }
 
-// Writes what becomes of one word, from an index of the lent words on, and gives back the index after it.
+// Writes what becomes of one word, from an index of the lent words on, and
+// gives back the index after it.
 fn put_word(words: &[u32], i: usize, asked: u32, lent: &mut [u32], at: usize) -> usize
     requires { ⌜ i < length (now words) ⌝ }
     requires { ⌜ asked ≤ lastTick ⌝ }
@@ -108,7 +116,8 @@ fn put_word(words: &[u32], i: usize, asked: u32, lent: &mut [u32], at: usize) ->
     at + 1
 }
 
-// Whether a word is the velocity of a fixed target that flies: of kind 10, not 0, and with no acceleration after it.
+// Whether a word is the velocity of a fixed target that flies: of kind 10, not 0, and
+// with no acceleration after it.
 fn is_flying(words: &[u32], i: usize) -> bool
     requires { ⌜ i < length (now words) ⌝ }
     ensures { λ r. ⌜ r ≡ flyingAt (now (words .entry)) i ⌝ }

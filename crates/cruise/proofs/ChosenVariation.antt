@@ -1,6 +1,7 @@
--- How much the planned accelerations of an axis change in all: at most 3μ + 2 before the landing, and 4μ + |α| + 2 with it, μ being the acceleration limit
--- and α the target's acceleration. So much is the most that a misfit of 1 leaves of a sway: `sway-most`; and
--- with the misfits of a pole that was measured with an error: `measured-most`.
+-- How much the planned accelerations of an axis change in all: at most 3μ + 2 before the landing,
+-- and 4μ + |α| + 2 with it, μ being the acceleration limit and α the target's acceleration. So much
+-- is the most that a misfit of 1 leaves of a sway: `sway-most`; and with the misfits of a pole that
+-- was measured with an error: `measured-most`.
 use Prim.Native.Nat.{ℕ, zero, suc, _+_, _-_, _*_, _^_, _≤_, _<_}
 use mathlib.Core.Path.{_≡_, refl, sym, ap, ap₂, subst, _∙_}
 use mathlib.Core.List.{[], _∷_}
@@ -53,11 +54,13 @@ module _ (n : ℕ) where
   crossed u d x y c (inr (p, q)) (inr (s, t)) = omega (arith, ap (λ (z : ℤ). natAbs (z +ℤ (y -ℤ x))) (p ∙ sym s))
   crossed u d x y c (inl (p, q)) (inr (s, t)) = up u d x y c p q s t
     where
-      up : (u d x y c : ℤ) → u ≡ pos n → x ≤ℤ c → d ≡ negℤ (pos n) → c <ℤ y → natAbs (d +ℤ (y -ℤ x)) ≤ natAbs (u +ℤ (y -ℤ x))
+      up : (u d x y c : ℤ) → u ≡ pos n → x ≤ℤ c → d ≡ negℤ (pos n) → c <ℤ y
+          → natAbs (d +ℤ (y -ℤ x)) ≤ natAbs (u +ℤ (y -ℤ x))
       up = all₅ _ (λ a b c d e f g h i j. simp whole (omega arith))
   crossed u d x y c (inr (p, q)) (inl (s, t)) = down u d x y c p q s t
     where
-      down : (u d x y c : ℤ) → u ≡ negℤ (pos n) → c <ℤ x → d ≡ pos n → y ≤ℤ c → natAbs (d +ℤ (y -ℤ x)) ≤ natAbs (u +ℤ (y -ℤ x))
+      down : (u d x y c : ℤ) → u ≡ negℤ (pos n) → c <ℤ x → d ≡ pos n → y ≤ℤ c
+          → natAbs (d +ℤ (y -ℤ x)) ≤ natAbs (u +ℤ (y -ℤ x))
       down = all₅ _ (λ a b c d e f g h i j. simp whole (omega arith))
 
   -- from the first ramp to the level part
@@ -68,18 +71,22 @@ module _ (n : ℕ) where
       up = all₄ _ (λ a b c d e f g h. simp whole (omega arith))
   left-ramp u x y c (inr (p, q)) (v, w) = down u x y c p q w
     where
-      down : (u x y c : ℤ) → u ≡ negℤ (pos n) → c <ℤ x → y ≤ℤ (c +ℤ pos 1) → n + natAbs (y -ℤ x) ≤ natAbs (u +ℤ (y -ℤ x))
+      down : (u x y c : ℤ) → u ≡ negℤ (pos n) → c <ℤ x → y ≤ℤ (c +ℤ pos 1)
+          → n + natAbs (y -ℤ x) ≤ natAbs (u +ℤ (y -ℤ x))
       down = all₄ _ (λ a b c d e f g h. simp whole (omega arith))
 
   -- from the level part to the last ramp
-  to-ramp : (d x y c : ℤ) → Level c x → Towards n d y c → Within n (y -ℤ x) → natAbs (d +ℤ (y -ℤ x)) + natAbs (y -ℤ x) ≤ n
+  to-ramp : (d x y c : ℤ) → Level c x → Towards n d y c → Within n (y -ℤ x)
+      → natAbs (d +ℤ (y -ℤ x)) + natAbs (y -ℤ x) ≤ n
   to-ramp d x y c (v, w) (inl (p, q)) = down d x y c v p q
     where
-      down : (d x y c : ℤ) → c ≤ℤ x → d ≡ pos n → y ≤ℤ c → Within n (y -ℤ x) → natAbs (d +ℤ (y -ℤ x)) + natAbs (y -ℤ x) ≤ n
+      down : (d x y c : ℤ) → c ≤ℤ x → d ≡ pos n → y ≤ℤ c → Within n (y -ℤ x)
+          → natAbs (d +ℤ (y -ℤ x)) + natAbs (y -ℤ x) ≤ n
       down = all₄ _ (λ a b c d e f g h. simp whole (omega arith))
   to-ramp d x y c (v, w) (inr (p, q)) = up d x y c w p q
     where
-      up : (d x y c : ℤ) → x ≤ℤ (c +ℤ pos 1) → d ≡ negℤ (pos n) → c <ℤ y → Within n (y -ℤ x) → natAbs (d +ℤ (y -ℤ x)) + natAbs (y -ℤ x) ≤ n
+      up : (d x y c : ℤ) → x ≤ℤ (c +ℤ pos 1) → d ≡ negℤ (pos n) → c <ℤ y → Within n (y -ℤ x)
+          → natAbs (d +ℤ (y -ℤ x)) + natAbs (y -ℤ x) ≤ n
       up = all₄ _ (λ a b c d e f g h. simp whole (omega arith))
 
 level-step : (x y c : ℤ) → Level c x → Level c y → natAbs (y -ℤ x) ≤ 1
@@ -93,7 +100,8 @@ no-step = all₃ _ (λ a b c d e f. simp whole (omega arith))
 
 -- ---- of the list chosen
 
-module _ (g : Leg) (δ : ℤ) (some : 0 < g .ticks) (acceleration : 0 < g .accelerationLimit) (range : g .speedLimit ≤ 2 ^ 37)
+module _ (g : Leg) (δ : ℤ) (some : 0 < g .ticks) (acceleration : 0 < g .accelerationLimit)
+    (range : g .speedLimit ≤ 2 ^ 37)
     (t : T (feasible g δ)) where
   abbrev s : ℤ
   s = required g δ
@@ -136,17 +144,20 @@ module _ (g : Leg) (δ : ℤ) (some : 0 < g .ticks) (acceleration : 0 < g .accel
       (λ (p : g .ticks ≤ k). at-last k h p ∙ on-start g joined acceleration c inside k h c (≤ℤ-refl c) (≤ℤ-next c) l)
       (lt-or-le k (g .ticks))
 
-  at-end : (k : ℕ) → k ≤ g .ticks → rise g c < k → g .ticks ≤ k + fall g c → W k ≡ g .end +ℤ pos (g .ticks - k) *ℤ R .down
+  at-end : (k : ℕ) → k ≤ g .ticks → rise g c < k → g .ticks ≤ k + fall g c
+      → W k ≡ g .end +ℤ pos (g .ticks - k) *ℤ R .down
   at-end k h l q = ⊎-elim
       (λ (p : k < g .ticks). before k p ∙ in-end R k l q)
       (λ (p : g .ticks ≤ k). at-last k h p ∙ on-end g joined acceleration c inside k h c (≤ℤ-refl c) (≤ℤ-next c) l q)
       (lt-or-le k (g .ticks))
 
   start-short : (k : ℕ) → k ≤ g .ticks → k ≤ rise g c → Towards μ (R .up) (W k) c
-  start-short k h l = subst (λ (z : ℤ). Towards μ (R .up) z c) (sym (at-start k h l)) (start-towards g joined acceleration c k h l)
+  start-short k h l =
+      subst (λ (z : ℤ). Towards μ (R .up) z c) (sym (at-start k h l)) (start-towards g joined acceleration c k h l)
 
   end-short : (k : ℕ) → k ≤ g .ticks → rise g c < k → g .ticks ≤ k + fall g c → Towards μ (R .down) (W k) c
-  end-short k h l q = subst (λ (z : ℤ). Towards μ (R .down) z c) (sym (at-end k h l q)) (end-towards g joined acceleration c k h l q)
+  end-short k h l q =
+      subst (λ (z : ℤ). Towards μ (R .down) z c) (sym (at-end k h l q)) (end-towards g joined acceleration c k h l q)
 
   at-level : (k : ℕ) → rise g c < k → k + fall g c < g .ticks → Level c (W k)
   at-level k l q = ⊎-elim
@@ -178,13 +189,15 @@ module _ (g : Leg) (δ : ℤ) (some : 0 < g .ticks) (acceleration : 0 < g .accel
   falling k h l q =
       let e : g .ticks - k ≡ suc (g .ticks - suc k) = omega arith in
       ap₂ (λ (y z : ℤ). y -ℤ z) (at-end (suc k) h (omega arith) (omega arith)) (at-end k (omega arith) l q)
-      ∙ ap (λ (i : ℤ). g .end +ℤ pos (g .ticks - suc k) *ℤ R .down -ℤ (g .end +ℤ i *ℤ R .down)) (ap pos e ∙ sym (one-more (g .ticks - suc k)))
+      ∙ ap (λ (i : ℤ). g .end +ℤ pos (g .ticks - suc k) *ℤ R .down -ℤ (g .end +ℤ i *ℤ R .down))
+      (ap pos e ∙ sym (one-more (g .ticks - suc k)))
       ∙ one (g .end) (pos (g .ticks - suc k)) (R .down)
     where
       one : (v i u : ℤ) → v +ℤ i *ℤ u -ℤ (v +ℤ (i +ℤ pos 1) *ℤ u) ≡ negℤ u
       one v i u = same (v ∷ i ∷ u ∷ []) (search pol depth 20 fits 9000) tt
 
-  flat : (k : ℕ) → rise g c < k → suc k + fall g c < g .ticks → (k < rise g c + R .raised) ⊎ (rise g c + R .raised < k) → natAbs (change k) ≤ 0
+  flat : (k : ℕ) → rise g c < k → suc k + fall g c < g .ticks
+      → (k < rise g c + R .raised) ⊎ (rise g c + R .raised < k) → natAbs (change k) ≤ 0
   flat k l q (inl p) =
       no-step (W k) (W (suc k)) (c +ℤ pos 1) (before k (omega arith) ∙ in-raised R k l (omega arith) (omega arith))
       (before (suc k) (omega arith) ∙ in-raised R (suc k) (omega arith) q (omega arith))
@@ -199,10 +212,12 @@ module _ (g : Leg) (δ : ℤ) (some : 0 < g .ticks) (acceleration : 0 < g .accel
         steep = ⊎-elim (λ p. inl (p .0)) (λ p. inr (p .0)) (start-short 0 (omega arith) (omega arith));
         rising = rising;
         crossing = λ h q.
-            crossed μ (R .up) (R .down) (W (rise g c)) (W (suc (rise g c))) c (start-short (rise g c) (omega arith) (omega arith))
+            crossed μ (R .up) (R .down) (W (rise g c)) (W (suc (rise g c))) c
+            (start-short (rise g c) (omega arith) (omega arith))
             (end-short (suc (rise g c)) h (omega arith) q);
         leaving = λ q.
-            left-ramp μ (R .up) (W (rise g c)) (W (suc (rise g c))) c (start-short (rise g c) (omega arith) (omega arith))
+            left-ramp μ (R .up) (W (rise g c)) (W (suc (rise g c))) c
+            (start-short (rise g c) (omega arith) (omega arith))
             (at-level (suc (rise g c)) (omega arith) q);
         level = λ k l q. level-step (W k) (W (suc k)) c (at-level k l (omega arith)) (at-level (suc k) (omega arith) q);
         flat = flat;
@@ -213,9 +228,11 @@ module _ (g : Leg) (δ : ℤ) (some : 0 < g .ticks) (acceleration : 0 < g .accel
       }
 
   pub chosen-variation : (k : ℕ) → k < g .ticks
-      → variation (λ i. getD (g .start ∷ chosen g s) (suc i) (pos 0) -ℤ getD (g .start ∷ chosen g s) i (pos 0)) k ≤ 3 * μ + 2
+      → variation (λ i. getD (g .start ∷ chosen g s) (suc i) (pos 0) -ℤ getD (g .start ∷ chosen g s) i (pos 0)) k
+      ≤ 3 * μ + 2
   unfolding W
-  chosen-variation k h = variation-most μ (g .ticks) (rise g c) (fall g c) (R .raised) (R .up) (R .down) change changes k h
+  chosen-variation k h =
+      variation-most μ (g .ticks) (rise g c) (fall g c) (R .raised) (R .up) (R .down) change changes k h
 
 -- ---- of an axis that can be planned: to the landing there is one change more
 
@@ -234,8 +251,10 @@ module _ (x : Axis) (n : ℕ) (plannable : Plannable x n) where
 
   before-landing : (k : ℕ) → k < landingTick x n → variation α k ≤ 3 * accelerationSteps x + 2
   before-landing k h =
-      subst (λ (m : ℕ). m ≤ 3 * accelerationSteps x + 2) (sym (variation-same α _ k (λ i l. planned-change x n plannable i (omega arith))))
-      (chosen-variation (leg x n) (displacement x n) some-ticks (some-acceleration x n plannable) (speed-range x n plannable) (moves x n plannable) k h)
+      subst (λ (m : ℕ). m ≤ 3 * accelerationSteps x + 2)
+      (sym (variation-same α _ k (λ i l. planned-change x n plannable i (omega arith))))
+      (chosen-variation (leg x n) (displacement x n) some-ticks (some-acceleration x n plannable)
+      (speed-range x n plannable) (moves x n plannable) k h)
 
   pub planned-variation : plannedVariation x n ≤ mostVariation x n
   planned-variation = go (landingTick x n) refl
@@ -258,7 +277,8 @@ module _ (x : Axis) (n : ℕ) (plannable : Plannable x n) where
 
 -- ---- what is left of a sway
 
-wider : (p q : Axis → ℕ → ℕ) (x : Axis) (i n : ℕ) (g : CellTable) → p x n ≤ q x n → SwayLeft p x i n g → SwayLeft q x i n g
+wider : (p q : Axis → ℕ → ℕ) (x : Axis) (i n : ℕ) (g : CellTable) → p x n ≤ q x n
+    → SwayLeft p x i n g → SwayLeft q x i n g
 wider p q x i n g h l =
     record {
       exact = λ m E w a f. le-trans (l .exact m E w a f) (mul-le-mul-right E h);
@@ -267,8 +287,10 @@ wider p q x i n g h l =
 
 pub sway-most : MostSwayHolds
 sway-most o q lent z i x e =
-    wider plannedVariation mostVariation x i _ _ (planned-variation x _ (plannable-axes o q lent z i x e)) (sway-left o q lent z i x e)
+    wider plannedVariation mostVariation x i _ _ (planned-variation x _ (plannable-axes o q lent z i x e))
+    (sway-left o q lent z i x e)
 
 pub measured-most : MostMeasuredHolds
 measured-most o q lent z i x e =
-    measured-left mostVariation x (weight-range x _ (plannable-axes o q lent z i x e)) i _ _ (sway-most o q lent z i x e)
+    measured-left mostVariation x (weight-range x _ (plannable-axes o q lent z i x e)) i _ _
+    (sway-most o q lent z i x e)

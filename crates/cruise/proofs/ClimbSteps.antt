@@ -1,4 +1,5 @@
--- The climb to the cruise as the code makes it: a step at a time, each half of the one before, until none is left.
+-- The climb to the cruise as the code makes it: a step at a time, each half of the
+-- one before, until none is left.
 use Prim.Native.Nat.{ℕ, zero, suc, _+_, _/_, _^_, _<_, _≤_}
 use mathlib.Core.Path.{_≡_, refl, sym, ap, _∙_}
 use mathlib.Core.Bool.{Bool, true, false, _&&_}
@@ -35,7 +36,10 @@ step-taken g s n c = go (leZ d (pos (g .speedLimit))) (fitsAt g s d)
     d = c +ℤ pos (2 ^ n)
 
     go : (a b : Bool)
-        → elim a [ true ↦ elim b [ true ↦ climbByBits g s n d | false ↦ climbByBits g s n c ] | false ↦ climbByBits g s n c ]
+        → elim a [
+          | true ↦ elim b [ true ↦ climbByBits g s n d | false ↦ climbByBits g s n c ]
+          | false ↦ climbByBits g s n c
+        ]
         ≡ climbByBits g s n (elim (a && b) [ true ↦ d | false ↦ c ])
     go true true = refl
     go true false = refl
@@ -102,7 +106,9 @@ pub step-inside : (step l : ℕ) (c : ℤ) → Within l c → (c +ℤ pos step) 
 step-inside step l = all₁ _ (λ a b. simp whole (omega arith))
 
 -- no step leads past it
-pub climb-inside : (g : Leg) (s c : ℤ) (step : ℕ) → Within (g .speedLimit) c → Within (g .speedLimit) (climbStep g s c step)
+pub climb-inside : (g : Leg) (s c : ℤ) (step : ℕ) → Within (g .speedLimit) c
+    → Within (g .speedLimit) (climbStep g s c step)
 climb-inside g s c step w =
     by-bool (Within (g .speedLimit)) (leZ (c +ℤ pos step) (pos (g .speedLimit)) && fitsAt g s (c +ℤ pos step)) _ _
-    (λ t. step-inside step (g .speedLimit) c w (leZ-yes (left (leZ (c +ℤ pos step) (pos (g .speedLimit))) _ t))) (λ t. w)
+    (λ t. step-inside step (g .speedLimit) c w (leZ-yes (left (leZ (c +ℤ pos step) (pos (g .speedLimit))) _ t)))
+    (λ t. w)

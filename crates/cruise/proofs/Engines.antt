@@ -1,4 +1,5 @@
--- The engine by ticks and the engine by areas give one answer for every leg with an acceleration limit: reach, cruise and remainder.
+-- The engine by ticks and the engine by areas give one answer for every leg with an acceleration
+-- limit: reach, cruise and remainder.
 use Prim.Native.Nat.{ℕ, zero, suc, _^_, _<_}
 use mathlib.Core.Path.{_≡_, refl, sym, ap, ap₂, _∙_}
 use mathlib.Core.Bool.{Bool, true, false, _&&_}
@@ -6,7 +7,8 @@ use lib.IntN.{ℤ, pos, negℤ, natAbs, _+ℤ_, _-ℤ_}
 use lib.Signed.{leZ, leZ-yes}
 use Rattle.whole.specs.Ranges.{Within}
 use Rattle.whole.proofs.Tests.{by-bool, true-T}
-use Rattle.model.specs.planning.Leg.{Leg, sumAt, fitsAt, required, sumIsWhole, climbByBits, climbSteps, cruise, feasible}
+use Rattle.model.specs.planning.Leg.{Leg, sumAt, fitsAt, required, sumIsWhole, climbByBits, climbSteps, cruise}
+use Rattle.model.specs.planning.Leg.{feasible}
 use Rattle.profile.specs.Profiles.{endsAllowed}
 use Rattle.areas.specs.Areas.{areaAt}
 use Rattle.cruise.specs.Engines.{feasibleByAreas, climbByAreas, cruiseByAreas, EnginesAgree}
@@ -21,7 +23,8 @@ after false e = refl
 
 -- a step of the climb, by its two tests
 stepped : (a : Bool) {b c : Bool} {x y z w : ℤ} → (a ≡ true → b ≡ c) → (a ≡ true → x ≡ y) → z ≡ w
-    → _≡_ {A = ℤ} (elim a [ true ↦ elim b [ true ↦ x | false ↦ z ] | false ↦ z ]) (elim a [ true ↦ elim c [ true ↦ y | false ↦ w ] | false ↦ w ])
+    → _≡_ {A = ℤ} (elim a [ true ↦ elim b [ true ↦ x | false ↦ z ] | false ↦ z ])
+    (elim a [ true ↦ elim c [ true ↦ y | false ↦ w ] | false ↦ w ])
 stepped true e f g = λ i. elim (e refl i) as (λ _. ℤ) [ true ↦ f refl i | false ↦ g i ]
 stepped false e f g = g
 
@@ -43,7 +46,8 @@ module _ (g : Leg) (some : 0 < g .accelerationLimit) where
       same-climb : (n : ℕ) (c : ℤ) → Within L c → climbByAreas g s n c ≡ climbByBits g s n c
       same-climb zero c w = refl
       same-climb (suc n) c w =
-          stepped (leZ (c +ℤ pos (2 ^ n)) (pos L)) (λ e. ap (λ (z : ℤ). leZ z s) (here (c +ℤ pos (2 ^ n)) (higher n c w e)))
+          stepped (leZ (c +ℤ pos (2 ^ n)) (pos L))
+          (λ e. ap (λ (z : ℤ). leZ z s) (here (c +ℤ pos (2 ^ n)) (higher n c w e)))
           (λ e. same-climb n (c +ℤ pos (2 ^ n)) (higher n c w e)) (same-climb n c w)
 
       climb-keeps : (n : ℕ) (c : ℤ) → Within L c → Within L (climbByBits g s n c)
@@ -70,7 +74,8 @@ module _ (g : Leg) (some : 0 < g .accelerationLimit) where
   same-reach d =
       after (endsAllowed g)
       (λ e.
-      ap₂ (λ (x y : ℤ). sumIsWhole g d && (leZ x (required g d) && leZ (required g d) y)) (lowest-area g some e) (highest-area g some e))
+      ap₂ (λ (x y : ℤ). sumIsWhole g d && (leZ x (required g d) && leZ (required g d) y))
+      (lowest-area g some e) (highest-area g some e))
       ∙ sym (feasible-parts g d)
 
   pub engines-agree : EnginesAgree g

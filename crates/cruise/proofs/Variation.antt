@@ -1,7 +1,7 @@
--- How much the changes of a list change in all that rises, is level and falls: at most 3μ + 2,
--- μ being the limit of a change. On the first ramp they are μ in size, on the level part 0, on the
--- last ramp μ again, with one step on the way before and after the level part; where the raise ends,
--- one tick has −1.
+-- How much the changes of a list change in all that rises, is level and falls: at most 3μ +
+-- 2, μ being the limit of a change. On the first ramp they are μ in size, on the level part
+-- 0, on the last ramp μ again, with one step on the way before and after the level part;
+-- where the raise ends, one tick has −1.
 use Prim.Native.Nat.{ℕ, zero, suc, _+_, _*_, _≤_, _<_}
 use mathlib.Core.Path.{_≡_, sym, ap, subst}
 use mathlib.Core.Logic.{_⊎_, inl, inr, ⊎-elim}
@@ -17,7 +17,8 @@ use Rattle.model.specs.theorems.Misfit.{variation}
 abbrev pub Steep : ℕ → ℤ → Type 0
 Steep μ u = (u ≡ pos μ) ⊎ (u ≡ negℤ (pos μ))
 
--- `rise` ticks of the change u, a level part of which the first r ticks are raised, and `fall` ticks of the change −d, T in all
+-- `rise` ticks of the change u, a level part of which the first r ticks are raised, and `fall`
+-- ticks of the change −d, T in all
 pub record Changes (μ T rise fall r : ℕ) (u d : ℤ) (a : ℕ → ℤ) : Type 0 where
   pub limit : (k : ℕ) → k < T → natAbs (a k) ≤ μ
   pub steep : Steep μ u
@@ -35,7 +36,8 @@ pub apart : (x y : ℤ) → natAbs (y -ℤ x) ≤ natAbs x + natAbs y
 apart = all₂ _ (λ a b c d. simp whole (omega arith))
 
 module _ (μ T rise fall r : ℕ) (u d : ℤ) (a : ℕ → ℤ) (c : Changes μ T rise fall r u d a) where
-  -- what is left of 3μ + 2 at a tick of the first ramp, of the level part, and from the last tick of that on
+  -- what is left of 3μ + 2 at a tick of the first ramp, of the level part, and from the last tick
+  -- of that on
   record Left (k : ℕ) : Type 0 where
     first : k ≤ rise → variation a k + natAbs (u +ℤ a k) ≤ 3 * μ
     raised : rise < k → suc k + fall < T → k ≤ rise + r → variation a k ≤ 2 * μ + natAbs (a k)
@@ -61,7 +63,8 @@ module _ (μ T rise fall r : ℕ) (u d : ℤ) (a : ℕ → ℤ) (c : Changes μ 
       up : (y : ℤ) → Within μ y → natAbs (y -ℤ pos μ) + natAbs (pos μ +ℤ y) ≤ natAbs (pos μ +ℤ pos μ)
       up = all₁ _ (λ a b. simp whole (omega arith))
 
-      down : (y : ℤ) → Within μ y → natAbs (y -ℤ negℤ (pos μ)) + natAbs (negℤ (pos μ) +ℤ y) ≤ natAbs (negℤ (pos μ) +ℤ negℤ (pos μ))
+      down : (y : ℤ) → Within μ y
+          → natAbs (y -ℤ negℤ (pos μ)) + natAbs (negℤ (pos μ) +ℤ y) ≤ natAbs (negℤ (pos μ) +ℤ negℤ (pos μ))
       down = all₁ _ (λ a b. simp whole (omega arith))
 
       go : Steep μ u → Law u
@@ -101,11 +104,13 @@ module _ (μ T rise fall r : ℕ) (u d : ℤ) (a : ℕ → ℤ) (c : Changes μ 
         entered h = omega (arith, settled (omega arith) (omega arith), apart x y)
 
     calm : rise < suc k → suc k + fall < T → variation a k + natAbs x ≤ 2 * μ + 2
-    calm p q = ⊎-elim (λ (h : rise < k). l .middle h q) (λ (h : k ≤ rise). let f = settled (omega arith) q in omega arith) (lt-or-le rise k)
+    calm p q = ⊎-elim (λ (h : rise < k). l .middle h q) (λ (h : k ≤ rise). let f = settled (omega arith) q in
+        omega arith) (lt-or-le rise k)
 
     on-middle : rise < suc k → suc (suc k) + fall < T → variation a (suc k) + natAbs y ≤ 2 * μ + 2
     on-middle p q = ⊎-elim
-        (λ (h : rise + r < suc k). let z = c .flat (suc k) p q (inr h) in omega (arith, calm p (omega arith), apart x y))
+        (λ (h : rise + r < suc k). let z = c .flat (suc k) p q (inr h) in
+        omega (arith, calm p (omega arith), apart x y))
         (λ (h : suc k ≤ rise + r). let z = c .level (suc k) p q in omega (arith, on-raised p q h))
         (lt-or-le (rise + r) (suc k))
 
@@ -122,12 +127,14 @@ module _ (μ T rise fall r : ℕ) (u d : ℤ) (a : ℕ → ℤ) (c : Changes μ 
             crosses g =
                 let e : rise ≡ k = omega arith in
                 let f = l .first (omega arith) in
-                let z = subst (λ (i : ℕ). natAbs (d +ℤ a i) ≤ natAbs (u +ℤ a i)) e (c .crossing (omega arith) (omega arith)) in
+                let z = subst (λ (i : ℕ). natAbs (d +ℤ a i) ≤ natAbs (u +ℤ a i)) e
+                (c .crossing (omega arith) (omega arith)) in
                 omega arith
 
         falls : T ≤ suc k + fall → variation a (suc k) + natAbs (d +ℤ y) ≤ 3 * μ + 2
         falls h =
-            subst (λ (z : ℤ). variation a k + natAbs (z -ℤ x) + natAbs (d +ℤ z) ≤ 3 * μ + 2) (sym (c .falling (suc k) below p h))
+            subst (λ (z : ℤ). variation a k + natAbs (z -ℤ x) + natAbs (d +ℤ z) ≤ 3 * μ + 2)
+            (sym (c .falling (suc k) below p h))
             (omega (arith, before h, meet d x))
 
     on-first : suc k ≤ rise → variation a (suc k) + natAbs (u +ℤ y) ≤ 3 * μ

@@ -8,7 +8,8 @@ use Rattle.whole.specs.Ranges.{Is}
 use Rattle.model.specs.planning.Leg.{Leg, fitsAt, cruise, remainder}
 use Rattle.regions.specs.declared.CruisePlan.{CruisePlan}
 
--- one step of `climbByBits`: c + step where that keeps to the speed limit and fits the required sum s, else c
+-- one step of `climbByBits`: c + step where that keeps to the speed limit and
+-- fits the required sum s, else c
 abbrev pub climbStep : Leg → ℤ → ℤ → ℕ → ℤ
 climbStep g s c step =
     let d : ℤ = c +ℤ pos step in

@@ -13,7 +13,8 @@ use Rattle.areas.specs.Areas.{areaAt, lowestArea, highestArea}
 -- ---- rule 4: the required sum is between the areas under the two envelopes
 
 abbrev pub feasibleByAreas : Leg → ℤ → Bool
-feasibleByAreas g d = endsAllowed g && (sumIsWhole g d && (leZ (lowestArea g) (required g d) && leZ (required g d) (highestArea g)))
+feasibleByAreas g d =
+    endsAllowed g && (sumIsWhole g d && (leZ (lowestArea g) (required g d) && leZ (required g d) (highestArea g)))
 
 -- ---- rule 5: the cruise and the remainder, for the required sum s
 
@@ -32,7 +33,8 @@ cruiseByAreas g s = climbByAreas g s climbSteps (negℤ (pos (g .speedLimit)))
 abbrev pub remainderByAreas : Leg → ℤ → ℕ
 remainderByAreas g s = natAbs (s -ℤ areaAt g (cruiseByAreas g s))
 
--- ---- both engines give one answer: for a leg and a displacement d; and, where the ends can be joined, for every required sum s
+-- ---- both engines give one answer: for a leg and a displacement d; and, where the ends can be
+-- joined, for every required sum s
 pub record EnginesAgree (g : Leg) : Type 0 where
   pub reach : (d : ℤ) → feasibleByAreas g d ≡ feasible g d
   pub cruises : endsAllowed g ≡ true → (s : ℤ) → cruiseByAreas g s ≡ cruise g s

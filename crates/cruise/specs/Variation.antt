@@ -1,5 +1,6 @@
--- How much the planned accelerations of an axis change in all (`plannedVariation`), at most: 4μ + |α| + 2 grid steps, μ being the acceleration limit and α the
--- target's acceleration. To the limit, to 0, to the limit again and from there to α; and twice one where a raise ends.
+-- How much the planned accelerations of an axis change in all (`plannedVariation`), at most: 4μ +
+-- |α| + 2 grid steps, μ being the acceleration limit and α the target's acceleration. To the limit,
+-- to 0, to the limit again and from there to α; and twice one where a raise ends.
 use Prim.Native.Nat.{ℕ, _+_, _*_}
 use lib.IntN.{natAbs}
 use Rattle.model.specs.declared.Axis.{Axis}

@@ -17,13 +17,15 @@ ghost use Rattle.regions.specs.Regions.{chosenRegions};
 
 // ---- the two engines
 
-// How the sum of the velocities for a cruise is taken: tick by tick, as the definition has it; or from the areas under them, with no tick visited.
+// How the sum of the velocities for a cruise is taken: tick by tick, as the definition has it; or
+// from the areas under them, with no tick visited.
 pub enum Engine {
     Ticks,
     Areas,
 }
 
-// The sum of the velocities for cruise c over ticks 1 to p.ticks - 1. Both engines give one answer; what stands on it is written, and proved, once for both.
+// The sum of the velocities for cruise c over ticks 1 to p.ticks - 1. Both engines give one answer;
+// what stands on it is written, and proved, once for both.
 fn sum_by(engine: Engine, p: Profile, c: i64) -> i64
     requires { ⌜ Joinable p ⌝ }
     requires { ⌜ Within (p .«speed_limit») c ⌝ }
@@ -37,7 +39,8 @@ fn sum_by(engine: Engine, p: Profile, c: i64) -> i64
 
 // ---- rule 4: reach
 
-// Whether a sum is between the sums of the two envelopes, which are the sums at the lowest and at the highest cruise.
+// Whether a sum is between the sums of the two envelopes, which are the sums at the
+// lowest and at the highest cruise.
 fn sum_between(engine: Engine, p: Profile, sum: i64) -> bool
     requires { ⌜ Joinable p ⌝ }
     requires { ⌜ Within (2 ^ 61) sum ⌝ }
@@ -69,7 +72,8 @@ pub fn feasible_by(engine: Engine, p: Profile, displacement: i64) -> bool
 
 // ---- rule 5: cruise and remainder
 
-// One step of the climb from cruise c, taken where it keeps to the speed limit and its sum does not exceed the required one.
+// One step of the climb from cruise c, taken where it keeps to the speed limit and its sum
+// does not exceed the required one.
 fn climb_step(engine: Engine, p: Profile, sum: i64, c: i64, step: u64) -> i64
     requires { ⌜ Joinable p ⌝ }
     requires { ⌜ Within (2 ^ 61) sum ⌝ }
@@ -87,7 +91,8 @@ fn climb_step(engine: Engine, p: Profile, sum: i64, c: i64, step: u64) -> i64
     c
 }
 
-// The largest cruise whose sum does not exceed the required one: from the lowest velocity up, by halving steps.
+// The largest cruise whose sum does not exceed the required one: from the lowest
+// velocity up, by halving steps.
 fn climb(engine: Engine, p: Profile, sum: i64) -> i64
     requires { ⌜ Joinable p ⌝ }
     requires { ⌜ Within (2 ^ 61) sum ⌝ }
@@ -115,7 +120,8 @@ fn remainder(engine: Engine, p: Profile, sum: i64, c: i64) -> u64
     (sum - reached) as u64
 }
 
-// The cruise that makes the displacement, given in half steps, and how many ticks are raised by one.
+// The cruise that makes the displacement, given in half steps, and how many ticks are raised by
+// one.
 pub fn cruise_by(engine: Engine, p: Profile, displacement: i64) -> CruisePlan
     requires { ⌜ Ranged p ⌝ }
     requires { ⌜ 0 < p .«acceleration_limit» ⌝ }

@@ -1,10 +1,11 @@
-// The second weight of a blend from damping as measured (docs/METHOD.md, 2.4), in single precision: each division and each product is rounded once,
-// and the weight is found by comparisons.
+// The second weight of a blend from damping as measured (docs/METHOD.md, 2.4), in single precision:
+// each division and each product is rounded once, and the weight is found by comparisons.
 use model::Damping;
 use model::Weight;
 ghost use mathlib.Core.Path.{_≡_};
 ghost use Prim.Native.Nat.{_≤_};
-ghost use Rattle.model.specs.planning.Damping.{ratioOf, meets, ratioWeight, weightOf, aboveZero, ratioAllowed, dampingAllowed, weightAllowed};
+ghost use Rattle.model.specs.planning.Damping.{ratioOf, meets, ratioWeight, weightOf, aboveZero, ratioAllowed};
+ghost use Rattle.model.specs.planning.Damping.{dampingAllowed, weightAllowed};
 
 // ---- the weight
 
@@ -26,7 +27,8 @@ fn meets(ratio: f32, weight: u32) -> bool
     weight as f32 <= ratio * (256 - weight) as f32
 }
 
-// The largest B from 1 to 128 that is at most the product of the ratio and 256 − B, or 1 if there is none.
+// The largest B from 1 to 128 that is at most the product of the ratio and 256 − B, or 1 if there
+// is none.
 fn ratio_weight(ratio: f32) -> u32
     ensures { λ r. ⌜ r ≡ ratioWeight ratio ⌝ }
 {
@@ -76,7 +78,8 @@ fn damping_allowed(damping: Damping) -> bool
     }
 }
 
-// Whether a weight can be worked out: one that is given always, the damping where its first peak is above zero and its ratio is allowed.
+// Whether a weight can be worked out: one that is given always, the damping where its first peak is
+// above zero and its ratio is allowed.
 pub fn weight_allowed(weight: Weight) -> bool
     ensures { λ r. ⌜ r ≡ weightAllowed weight ⌝ }
 {

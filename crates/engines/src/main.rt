@@ -1,5 +1,7 @@
-// Runs both engines of `cruise` over legs drawn by a fixed rule: reach, and where a leg has it, cruise and remainder. It prints for each engine how many legs
-// have it and a sum over the answers. tests/reference/engines.py computes the same from the method's rules 4 and 5 and writes what is expected.
+// Runs both engines of `cruise` over legs drawn by a fixed rule: reach, and where a leg
+// has it, cruise and remainder. It prints for each engine how many legs have it and a
+// sum over the answers. tests/reference/engines.py computes the same from the method's
+// rules 4 and 5 and writes what is expected.
 use cruise::Engine;
 use profile::Profile;
 ghost use Prim.Native.Nat.{_≤_, _<_};
@@ -59,7 +61,8 @@ fn leg(leg: u64) -> Profile
     }
 }
 
-// Its displacement in half steps: within what the speed limit allows, and for each seventh leg one that leaves no whole sum.
+// Its displacement in half steps: within what the speed limit allows, and for each seventh
+// leg one that leaves no whole sum.
 fn displacement(leg: u64, p: Profile) -> i64
     requires { ⌜ leg ≤ 4000 ⌝ }
     requires { ⌜ Drawn p ⌝ }
@@ -82,7 +85,8 @@ fn added(sum: u64, x: i64) -> u64
     (31 * sum + weight) % PRIME
 }
 
-// The sum with an engine's answer to a leg: cruise and remainder, or -1 where the displacement cannot be made.
+// The sum with an engine's answer to a leg: cruise and remainder, or -1 where
+// the displacement cannot be made.
 fn answered(engine: Engine, p: Profile, d: i64, sum: u64) -> u64
     requires { ⌜ Drawn p ⌝ }
     requires { ⌜ Within 67108864 d ⌝ }

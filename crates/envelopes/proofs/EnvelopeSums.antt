@@ -15,7 +15,8 @@ use Rattle.whole.proofs.Ring.{pol, same}
 use Rattle.whole.proofs.Sums.{sum-same}
 use Rattle.whole.proofs.Tests.{lt-or-le}
 use Rattle.model.specs.planning.Leg.{Leg, upper, lower}
-use Rattle.model.proofs.legs.Envelopes.{Joined, since, until, highest, lowest, clamped-within, clamped-lowest, clamped-highest}
+use Rattle.model.proofs.legs.Envelopes.{Joined, since, until, highest, lowest, clamped-within, clamped-lowest}
+use Rattle.model.proofs.legs.Envelopes.{clamped-highest}
 use Rattle.envelopes.specs.declared.sums.Sums.{Sums}
 use Rattle.envelopes.specs.Sums.{crossing, peakOf, troughOf, envelopeSumsAt, stepped, SumsRanged, withTicks}
 use Rattle.regions.proofs.ThreeRegions.{before, after, up-is, up-late, before-half, after-half}
@@ -25,7 +26,8 @@ use Rattle.areas.proofs.RampSums.{parts}
 
 same-from : (f g : ℕ → ℤ) (n : ℕ) → ((k : ℕ) → 0 < k → k ≤ n → f k ≡ g k) → sumTo f n ≡ sumTo g n
 same-from f g zero e = refl
-same-from f g (suc n) e = ap₂ (λ (a b : ℤ). a +ℤ b) (same-from f g n (λ k h q. e k h (omega arith))) (e (suc n) (omega arith) (omega arith))
+same-from f g (suc n) e =
+    ap₂ (λ (a b : ℤ). a +ℤ b) (same-from f g n (λ k h q. e k h (omega arith))) (e (suc n) (omega arith) (omega arith))
 
 -- z stands after the first m entries of f
 one-more : (f h : ℕ → ℤ) (m n : ℕ) (z : ℤ) → ((k : ℕ) → k ≤ m → h k ≡ f k) → h (suc m) ≡ z
@@ -100,7 +102,8 @@ module _ (g : Leg) (joined : Joined g) (some : 0 < g .accelerationLimit) where
   two-more : crossing a s e (suc (suc T)) ≡ suc (crossing a s e T)
   unfolding crossing
   two-more =
-      ap (λ (n : ℕ). natAbs (e -ℤ s +ℤ pos n) / (2 * a)) {x = a * suc (suc T)} {y = a * T + 2 * a} (omega (arith, mul-suc a (suc T), mul-suc a T))
+      ap (λ (n : ℕ). natAbs (e -ℤ s +ℤ pos n) / (2 * a)) {x = a * suc (suc T)} {y = a * T + 2 * a}
+      (omega (arith, mul-suc a (suc T), mul-suc a T))
       ∙ ap (λ (n : ℕ). n / (2 * a)) (wider (a * T) (2 * a) s e near)
       ∙ add-div-right (natAbs (e -ℤ s +ℤ pos (a * T))) {k = 2 * a} (omega arith)
       ∙ omega arith
@@ -121,7 +124,8 @@ module _ (g : Leg) (joined : Joined g) (some : 0 < g .accelerationLimit) where
   same-first : (k : ℕ) → k ≤ T → k ≤ crossing a s e T → upper longer k ≡ upper g k
   same-first k h l =
       on-first (g .speedLimit) (a * k) (a * (T - k)) (a * (suc T - k)) s e
-      (omega (arith, ap (λ (n : ℕ). a * n) {x = suc T - k} {y = suc (T - k)} (omega arith), mul-suc a (T - k))) (rises k h l)
+      (omega (arith, ap (λ (n : ℕ). a * n) {x = suc T - k} {y = suc (T - k)} (omega arith), mul-suc a (T - k)))
+      (rises k h l)
 
   same-last : (k : ℕ) → k ≤ T → crossing a s e T < k → upper longer (suc k) ≡ upper g k
   same-last k h l =
@@ -156,7 +160,8 @@ module _ (g : Leg) (joined : Joined g) (some : 0 < g .accelerationLimit) where
           let none : a * (T - T) ≡ 0 = ap (λ (n : ℕ). a * n) {x = T - T} {y = 0} (omega arith) ∙ omega arith in
           ap (upper longer) {x = suc (T - 1)} {y = T} (omega arith)
           ∙ at-end (g .speedLimit) (a * T) (a * (suc T - T)) (a * suc T) s e
-          (subst (λ (n : ℕ). (s +ℤ pos (a * T)) ≤ℤ (e +ℤ pos n)) none (rises T (omega arith) (omega arith))) near (omega (arith, mul-suc a T))
+          (subst (λ (n : ℕ). (s +ℤ pos (a * T)) ≤ℤ (e +ℤ pos n)) none (rises T (omega arith) (omega arith))) near
+          (omega (arith, mul-suc a T))
           ∙ ap (λ (n : ℕ). least (pos (g .speedLimit)) (least (s +ℤ pos (a * suc T)) (e +ℤ pos n))) (sym none)
           ∙ ap (λ (n : ℕ). least (pos (g .speedLimit)) (least (s +ℤ pos (a * suc n)) (e +ℤ pos (a * (T - n))))) (sym q)
 
@@ -215,8 +220,10 @@ lower-longer : (g : Leg) → Joined g → 0 < g .accelerationLimit → 0 < g .ti
 lower-longer g j some p =
     lower-mirror (withTicks g (suc (g .ticks))) (g .ticks)
     ∙ ap negℤ (upper-longer (mirrored g) (mirror-joined g j) some p)
-    ∙ law (g .speedLimit) (sumTo (upper (mirrored g)) (g .ticks - 1)) (peakOf (g .accelerationLimit) (negℤ (g .start)) (negℤ (g .end)) (g .ticks))
-    ∙ ap (λ (x : ℤ). x +ℤ greatest (negℤ (pos (g .speedLimit))) (troughOf (g .accelerationLimit) (g .start) (g .end) (g .ticks)))
+    ∙ law (g .speedLimit) (sumTo (upper (mirrored g)) (g .ticks - 1))
+    (peakOf (g .accelerationLimit) (negℤ (g .start)) (negℤ (g .end)) (g .ticks))
+    ∙ ap (λ (x : ℤ). x +ℤ greatest (negℤ (pos (g .speedLimit)))
+    (troughOf (g .accelerationLimit) (g .start) (g .end) (g .ticks)))
     (sym (lower-mirror g (g .ticks - 1)))
   where
     law : (l : ℕ) (x p : ℤ) → negℤ (x +ℤ least (pos l) p) ≡ negℤ x +ℤ greatest (negℤ (pos l)) (negℤ p)
@@ -225,7 +232,8 @@ lower-longer g j some p =
 -- ---- the step
 
 pub step-is : (g : Leg) → Joined g → 0 < g .accelerationLimit → 0 < g .ticks
-    → stepped (pos (g .speedLimit)) (pos (g .accelerationLimit)) (envelopeSumsAt g) ≡ envelopeSumsAt (withTicks g (suc (g .ticks)))
+    → stepped (pos (g .speedLimit)) (pos (g .accelerationLimit)) (envelopeSumsAt g)
+    ≡ envelopeSumsAt (withTicks g (suc (g .ticks)))
 step-is g j some p =
     let t : g .ticks ≡ suc (g .ticks) - 1 = omega arith in
     let low = sym (lower-longer g j some p) in
@@ -262,7 +270,8 @@ more-ticks g t j h =
     record {
       start = j .start;
       end = j .end;
-      apart = let steep : g .accelerationLimit ≤ g .accelerationLimit = omega arith in le-trans (j .apart) (mul-le-mul steep h);
+      apart = let steep : g .accelerationLimit ≤ g .accelerationLimit = omega arith in
+          le-trans (j .apart) (mul-le-mul steep h);
     }
 
 sum-within : (l : ℕ) (f : ℕ → ℤ) (n : ℕ) → ((k : ℕ) → k ≤ n → Within l (f k)) → natAbs (sumTo f n) ≤ n * l
@@ -272,28 +281,36 @@ sum-within l f (suc n) h =
     let rest = sum-within l f n (λ k q. h k (omega arith)) in
     omega (arith, natAbs-+ (sumTo f n) (f (suc n)), one, rest, mul-comm (suc n) l, mul-suc l n, mul-comm n l)
 
-peak-within : (p q : ℕ) (x y : ℤ) → Within (2 ^ 37) x → Within (2 ^ 37) y → p ≤ 2 ^ 46 → q ≤ 2 ^ 46 → Within (2 ^ 47) (least (x +ℤ pos p) (y +ℤ pos q))
+peak-within : (p q : ℕ) (x y : ℤ) → Within (2 ^ 37) x → Within (2 ^ 37) y → p ≤ 2 ^ 46 → q ≤ 2 ^ 46
+    → Within (2 ^ 47) (least (x +ℤ pos p) (y +ℤ pos q))
 peak-within p q = all₂ _ (λ a b c d. simp whole (omega arith))
 
-module _ (g : Leg) (j : Joined g) (some : 0 < g .accelerationLimit) (speed : g .speedLimit ≤ 2 ^ 37) (steep : g .accelerationLimit ≤ 2 ^ 33) where
+module _ (g : Leg) (j : Joined g) (some : 0 < g .accelerationLimit) (speed : g .speedLimit ≤ 2 ^ 37)
+    (steep : g .accelerationLimit ≤ 2 ^ 33) where
   peak-ranged : g .ticks ≤ 4100 → Within (2 ^ 47) (peakOf (g .accelerationLimit) (g .start) (g .end) (g .ticks))
   unfolding peakOf
   peak-ranged h =
       let m : ℕ = crossing (g .accelerationLimit) (g .start) (g .end) (g .ticks) in
       let late : suc m ≤ 4101 = omega (arith, m-late g j some) in
       let left : g .ticks - m ≤ 4101 = omega arith in
-      peak-within _ _ (g .start) (g .end) (record { within = omega (arith, j .start) }) (record { within = omega (arith, j .end) })
+      peak-within _ _ (g .start) (g .end) (record { within = omega (arith, j .start) })
+      (record { within = omega (arith, j .end) })
       (omega (arith, mul-le-mul steep late)) (omega (arith, mul-le-mul steep left))
 
-  sum-ranged : (f : ℕ → ℤ) → g .ticks ≤ 4097 → ((k : ℕ) → k ≤ g .ticks → Within (g .speedLimit) (f k)) → Within (2 ^ 50) (sumTo f (g .ticks - 1))
+  sum-ranged : (f : ℕ → ℤ) → g .ticks ≤ 4097 → ((k : ℕ) → k ≤ g .ticks → Within (g .speedLimit) (f k))
+      → Within (2 ^ 50) (sumTo f (g .ticks - 1))
   sum-ranged f h w =
       let few : g .ticks - 1 ≤ 4096 = omega arith in
-      record { within = omega (arith, sum-within (g .speedLimit) f (g .ticks - 1) (λ k q. w k (omega arith)), mul-le-mul few speed) }
+      record {
+        within = omega
+            (arith, sum-within (g .speedLimit) f (g .ticks - 1) (λ k q. w k (omega arith)), mul-le-mul few speed);
+      }
 
 neg-within : (n : ℕ) (x : ℤ) → Within n x → Within n (negℤ x)
 neg-within n = all₁ _ (λ a b. simp whole (omega arith))
 
-pub sums-ranged : (g : Leg) → Joined g → 0 < g .accelerationLimit → g .speedLimit ≤ 2 ^ 37 → g .accelerationLimit ≤ 2 ^ 33 → g .ticks ≤ 4097
+pub sums-ranged : (g : Leg) → Joined g → 0 < g .accelerationLimit → g .speedLimit ≤ 2 ^ 37
+    → g .accelerationLimit ≤ 2 ^ 33 → g .ticks ≤ 4097
     → SumsRanged (envelopeSumsAt g)
 sums-ranged g j some speed steep h =
     let later = more-ticks g (suc (g .ticks)) j (omega arith) in
@@ -305,12 +322,16 @@ sums-ranged g j some speed steep h =
           sum-ranged g j some speed steep (upper g) h
           (λ k q. subst (Within (g .speedLimit)) (clamped-highest g j k q) (clamped-within g (j .start) (j .end) _ k));
       trough = neg-within (2 ^ 47) _ (peak-ranged (mirrored g) (mirror-joined g j) some speed steep (omega arith));
-      «later_trough» = neg-within (2 ^ 47) _ (peak-ranged (mirrored (withTicks g (suc (g .ticks)))) (mirror-joined _ later) some speed steep (omega arith));
+      «later_trough» =
+          neg-within (2 ^ 47) _
+          (peak-ranged (mirrored (withTicks g (suc (g .ticks))))
+          (mirror-joined _ later) some speed steep (omega arith));
       peak = peak-ranged g j some speed steep (omega arith);
       «later_peak» = peak-ranged (withTicks g (suc (g .ticks))) later some speed steep (omega arith);
     }
 
-pub sums-same : {r q : Sums} → r .lowest ≡ q .lowest → r .highest ≡ q .highest → r .trough ≡ q .trough → r .«later_trough» ≡ q .«later_trough»
+pub sums-same : {r q : Sums} → r .lowest ≡ q .lowest → r .highest ≡ q .highest → r .trough ≡ q .trough
+    → r .«later_trough» ≡ q .«later_trough»
     → r .peak ≡ q .peak → r .«later_peak» ≡ q .«later_peak» → r ≡ q
 sums-same a b c d e f =
     λ i. record { lowest = a i; highest = b i; trough = c i; «later_trough» = d i; peak = e i; «later_peak» = f i }

@@ -1,4 +1,5 @@
--- A test that lasts, halved down: of two candidates, of which the lower does not pass and the higher does, or is past the last.
+-- A test that lasts, halved down: of two candidates, of which the lower does not pass and the
+-- higher does, or is past the last.
 use Prim.Native.Nat.{ℕ, suc, _+_, _≤_, _<_}
 use mathlib.Core.Path.{_≡_, refl, sym, ap, subst, _∙_}
 use mathlib.Core.Bool.{Bool, true, false}
@@ -14,7 +15,8 @@ not-lower test last low step r (inl (e, m)) = omega arith
 not-lower test last low step r (inr (e, p)) = omega arith
 
 module _ (test : ℕ → Bool) (first last : ℕ) (on : LastingTo test first last) where
-  pub halved : (low width half r : ℕ) → first ≤ low → width ≤ half + half → Bracket test last low width → Further test last low half r → Bracket test last r half
+  pub halved : (low width half r : ℕ) → first ≤ low → width ≤ half + half → Bracket test last low width
+      → Further test last low half r → Bracket test last r half
   halved low width half r from h b (inl (e, (l, m))) =
       record {
         high = l;
@@ -36,4 +38,5 @@ module _ (test : ℕ → Bool) (first last : ℕ) (on : LastingTo test first las
   found low from b = record { low = omega arith; high = omega (arith, b .high); missed = missed; passed = b .passed }
     where
       missed : (k : ℕ) → first ≤ k → k < low + 1 → test k ≡ false
-      missed k p q = T-false (test k) (λ t. subst T (sym (on k low p (omega arith) (b .high) (T-true (test k) t)) ∙ b .missed) tt)
+      missed k p q =
+          T-false (test k) (λ t. subst T (sym (on k low p (omega arith) (b .high) (T-true (test k) t)) ∙ b .missed) tt)

@@ -1,4 +1,5 @@
--- A leg with every velocity negated: a list makes the one exactly where its negative makes the other.
+-- A leg with every velocity negated: a list makes the one exactly where its negative makes the
+-- other.
 use Prim.Native.Nat.{ℕ, zero, suc, _^_, _≤_, _<_}
 use mathlib.Core.Path.{_≡_, refl, sym, ap, subst, _∙_}
 use mathlib.Core.Bool.{Bool, true, false}
@@ -20,7 +21,8 @@ same-truth false false f g = refl
 travelled-neg : (w : ℕ → ℤ) (n : ℕ) → travelled (λ k. negℤ (w k)) n ≡ negℤ (travelled w n)
 travelled-neg w zero = refl
 travelled-neg w (suc n) =
-    ap (λ (z : ℤ). z +ℤ (pos 2 *ℤ negℤ (w n) +ℤ (negℤ (w (suc n)) -ℤ negℤ (w n)))) (travelled-neg w n) ∙ law (travelled w n) (w n) (w (suc n))
+    ap (λ (z : ℤ). z +ℤ (pos 2 *ℤ negℤ (w n) +ℤ (negℤ (w (suc n)) -ℤ negℤ (w n)))) (travelled-neg w n)
+    ∙ law (travelled w n) (w n) (w (suc n))
   where
     law : (t x y : ℤ) → negℤ t +ℤ (pos 2 *ℤ negℤ x +ℤ (negℤ y -ℤ negℤ x)) ≡ negℤ (t +ℤ (pos 2 *ℤ x +ℤ (y -ℤ x)))
     law t x y = same (t ∷ x ∷ y ∷ []) (search pol depth 20 fits 9000) tt
@@ -57,8 +59,11 @@ twice-mirrored g =
 pub feasible-mirrored : (g : Leg) (d : ℤ) → 0 < g .ticks → 0 < g .accelerationLimit → g .speedLimit ≤ 2 ^ 37
     → feasible g d ≡ feasible (mirrored g) (negℤ d)
 feasible-mirrored g d some strong slow =
-    same-truth _ _ (λ u. feasible-is (mirrored g) (negℤ d) some strong slow .0 (negated g d (feasible-is g d some strong slow .1 u)))
-    (λ u. feasible-is g d some strong slow .0 (back (negated (mirrored g) (negℤ d) (feasible-is (mirrored g) (negℤ d) some strong slow .1 u))))
+    same-truth _ _
+    (λ u. feasible-is (mirrored g) (negℤ d) some strong slow .0 (negated g d (feasible-is g d some strong slow .1 u)))
+    (λ u. feasible-is g d some strong slow .0
+    (back (negated (mirrored g) (negℤ d) (feasible-is (mirrored g) (negℤ d) some strong slow .1 u))))
   where
     back : Feasible (mirrored (mirrored g)) (negℤ (negℤ d)) → Feasible g d
-    back f = subst (λ (z : ℤ). Feasible g z) (negℤ-negℤ d) (subst (λ (h : Leg). Feasible h (negℤ (negℤ d))) (twice-mirrored g) f)
+    back f = subst (λ (z : ℤ). Feasible g z) (negℤ-negℤ d)
+        (subst (λ (h : Leg). Feasible h (negℤ (negℤ d))) (twice-mirrored g) f)

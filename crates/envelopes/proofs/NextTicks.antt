@@ -37,9 +37,11 @@ wanted-next s c t u h =
     one-more s c n = same (s ∷ c ∷ n ∷ []) (search pol depth 20 fits 9000) tt
 
 -- counted from a later tick
-pub wanted-later : (s c : ℤ) (u v t : ℕ) → u ≤ v → v ≤ t → s +ℤ pos (v - u) *ℤ c +ℤ pos (t - v) *ℤ c ≡ s +ℤ pos (t - u) *ℤ c
+pub wanted-later : (s c : ℤ) (u v t : ℕ) → u ≤ v → v ≤ t
+    → s +ℤ pos (v - u) *ℤ c +ℤ pos (t - v) *ℤ c ≡ s +ℤ pos (t - u) *ℤ c
 wanted-later s c u v t h k =
-    joined s c (pos (v - u)) (pos (t - v)) ∙ ap (λ (n : ℕ). s +ℤ pos n *ℤ c) {x = v - u + (t - v)} {y = t - u} (omega arith)
+    joined s c (pos (v - u)) (pos (t - v))
+    ∙ ap (λ (n : ℕ). s +ℤ pos n *ℤ c) {x = v - u + (t - v)} {y = t - u} (omega arith)
   where
     joined : (s c m n : ℤ) → s +ℤ m *ℤ c +ℤ n *ℤ c ≡ s +ℤ (m +ℤ n) *ℤ c
     joined s c m n = same (s ∷ c ∷ m ∷ n ∷ []) (search pol depth 20 fits 9000) tt
@@ -69,9 +71,11 @@ module _ (g : Leg) (s c : ℤ) (r : ℕ) (n : NearFrom g r) where
       (leb (natAbs (g .end -ℤ g .start)) (g .accelerationLimit * k)) (leb-no (n .far k h l))))
 
   later : (k : ℕ) → r ≤ k → betweenAt (withTicks g r) (s +ℤ pos (r - g .ticks) *ℤ c) c k ≡ betweenAt g s c k
-  later k h = ap (λ (z : ℤ). endsAllowed (withTicks g k) && sumBetween (withTicks g k) z) (wanted-later s c (g .ticks) r k (n .low) h)
+  later k h = ap (λ (z : ℤ). endsAllowed (withTicks g k) && sumBetween (withTicks g k) z)
+      (wanted-later s c (g .ticks) r k (n .low) h)
 
-  pub next-later : (last q : ℕ) → Next (betweenAt (withTicks g r) (s +ℤ pos (r - g .ticks) *ℤ c) c) r last q → Next (betweenAt g s c) (g .ticks) last q
+  pub next-later : (last q : ℕ) → Next (betweenAt (withTicks g r) (s +ℤ pos (r - g .ticks) *ℤ c) c) r last q
+      → Next (betweenAt g s c) (g .ticks) last q
   next-later last q w =
       record {
         low = le-trans (n .low) (w .low);

@@ -1,4 +1,5 @@
--- Rule 4 decided by the upper envelope alone: of a leg that goes at least as far as the straight line between its ends, else of the leg mirrored.
+-- Rule 4 decided by the upper envelope alone: of a leg that goes at least as far as the straight
+-- line between its ends, else of the leg mirrored.
 use Prim.Native.Nat.{ℕ, _-_, _*_, _%_, _^_, _≤_, _<_}
 use mathlib.Core.Path.{_≡_, sym, ap, subst, _∙_}
 use mathlib.Core.Bool.{Bool, true, false, _&&_}
@@ -24,13 +25,16 @@ abbrev pub comesUp : Leg → ℤ → Bool
 comesUp g d = leZ (required g d) (sumTo (upper g) (g .ticks - 1))
 
 -- ends that are too far apart
-pub far-apart : (g : Leg) (d : ℤ) → leb (natAbs (g .end -ℤ g .start)) (g .accelerationLimit * g .ticks) ≡ false → false ≡ feasible g d
+pub far-apart : (g : Leg) (d : ℤ) → leb (natAbs (g .end -ℤ g .start)) (g .accelerationLimit * g .ticks) ≡ false
+    → false ≡ feasible g d
 far-apart g d e =
     sym
     (T-false (feasible g d)
-    (λ t. subst T e (le→leb (natAbs (g .end -ℤ g .start)) (g .accelerationLimit * g .ticks) (feasible-joined g d t .apart))))
+    (λ t. subst T e
+    (le→leb (natAbs (g .end -ℤ g .start)) (g .accelerationLimit * g .ticks) (feasible-joined g d t .apart))))
 
-pub ahead : (g : Leg) (d : ℤ) → 0 < g .ticks → Joined g → (pos (g .ticks) *ℤ (g .start +ℤ g .end)) ≤ℤ d → sumIsWhole g d ≡ true → comesUp g d ≡ feasible g d
+pub ahead : (g : Leg) (d : ℤ) → 0 < g .ticks → Joined g → (pos (g .ticks) *ℤ (g .start +ℤ g .end)) ≤ℤ d
+    → sumIsWhole g d ≡ true → comesUp g d ≡ feasible g d
 ahead g d some j far even = same-truth _ _ there (λ t. feasible-below g d t .le)
   where
     there : T (comesUp g d) → T (feasible g d)
@@ -56,7 +60,8 @@ mirrored-joined g j =
 
 -- behind the line the mirrored leg is ahead of it
 pub behind : (g : Leg) (d : ℤ) → 0 < g .ticks → 0 < g .accelerationLimit → g .speedLimit ≤ 2 ^ 37 → Joined g
-    → d <ℤ (pos (g .ticks) *ℤ (g .start +ℤ g .end)) → sumIsWhole g d ≡ true → comesUp (mirrored g) (negℤ d) ≡ feasible g d
+    → d <ℤ (pos (g .ticks) *ℤ (g .start +ℤ g .end)) → sumIsWhole g d ≡ true
+    → comesUp (mirrored g) (negℤ d) ≡ feasible g d
 behind g d some strong slow j far even =
     ahead (mirrored g) (negℤ d) some (mirrored-joined g j) over even-too ∙ sym (feasible-mirrored g d some strong slow)
   where

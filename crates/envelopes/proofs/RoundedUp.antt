@@ -9,4 +9,5 @@ enough w a t h l =
     omega (arith, div-lt-iff-lt-mul {k = a} {x = w + (a - 1)} {y = suc t} h .0 less, mul-comm (suc t) a, mul-suc a t)
 
 pub too-few : (w a k : ℕ) → 0 < a → k < (w + (a - 1)) / a → a * k < w
-too-few w a k h l = omega (arith, le-div-iff-mul-le {k = a} {x = suc k} {y = w + (a - 1)} h .0 l, mul-comm (suc k) a, mul-suc a k)
+too-few w a k h l =
+    omega (arith, le-div-iff-mul-le {k = a} {x = suc k} {y = w + (a - 1)} h .0 l, mul-comm (suc k) a, mul-suc a k)

@@ -42,12 +42,14 @@ module _ (g : Leg) (s c : ℤ) (t : ℕ) where
 
   pub short-missed : ShortAt g s c t → betweenAt g s c t ≡ false
   short-missed h =
-      upper-fails (endsAllowed (withTicks g t)) (leZ (sumTo (lower (withTicks g t)) (t - 1)) wanted) (leZ wanted (sumTo (upper (withTicks g t)) (t - 1)))
+      upper-fails (endsAllowed (withTicks g t)) (leZ (sumTo (lower (withTicks g t)) (t - 1)) wanted)
+      (leZ wanted (sumTo (upper (withTicks g t)) (t - 1)))
       (above (sumTo (upper (withTicks g t)) (t - 1)) wanted h)
 
   pub mirrored-missed : ShortAt (mirrored g) (negℤ s) (negℤ c) t → betweenAt g s c t ≡ false
   mirrored-missed h =
-      lower-fails (endsAllowed (withTicks g t)) (leZ (sumTo (lower (withTicks g t)) (t - 1)) wanted) (leZ wanted (sumTo (upper (withTicks g t)) (t - 1)))
+      lower-fails (endsAllowed (withTicks g t)) (leZ (sumTo (lower (withTicks g t)) (t - 1)) wanted)
+      (leZ wanted (sumTo (upper (withTicks g t)) (t - 1)))
       (above wanted (sumTo (lower (withTicks g t)) (t - 1))
       (subst (λ (z : ℤ). wanted <ℤ z) (sym (lower-mirror (withTicks g t) (t - 1)))
       (turned (sumTo (upper (mirrored (withTicks g t))) (t - 1)) wanted
@@ -62,7 +64,8 @@ module _ (g : Leg) (s c : ℤ) (t : ℕ) where
 -- ---- all before it
 
 module _ (g : Leg) (s c : ℤ) (last : ℕ) (on : Lasting (betweenAt g s c) (g .ticks)) where
-  pub skips-to : (r : ℕ) → g .ticks ≤ r → r ≤ suc last → (g .ticks < r → betweenAt g s c (r - 1) ≡ false) → Skips (betweenAt g s c) (g .ticks) last r
+  pub skips-to : (r : ℕ) → g .ticks ≤ r → r ≤ suc last → (g .ticks < r → betweenAt g s c (r - 1) ≡ false)
+      → Skips (betweenAt g s c) (g .ticks) last r
   skips-to r low high e = record { low = low; high = high; missed = missed }
     where
       missed : (k : ℕ) → g .ticks ≤ k → k < r → betweenAt g s c k ≡ false
@@ -71,7 +74,8 @@ module _ (g : Leg) (s c : ℤ) (last : ℕ) (on : Lasting (betweenAt g s c) (g .
           (λ t. subst T (sym (on k (r - 1) p (omega arith) (T-true (betweenAt g s c k) t)) ∙ e (omega arith)) tt)
 
   -- then the next one from there
-  pub next-skipped : (r q : ℕ) → Skips (betweenAt g s c) (g .ticks) last r → Next (betweenAt (withTicks g r) (s +ℤ pos (r - g .ticks) *ℤ c) c) r last q
+  pub next-skipped : (r q : ℕ) → Skips (betweenAt g s c) (g .ticks) last r
+      → Next (betweenAt (withTicks g r) (s +ℤ pos (r - g .ticks) *ℤ c) c) r last q
       → Next (betweenAt g s c) (g .ticks) last q
   next-skipped r q w n =
       record {
@@ -82,7 +86,8 @@ module _ (g : Leg) (s c : ℤ) (last : ℕ) (on : Lasting (betweenAt g s c) (g .
       }
     where
       later : (k : ℕ) → r ≤ k → betweenAt (withTicks g r) (s +ℤ pos (r - g .ticks) *ℤ c) c k ≡ betweenAt g s c k
-      later k h = ap (λ (z : ℤ). endsAllowed (withTicks g k) && sumBetween (withTicks g k) z) (wanted-later s c (g .ticks) r k (w .low) h)
+      later k h = ap (λ (z : ℤ). endsAllowed (withTicks g k) && sumBetween (withTicks g k) z)
+          (wanted-later s c (g .ticks) r k (w .low) h)
 
       missed : (k : ℕ) → g .ticks ≤ k → k < q → betweenAt g s c k ≡ false
       missed k h l = go (lt-or-le k r)
@@ -91,7 +96,8 @@ module _ (g : Leg) (s c : ℤ) (last : ℕ) (on : Lasting (betweenAt g s c) (g .
           go (inl p) = w .missed k h p
           go (inr p) = sym (later k p) ∙ n .missed k p l
 
-  pub next-past : (r : ℕ) → last < r → Skips (betweenAt g s c) (g .ticks) last r → Next (betweenAt g s c) (g .ticks) last r
+  pub next-past : (r : ℕ) → last < r → Skips (betweenAt g s c) (g .ticks) last r
+      → Next (betweenAt g s c) (g .ticks) last r
   next-past r h w = record { low = w .low; high = w .high; missed = w .missed; passed = λ l. absurd (omega arith) }
 
   -- counted from a later number of ticks
@@ -99,4 +105,5 @@ module _ (g : Leg) (s c : ℤ) (last : ℕ) (on : Lasting (betweenAt g s c) (g .
   lasting-later r h j k p q e = later k (omega arith) ∙ on j k (omega arith) q (sym (later j p) ∙ e)
     where
       later : (k : ℕ) → r ≤ k → betweenAt (withTicks g r) (s +ℤ pos (r - g .ticks) *ℤ c) c k ≡ betweenAt g s c k
-      later k l = ap (λ (z : ℤ). endsAllowed (withTicks g k) && sumBetween (withTicks g k) z) (wanted-later s c (g .ticks) r k h l)
+      later k l = ap (λ (z : ℤ). endsAllowed (withTicks g k) && sumBetween (withTicks g k) z)
+          (wanted-later s c (g .ticks) r k h l)

@@ -1,5 +1,6 @@
--- The straight line between the ends of a leg is above the lower envelope on the whole. So a leg that goes at least as far as the line has
--- its required sum above the lower envelope's, whatever the limits (`above-lower`).
+-- The straight line between the ends of a leg is above the lower envelope on the whole. So a
+-- leg that goes at least as far as the line has its required sum above the lower envelope's,
+-- whatever the limits (`above-lower`).
 use Prim.Native.Nat.{ℕ, zero, suc, _+_, _-_, _*_, _≤_, _<_}
 use mathlib.Core.Path.{_≡_, refl, sym, ap, subst, _∙_}
 use mathlib.Core.List.{[], _∷_}
@@ -24,14 +25,16 @@ backwards f (suc n) =
     sum-first f n
     ∙ ap (λ (z : ℤ). f 1 +ℤ z)
     (backwards (λ k. f (suc k)) n
-    ∙ sum-same (λ k. f (suc (suc n - k))) (λ k. f (suc (suc n) - k)) n (λ k h. ap f {x = suc (suc n - k)} {y = suc (suc n) - k} (omega arith)))
+    ∙ sum-same (λ k. f (suc (suc n - k))) (λ k. f (suc (suc n) - k)) n
+    (λ k h. ap f {x = suc (suc n - k)} {y = suc (suc n) - k} (omega arith)))
     ∙ swap (f 1) (sumTo (λ k. f (suc (suc n) - k)) n)
     ∙ ap (λ (m : ℕ). sumTo (λ k. f (suc (suc n) - k)) n +ℤ f m) {x = 1} {y = suc (suc n) - suc n} (omega arith)
   where
     swap : (x y : ℤ) → x +ℤ y ≡ y +ℤ x
     swap x y = same (x ∷ y ∷ []) (search pol depth 20 fits 9000) tt
 
-both-below : (f h : ℕ → ℤ) (z : ℤ) (n : ℕ) → ((k : ℕ) → 0 < k → k ≤ n → (f k +ℤ h k) ≤ℤ z) → (sumTo f n +ℤ sumTo h n) ≤ℤ (pos n *ℤ z)
+both-below : (f h : ℕ → ℤ) (z : ℤ) (n : ℕ) → ((k : ℕ) → 0 < k → k ≤ n → (f k +ℤ h k) ≤ℤ z)
+    → (sumTo f n +ℤ sumTo h n) ≤ℤ (pos n *ℤ z)
 both-below f h z zero e = subst (λ (y : ℤ). pos 0 ≤ℤ y) (none z) (≤ℤ-refl (pos 0))
   where
     none : (z : ℤ) → pos 0 ≡ pos 0 *ℤ z
@@ -45,12 +48,14 @@ both-below f h z (suc n) e =
 
     grouped : (a b c d : ℤ) → ((a +ℤ c) +ℤ (b +ℤ d)) ≤ℤ (pos n *ℤ z +ℤ z) → ((a +ℤ b) +ℤ (c +ℤ d)) ≤ℤ (pos (suc n) *ℤ z)
     grouped a b c d p =
-        subst (λ (y : ℤ). ((a +ℤ b) +ℤ (c +ℤ d)) ≤ℤ y) (one-more (pos n) z ∙ ap (λ (m : ℕ). pos m *ℤ z) {x = n + 1} {y = suc n} (omega arith))
+        subst (λ (y : ℤ). ((a +ℤ b) +ℤ (c +ℤ d)) ≤ℤ y)
+        (one-more (pos n) z ∙ ap (λ (m : ℕ). pos m *ℤ z) {x = n + 1} {y = suc n} (omega arith))
         (subst (λ (y : ℤ). y ≤ℤ (pos n *ℤ z +ℤ z)) (same (a ∷ b ∷ c ∷ d ∷ []) (search pol depth 20 fits 9000) tt) p)
 
 -- ---- a tick and the one as far from the end
 
-pair : (l a b : ℕ) (s e : ℤ) → Within l s → Within l e → Within (a + b) (e -ℤ s) → (lowest l a b s e +ℤ lowest l b a s e) ≤ℤ (s +ℤ e)
+pair : (l a b : ℕ) (s e : ℤ) → Within l s → Within l e → Within (a + b) (e -ℤ s)
+    → (lowest l a b s e +ℤ lowest l b a s e) ≤ℤ (s +ℤ e)
 pair l a b = all₂ _ (λ c d e f. simp whole (omega arith))
 
 module _ (g : Leg) (j : Joined g) where
@@ -59,8 +64,10 @@ module _ (g : Leg) (j : Joined g) where
 
   pair-at : (k : ℕ) → k ≤ T → (lower g k +ℤ lower g (T - k)) ≤ℤ (g .start +ℤ g .end)
   pair-at k h =
-      subst (λ (m : ℕ). (lower g k +ℤ lowest (g .speedLimit) (until g k) (g .accelerationLimit * m) (g .start) (g .end)) ≤ℤ (g .start +ℤ g .end)) back
-      (pair (g .speedLimit) (since g k) (until g k) (g .start) (g .end) (record { within = j .start }) (record { within = j .end }) (apart-at g j k h))
+      subst (λ (m : ℕ). (lower g k +ℤ lowest (g .speedLimit) (until g k) (g .accelerationLimit * m) (g .start) (g .end))
+      ≤ℤ (g .start +ℤ g .end)) back
+      (pair (g .speedLimit) (since g k) (until g k) (g .start) (g .end) (record { within = j .start })
+      (record { within = j .end }) (apart-at g j k h))
     where
       back : k ≡ T - (T - k)
       back = omega arith

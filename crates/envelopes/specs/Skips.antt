@@ -1,5 +1,7 @@
--- Numbers of ticks that surely fall short (docs/METHOD.md, 3.10): the ticks of a leg, however they are split into a ramp up, a level part and a ramp down, have at
--- least the area of its upper envelope (`split-above`). Where that is less than the required sum, the leg cannot be made, and by `reach-goes-on` no shorter one can.
+-- Numbers of ticks that surely fall short (docs/METHOD.md, 3.10): the ticks of a leg, however they
+-- are split into a ramp up, a level part and a ramp down, have at least the area of its upper
+-- envelope (`split-above`). Where that is less than the required sum, the leg cannot be made, and
+-- by `reach-goes-on` no shorter one can.
 use Prim.Native.Nat.{ℕ, suc, _+_, _-_, _≤_, _<_}
 use mathlib.Core.Path.{_≡_}
 use mathlib.Core.Bool.{Bool, true, false}

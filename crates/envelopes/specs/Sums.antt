@@ -1,6 +1,7 @@
--- Envelope sums (docs/METHOD.md, 3.10): the sums of both envelopes of a leg, carried to the leg that has one tick more. With a tick more the upper
--- envelope has one velocity more, where its two ramps cross; the others stay, so that the sum grows by it. That `stepped` gives the next leg's sums is
--- the theorem `step-is`.
+-- Envelope sums (docs/METHOD.md, 3.10): the sums of both envelopes of a leg, carried to the leg
+-- that has one tick more. With a tick more the upper envelope has one velocity more, where its two
+-- ramps cross; the others stay, so that the sum grows by it. That `stepped` gives the next leg's
+-- sums is the theorem `step-is`.
 use Prim.Native.Nat.{ℕ, suc, _-_, _*_, _/_, _^_, _≤_, _<_}
 use mathlib.Core.Path.{_≡_}
 use mathlib.Core.Bool.{Bool, true, false, _&&_}
@@ -12,11 +13,13 @@ use Rattle.model.specs.planning.Leg.{Leg, upper, lower}
 use Rattle.envelopes.specs.declared.sums.Sums.{Sums}
 use Rattle.profile.specs.Profiles.{endsAllowed, sumBetween}
 
--- the last tick at which the ramp up from s is not above the ramp down to e, of t ticks, at limit a a tick
+-- the last tick at which the ramp up from s is not above the ramp down to e, of t ticks, at limit a
+-- a tick
 unfoldable pub crossing : ℕ → ℤ → ℤ → ℕ → ℕ
 crossing a s e t = natAbs (e -ℤ s +ℤ pos (a * t)) / (2 * a)
 
--- the velocity that comes to the upper envelope with one tick more, before the speed limit is heeded
+-- the velocity that comes to the upper envelope with one tick more, before the speed limit is
+-- heeded
 unfoldable pub peakOf : ℕ → ℤ → ℤ → ℕ → ℤ
 peakOf a s e t = least (s +ℤ pos (a * suc (crossing a s e t))) (e +ℤ pos (a * (t - crossing a s e t)))
 
@@ -64,7 +67,13 @@ pub record SumsRanged (r : Sums) : Type 0 where
 -- the leg with t ticks
 abbrev pub withTicks : Leg → ℕ → Leg
 withTicks g t =
-    record { ticks = t; start = g .start; end = g .end; speedLimit = g .speedLimit; accelerationLimit = g .accelerationLimit }
+    record {
+      ticks = t;
+      start = g .start;
+      end = g .end;
+      speedLimit = g .speedLimit;
+      accelerationLimit = g .accelerationLimit;
+    }
 
 -- ---- the next number of ticks that will do
 
@@ -75,7 +84,8 @@ pub record Next (test : ℕ → Bool) (first last r : ℕ) : Type 0 where
   pub missed : (k : ℕ) → first ≤ k → k < r → test k ≡ false
   pub passed : r ≤ last → test r ≡ true
 
--- at t ticks: the ends can be joined, and the required sum, which is s at g .ticks and changes by c a tick, is between the sums of the envelopes
+-- at t ticks: the ends can be joined, and the required sum, which is s at g .ticks and changes by c
+-- a tick, is between the sums of the envelopes
 abbrev pub betweenAt : Leg → ℤ → ℤ → ℕ → Bool
 betweenAt g s c t = endsAllowed (withTicks g t) && sumBetween (withTicks g t) (s +ℤ pos (t - g .ticks) *ℤ c)
 

@@ -1,6 +1,8 @@
-// Envelope sums (docs/METHOD.md, 3.10): the sums of both envelopes of a leg, carried to the leg that has one tick more by a step without a loop;
-// and by them the least number of ticks in which a displacement can be made. Numbers of ticks that surely fall short are passed over first, by areas that are
-// no smaller than an envelope's. And whether a displacement can be made in a number of ticks, by one area.
+// Envelope sums (docs/METHOD.md, 3.10): the sums of both envelopes of a leg, carried to the leg
+// that has one tick more by a step without a loop; and by them the least number of ticks in
+// which a displacement can be made. Numbers of ticks that surely fall short are passed over
+// first, by areas that are no smaller than an envelope's. And whether a displacement can be
+// made in a number of ticks, by one area.
 mod one_envelope;
 mod skips;
 mod sums;
@@ -28,7 +30,8 @@ const WIDEST_SPAN: u64 = 4096;
 
 // ---- by halving
 
-// Whether t ticks will do: the sum, which changes by `change` a tick, is between the areas under the two envelopes.
+// Whether t ticks will do: the sum, which changes by `change` a tick, is between the
+// areas under the two envelopes.
 fn will_do(p: Profile, sum: i64, change: i64, t: u64) -> bool
     requires { ⌜ Joinable p ⌝ }
     requires { ⌜ Within (2 ^ 62) sum ⌝ }
@@ -63,7 +66,8 @@ fn further(p: Profile, sum: i64, change: i64, last: u64, low: u64, step: u64) ->
     low
 }
 
-// The least number of ticks to the last that will do, or one past the last, where one that will not is known: each turn halves what is left.
+// The least number of ticks to the last that will do, or one past the last, where one that will not
+// is known: each turn halves what is left.
 fn next_by_halving(p: Profile, sum: i64, change: i64, missed: u64, last: u64) -> u64
     requires { ⌜ Joinable p ⌝ }
     requires { ⌜ Within (2 ^ 62) sum ⌝ }
@@ -88,9 +92,10 @@ fn next_by_halving(p: Profile, sum: i64, change: i64, missed: u64, last: u64) ->
 
 // ---- by sums
 
-// The least number of ticks, from those of a profile to the last, at which a sum that changes by `change` a tick is between the sums of the two
-// envelopes; or one past the last. The ends of the profile can be joined, and a number of ticks that will do is followed by others that will. The sums are carried
-// over a stretch, and the rest is halved.
+// The least number of ticks, from those of a profile to the last, at which a sum that changes by
+// `change` a tick is between the sums of the two envelopes; or one past the last. The ends of the
+// profile can be joined, and a number of ticks that will do is followed by others that will. The
+// sums are carried over a stretch, and the rest is halved.
 fn next_between(p: Profile, sum: i64, change: i64, last: u64) -> u64
     requires { ⌜ Joinable p ⌝ }
     requires { ⌜ Within (2 ^ 62) sum ⌝ }
@@ -127,7 +132,8 @@ fn next_between(p: Profile, sum: i64, change: i64, last: u64) -> u64
     next_by_halving(p, sum, change, stop, last)
 }
 
-// The least number of ticks, from those of a profile on, at which its ends are near enough to one another.
+// The least number of ticks, from those of a profile on, at which its ends are near enough to one
+// another.
 fn near_tick(p: Profile) -> u64
     requires { ⌜ Ranged p ⌝ }
     requires { ⌜ 0 < p .«acceleration_limit» ⌝ }
@@ -145,8 +151,9 @@ fn near_tick(p: Profile) -> u64
 
 // ---- the next number of ticks
 
-// The least number of ticks, from those of a profile to the last, at which a sum that changes by `change` a tick is between the sums of the two envelopes; or one
-// past the last. The ends of the profile can be joined, and a number of ticks that will do is followed by others that will.
+// The least number of ticks, from those of a profile to the last, at which a sum that changes by
+// `change` a tick is between the sums of the two envelopes; or one past the last. The ends of the
+// profile can be joined, and a number of ticks that will do is followed by others that will.
 fn next_lasting(p: Profile, sum: i64, change: i64, last: u64) -> u64
     requires { ⌜ Joinable p ⌝ }
     requires { ⌜ Within (3 * 2 ^ 60) sum ⌝ }
@@ -164,7 +171,8 @@ fn next_lasting(p: Profile, sum: i64, change: i64, last: u64) -> u64
     next_between(with_ticks(p, first), sum + later * change, change, last)
 }
 
-// The same, from a profile whose ends may be too far apart for its ticks: where a number of ticks will do, so will every greater one.
+// The same, from a profile whose ends may be too far apart for its ticks: where a number of ticks
+// will do, so will every greater one.
 pub fn next_feasible(p: Profile, sum: i64, change: i64, last: u64) -> u64
     requires { ⌜ Ranged p ⌝ }
     requires { ⌜ 0 < p .«acceleration_limit» ⌝ }

@@ -1,4 +1,5 @@
-// Whether a displacement can be made, by one area: only one of the two envelopes can fall short of the required sum.
+// Whether a displacement can be made, by one area: only one of the two envelopes can
+// fall short of the required sum.
 use crate::skips::mirrored;
 use profile::Profile;
 ghost use Prim.Native.Nat.{_-_, _^_, _≤_, _<_};
@@ -26,8 +27,9 @@ fn comes_up(p: Profile, displacement: i64) -> bool
     required <= highest
 }
 
-// Whether some list of velocities makes a displacement, given in half steps, between ends within the speed limit. A displacement that is at least that of the
-// straight line from one end to the other is above the lower envelope, and a smaller one is with every sign turned.
+// Whether some list of velocities makes a displacement, given in half steps, between ends within
+// the speed limit. A displacement that is at least that of the straight line from one end to the
+// other is above the lower envelope, and a smaller one is with every sign turned.
 pub fn makes(p: Profile, displacement: i64) -> bool
     requires { ⌜ Ranged p ⌝ }
     requires { ⌜ 0 < p .«acceleration_limit» ⌝ }

@@ -1,4 +1,5 @@
-// Numbers of ticks that surely fall short are passed over, by areas that are no smaller than an envelope's.
+// Numbers of ticks that surely fall short are passed over, by areas that are no smaller than an
+// envelope's.
 use profile::Profile;
 ghost use Prim.Native.Nat.{_+_, _-_, _*_, _/_, _^_, _≤_, _<_, min};
 ghost use mathlib.Core.Path.{_≡_};
@@ -8,18 +9,22 @@ ghost use Rattle.whole.specs.Ranges.{Within, Is};
 ghost use Rattle.areas.specs.Areas.{splitArea};
 ghost use Rattle.profile.specs.Profiles.{legOf, Ranged, Joinable};
 ghost use Rattle.envelopes.specs.Sums.{betweenAt, withTicks};
-ghost use Rattle.envelopes.specs.Skips.{Short, ShortTo, GallopsTo, Skips, Lasting, RampsRanged, splitAt, lengthened, turnedAbout};
+ghost use Rattle.envelopes.specs.Skips.{Short, ShortTo, GallopsTo, Skips, Lasting, RampsRanged, splitAt};
+ghost use Rattle.envelopes.specs.Skips.{lengthened, turnedAbout};
 
 // So many ticks are tried by sums before it is asked whether a leg falls short.
 pub const STRETCH: u64 = 64;
 
-// The widest leap over numbers of ticks that fall short, and the narrowest: each leap is half as wide as the one before.
+// The widest leap over numbers of ticks that fall short, and the narrowest: each leap is
+// half as wide as the one before.
 const WIDEST_LEAP: u64 = 2048;
 
 const NARROWEST_LEAP: u64 = 8;
 
-// How a leg's ticks are split for an area that is no smaller than its upper envelope's: the most on the ramp from the start and on the one to the end, and by how
-// many the first ramp has more or fewer of them than the other. However they are split, the area will do; this split is nearly the envelope's own.
+// How a leg's ticks are split for an area that is no smaller than its upper envelope's: the
+// most on the ramp from the start and on the one to the end, and by how many the first ramp
+// has more or fewer of them than the other. However they are split, the area will do; this
+// split is nearly the envelope's own.
 struct Ramps {
     pub rise: u64,
     pub fall: u64,
@@ -169,7 +174,8 @@ fn short_at(p: Profile, sum: i64, change: i64, t: u64, r: Ramps) -> bool
     falls_short(with_ticks(p, t), sum + later * change, r)
 }
 
-// A number of ticks that falls short: `step` more than t, or t where that is past the last or may not fall short.
+// A number of ticks that falls short: `step` more than t, or t where that is past
+// the last or may not fall short.
 fn leapt(p: Profile, sum: i64, change: i64, last: u64, r: Ramps, t: u64, step: u64) -> u64
     requires { ⌜ Ranged p ⌝ }
     requires { ⌜ 0 < p .ticks ⌝ }
@@ -230,8 +236,9 @@ fn skip_short(p: Profile, sum: i64, change: i64, last: u64) -> u64
     p.ticks
 }
 
-// A number of ticks, from those of a profile on, before which none will do: only one of the two envelopes can fall short, the upper one where the sum is at least
-// that of the straight line from one end to the other.
+// A number of ticks, from those of a profile on, before which none will do: only one of the
+// two envelopes can fall short, the upper one where the sum is at least that of the
+// straight line from one end to the other.
 pub fn skip_missed(p: Profile, sum: i64, change: i64, last: u64) -> u64
     requires { ⌜ Joinable p ⌝ }
     requires { ⌜ Within (3 * 2 ^ 60) sum ⌝ }

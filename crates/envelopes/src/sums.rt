@@ -1,4 +1,5 @@
-// The sums of both envelopes of a leg, carried to the leg that has one tick more by a step without a loop.
+// The sums of both envelopes of a leg, carried to the leg that has one tick
+// more by a step without a loop.
 use profile::Profile;
 ghost use Prim.Native.Nat.{_*_, _^_, _≤_, _<_};
 ghost use mathlib.Core.Path.{_≡_};
@@ -7,8 +8,8 @@ ghost use Rattle.whole.specs.Ranges.{Within, Is};
 ghost use Rattle.profile.specs.Profiles.{legOf, Joinable};
 ghost use Rattle.envelopes.specs.Sums.{peakOf, troughOf, envelopeSumsAt, stepped, SumsRanged, withinSums};
 
-// The sums of both envelopes over ticks 1 to the last but one of a leg, and the velocities that come to them with one and with two ticks more,
-// before the speed limit is heeded.
+// The sums of both envelopes over ticks 1 to the last but one of a leg, and the velocities that
+// come to them with one and with two ticks more, before the speed limit is heeded.
 pub struct Sums {
     pub lowest: i64,
     pub highest: i64,
@@ -18,7 +19,8 @@ pub struct Sums {
     pub later_peak: i64,
 }
 
-// The velocity that comes to the upper envelope of ramps from `start` and to `end` with one tick more, before the speed limit is heeded.
+// The velocity that comes to the upper envelope of ramps from `start` and to `end` with one tick
+// more, before the speed limit is heeded.
 fn peak_of(limit: u64, start: i64, end: i64, ticks: u64) -> i64
     requires { ⌜ 0 < limit ⌝ }
     requires { ⌜ limit ≤ 2 ^ 33 ⌝ }
@@ -74,7 +76,8 @@ pub fn envelope_sums(p: Profile) -> Sums
     }
 }
 
-// The envelope sums of one tick more, at a speed limit and an acceleration limit: no loop and no division.
+// The envelope sums of one tick more, at a speed limit and an acceleration
+// limit: no loop and no division.
 pub fn step(r: Sums, limit: i64, change: i64) -> Sums
     requires { ⌜ SumsRanged r ⌝ }
     requires { ⌜ Within (2 ^ 37) limit ⌝ }

@@ -1,4 +1,5 @@
--- The entries of a list that a mask names, stored one by one, the lowest bit of the mask taken off with each.
+-- The entries of a list that a mask names, stored one by one, the lowest bit of the mask taken off
+-- with each.
 use mathlib.Core.Path.{_≡_, refl, sym, ap, _∙_}
 use mathlib.Core.Bool.{Bool, cond}
 use mathlib.Core.List.{List, [], _∷_, _++_, append-assoc, append-nil}
@@ -32,12 +33,14 @@ module _ {A B : Type 0} (f : A → B) (unset : B) (l : List A) where
 
   -- ---- entry i and those after it
 
-  named-more : (i m : ℕ) → i < length l → namedOf f unset m (drop i l) ≡ namedAt i m ∷ namedOf f unset (m / 2) (drop (suc i) l)
+  named-more : (i m : ℕ) → i < length l
+      → namedOf f unset m (drop i l) ≡ namedAt i m ∷ namedOf f unset (m / 2) (drop (suc i) l)
   unfolding namedOf
   named-more i m h = go l i h
     where
       go : (l : List A) (i : ℕ) → i < length l
-          → namedOf f unset m (drop i l) ≡ getD (namedOf f unset m (drop i l)) 0 unset ∷ namedOf f unset (m / 2) (drop (suc i) l)
+          → namedOf f unset m (drop i l)
+          ≡ getD (namedOf f unset m (drop i l)) 0 unset ∷ namedOf f unset (m / 2) (drop (suc i) l)
       go [] i h = absurd (omega arith)
       go (x ∷ xs) zero h = refl
       go (x ∷ xs) (suc i) h = go xs i (omega arith)
@@ -51,7 +54,8 @@ module _ {A B : Type 0} (f : A → B) (unset : B) (l : List A) where
   namedFrom i m six = take i six ++ namedOf f unset m (drop i l)
 
   -- entry i is stored, and its bit taken off
-  pub named-next : (i m : ℕ) (six : List B) → i < length l → i < length six → namedFrom (i + 1) (m / 2) (set six i (namedAt i m)) ≡ namedFrom i m six
+  pub named-next : (i m : ℕ) (six : List B) → i < length l → i < length six
+      → namedFrom (i + 1) (m / 2) (set six i (namedAt i m)) ≡ namedFrom i m six
   named-next i m six h k =
       let v = namedAt i m in
       ap (λ (j : ℕ). namedFrom j (m / 2) (set six i v)) (add-one i)

@@ -45,12 +45,14 @@ movingOf a =
 unfoldable pub targetOf : PolgamirAxis → Target
 targetOf a = cond (eqb (a .«target_kind») 0) (Fixed (fixedOf a)) (Moving (movingOf a))
 
--- of an axis or of a tour's limits: the number given where the kind is 0, of a ratio where it is 1, of two peaks where it is any other number
+-- of an axis or of a tour's limits: the number given where the kind is 0, of a ratio where it is 1,
+-- of two peaks where it is any other number
 unfoldable pub weightFromC : ℕ → ℕ → Float → Float → Float → Weight
 weightFromC kind weight ratio first second =
     cond (eqb kind 0) (Given weight) (cond (eqb kind 1) (Measured (Ratio ratio)) (Measured (Peaks first second)))
 
--- of an axis or of a tour's limits: none where it is given by 0, and by any other number of the half period
+-- of an axis or of a tour's limits: none where it is given by 0, and by any
+-- other number of the half period
 unfoldable pub swayOf : ℕ → ℕ → SecondSway
 swayOf given period = cond (eqb given 0) Absent (HalfPeriod period)
 
@@ -61,14 +63,16 @@ axisFromC a =
       «speed_limit» = a .«speed_limit»;
       «acceleration_limit» = a .«acceleration_limit»;
       «half_period» = a .«half_period»;
-      «second_weight» = weightFromC (a .«damping_kind») (a .«second_weight») (a .«swing_ratio») (a .«first_peak») (a .«second_peak»);
+      «second_weight» =
+          weightFromC (a .«damping_kind») (a .«second_weight») (a .«swing_ratio») (a .«first_peak») (a .«second_peak»);
       «second_sway» = swayOf (a .«second_sway_given») (a .«second_half_period»);
       target = targetOf a;
     }
 
 -- ---- a job
 
--- what the entries that a mask names stand for, its lowest bit standing for the first; the others are not looked at, and unset
+-- what the entries that a mask names stand for, its lowest bit standing for the first; the
+-- others are not looked at, and unset
 unfoldable pub namedOf : {A B : Type 0} → (A → B) → B → ℕ → List A → List B
 namedOf f unset m [] = []
 namedOf f unset m (x ∷ xs) = cond (eqb (m % 2) 1) (f x) unset ∷ namedOf f unset (m / 2) xs
@@ -76,12 +80,15 @@ namedOf f unset m (x ∷ xs) = cond (eqb (m % 2) 1) (f x) unset ∷ namedOf f un
 abbrev pub axesFromC : ℕ → List PolgamirAxis → List Axis
 axesFromC m l = namedOf axisFromC unsetAxis m l
 
--- none where they are given by 0: what follows is then not looked at; by any other number as they stand
+-- none where they are given by 0: what follows is then not looked at; by any other number as they
+-- stand
 unfoldable pub windowsOf : PolgamirWindows → Windows
-windowsOf w = cond (eqb (w .given) 0) noWindows (record { given = true; dwell = w .dwell; count = w .count; list = w .list })
+windowsOf w =
+    cond (eqb (w .given) 0) noWindows (record { given = true; dwell = w .dwell; count = w .count; list = w .list })
 
 abbrev pub jobFromC : PolgamirJob → Job
-jobFromC j = record { mask = j .mask; asked = j .asked; axes = axesFromC (j .mask) (j .axes); windows = windowsOf (j .windows) }
+jobFromC j =
+    record { mask = j .mask; asked = j .asked; axes = axesFromC (j .mask) (j .axes); windows = windowsOf (j .windows) }
 
 -- ---- an answer
 

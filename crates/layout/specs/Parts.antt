@@ -4,4 +4,8 @@ use Rattle.layout.specs.declared.row_parts.PolgamirPartAnswer.{PolgamirP
 
 -- the answer that C's holds
 abbrev pub partOf : PolgamirPartAnswer → PartAnswer
-partOf r = record { answer = record { number = r .number; place = r .place; mask = r .mask; arrival = r .arrival }; rows = r .rows }
+partOf r =
+    record {
+      answer = record { number = r .number; place = r .place; mask = r .mask; arrival = r .arrival };
+      rows = r .rows;
+    }

@@ -15,13 +15,21 @@ limitsOf l =
       «speed_limit» = l .«speed_limit»;
       «acceleration_limit» = l .«acceleration_limit»;
       «half_period» = l .«half_period»;
-      «second_weight» = weightFromC (l .«damping_kind») (l .«second_weight») (l .«swing_ratio») (l .«first_peak») (l .«second_peak»);
+      «second_weight» =
+          weightFromC (l .«damping_kind») (l .«second_weight») (l .«swing_ratio») (l .«first_peak») (l .«second_peak»);
       «second_sway» = swayOf (l .«second_sway_given») (l .«second_half_period»);
     }
 
 -- what stands where the mask names no axis: zero in every field, and no second sway
 abbrev pub unsetLimits : AxisLimits
-unsetLimits = record { «speed_limit» = 0; «acceleration_limit» = 0; «half_period» = 0; «second_weight» = Given 0; «second_sway» = Absent }
+unsetLimits =
+    record {
+      «speed_limit» = 0;
+      «acceleration_limit» = 0;
+      «half_period» = 0;
+      «second_weight» = Given 0;
+      «second_sway» = Absent;
+    }
 
 -- the limits of the axes that the mask names; the others are not looked at, and unset
 abbrev pub allLimitsOf : ℕ → List PolgamirLimits → List AxisLimits

@@ -1,4 +1,5 @@
-// The structs of include/polgamir.h, and what they stand for: C's jobs, tours and settings to the model's, the model's answers to C's.
+// The structs of include/polgamir.h, and what they stand for: C's jobs, tours and settings to the
+// model's, the model's answers to C's.
 pub mod limit_raises;
 pub mod row_parts;
 pub mod searches;
@@ -16,7 +17,8 @@ use model::Weight;
 use model::Window;
 use model::Windows;
 ghost use mathlib.Core.Path.{_≡_};
-ghost use Rattle.layout.specs.Jobs.{startOf, fixedOf, movingOf, targetOf, weightFromC, swayOf, axisFromC, axesFromC, windowsOf, jobFromC, answerForC};
+ghost use Rattle.layout.specs.Jobs.{startOf, fixedOf, movingOf, targetOf, weightFromC, swayOf, axisFromC};
+ghost use Rattle.layout.specs.Jobs.{axesFromC, windowsOf, jobFromC, answerForC};
 
 // What a call gives back, laid out as the header's `polgamir_answer`.
 #[repr(C)]
@@ -27,8 +29,9 @@ pub struct PolgamirAnswer {
     pub arrival: u32,
 }
 
-// An axis, laid out as the header's `polgamir_axis`. The target is fixed where its kind is 0, else it moves. The second weight is given
-// where the damping's kind is 0, of a ratio where it is 1, else of two peaks. The pole has a second sway where it is given by any number but 0.
+// An axis, laid out as the header's `polgamir_axis`. The target is fixed where its kind is 0, else
+// it moves. The second weight is given where the damping's kind is 0, of a ratio where it is 1,
+// else of two peaks. The pole has a second sway where it is given by any number but 0.
 #[repr(C)]
 pub struct PolgamirAxis {
     pub start_position: i64,
@@ -50,7 +53,8 @@ pub struct PolgamirAxis {
     pub second_half_period: u32,
 }
 
-// Windows, laid out as the header's `polgamir_windows`. They are given where the first field is not 0.
+// Windows, laid out as the header's `polgamir_windows`. They are given where the first field is
+// not 0.
 #[repr(C)]
 pub struct PolgamirWindows {
     pub given: u32,

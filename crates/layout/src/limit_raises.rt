@@ -8,8 +8,8 @@ ghost use mathlib.Core.Path.{_≡_};
 ghost use mathlib.Core.List.{map};
 ghost use Rattle.layout.specs.Raises.{raiseInC, entryInC, raisesInC};
 
-// A raise, laid out as the header's `polgamir_raise`: of the acceleration limit where the limit is 1, of the speed limit where it is 2; none where both
-// fields are 0.
+// A raise, laid out as the header's `polgamir_raise`: of the acceleration limit where the limit is
+// 1, of the speed limit where it is 2; none where both fields are 0.
 #[repr(C)]
 pub struct PolgamirRaise {
     pub limit: u32,

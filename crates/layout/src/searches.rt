@@ -4,7 +4,8 @@ use model::SearchAnswer;
 ghost use mathlib.Core.Path.{_≡_};
 ghost use Rattle.layout.specs.Searches.{reportNumber, nextCandidate, searchedOf};
 
-// What a search gives back, laid out as the header's `polgamir_search_answer`. The report is 0 for none, 1 for found and 2 for spent.
+// What a search gives back, laid out as the header's `polgamir_search_answer`. The report is 0 for
+// none, 1 for found and 2 for spent.
 #[repr(C)]
 pub struct PolgamirSearchAnswer {
     pub number: u32,

@@ -1,4 +1,5 @@
-// What a tour has besides its stops. Stops and answer are the model's own, which have the header's layout.
+// What a tour has besides its stops. Stops and answer are the model's own,
+// which have the header's layout.
 use crate::sway_of;
 use crate::weight_of;
 use model::AxisLimits;
@@ -8,7 +9,8 @@ use model::Weight;
 ghost use mathlib.Core.Path.{_≡_};
 ghost use Rattle.layout.specs.Tours.{limitsOf, unsetLimits, allLimitsOf, settingsOf};
 
-// The limits and the blend of an axis, laid out as the header's `polgamir_limits`. The damping and the second sway are as in an axis.
+// The limits and the blend of an axis, laid out as the header's `polgamir_limits`. The damping and
+// the second sway are as in an axis.
 #[repr(C)]
 pub struct PolgamirLimits {
     pub speed_limit: u32,

@@ -1,5 +1,6 @@
--- Rule 4 decided by the upper envelope alone: of a leg that goes at least as far as the straight line between its ends, else of the leg
--- mirrored; and so of an axis with any limits, by its task (`task-ahead`, `task-behind`).
+-- Rule 4 decided by the upper envelope alone: of a leg that goes at least as far as the straight
+-- line between its ends, else of the leg mirrored; and so of an axis with any limits, by its task
+-- (`task-ahead`, `task-behind`).
 use Prim.Native.Nat.{ℕ, _+_, _-_, _*_, _%_, _^_, _≤_, _<_, max}
 use mathlib.Core.Path.{_≡_, refl, sym, ap, subst, _∙_}
 use mathlib.Core.Bool.{Bool, true, _&&_}
@@ -18,7 +19,8 @@ use Rattle.whole.proofs.Tests.{both, and, and-yes, true-T, ltb-yes}
 use Rattle.model.specs.declared.Axis.{Axis}
 use Rattle.model.specs.planning.Quantities.{fineSteps, delay, finer, speedLimit, accelerationLimit}
 use Rattle.model.specs.planning.Leg.{Leg, upper, required, twiceRequired, sumIsWhole, tests, feasible}
-use Rattle.model.specs.planning.Motion.{reachable, leg, displacement, startVelocity, landingVelocity, arrivalVelocity, landingTick}
+use Rattle.model.specs.planning.Motion.{reachable, leg, displacement, startVelocity, landingVelocity, arrivalVelocity}
+use Rattle.model.specs.planning.Motion.{landingTick}
 use Rattle.model.specs.calls.Raises.{withLimits}
 use Rattle.model.specs.planning.Refusals.{Passed, lastTick}
 use Rattle.model.proofs.legs.Envelopes.{Joined}
@@ -42,13 +44,15 @@ reaches g d w = leb (natAbs (g .end)) (g .speedLimit) && (leb (natAbs w) (g .spe
 abbrev comesUp : Leg → ℤ → ℕ → Bool
 comesUp g d fastest =
     leb fastest (g .speedLimit)
-    && (leb (natAbs (g .end -ℤ g .start)) (g .accelerationLimit * g .ticks) && leZ (required g d) (sumTo (upper g) (g .ticks - 1)))
+    && (leb (natAbs (g .end -ℤ g .start)) (g .accelerationLimit * g .ticks)
+    && leZ (required g d) (sumTo (upper g) (g .ticks - 1)))
 
 module _ (g : Leg) (d w : ℤ) (some : 0 < g .ticks) where
   abbrev L : ℕ
   L = g .speedLimit
 
-  ahead : (pos (g .ticks) *ℤ (g .start +ℤ g .end)) ≤ℤ d → sumIsWhole g d ≡ true → reaches g d w ≡ comesUp g d (fastestOf (g .start) (g .end) w)
+  ahead : (pos (g .ticks) *ℤ (g .start +ℤ g .end)) ≤ℤ d → sumIsWhole g d ≡ true
+      → reaches g d w ≡ comesUp g d (fastestOf (g .start) (g .end) w)
   ahead far even = same-truth _ _ there back
     where
       e : Bool
@@ -72,7 +76,8 @@ module _ (g : Leg) (d w : ℤ) (some : 0 < g .ticks) where
           let j = feasible-joined g d (arrives .1) in
           let slow = leb→le (natAbs w) L (arrives .0) in
           and f (n && u) (le→leb (fastestOf (g .start) (g .end) w) L (omega (arith, j .start, j .end, slow)))
-          (and n u (le→leb (natAbs (g .end -ℤ g .start)) (g .accelerationLimit * g .ticks) (j .apart)) (feasible-below g d (arrives .1) .le))
+          (and n u (le→leb (natAbs (g .end -ℤ g .start)) (g .accelerationLimit * g .ticks) (j .apart))
+          (feasible-below g d (arrives .1) .le))
 
       back : T (comesUp g d (fastestOf (g .start) (g .end) w)) → T (reaches g d w)
       back t =
@@ -94,14 +99,16 @@ module _ (g : Leg) (d w : ℤ) (some : 0 < g .ticks) where
           )))
 
 -- behind the line: the mirrored leg is ahead of it
-behind : (g : Leg) (d w : ℤ) → 0 < g .ticks → 0 < g .accelerationLimit → g .speedLimit ≤ 2 ^ 37 → d <ℤ (pos (g .ticks) *ℤ (g .start +ℤ g .end))
+behind : (g : Leg) (d w : ℤ) → 0 < g .ticks → 0 < g .accelerationLimit → g .speedLimit ≤ 2 ^ 37
+    → d <ℤ (pos (g .ticks) *ℤ (g .start +ℤ g .end))
     → sumIsWhole g d ≡ true → reaches g d w ≡ comesUp (mirrored g) (negℤ d) (fastestOf (g .start) (g .end) w)
 behind g d w some strong slow far even =
     (λ i.
     leb (sym (natAbs-neg (g .end)) i) (g .speedLimit)
     && (leb (sym (natAbs-neg w) i) (g .speedLimit) && feasible-mirrored g d some strong slow i))
     ∙ ahead (mirrored g) (negℤ d) (negℤ w) some over even-too
-    ∙ (λ i. comesUp (mirrored g) (negℤ d) (max (natAbs-neg (g .start) i) (max (natAbs-neg (g .end) i) (natAbs-neg w i))))
+    ∙ (λ i. comesUp (mirrored g) (negℤ d)
+    (max (natAbs-neg (g .start) i) (max (natAbs-neg (g .end) i) (natAbs-neg w i))))
   where
     turned : (t s e : ℤ) → t *ℤ (negℤ s +ℤ negℤ e) ≡ negℤ (t *ℤ (s +ℤ e))
     turned t s e = same (t ∷ s ∷ e ∷ []) (search pol depth 20 fits 9000) tt
@@ -123,11 +130,18 @@ behind g d w some strong slow far even =
 
 -- ---- an axis
 
--- the tests of a task, with the limits l and m, are those of the leg with these limits on a grid of f steps in a fine step
+-- the tests of a task, with the limits l and m, are those of the leg with these limits on a
+-- grid of f steps in a fine step
 on-grid : (x : Axis) (s e d : ℤ) (ticks fastest l m : ℕ)
     → enough (taskWith x s e d ticks fastest) l m
     ≡ comesUp
-    (record { ticks = ticks; start = s; end = e; speedLimit = finer x * (fineSteps * l); accelerationLimit = finer x * (fineSteps * m) }) d fastest
+    (record {
+      ticks = ticks;
+      start = s;
+      end = e;
+      speedLimit = finer x * (fineSteps * l);
+      accelerationLimit = finer x * (fineSteps * m);
+    }) d fastest
 unfolding enough
 on-grid x s e d ticks fastest l m =
     λ i.
@@ -177,18 +191,21 @@ module _ (x : Axis) (n : ℕ) (after : delay x < n) where
       ∙ sym (on-grid x s e d (landingTick x n) (fastestOf s e w) l m)
 
   decided-behind : d <ℤ (pos (landingTick x n) *ℤ (s +ℤ e)) → (l m : ℕ) → l ≤ 1048576 → 0 < m
-      → reachable (withLimits l m x) n ≡ enough (taskWith x (negℤ s) (negℤ e) (negℤ d) (landingTick x n) (fastestOf s e w)) l m
+      → reachable (withLimits l m x) n
+      ≡ enough (taskWith x (negℤ s) (negℤ e) (negℤ d) (landingTick x n) (fastestOf s e w)) l m
   unfolding finer
   decided-behind far l m slow strong =
       opened l m
-      ∙ behind (leg (withLimits l m x) n) d w some-ticks (acceleration-some (withLimits l m x) strong) (speed-range (withLimits l m x) slow) far
+      ∙ behind (leg (withLimits l m x) n) d w some-ticks (acceleration-some (withLimits l m x) strong)
+      (speed-range (withLimits l m x) slow) far
       (sum-is-whole (withLimits l m x) n)
       ∙ sym (on-grid x (negℤ s) (negℤ e) (negℤ d) (landingTick x n) (fastestOf s e w) l m)
 
 -- ---- ranges
 
 -- s and e are the velocities of the ends, or both are negated
-task-ranged : (x : Axis) (s e d : ℤ) (ticks fastest : ℕ) → Passed x → natAbs s ≤ fastest → natAbs e ≤ fastest → fastest ≤ 2 ^ 48
+task-ranged : (x : Axis) (s e d : ℤ) (ticks fastest : ℕ) → Passed x → natAbs s ≤ fastest
+    → natAbs e ≤ fastest → fastest ≤ 2 ^ 48
     → natAbs d ≤ 2 ^ 60 → 0 < ticks → ticks ≤ 4096 → TaskRanged (taskWith x s e d ticks fastest)
 task-ranged x s e d ticks fastest p hs he hf hd some few =
     record {
@@ -206,12 +223,14 @@ task-ranged x s e d ticks fastest p hs he hf hd some few =
     }
   where
     twice : natAbs (d -ℤ s -ℤ e) ≤ 2 ^ 60 + fastest + fastest
-    twice = add-holds (d -ℤ s) (negℤ e) (2 ^ 60 + fastest) fastest (add-holds d (negℤ s) (2 ^ 60) fastest hd (neg-holds s fastest hs)) (neg-holds e fastest he)
+    twice = add-holds (d -ℤ s) (negℤ e) (2 ^ 60 + fastest) fastest
+        (add-holds d (negℤ s) (2 ^ 60) fastest hd (neg-holds s fastest hs)) (neg-holds e fastest he)
 
 -- ---- the task of an axis
 
 module _ (x : Axis) (n : ℕ) (after : delay x < n) (p : Passed x) (last : n ≤ lastTick)
-    (fast : fastestOf (startVelocity x) (landingVelocity x n) (arrivalVelocity x n) ≤ 2 ^ 48) (far : natAbs (displacement x n) ≤ 2 ^ 60) where
+    (fast : fastestOf (startVelocity x) (landingVelocity x n) (arrivalVelocity x n) ≤ 2 ^ 48)
+    (far : natAbs (displacement x n) ≤ 2 ^ 60) where
   abbrev fastest : ℕ
   fastest = fastestOf (startVelocity x) (landingVelocity x n) (arrivalVelocity x n)
 
@@ -220,7 +239,8 @@ module _ (x : Axis) (n : ℕ) (after : delay x < n) (p : Passed x) (last : n ≤
   task-ahead over =
       record {
         ranged =
-            task-ranged x (startVelocity x) (landingVelocity x n) (displacement x n) (landingTick x n) fastest p (omega arith) (omega arith) fast far
+            task-ranged x (startVelocity x) (landingVelocity x n) (displacement x n) (landingTick x n) fastest p
+            (omega arith) (omega arith) fast far
             (omega arith) (omega arith);
         speed = refl;
         acceleration = refl;
@@ -228,11 +248,14 @@ module _ (x : Axis) (n : ℕ) (after : delay x < n) (p : Passed x) (last : n ≤
       }
 
   pub task-behind : displacement x n <ℤ (pos (landingTick x n) *ℤ (startVelocity x +ℤ landingVelocity x n))
-      → TaskIs x n (taskWith x (negℤ (startVelocity x)) (negℤ (landingVelocity x n)) (negℤ (displacement x n)) (landingTick x n) fastest)
+      → TaskIs x n
+      (taskWith x (negℤ (startVelocity x)) (negℤ (landingVelocity x n))
+      (negℤ (displacement x n)) (landingTick x n) fastest)
   task-behind under =
       record {
         ranged =
-            task-ranged x (negℤ (startVelocity x)) (negℤ (landingVelocity x n)) (negℤ (displacement x n)) (landingTick x n) fastest p
+            task-ranged x (negℤ (startVelocity x)) (negℤ (landingVelocity x n))
+            (negℤ (displacement x n)) (landingTick x n) fastest p
             (omega (arith, natAbs-neg (startVelocity x))) (omega (arith, natAbs-neg (landingVelocity x n))) fast
             (omega (arith, natAbs-neg (displacement x n), far)) (omega arith) (omega arith);
         speed = refl;

@@ -1,5 +1,6 @@
--- The area of a split into three parts is linear in each limit. At the value v of a limit the upper envelope's own parts have its sum, and
--- at any other value at least its sum there; so the sum gains at most the parts' gain for each unit, and every value at which that is too
+-- The area of a split into three parts is linear in each limit. At the value v of a limit the
+-- upper envelope's own parts have its sum, and at any other value at least its sum there; so
+-- the sum gains at most the parts' gain for each unit, and every value at which that is too
 -- little falls short (`falls-short`).
 use Prim.Native.Nat.{ℕ, _+_, _-_, _*_, _^_, _≤_, _<_}
 use mathlib.Core.Path.{_≡_, refl, sym, ap, subst, _∙_}
@@ -27,7 +28,8 @@ use Rattle.areas.specs.Areas.{triangle, rampArea, splitArea, upperParts}
 use Rattle.profile.proofs.FeasibleParts.{joined-ends}
 use Rattle.areas.proofs.UpperSplits.{split-above, split-is, parts-all}
 use Rattle.least_limit.specs.declared.Task.{Task}
-use Rattle.least_limit.specs.Limits.{profileAt, speedWith, accelerationWith, other, limitIn, need, unit, enough, enoughWith, gainOf}
+use Rattle.least_limit.specs.Limits.{profileAt, speedWith, accelerationWith, other, limitIn, need, unit, enough}
+use Rattle.least_limit.specs.Limits.{enoughWith, gainOf}
 use Rattle.least_limit.specs.Limits.{TaskRanged, Allowed, PartsRanged}
 
 module _ (t : Task) where
@@ -41,16 +43,20 @@ module _ (t : Task) where
 
   -- what it is at the limit 0
   atZero : Limit → Parts → ℤ
-  atZero Acceleration p = pos (p .rising) *ℤ t .start +ℤ pos (p .level) *ℤ pos (t .steps * t .speed) +ℤ pos (p .falling) *ℤ t .end
+  atZero Acceleration p =
+      pos (p .rising) *ℤ t .start +ℤ pos (p .level) *ℤ pos (t .steps * t .speed) +ℤ pos (p .falling) *ℤ t .end
   atZero Speed p =
-      rampArea (t .start) (pos (t .steps * t .acceleration)) (p .rising) +ℤ rampArea (t .end) (pos (t .steps * t .acceleration)) (p .falling)
+      rampArea (t .start) (pos (t .steps * t .acceleration)) (p .rising)
+      +ℤ rampArea (t .end) (pos (t .steps * t .acceleration)) (p .falling)
 
   linear : (q : Limit) (p : Parts) (v : ℕ) → splitArea (legWith q v) p ≡ atZero q p +ℤ pos (v * (t .steps * gainOf q p))
   unfolding splitArea rampArea atZero
   linear Acceleration p v =
-      apart (pos (p .rising) *ℤ t .start) (pos (triangle (p .rising))) (pos (p .level) *ℤ pos (t .steps * t .speed)) (pos (p .falling) *ℤ t .end)
+      apart (pos (p .rising) *ℤ t .start) (pos (triangle (p .rising)))
+      (pos (p .level) *ℤ pos (t .steps * t .speed)) (pos (p .falling) *ℤ t .end)
       (pos (triangle (p .falling))) (pos (t .steps * v))
-      ∙ ap (λ (n : ℕ). atZero Acceleration p +ℤ pos n) {x = (triangle (p .rising) + triangle (p .falling)) * (t .steps * v)}
+      ∙ ap (λ (n : ℕ). atZero Acceleration p +ℤ pos n)
+      {x = (triangle (p .rising) + triangle (p .falling)) * (t .steps * v)}
       {y = v * (t .steps * (triangle (p .rising) + triangle (p .falling)))} (omega arith)
     where
       apart : (a x l b y k : ℤ) → (a +ℤ x *ℤ k) +ℤ l +ℤ (b +ℤ y *ℤ k) ≡ a +ℤ l +ℤ b +ℤ (x +ℤ y) *ℤ k
@@ -58,7 +64,8 @@ module _ (t : Task) where
   linear Speed p v =
       last (rampArea (t .start) (pos (t .steps * t .acceleration)) (p .rising)) (pos (p .level * (t .steps * v)))
       (rampArea (t .end) (pos (t .steps * t .acceleration)) (p .falling))
-      ∙ ap (λ (n : ℕ). atZero Speed p +ℤ pos n) {x = p .level * (t .steps * v)} {y = v * (t .steps * p .level)} (omega arith)
+      ∙ ap (λ (n : ℕ). atZero Speed p +ℤ pos n) {x = p .level * (t .steps * v)}
+      {y = v * (t .steps * p .level)} (omega arith)
     where
       last : (a l b : ℤ) → a +ℤ l +ℤ b ≡ a +ℤ b +ℤ l
       last a l b = same (a ∷ l ∷ b ∷ []) (search pol depth 20 fits 9000) tt
@@ -80,9 +87,19 @@ module _ (t : Task) where
   -- a higher value allows the ends too
   pub allowed-higher : (q : Limit) (v w : ℕ) → Allowed q t v → v ≤ w → w ≤ highest q → Allowed q t w
   allowed-higher Acceleration v w a h m =
-      record { low = omega (arith, a .low); high = m; speed = a .speed; near = le-trans (a .near) (mul-le-mul-left (t .steps * t .ticks) h) }
+      record {
+        low = omega (arith, a .low);
+        high = m;
+        speed = a .speed;
+        near = le-trans (a .near) (mul-le-mul-left (t .steps * t .ticks) h);
+      }
   allowed-higher Speed v w a h m =
-      record { low = omega (arith, a .low); high = m; speed = le-trans (a .speed) (mul-le-mul-left (t .steps) h); near = a .near }
+      record {
+        low = omega (arith, a .low);
+        high = m;
+        speed = le-trans (a .speed) (mul-le-mul-left (t .steps) h);
+        near = a .near;
+      }
 
   -- ---- the values that fall short, and those that do not
 
@@ -109,7 +126,8 @@ module _ (t : Task) where
 
   -- `missing` is what the sum at v falls short by
   pub falls-short : (q : Limit) (v missing k : ℕ) → TaskRanged t → Allowed q t v → t .sum ≡ upperSum q v +ℤ pos missing
-      → k * (t .steps * gainOf q (upperParts (legWith q v))) < v * (t .steps * gainOf q (upperParts (legWith q v))) + missing
+      → k * (t .steps * gainOf q (upperParts (legWith q v)))
+      < v * (t .steps * gainOf q (upperParts (legWith q v))) + missing
       → enoughWith q t k ≡ false
   unfolding enough
   falls-short q v missing k r a e h =
@@ -123,10 +141,12 @@ module _ (t : Task) where
       here = split-is (legWith q v) (joined q v r a) (some q v r a) ∙ linear q p v
 
       there : upperSum q k ≤ℤ (atZero q p +ℤ pos (k * (t .steps * gainOf q p)))
-      there = subst (λ (z : ℤ). upperSum q k ≤ℤ z) (linear q p k) (split-above (legWith q k) p (parts-all (legWith q v)))
+      there = subst (λ (z : ℤ). upperSum q k ≤ℤ z) (linear q p k)
+          (split-above (legWith q k) p (parts-all (legWith q v)))
 
       less : upperSum q k <ℤ (upperSum q v +ℤ pos missing)
-      less = above (upperSum q v) (atZero q p) (upperSum q k) (v * (t .steps * gainOf q p)) (k * (t .steps * gainOf q p)) missing here there h
+      less = above (upperSum q v) (atZero q p) (upperSum q k) (v * (t .steps * gainOf q p))
+          (k * (t .steps * gainOf q p)) missing here there h
 
   pub comes-up : (q : Limit) (v : ℕ) → Allowed q t v → leZ (t .sum) (upperSum q v) ≡ true → enoughWith q t v ≡ true
   unfolding enough
@@ -151,19 +171,28 @@ module _ (t : Task) where
   not-allowed Acceleration v h = by-acceleration (t .speed) v (leb-no h)
   not-allowed Speed v h = by-speed v (t .acceleration) (leb-no h)
 
-  pub other-short : (q : Limit) (v : ℕ) → leb (need (other q) t) (unit (other q) t * limitIn (other q) t) ≡ false → enoughWith q t v ≡ false
+  pub other-short : (q : Limit) (v : ℕ) → leb (need (other q) t) (unit (other q) t * limitIn (other q) t) ≡ false
+      → enoughWith q t v ≡ false
   other-short Acceleration v e = by-speed (t .speed) v e
   other-short Speed v e = by-acceleration v (t .acceleration) e
 
-  pub both-allow : (q : Limit) (v : ℕ) → leb (need (other q) t) (unit (other q) t * limitIn (other q) t) ≡ true → need q t ≤ unit q t * v → 0 < v
+  pub both-allow : (q : Limit) (v : ℕ) → leb (need (other q) t) (unit (other q) t * limitIn (other q) t) ≡ true
+      → need q t ≤ unit q t * v → 0 < v
       → v ≤ highest q → Allowed q t v
-  both-allow Acceleration v e h l m = record { low = l; high = m; speed = leb→le (need Speed t) (unit Speed t * t .speed) (true-T e); near = h }
+  both-allow Acceleration v e h l m =
+      record { low = l; high = m; speed = leb→le (need Speed t) (unit Speed t * t .speed) (true-T e); near = h }
   both-allow Speed v e h l m =
-      record { low = l; high = m; speed = h; near = leb→le (need Acceleration t) (unit Acceleration t * t .acceleration) (true-T e) }
+      record {
+        low = l;
+        high = m;
+        speed = h;
+        near = leb→le (need Acceleration t) (unit Acceleration t * t .acceleration) (true-T e);
+      }
 
   -- ---- ranges
 
-  pub profile-joinable : (q : Limit) (v : ℕ) → TaskRanged t → Allowed q t v → Joinable (profileAt t (speedWith q t v) (accelerationWith q t v))
+  pub profile-joinable : (q : Limit) (v : ℕ) → TaskRanged t → Allowed q t v
+      → Joinable (profileAt t (speedWith q t v) (accelerationWith q t v))
   profile-joinable q v r a =
       record {
         ranged =
@@ -207,7 +236,8 @@ module _ (t : Task) where
   unit-small Speed r = omega (arith, r .steps)
 
   pub need-small : (q : Limit) → TaskRanged t → need q t ≤ 2 ^ 49
-  need-small Acceleration r = omega (arith, natAbs-+ (t .end) (negℤ (t .start)), natAbs-neg (t .start), r .start, r .end, r .fastest)
+  need-small Acceleration r =
+      omega (arith, natAbs-+ (t .end) (negℤ (t .start)), natAbs-neg (t .start), r .start, r .end, r .fastest)
   need-small Speed r = omega (arith, r .fastest)
 
   pub limit-range : (q : Limit) → TaskRanged t → limitIn q t ≤ highest q

@@ -62,7 +62,8 @@ unit Speed t = t .steps
 unfoldable pub enough : Task → ℕ → ℕ → Bool
 enough t l m =
     leb (need Speed t) (unit Speed t * l)
-    && (leb (need Acceleration t) (unit Acceleration t * m) && leZ (t .sum) (sumTo (upper (legOf (profileAt t l m))) (t .ticks - 1)))
+    && (leb (need Acceleration t) (unit Acceleration t * m)
+    && leZ (t .sum) (sumTo (upper (legOf (profileAt t l m))) (t .ticks - 1)))
 
 abbrev pub enoughWith : Limit → Task → ℕ → Bool
 enoughWith q t v = enough t (speedWith q t v) (accelerationWith q t v)

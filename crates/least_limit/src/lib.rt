@@ -1,8 +1,11 @@
-// The least limit at which a leg can be made (docs/METHOD.md, 8.2): of the two limits of a leg the one is as it is, and the least value of the other is
-// found for which the ends can be joined and the upper envelope's sum comes up to the required one.
+// The least limit at which a leg can be made (docs/METHOD.md, 8.2): of the two limits of a leg the
+// one is as it is, and the least value of the other is found for which the ends can be joined and
+// the upper envelope's sum comes up to the required one.
 //
-// A test takes the area under the upper envelope at one value. Where the area falls short, it also says how much each unit more can gain at most, so that every
-// value is passed over at which the area still falls short. After ten tests that lead on from below, each further one halves what is left.
+// A test takes the area under the upper envelope at one value. Where the area falls short,
+// it also says how much each unit more can gain at most, so that every value is passed over
+// at which the area still falls short. After ten tests that lead on from below, each
+// further one halves what is left.
 use areas::Parts;
 use model::Limit;
 use profile::Profile;
@@ -13,10 +16,12 @@ ghost use Rattle.model.specs.calls.Raises.{highest};
 ghost use Rattle.envelopes.specs.Sums.{Next};
 ghost use Rattle.areas.specs.Areas.{triangle};
 ghost use Rattle.least_limit.specs.Limits.{profileAt, other, limitIn, need, unit, gainOf, enoughWith};
-ghost use Rattle.least_limit.specs.Limits.{TaskRanged, Allowed, PartsRanged, ProfileFor, FirstAllowed, Leads, Led};
+ghost use Rattle.least_limit.specs.Limits.{TaskRanged, Allowed, PartsRanged, ProfileFor, FirstAllowed, Leads};
+ghost use Rattle.least_limit.specs.Limits.{Led};
 
-// What a leg asks of its limits, in grid steps: the velocities of its ends, the greatest speed that it has, and the required sum, which only the upper envelope can
-// fall short of. The grid steps in a unit; the limits as they are, in units.
+// What a leg asks of its limits, in grid steps: the velocities of its ends, the greatest speed that
+// it has, and the required sum, which only the upper envelope can fall short of. The grid steps in
+// a unit; the limits as they are, in units.
 pub struct Task {
     pub start: i64,
     pub end: i64,
@@ -28,7 +33,8 @@ pub struct Task {
     pub acceleration: u64,
 }
 
-// The least value of a limit, above the one that it has and up to the last, for which the leg can be made; or one past the last.
+// The least value of a limit, above the one that it has and up to the last, for which the leg can
+// be made; or one past the last.
 pub fn least_limit(t: Task, limit: Limit, last: u64) -> u64
     requires { ⌜ TaskRanged t ⌝ }
     requires { ⌜ limitIn limit t ≤ last ⌝ }
@@ -63,7 +69,8 @@ pub fn limit_in(t: Task, limit: Limit) -> u64
     }
 }
 
-// How much a limit must make in grid steps: by M the change from one end to the other, by L the greatest speed.
+// How much a limit must make in grid steps: by M the change from one end to the
+// other, by L the greatest speed.
 fn need(t: Task, limit: Limit) -> u64
     requires { ⌜ TaskRanged t ⌝ }
     ensures { λ r. ⌜ r ≡ need limit t ⌝ }
@@ -95,7 +102,8 @@ fn allows(t: Task, limit: Limit) -> bool
     need(t, limit) <= unit(t, limit) * limit_in(t, limit)
 }
 
-// The least value of a limit, above the one that it has, that allows the ends; or `after`, where that is not higher.
+// The least value of a limit, above the one that it has, that allows the ends; or
+// `after`, where that is not higher.
 fn first_allowed(t: Task, limit: Limit, after: u64) -> u64
     requires { ⌜ TaskRanged t ⌝ }
     requires { ⌜ limitIn limit t < after ⌝ }
@@ -152,7 +160,8 @@ fn triangle(n: u64) -> u64
     n * (n + 1) / 2
 }
 
-// How much of a grid step's raise of a limit the area gains at most: M raises every tick of a ramp by as many steps as it is from the end, L every level tick.
+// How much of a grid step's raise of a limit the area gains at most: M raises every tick of a ramp
+// by as many steps as it is from the end, L every level tick.
 fn gain(parts: Parts, limit: Limit) -> u64
     requires { ⌜ PartsRanged parts ⌝ }
     ensures { λ r. ⌜ (r ≡ gainOf limit parts) × (r ≤ 2 ^ 25) ⌝ }
@@ -163,7 +172,8 @@ fn gain(parts: Parts, limit: Limit) -> u64
     }
 }
 
-// The least value at which what is missing at a lower one may have been gained, at so much a unit; or `after`, where that is not higher.
+// The least value at which what is missing at a lower one may have been gained, at so much a unit;
+// or `after`, where that is not higher.
 fn next_lower_bound(value: u64, missing: u64, gain: u64, after: u64) -> u64
     requires { ⌜ value < after ⌝ }
     requires { ⌜ after ≤ 2 ^ 32 ⌝ }
@@ -203,7 +213,8 @@ fn lead(t: Task, limit: Limit, value: u64, after: u64) -> u64
 
 // ---- the search
 
-// The value to test next, of those from `low` on and before `high`: the lowest, and after ten tests the middle one.
+// The value to test next, of those from `low` on and before `high`: the lowest, and
+// after ten tests the middle one.
 fn next_tested(low: u64, high: u64, tests: u64) -> u64
     requires { ⌜ low < high ⌝ }
     requires { ⌜ high ≤ 2 ^ 32 ⌝ }
@@ -215,8 +226,8 @@ fn next_tested(low: u64, high: u64, tests: u64) -> u64
     (low + high) / 2
 }
 
-// The least value from the first on and before `after` that is enough, or `after`. Every value below `low` is known to fall short, and `high` to be enough where it
-// is not `after`.
+// The least value from the first on and before `after` that is enough, or `after`. Every value
+// below `low` is known to fall short, and `high` to be enough where it is not `after`.
 fn least_from(t: Task, limit: Limit, first: u64, after: u64) -> u64
     requires { ⌜ TaskRanged t ⌝ }
     requires { ⌜ 0 < first ⌝ }

@@ -18,7 +18,8 @@ pub mod Job
 pub mod Words
 -- The refusals of one axis: 4, 12, 5, 15, 6, 16 and 17.
 pub mod Refusals
--- The first refusal of a job before its arrival is looked for, or the job: what every call goes on from. Refusals 3 and 13.
+-- The first refusal of a job before its arrival is looked for, or the job: what every call
+-- goes on from. Refusals 3 and 13.
 pub mod Admission
 -- The answer to a call and its table; refusals 8, 9 and 10.
 pub mod Outcome

@@ -1,4 +1,5 @@
--- The engine by ticks and the engine by areas give one answer for every axis with an acceleration limit of at least 1 and every arrival, on the axis's own grid.
+-- The engine by ticks and the engine by areas give one answer for every axis with an acceleration
+-- limit of at least 1 and every arrival, on the axis's own grid.
 use Prim.Native.Nat.{ℕ, _<_}
 use mathlib.Core.Path.{_≡_, ap, sym, _∙_}
 use mathlib.Core.Bool.{Bool, true, _&&_}
@@ -35,7 +36,8 @@ module _ (x : Axis) (some : 0 < accelerationLimit x) (n : ℕ) where
         reach =
             ap
             (λ (b : Bool). ltb (delay x) n
-            && (leb (natAbs (landingVelocity x n)) (speedSteps x) && (leb (natAbs (arrivalVelocity x n)) (speedSteps x) && b)))
+            && (leb (natAbs (landingVelocity x n)) (speedSteps x)
+            && (leb (natAbs (arrivalVelocity x n)) (speedSteps x) && b)))
             (agree .reach (displacement x n));
         cruises = λ e. agree .cruises (ends e) (requiredSum x n);
         remainders = λ e. agree .remainders (ends e) (requiredSum x n);

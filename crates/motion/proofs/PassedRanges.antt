@@ -14,13 +14,15 @@ use Rattle.model.specs.declared.State.{State}
 use Rattle.model.specs.declared.Target.{Target}
 use Rattle.model.specs.declared.Target.the-variants.{Fixed, Moving}
 use Rattle.model.specs.planning.Quantities.{speedLimit, accelerationLimit, asMoving}
-use Rattle.model.specs.planning.Refusals.{lastTick, within, positionAllowed, velocityAllowed, restAllowed, motionAllowed, targetAllowed, Passed}
+use Rattle.model.specs.planning.Refusals.{lastTick, within, positionAllowed, velocityAllowed, restAllowed}
+use Rattle.model.specs.planning.Refusals.{motionAllowed, targetAllowed, Passed}
 use Rattle.model.proofs.jobs.PassedAxis.{speed-limit, half-period, second-weight, second-half-period}
 use Rattle.motion.specs.Motions.{StateRanges, Ranges}
 
 position-within : (p : ℤ) → T (positionAllowed p) → Within (2 ^ 34) p
 position-within p t =
-    go p (leZ-yes (left (leZ (negsuc 17179869183) p) (leZ p (pos 17179869183)) t)) (leZ-yes (right (leZ (negsuc 17179869183) p) (leZ p (pos 17179869183)) t))
+    go p (leZ-yes (left (leZ (negsuc 17179869183) p) (leZ p (pos 17179869183)) t))
+    (leZ-yes (right (leZ (negsuc 17179869183) p) (leZ p (pos 17179869183)) t))
   where
     go : (p : ℤ) → negsuc 17179869183 ≤ℤ p → p ≤ℤ pos 17179869183 → Within (2 ^ 34) p
     go = all₁ _ (λ a b. simp whole (omega arith))
@@ -40,16 +42,22 @@ limited {x} k =
     let t : T a = right s a (not-false-T (s && a) (k .limits)) in
     record {
       «speed_limit» = speed-limit x k;
-      «acceleration_limit» = leb→le (accelerationLimit x) 65536 (right (leb 1 (accelerationLimit x)) (leb (accelerationLimit x) 65536) t);
+      «acceleration_limit» =
+          leb→le (accelerationLimit x) 65536 (right (leb 1 (accelerationLimit x)) (leb (accelerationLimit x) 65536) t);
     }
 
-rest-within : (x : Axis) (r : RestPoint) → Limited x → T (restAllowed x r) → Within (2 ^ 34) (r .position) × Within (2 ^ 20) (r .velocity)
+rest-within : (x : Axis) (r : RestPoint) → Limited x → T (restAllowed x r)
+    → Within (2 ^ 34) (r .position) × Within (2 ^ 20) (r .velocity)
 rest-within x r l t =
     let p : Bool = positionAllowed (r .position) in
-    let v : Bool = velocityAllowed x (r .velocity) in
-    (position-within (r .position) (left p v t), size-within (speedLimit x) (2 ^ 20) (r .velocity) (l .«speed_limit») (right p v t))
+    let v : Bool = velocityAllowed x (r .velocity) in (
+      position-within (r .position) (left p v t),
+      size-within (speedLimit x) (2 ^ 20) (r .velocity)
+          (l .«speed_limit») (right p v t),
+    )
 
-motion-within : (x : Axis) (m : State) → Limited x → T (motionAllowed x m) → Within (2 ^ 16) (m .acceleration) × Within lastTick (m .tick)
+motion-within : (x : Axis) (m : State) → Limited x → T (motionAllowed x m)
+    → Within (2 ^ 16) (m .acceleration) × Within lastTick (m .tick)
 motion-within x m l t =
     let a : Bool = leb (natAbs (m .acceleration)) (accelerationLimit x) in
     let k : Bool = leb (natAbs (m .tick)) lastTick in (
@@ -57,10 +65,16 @@ motion-within x m l t =
       size-within lastTick lastTick (m .tick) (omega arith) (right a k t),
     )
 
-target-within : (x : Axis) (g : Target) → Limited x → T (targetAllowed x g) → (n : ℕ) → n ≤ lastTick → StateRanges (asMoving g n)
+target-within : (x : Axis) (g : Target) → Limited x → T (targetAllowed x g) → (n : ℕ)
+    → n ≤ lastTick → StateRanges (asMoving g n)
 target-within x (Fixed r) l t n h =
     let rest = rest-within x r l t in
-    record { position = rest .0; velocity = rest .1; acceleration = record { within = omega arith }; tick = record { within = h } }
+    record {
+      position = rest .0;
+      velocity = rest .1;
+      acceleration = record { within = omega arith };
+      tick = record { within = h };
+    }
 target-within x (Moving m) l t n h =
     let r : RestPoint = record { position = m .position; velocity = m .velocity } in
     let rest = rest-within x r l (left (restAllowed x r) (motionAllowed x m) t) in

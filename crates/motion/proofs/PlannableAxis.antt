@@ -1,4 +1,5 @@
--- What an axis that can be planned for arrival n has: the parts of `reachable`, and the ranges of its planned ends and its cruise.
+-- What an axis that can be planned for arrival n has: the parts of `reachable`, and the ranges of
+-- its planned ends and its cruise.
 use Prim.Native.Nat.{ℕ, _*_, _^_, _≤_, _<_}
 use mathlib.Core.Path.{_≡_}
 use mathlib.Core.Bool.{true}
@@ -13,7 +14,8 @@ use Rattle.model.specs.declared.Axis.{Axis}
 use Rattle.model.specs.planning.Leg.{feasible}
 use Rattle.model.specs.planning.Quantities.{fineSteps, delay, asMoving, finer, speedSteps}
 use Rattle.model.specs.planning.Motion.{reachable, shift, leg, displacement}
-use Rattle.model.specs.planning.Motion.{startPosition, startVelocity, landingVelocity, landingAcceleration, arrivalVelocity}
+use Rattle.model.specs.planning.Motion.{startPosition, startVelocity, landingVelocity, landingAcceleration}
+use Rattle.model.specs.planning.Motion.{arrivalVelocity}
 use Rattle.model.specs.planning.Refusals.{Plannable}
 use Rattle.model.proofs.motions.Reaches.{reach-after, reach-lands, reach-arrives, reach-feasible}
 use Rattle.model.proofs.motions.Grid.{finer-range, speed-range, acceleration-range}
@@ -57,8 +59,10 @@ module _ {x : Axis} {n : ℕ} (r : Plannable x n) where
   pub start-position-size : natAbs (startPosition x) ≤ finer x * 2 ^ 44
   start-position-size =
       let h = plannable-ranges in
-      let s : Within (2 ^ 16) (shift x) = record { within = omega (arith, mul-le-mul (h .«second_weight») (h .«half_period»), h .«second_half_period») } in
-      mul-holds (pos (finer x)) (pos (2 * fineSteps) *ℤ x .start .position +ℤ pos 2 *ℤ (shift x *ℤ x .start .velocity)) (finer x) (2 ^ 44) (omega arith)
+      let s : Within (2 ^ 16) (shift x) =
+      record { within = omega (arith, mul-le-mul (h .«second_weight») (h .«half_period»), h .«second_half_period») } in
+      mul-holds (pos (finer x)) (pos (2 * fineSteps) *ℤ x .start .position +ℤ pos 2 *ℤ (shift x *ℤ x .start .velocity))
+      (finer x) (2 ^ 44) (omega arith)
       (start-within (shift x) (x .start .position) (x .start .velocity) s (h .position) (h .velocity) .within)
 
   start-velocity-within : Within (2 ^ 37) (startVelocity x)
@@ -68,7 +72,8 @@ module _ {x : Axis} {n : ℕ} (r : Plannable x n) where
   landing-acceleration-size =
       let h = plannable-ranges .target n (r .tick) in
       mul-holds (pos (finer x)) (pos fineSteps *ℤ asMoving (x .target) n .acceleration) (finer x) (2 ^ 24) (omega arith)
-      (mul-holds (pos fineSteps) (asMoving (x .target) n .acceleration) fineSteps (2 ^ 16) (omega arith) (h .acceleration .within))
+      (mul-holds (pos fineSteps) (asMoving (x .target) n .acceleration) fineSteps (2 ^ 16)
+      (omega arith) (h .acceleration .within))
 
   pub profile-ranged : Ranged (profileFor x n)
   profile-ranged =

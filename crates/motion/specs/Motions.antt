@@ -1,4 +1,5 @@
--- The ranges of an axis that passed the refusals of one axis, and what the functions of this crate give back.
+-- The ranges of an axis that passed the refusals of one axis, and what the
+-- functions of this crate give back.
 use Prim.Native.Nat.{ℕ, _^_, _≤_, _<_}
 use mathlib.Core.Path.{_≡_}
 use mathlib.Core.Bool.{Bool, true, false}
@@ -10,15 +11,18 @@ use Rattle.model.specs.declared.Target.{Target}
 use Rattle.model.specs.declared.Target.the-variants.{Fixed, Moving}
 use Rattle.model.specs.declared.Weight.{Weight}
 use Rattle.model.specs.declared.Weight.the-variants.{Given, Measured}
-use Rattle.model.specs.planning.Quantities.{fineSteps, speedLimit, accelerationLimit, halfPeriod, secondWeight, secondHalfPeriod, asMoving, twicePositionAt, velocityAt}
+use Rattle.model.specs.planning.Quantities.{fineSteps, speedLimit, accelerationLimit, halfPeriod, secondWeight}
+use Rattle.model.specs.planning.Quantities.{secondHalfPeriod, asMoving, twicePositionAt, velocityAt}
 use Rattle.model.specs.planning.Quantities.{onGrid, speedSteps, accelerationSteps}
-use Rattle.model.specs.planning.Motion.{shift, startVelocity, landingTick, landingPosition, landingVelocity, landingAcceleration}
+use Rattle.model.specs.planning.Motion.{shift, startVelocity, landingTick, landingPosition, landingVelocity}
+use Rattle.model.specs.planning.Motion.{landingAcceleration}
 use Rattle.model.specs.planning.Refusals.{lastTick}
 use Rattle.profile.specs.declared.Profile.{Profile}
 use Rattle.profile.specs.Profiles.{Ranged}
 use Rattle.motion.specs.declared.Landing.{Landing}
 
--- ---- ranges, in powers of two that hold what the refusals of one axis leave, and for positions more
+-- ---- ranges, in powers of two that hold what the refusals of one axis leave, and for positions
+-- more
 
 -- a target, read as moving
 pub record StateRanges (m : State) : Type 0 where
@@ -48,11 +52,12 @@ measuredBy (Measured d) = true
 abbrev pub measured : Axis → Bool
 measured x = measuredBy (x .«second_weight»)
 
--- ---- rule 3: the planned motion for a target in motion m at tick k, which at the landing tick, with the correction, is `landingPosition` and
--- `landingVelocity`
+-- ---- rule 3: the planned motion for a target in motion m at tick k, which at the landing tick,
+-- with the correction, is `landingPosition` and `landingVelocity`
 
 abbrev pub plannedPosition : Axis → State → ℕ → ℤ
-plannedPosition x m k = onGrid x (pos fineSteps *ℤ twicePositionAt m (pos k) +ℤ pos 2 *ℤ (shift x *ℤ velocityAt m (pos k)))
+plannedPosition x m k =
+    onGrid x (pos fineSteps *ℤ twicePositionAt m (pos k) +ℤ pos 2 *ℤ (shift x *ℤ velocityAt m (pos k)))
 
 abbrev pub plannedVelocity : Axis → State → ℕ → ℤ
 plannedVelocity x m k = onGrid x (pos fineSteps *ℤ velocityAt m (pos k) +ℤ shift x *ℤ m .acceleration)

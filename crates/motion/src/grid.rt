@@ -24,7 +24,8 @@ fn damped(x: Axis) -> bool
     second_weight(x) != 128
 }
 
-// Grid steps in a fine step where the pole has one sway: the grid is finer where the target accelerates and the pole is damped.
+// Grid steps in a fine step where the pole has one sway: the grid is finer where the target
+// accelerates and the pole is damped.
 fn finer_by_target(x: Axis) -> u32
     ensures { λ r. ⌜ r ≡ finerBy Absent (accelerates (x .target) && damped x) ⌝ }
 {

@@ -13,7 +13,8 @@ use Rattle.planner.specs.Promise.{partOutcome}
 use Rattle.planner.proofs.Answers.{part-answer}
 use Rattle.parts.specs.Promise.{PartPromise}
 
-pub promise : (q : Input) (k : ℕ) (entry : List ℤ) (r : PartAnswer) (exit : List ℤ) → partOutcome r exit ≡ partCall q k entry → PartPromise q k entry r exit
+pub promise : (q : Input) (k : ℕ) (entry : List ℤ) (r : PartAnswer) (exit : List ℤ)
+    → partOutcome r exit ≡ partCall q k entry → PartPromise q k entry r exit
 promise q k entry r exit e =
     let a : r .answer ≡ answerOf q = ap (λ (p : PartOutcome). p .answer) e ∙ part-answer q k entry in
     record {
@@ -21,7 +22,8 @@ promise q k entry r exit e =
       whole = λ z lent room.
           subst (λ (x : Answer). PartOf q (x .arrival) k (r .rows) exit (call q lent)) (sym a)
           (subst (λ (p : PartOutcome). PartOf q (answerOf q .arrival) k (p .rows) (p .cells) (call q lent)) (sym e)
-          (parts-hold q k entry lent (sym (ap (λ (x : Answer). x .number) a) ∙ z) (subst (λ (x : Answer). Fits x lent) a room)));
+          (parts-hold q k entry lent (sym (ap (λ (x : Answer). x .number) a) ∙ z)
+          (subst (λ (x : Answer). Fits x lent) a room)));
     }
   where
     Fits : Answer → List ℤ → Type 0

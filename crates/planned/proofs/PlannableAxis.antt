@@ -1,4 +1,5 @@
--- An axis that has passed the refusals of one axis and reaches the arrival: it can be planned, and its plan is within the ranges.
+-- An axis that has passed the refusals of one axis and reaches the arrival: it can be planned, and
+-- its plan is within the ranges.
 use mathlib.Core.Path.{_≡_, sym, ap₂, subst, _∙_}
 use mathlib.Core.Bool.{true}
 use mathlib.Core.List.{[], _∷_}
@@ -13,7 +14,8 @@ use Rattle.whole.proofs.Ring.{pol, same}
 use Rattle.model.specs.declared.Axis.{Axis}
 use Rattle.model.specs.planning.Quantities.{halfPeriod, secondWeight, delay, finer, speedSteps}
 use Rattle.model.specs.planning.Leg.{Leg, feasible, required}
-use Rattle.model.specs.planning.Motion.{startPosition, landingVelocity, landingAcceleration, arrivalVelocity, leg, displacement, requiredSum}
+use Rattle.model.specs.planning.Motion.{startPosition, landingVelocity, landingAcceleration, arrivalVelocity, leg}
+use Rattle.model.specs.planning.Motion.{displacement, requiredSum}
 use Rattle.model.specs.planning.Refusals.{Plannable}
 use Rattle.profile.specs.declared.Profile.{Profile}
 use Rattle.regions.specs.declared.Regions.{Regions}
@@ -24,7 +26,8 @@ use Rattle.motion.specs.Motions.{profileFor, destination}
 use Rattle.model.proofs.motions.Grid.{finer-range}
 use Rattle.model.proofs.tables.CellLimits.{between}
 use Rattle.model.proofs.jobs.PlannableAxis.{some-acceleration, speed-range, moves}
-use Rattle.motion.proofs.PlannableAxis.{plannable-after, plannable-landed, plannable-arrived, plannable-feasible, plannable-ranges}
+use Rattle.motion.proofs.PlannableAxis.{plannable-after, plannable-landed, plannable-arrived, plannable-feasible}
+use Rattle.motion.proofs.PlannableAxis.{plannable-ranges}
 use Rattle.motion.proofs.PlannableAxis.{start-position-size, landing-acceleration-size, profile-ranged}
 use Rattle.planned.specs.declared.AxisPlan.{AxisPlan}
 use Rattle.planned.specs.Plans.{scale, planOf, arrivalOf, PlanRanges}
@@ -69,8 +72,15 @@ module _ {x : Axis} {n : ℕ} (r : Plannable x n) where
   -- one tick after the arrival
   after-most : natAbs (landingVelocity x n +ℤ pos (delay x + 1) *ℤ landingAcceleration x n) ≤ finer x * most
   after-most =
-      subst (λ (v : ℤ). natAbs v ≤ finer x * most) (sym (one-more (landingVelocity x n) (pos (delay x)) (landingAcceleration x n)))
-      (omega (arith, natAbs-+ (arrivalVelocity x n) (landingAcceleration x n), plannable-arrived r, speed-most, landing-acceleration-size r))
+      subst (λ (v : ℤ). natAbs v ≤ finer x * most)
+      (sym (one-more (landingVelocity x n) (pos (delay x)) (landingAcceleration x n)))
+      (omega (
+        arith,
+        natAbs-+ (arrivalVelocity x n) (landingAcceleration x n),
+        plannable-arrived r,
+        speed-most,
+        landing-acceleration-size r,
+      ))
     where
       one-more : (v h a : ℤ) → v +ℤ (h +ℤ pos 1) *ℤ a ≡ (v +ℤ h *ℤ a) +ℤ a
       one-more v h a = same (v ∷ h ∷ a ∷ []) (search pol depth 20 fits 9000) tt
@@ -84,7 +94,8 @@ module _ {x : Axis} {n : ℕ} (r : Plannable x n) where
           (within-speed (velocityIn (p .regions) k) (chosen-within g d some steep slow can k l))
       go (Dec.no l) =
           subst (λ (v : ℤ). natAbs v ≤ finer x * most) (planned-after p k (omega arith))
-          (between (landingVelocity x n) (landingAcceleration x n) (k - g .ticks) (delay x + 1) (finer x * most) (omega arith)
+          (between (landingVelocity x n) (landingAcceleration x n) (k - g .ticks) (delay x + 1)
+          (finer x * most) (omega arith)
           (within-speed (landingVelocity x n) (plannable-landed r)) after-most)
 
   -- ---- the ranges
@@ -99,10 +110,15 @@ module _ {x : Axis} {n : ℕ} (r : Plannable x n) where
         light = omega (arith, weight-is x n light-weight, mul-le-mul-left (totalWeight p) (finer-range x .0));
         weighs = omega (arith, weight-is x n light-weight, mul-le-mul-left (totalWeight p) (finer-range x .1));
         origin = record { within = weighed-within x n (2 ^ 44) (startPosition x) light-weight (start-position-size r) };
-        regions = chosen-ranged g d some steep slow can (profile-ranged r .ticks) (profile-ranged r .«acceleration_limit»);
+        regions =
+            chosen-ranged g d some steep slow can (profile-ranged r .ticks) (profile-ranged r .«acceleration_limit»);
         some = some;
-        velocities = λ k h. record { within = omega (arith, weighed-within x n most (plannedAt p k) light-weight (velocity-most k h)) };
-        acceleration = record { within = omega (arith, landing-acceleration-size r, mul-le-mul-right (2 ^ 24) (finer-range x .1)) };
+        velocities = λ k h.
+            record { within = omega (arith, weighed-within x n most (plannedAt p k) light-weight (velocity-most k h)) };
+        acceleration =
+            record {
+              within = omega (arith, landing-acceleration-size r, mul-le-mul-right (2 ^ 24) (finer-range x .1));
+            };
         «half_period» = plannable-ranges r .«half_period»;
         «second_sway» = plannable-ranges r .«second_half_period»;
         last = omega (arith, r .tick);
@@ -132,7 +148,8 @@ module _ (x : Axis) (n : ℕ) (f : Profile) (d : ℤ) (same : f ≡ profileFor x
       }
 
   pub plan-is : (o e : ℤ) (c : Regions) (a : ℤ) (b k : ℕ) → o ≡ startPosition x → e ≡ destination x n
-      → c ≡ chosenRegions (legOf f) (required (legOf f) d) → a ≡ landingAcceleration x n → b ≡ secondWeight x → k ≡ scale x
+      → c ≡ chosenRegions (legOf f) (required (legOf f) d) → a ≡ landingAcceleration x n
+      → b ≡ secondWeight x → k ≡ scale x
       → planWith o e c a b k ≡ planOf n x
   plan-is o e c a b k p r q s u t = λ i. planWith (p i) (r i) (velocities i) (s i) (u i) (t i)
     where

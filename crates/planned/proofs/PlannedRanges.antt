@@ -28,11 +28,13 @@ module _ (p : AxisPlan) (s : PlanRanges p) where
   -- ---- the planned velocities, weighed
 
   planned-weighed : (k : ℕ) → k ≤ suc (arrivalOf p) → totalWeight p * natAbs (plannedAt p k) ≤ 2 ^ 45
-  planned-weighed k h = subst (λ (n : ℕ). n ≤ 2 ^ 45) (weighed (totalWeight p) (plannedAt p k)) (s .velocities k h .within)
+  planned-weighed k h =
+      subst (λ (n : ℕ). n ≤ 2 ^ 45) (weighed (totalWeight p) (plannedAt p k)) (s .velocities k h .within)
 
   pub start-weighed : totalWeight p * natAbs (p .regions .start) ≤ 2 ^ 45
   start-weighed =
-      subst (λ (v : ℤ). totalWeight p * natAbs v ≤ 2 ^ 45) (sym (planned-start p (s .some))) (planned-weighed 0 (omega arith))
+      subst (λ (v : ℤ). totalWeight p * natAbs v ≤ 2 ^ 45) (sym (planned-start p (s .some)))
+      (planned-weighed 0 (omega arith))
 
   pub back-weighed : (d k : ℕ) → k ≤ suc (arrivalOf p) → totalWeight p * natAbs (velocityBack p d k) ≤ 2 ^ 45
   unfolding velocityBack
@@ -56,5 +58,6 @@ module _ (p : AxisPlan) (s : PlanRanges p) where
   pub planned-is : (k : ℕ) (v : ℤ) → k ≤ suc (arrivalOf p) → v ≡ plannedAt p k → Is (2 ^ 38) v (plannedAt p k)
   planned-is k v h e = record { is = e; within = planned-within k h .within }
 
-  pub behind-is : (d k : ℕ) (v : ℤ) → k ≤ suc (arrivalOf p) → v ≡ velocityBack p d k → Is (2 ^ 38) v (velocityBack p d k)
+  pub behind-is : (d k : ℕ) (v : ℤ) → k ≤ suc (arrivalOf p) → v ≡ velocityBack p d k
+      → Is (2 ^ 38) v (velocityBack p d k)
   behind-is d k v h e = record { is = e; within = back-within d k h .within }

@@ -1,4 +1,5 @@
--- The sums of the planned velocities of ticks 1 to k, and of those some ticks before: no tick is visited.
+-- The sums of the planned velocities of ticks 1 to k, and of those some ticks before: no tick is
+-- visited.
 use Prim.Native.Nat.{ℕ, zero, suc, _+_, _-_, _*_, _^_, _<_, _≤_}
 use mathlib.Core.Path.{_≡_, sym, ap, ap₂, _∙_}
 use native.Mathlib.Omega.{arith}
@@ -19,7 +20,8 @@ use Rattle.planned.proofs.PlannedRanges.{planned-within, back-weighed}
 
 -- ---- sums of small numbers, times a weight
 
-pub weighed-sum : (w b : ℕ) (f : ℕ → ℤ) (n : ℕ) → ((k : ℕ) → k ≤ n → w * natAbs (f k) ≤ b) → w * natAbs (sumTo f n) ≤ n * b
+pub weighed-sum : (w b : ℕ) (f : ℕ → ℤ) (n : ℕ) → ((k : ℕ) → k ≤ n → w * natAbs (f k) ≤ b)
+    → w * natAbs (sumTo f n) ≤ n * b
 weighed-sum w b f zero h = omega (arith, mul-zero w)
 weighed-sum w b f (suc n) h =
     omega (
@@ -40,7 +42,8 @@ module _ (p : AxisPlan) (k : ℕ) where
 
 module _ (p : AxisPlan) (k : ℕ) where
   pub sum-after : 0 < p .regions .ticks → p .regions .ticks ≤ k
-      → sumTo (velocityIn (p .regions)) (p .regions .ticks - 1) +ℤ p .regions .end +ℤ rampArea (p .regions .end) (p .acceleration) (k - p .regions .ticks)
+      → sumTo (velocityIn (p .regions)) (p .regions .ticks - 1) +ℤ p .regions .end
+      +ℤ rampArea (p .regions .end) (p .acceleration) (k - p .regions .ticks)
       ≡ sumTo (plannedAt p) k
   sum-after some h =
       ap₂ (λ (x y : ℤ). x +ℤ y) landed (sym later)
@@ -89,7 +92,8 @@ module _ (p : AxisPlan) (s : PlanRanges p) (k : ℕ) (last : k ≤ suc (arrivalO
   planned-sum-is v e =
       record {
         is = e;
-        within = omega (arith, few, small-sum (2 ^ 38) (plannedAt p) k (λ j q. planned-within p s j (omega arith) .within));
+        within =
+            omega (arith, few, small-sum (2 ^ 38) (plannedAt p) k (λ j q. planned-within p s j (omega arith) .within));
       }
 
   pub back-sum-is : (d : ℕ) (v : ℤ) → v ≡ sumTo (velocityBack p d) k → Is (2 ^ 51) v (sumTo (velocityBack p d) k)

@@ -1,4 +1,5 @@
--- The planned motion of the definition, tick by tick: the velocities are those of the plan, and each tick goes on by the velocities at its two ends.
+-- The planned motion of the definition, tick by tick: the velocities are those of the plan, and
+-- each tick goes on by the velocities at its two ends.
 use mathlib.Core.Path.{_≡_, refl, ap, ap₂, _∙_}
 use Rattle.whole.proofs.Ring.{pol, same}
 use mathlib.Core.List.{List, [], _∷_, _++_}
@@ -9,7 +10,8 @@ use lib.ListN.{getD, replicate}
 use Rattle.model.specs.declared.Axis.{Axis}
 use Rattle.model.specs.planning.Quantities.{delay}
 use Rattle.model.specs.planning.Leg.{Leg}
-use Rattle.model.specs.planning.Motion.{Tick, run, changesFrom, leg, displacement, startVelocity, planned, earlier, landingTick}
+use Rattle.model.specs.planning.Motion.{Tick, run, changesFrom, leg, displacement, startVelocity, planned, earlier}
+use Rattle.model.specs.planning.Motion.{landingTick}
 use Rattle.model.specs.planning.Refusals.{Plannable}
 use Rattle.model.specs.planning.Rows.{plannedAxis, tickAt, tabulate}
 use Rattle.model.proofs.jobs.PlannableAxis.{some-acceleration, speed-range, moves}
@@ -65,12 +67,14 @@ onward p i c q w αs e h =
     ∙ ap (λ (l : List Tick). tickFrom q (plannedAt p i) (plannedAt p (suc i)) ∷ l) h
 
 -- from the landing on
-steady : (p : AxisPlan) (c i : ℕ) (q : ℤ) → p .regions .ticks ≤ i → run q (plannedAt p i) (replicate c (p .acceleration)) ≡ walk p i q c
+steady : (p : AxisPlan) (c i : ℕ) (q : ℤ) → p .regions .ticks ≤ i
+    → run q (plannedAt p i) (replicate c (p .acceleration)) ≡ walk p i q c
 unfolding walk
 steady p zero i q h = refl
 steady p (suc c) i q h =
     ap (λ (α : ℤ). run q v (α ∷ replicate c (p .acceleration))) {x = p .acceleration} (less v (p .acceleration))
-    ∙ onward p i c q (v +ℤ p .acceleration) (replicate c (p .acceleration)) (goes-on p i h) (steady p c (suc i) (onTo p i q) (omega arith))
+    ∙ onward p i c q (v +ℤ p .acceleration) (replicate c (p .acceleration)) (goes-on p i h)
+    (steady p c (suc i) (onTo p i q) (omega arith))
   where
     v : ℤ
     v = plannedAt p i
@@ -78,7 +82,8 @@ steady p (suc c) i q h =
     less : (v a : ℤ) → a ≡ (v +ℤ a) -ℤ v
     less v a = same (v ∷ a ∷ []) (search pol depth 20 fits 9000) tt
 
--- the changes along the velocities ws after tick i, to the landing, and c ticks of the acceleration after it
+-- the changes along the velocities ws after tick i, to the landing, and c ticks of the acceleration
+-- after it
 abbrev along : AxisPlan → ℕ → ℕ → List ℤ → List ℤ
 along p c i ws = changesFrom (plannedAt p i) (ws ++ (p .regions .end ∷ [])) ++ replicate c (p .acceleration)
 
@@ -92,7 +97,8 @@ up-to-landing p zero i c q h =
 up-to-landing p (suc j) i c q h =
     ap (λ (v : ℤ). run q (plannedAt p i) (along p c i (v ∷ tabulate (velocityIn (p .regions)) (suc (suc i)) j)))
     (planned-before p (suc i) (omega arith))
-    ∙ onward p i (suc (j + c)) q (plannedAt p (suc i)) (along p c (suc i) (tabulate (velocityIn (p .regions)) (suc (suc i)) j)) refl
+    ∙ onward p i (suc (j + c)) q (plannedAt p (suc i))
+    (along p c (suc i) (tabulate (velocityIn (p .regions)) (suc (suc i)) j)) refl
     (up-to-landing p j (suc i) c (onTo p i q) (omega arith))
     ∙ ap (λ (m : ℕ). walk p i q (suc m)) {x = suc (j + c)} {y = suc j + c} (omega arith)
 
@@ -111,18 +117,22 @@ module _ (x : Axis) (n : ℕ) (plannable : Plannable x n) where
   planned-walk =
       let after = plannable-after plannable in
       ap (over (startVelocity x))
-      (chosen-in-regions g (displacement x n) (omega arith) (some-acceleration x n plannable) (speed-range x n plannable) (moves x n plannable))
-      ∙ ap (λ (v : ℤ). over v (tabulate (velocityIn (p .regions)) 1 (landingTick x n - 1) ++ (p .regions .end ∷ []))) (planned-start p (omega arith))
+      (chosen-in-regions g (displacement x n) (omega arith) (some-acceleration x n plannable)
+      (speed-range x n plannable) (moves x n plannable))
+      ∙ ap (λ (v : ℤ). over v (tabulate (velocityIn (p .regions)) 1 (landingTick x n - 1) ++ (p .regions .end ∷ [])))
+      (planned-start p (omega arith))
       ∙ up-to-landing p (landingTick x n - 1) 0 (suc (delay x)) (p .origin) (omega arith)
       ∙ ap (walk p 0 (p .origin)) {x = suc (landingTick x n - 1 + suc (delay x))} {y = suc n} (omega arith)
 
 -- ---- tick k of it
 
-walk-at : (p : AxisPlan) (c i k : ℕ) (d : Tick) → k < c → getD (walk p i (plannedPosition p i) c) k d ≡ planTick p (i + k)
+walk-at : (p : AxisPlan) (c i k : ℕ) (d : Tick) → k < c
+    → getD (walk p i (plannedPosition p i) c) k d ≡ planTick p (i + k)
 unfolding walk plannedPosition
 walk-at p zero i k d h = absurd (omega arith)
 walk-at p (suc c) i zero d h = ap (planTick p) {x = i} {y = i + zero} (omega arith)
-walk-at p (suc c) i (suc k) d h = walk-at p c (suc i) k d (omega arith) ∙ ap (planTick p) {x = suc i + k} {y = i + suc k} (omega arith)
+walk-at p (suc c) i (suc k) d h =
+    walk-at p c (suc i) k d (omega arith) ∙ ap (planTick p) {x = suc i + k} {y = i + suc k} (omega arith)
 
 pub tick-is : (x : Axis) (n k : ℕ) → Plannable x n → k ≤ n → tickAt (plannedAxis n x) k ≡ planTick (planOf n x) k
 unfolding plannedPosition

@@ -1,4 +1,5 @@
--- The scale of a plan's weights: with it the cells of every grid, with one blend or two, are counted in 1/65,536 of a fine step.
+-- The scale of a plan's weights: with it the cells of every grid, with one blend or two, are
+-- counted in 1/65,536 of a fine step.
 use Prim.Native.Nat.{ℕ, _+_, _-_, _*_, _/_, _≤_, _<_}
 use mathlib.Core.Path.{_≡_, refl, sym, ap, subst, _∙_}
 use native.Mathlib.Omega.{arith}
@@ -34,11 +35,13 @@ module _ (x : Axis) where
       fine e t = subst (Scales S) (sym e) (subst (λ (s : SecondSway). Scales s 1) (sym t) (refl, omega arith))
 
       go : Grid x → Scales S (finer x)
-      go (twoSways d e t) = subst (Scales S) (sym e) (subst (λ (s : SecondSway). Scales s 2) (sym t) (refl, omega arith))
+      go (twoSways d e t) =
+          subst (Scales S) (sym e) (subst (λ (s : SecondSway). Scales s 2) (sym t) (refl, omega arith))
       go (still e t a) = fine e t
       go (unblended e t a) = fine e t
       go (undamped e t a) = fine e t
-      go (corrected e t) = subst (Scales S) (sym e) (subst (λ (s : SecondSway). Scales s 256) (sym t) (refl, omega arith))
+      go (corrected e t) =
+          subst (Scales S) (sym e) (subst (λ (s : SecondSway). Scales s 256) (sym t) (refl, omega arith))
 
   pub scale-some : 0 < scale x
   scale-some = scale-is .1
@@ -62,7 +65,8 @@ module _ (x : Axis) where
       together c s a b f e = ap (λ (n : ℕ). c * n * f) (sym (mul-add s a b) ∙ ap (λ (n : ℕ). s * n) e) ∙ omega arith
 
   -- what is at most c fine steps in size is at most 65,536c by them
-  pub weighed-within : (n c : ℕ) (v : ℤ) → secondWeight x ≤ 256 → natAbs v ≤ finer x * c → natAbs (pos (totalWeight (planOf n x)) *ℤ v) ≤ 65536 * c
+  pub weighed-within : (n c : ℕ) (v : ℤ) → secondWeight x ≤ 256 → natAbs v ≤ finer x * c
+      → natAbs (pos (totalWeight (planOf n x)) *ℤ v) ≤ 65536 * c
   weighed-within n c v h l =
       subst (λ (m : ℕ). m ≤ 65536 * c) (sym (natAbs-* (pos (totalWeight (planOf n x))) v))
       (omega (arith, mul-le-mul-left (totalWeight (planOf n x)) l, ap (λ (m : ℕ). m * c) (weight-is n h)))

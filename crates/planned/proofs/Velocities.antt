@@ -1,4 +1,5 @@
--- The planned velocity of a tick by the part of the motion that it is in, and some ticks before a tick.
+-- The planned velocity of a tick by the part of the motion that it is in, and some ticks before a
+-- tick.
 use mathlib.Core.Path.{_≡_, sym, ap, _∙_}
 use mathlib.Core.List.{[], _∷_}
 use Rattle.whole.proofs.Ring.{pol, same}
@@ -19,7 +20,8 @@ module _ (p : AxisPlan) (k : ℕ) where
   planned-before h = choice-yes _ _ _ (ltb-yes h)
 
   -- from it on
-  pub planned-after : p .regions .ticks ≤ k → p .regions .end +ℤ pos (k - p .regions .ticks) *ℤ p .acceleration ≡ plannedAt p k
+  pub planned-after : p .regions .ticks ≤ k
+      → p .regions .end +ℤ pos (k - p .regions .ticks) *ℤ p .acceleration ≡ plannedAt p k
   unfolding plannedAt
   planned-after h = choice-no _ _ _ (ltb-no h)
 
@@ -40,7 +42,8 @@ module _ (p : AxisPlan) (k : ℕ) where
   goes-on h =
       ap (λ (v : ℤ). v +ℤ p .acceleration) (sym (planned-after p k h))
       ∙ one-more (p .regions .end) (pos (k - p .regions .ticks)) (p .acceleration)
-      ∙ ap (λ (j : ℕ). p .regions .end +ℤ pos j *ℤ p .acceleration) {x = k - p .regions .ticks + 1} {y = suc k - p .regions .ticks} (omega arith)
+      ∙ ap (λ (j : ℕ). p .regions .end +ℤ pos j *ℤ p .acceleration) {x = k - p .regions .ticks + 1}
+      {y = suc k - p .regions .ticks} (omega arith)
       ∙ planned-after p (suc k) (omega arith)
     where
       one-more : (v j a : ℤ) → v +ℤ j *ℤ a +ℤ a ≡ v +ℤ (j +ℤ pos 1) *ℤ a
@@ -63,4 +66,5 @@ module _ (p : AxisPlan) (d k : ℕ) where
     where
       go : Dec (k < d) → p .regions .start ≡ velocityBack p d k
       go (Dec.yes l) = back-before l
-      go (Dec.no l) = planned-start p some ∙ ap (plannedAt p) {x = 0} {y = k - d} (omega arith) ∙ back-late (omega arith)
+      go (Dec.no l) =
+          planned-start p some ∙ ap (plannedAt p) {x = 0} {y = k - d} (omega arith) ∙ back-late (omega arith)

@@ -1,4 +1,5 @@
--- The plan of an axis for an arrival, and the ranges in which the code does not overflow (docs/METHOD.md, sections 1 and 3).
+-- The plan of an axis for an arrival, and the ranges in which the code does not overflow
+-- (docs/METHOD.md, sections 1 and 3).
 use Prim.Native.Nat.{ℕ, suc, _+_, _-_, _*_, _/_, _^_, _≤_, _<_}
 use Rattle.whole.specs.Ranges.{Within}
 use lib.IntN.{pos, _*ℤ_}
@@ -25,7 +26,8 @@ abbrev pub blendsBy : SecondSway → ℕ
 blendsBy Absent = 1
 blendsBy (HalfPeriod d) = 2
 
--- what both weights are multiplied by: all weights together are then 65,536, by the grid steps in a fine step
+-- what both weights are multiplied by: all weights together are then 65,536, by the grid steps in a
+-- fine step
 abbrev pub scale : Axis → ℕ
 scale x = 256 / blendsBy (x .«second_sway») / finer x
 
@@ -62,7 +64,8 @@ velocityBack p d k = elim (ltb k d) [ true ↦ p .regions .start | false ↦ pla
 abbrev pub totalWeight : AxisPlan → ℕ
 totalWeight p = blendsBy (p .«second_sway») * (p .«first_weight» + p .«second_weight»)
 
--- ---- ranges: those of an axis that passed the refusals of one axis and reaches the arrival, and wider
+-- ---- ranges: those of an axis that passed the refusals of one axis and
+-- reaches the arrival, and wider
 
 -- N = T + h + h₂
 abbrev pub arrivalOf : AxisPlan → ℕ

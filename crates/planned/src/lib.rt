@@ -10,9 +10,10 @@ ghost use Rattle.whole.specs.Ranges.{Is};
 ghost use Rattle.model.specs.planning.Refusals.{Plannable};
 ghost use Rattle.planned.specs.Plans.{scale, planOf, arrivalOf, PlanRanges, blendsBy, plannedAt, velocityBack};
 
-// The plan of one axis, on its own grid: its planned position at tick 0, in half grid steps; twice its target's position at the arrival, in units;
-// its planned velocities up to the landing, in grid steps; its planned acceleration from the landing on; h; the weights of the blend, scaled so
-// that the cells of every plan are rounded by the same divisors; and the second sway.
+// The plan of one axis, on its own grid: its planned position at tick 0, in half grid steps; twice
+// its target's position at the arrival, in units; its planned velocities up to the landing, in grid
+// steps; its planned acceleration from the landing on; h; the weights of the blend, scaled so that
+// the cells of every plan are rounded by the same divisors; and the second sway.
 pub struct AxisPlan {
     pub origin: i64,
     pub destination: i64,
@@ -74,8 +75,8 @@ pub fn axis_plan(x: Axis, n: u32) -> AxisPlan
 
 // ---- the planned velocities
 
-// The planned velocity of tick k: before the landing tick that of its region; at it the end velocity, which the acceleration changes
-// from there on.
+// The planned velocity of tick k: before the landing tick that of its region; at it the end
+// velocity, which the acceleration changes from there on.
 pub fn planned_velocity(p: AxisPlan, k: u32) -> i64
     requires { ⌜ PlanRanges p ⌝ }
     requires { ⌜ k ≤ suc (arrivalOf p) ⌝ }

@@ -1,4 +1,5 @@
--- The answer before refusal 10, and words: what is promised of the typed values that they hold is promised of them.
+-- The answer before refusal 10, and words: what is promised of the typed values that
+-- they hold is promised of them.
 use Prim.Native.Nat.{ℕ, _≤_}
 use native.Mathlib.Omega.{arith}
 use mathlib.Core.Path.{_≡_, refl, sym, ap, ap₂, subst, _∙_}
@@ -15,7 +16,8 @@ use Rattle.model.specs.planning.Refusals.{lastTick}
 use Rattle.model.specs.planning.Outcome.{Outcome, Input, call, inputAxes, ordered}
 use Rattle.model.specs.planning.Outcome.{outcomeAfter, beforeTen, answerOf}
 use Rattle.model.specs.planning.Admission.{words, typed, jobRead, inputJob, Admission, planningRules}
-use Rattle.model.specs.theorems.Verdict.{Verdict, refused3, refused4, refused12, refused5, refused15, refused6, refused16, refused17, refused13, refused8, refused9, refused10}
+use Rattle.model.specs.theorems.Verdict.{Verdict, refused3, refused4, refused12, refused5, refused15, refused6}
+use Rattle.model.specs.theorems.Verdict.{refused16, refused17, refused13, refused8, refused9, refused10}
 use Rattle.model.specs.theorems.Verdict.{accepted, CallVerdict, words1, words2, words14, wordsJob, typed1, typedJobs}
 use Rattle.model.specs.calls.Parts.{PartOutcome, partAccepted, partRefused, partWith, partCall}
 use Rattle.model.proofs.calls.CallVerdict.{call-verdict}
@@ -77,11 +79,15 @@ unfolding partCall
 part-answer q k entry = go (eqb (answerOf q .number) 0)
   where
     go : (b : Bool)
-        → (elim b as (λ _. PartOutcome) [ true ↦ partAccepted (answerOf q) (inputAxes q) k entry | false ↦ partRefused (answerOf q) entry ]) .answer ≡ answerOf q
+        → (elim b as (λ _. PartOutcome) [
+          | true ↦ partAccepted (answerOf q) (inputAxes q) k entry
+          | false ↦ partRefused (answerOf q) entry
+        ]) .answer ≡ answerOf q
     go true = refl
     go false = refl
 
-pub answered : (t : Typed.Job) (k : ℕ) (entry : List ℤ) (r : PartAnswer) (exit : List ℤ) → partOutcome r exit ≡ partCall (typed t) k entry → Answered t (r .answer)
+pub answered : (t : Typed.Job) (k : ℕ) (entry : List ℤ) (r : PartAnswer) (exit : List ℤ)
+    → partOutcome r exit ≡ partCall (typed t) k entry → Answered t (r .answer)
 answered t k entry r exit e =
     let is = ap (λ (p : PartOutcome). p .answer) e ∙ part-answer (typed t) k entry in
     record { is = is; last = subst (λ (a : Answer). a .arrival ≤ lastTick) (sym is) (late (typed t)) }
@@ -94,15 +100,19 @@ module _ (ws : List ℕ) (d : DecodedJob) (is : Decodes ws d) where
 
   pub answer-of-words : d .number ≡ 0 → answerOf (typed (d .job)) ≡ answerOf (words ws)
   unfolding answerOf
-  answer-of-words z = ap₂ (λ (j : Job). beforeTen (j .mask)) (job-of-words z) (ap (outcomeAfter []) (words-passed planningRules ws d is z))
+  answer-of-words z = ap₂ (λ (j : Job). beforeTen (j .mask)) (job-of-words z)
+      (ap (outcomeAfter []) (words-passed planningRules ws d is z))
 
   pub of-words : (d .number ≡ 0 → ⊥) → Refusal planningRules (words ws) (d .number) (d .place)
-  of-words h = refusal planningRules planning-numbered (words ws) (d .number) (d .place) (words-refused planningRules ws d is h)
+  of-words h =
+      refusal planningRules planning-numbered (words ws) (d .number) (d .place) (words-refused planningRules ws d is h)
 
-  pub refusal-of-words : (d .number ≡ 0 → ⊥) → record { number = d .number; place = d .place; mask = 0; arrival = 0 } ≡ answerOf (words ws)
+  pub refusal-of-words : (d .number ≡ 0 → ⊥)
+      → record { number = d .number; place = d .place; mask = 0; arrival = 0 } ≡ answerOf (words ws)
   unfolding answerOf
   refusal-of-words h =
-      before-ten (inputJob (words ws) .mask) (record { number = d .number; place = d .place; mask = 0; arrival = 0 }) [] (of-words h .not-10)
+      before-ten (inputJob (words ws) .mask)
+      (record { number = d .number; place = d .place; mask = 0; arrival = 0 }) [] (of-words h .not-10)
       ∙ sym (ap (λ (a : Admission). beforeTen (inputJob (words ws) .mask) (outcomeAfter [] a)) (of-words h .is))
 
   -- what is promised of the typed values is promised of the words
@@ -112,7 +122,8 @@ module _ (ws : List ℕ) (d : DecodedJob) (is : Decodes ws d) where
   words-promise (Whole o) entry r exit z p =
       promise o (words ws) entry (r .answer) exit
       (record {
-        outcome = p .outcome ∙ ap₂ (λ (j : Job) (r : Outcome). ordered o (axesOf j) entry r) (job-of-words z) (ap (outcomeAfter entry) (words-passed planningRules ws d is z));
+        outcome = p .outcome ∙ ap₂ (λ (j : Job) (r : Outcome). ordered o (axesOf j) entry r) (job-of-words z)
+            (ap (outcomeAfter entry) (words-passed planningRules ws d is z));
         fitted = p .fitted;
       })
   words-promise (From k) entry r exit z p =

@@ -17,24 +17,30 @@ use Rattle.planner.specs.declared.Wanted.{Wanted}
 use Rattle.planner.specs.declared.Wanted.the-variants.{Whole, From}
 use Rattle.planner.specs.Stages.{GivesAll, Gives}
 
--- the verdict, demand 3, the limits and the start of the definitions, carried to what the call leaves
-pub promise : (o : Order) (q : Input) (entry : List ℤ) (r : Answer) (exit : List ℤ) → GivesAll (callIn o q entry) r exit → Promise o q entry r exit
+-- the verdict, demand 3, the limits and the start of the definitions, carried to what the call
+-- leaves
+pub promise : (o : Order) (q : Input) (entry : List ℤ) (r : Answer) (exit : List ℤ)
+    → GivesAll (callIn o q entry) r exit → Promise o q entry r exit
 promise o q entry r exit g =
     let number = ap (λ (s : Outcome). s .number) (g .outcome) in
     record {
       outcome = g .outcome;
       verdict = subst (λ (s : Outcome). CallVerdict o entry s q) (sym (g .outcome)) (verdict-in o q entry);
       demand3 = λ z.
-          subst (λ (s : Outcome). Demand3 o (inputAxes q) (s .arrival) (s .cells)) (sym (g .outcome)) (demand3 o q entry (sym number ∙ z));
+          subst (λ (s : Outcome). Demand3 o (inputAxes q) (s .arrival) (s .cells)) (sym (g .outcome))
+          (demand3 o q entry (sym number ∙ z));
       limits = λ z.
-          subst (λ (s : Outcome). CellLimits o (inputAxes q) (s .arrival) (s .cells)) (sym (g .outcome)) (cell-limits o q entry (sym number ∙ z));
+          subst (λ (s : Outcome). CellLimits o (inputAxes q) (s .arrival) (s .cells)) (sym (g .outcome))
+          (cell-limits o q entry (sym number ∙ z));
       start = λ z.
-          subst (λ (s : Outcome). ExactStart o (inputAxes q) (s .arrival) (s .cells)) (sym (g .outcome)) (exact-start o q entry (sym number ∙ z));
+          subst (λ (s : Outcome). ExactStart o (inputAxes q) (s .arrival) (s .cells)) (sym (g .outcome))
+          (exact-start o q entry (sym number ∙ z));
       fitted = g .fitted;
     }
 
 -- the same for what is wanted
-pub promise-in : (w : Wanted) (q : Input) (entry : List ℤ) (r : PartAnswer) (exit : List ℤ) → Gives w (inputJob q .mask) (inputAxes q) entry (call q entry) r exit
+pub promise-in : (w : Wanted) (q : Input) (entry : List ℤ) (r : PartAnswer) (exit : List ℤ)
+    → Gives w (inputJob q .mask) (inputAxes q) entry (call q entry) r exit
     → PromiseIn w q entry r exit
 unfolding partCall
 promise-in (Whole o) q entry r exit g = promise o q entry (r .answer) exit g

@@ -1,4 +1,5 @@
--- The rows that a call wants: they fit, they are rows of the table, and written they are what the call gives; or refusal 10.
+-- The rows that a call wants: they fit, they are rows of the table, and written they are what
+-- the call gives; or refusal 10.
 use Prim.Native.Nat.{ℕ, zero, suc, _+_, _-_, _*_, _/_, _%_, _^_, _≤_, _<_, min}
 use mathlib.Core.Path.{_≡_, refl, sym, ap, subst, _∙_}
 use mathlib.Core.Bool.{Bool, true, false, false≢true}
@@ -18,7 +19,8 @@ use Rattle.model.specs.declared.Order.the-variants.{Forwards, Backwards}
 use Rattle.model.specs.declared.PartAnswer.{PartAnswer}
 use Rattle.model.specs.planning.Job.{Job, setFrom, setBits, setAxes, axesOf, typedJob}
 use Rattle.model.specs.planning.Refusals.{lastTick}
-use Rattle.model.specs.planning.Outcome.{Outcome, outcomeOf, refuse, accept, filled, ordered, cellsNeeded, partOver, tableOver}
+use Rattle.model.specs.planning.Outcome.{Outcome, outcomeOf, refuse, accept, filled, ordered, cellsNeeded, partOver}
+use Rattle.model.specs.planning.Outcome.{tableOver}
 use Rattle.model.specs.calls.Parts.{partRows, PartOutcome, partAccepted, partWith}
 use Rattle.model.proofs.jobs.BeforeTen.{before-filled}
 use Rattle.model.proofs.jobs.Ordered.{refusal-stays}
@@ -90,7 +92,8 @@ module _ (m n : ℕ) (six : List Axis) (long : length six ≡ 6) (lent : List �
   by-room b = elim b [ true ↦ refuse 10 0 0 n lent | false ↦ accept j n lent ]
 
   -- the rows have room and are rows of the table
-  pub rows-inside : (w : Wanted) (c : Choice) → Chosen w c → c .fits ≡ true → (c .rows ≡ 0 → ⊥) → c .first + c .rows ≤ suc n
+  pub rows-inside : (w : Wanted) (c : Choice) → Chosen w c → c .fits ≡ true
+      → (c .rows ≡ 0 → ⊥) → c .first + c .rows ≤ suc n
   rows-inside (Whole o) c is f h =
       let a : c .first ≡ 0 = ap (λ (d : Choice). d .first) is in
       let b : c .rows ≡ suc n = ap (λ (d : Choice). d .rows) is in
@@ -100,25 +103,30 @@ module _ (m n : ℕ) (six : List Axis) (long : length six ≡ 6) (lent : List �
       subst (λ (i : ℕ). i + c .rows ≤ suc n) (sym a)
       (part-inside (3 * length (setBits m)) n k (length lent) (c .rows) (ap (λ (d : Choice). d .rows) is) h)
 
-  rows-fit-bits : (w : Wanted) (c : Choice) → Chosen w c → c .fits ≡ true → 3 * length (setBits m) * c .rows ≤ length lent
+  rows-fit-bits : (w : Wanted) (c : Choice) → Chosen w c → c .fits ≡ true
+      → 3 * length (setBits m) * c .rows ≤ length lent
   rows-fit-bits (Whole o) c is f =
       subst (λ (i : ℕ). 3 * length (setBits m) * i ≤ length lent) (sym (ap (λ (d : Choice). d .rows) is))
       (leb-true (cellsNeeded (length (setBits m)) n) (length lent) (sym (ap (λ (d : Choice). d .fits) is) ∙ f))
-  rows-fit-bits (From k) c is f = part-fits (3 * length (setBits m)) n k (length lent) (c .rows) (ap (λ (d : Choice). d .rows) is)
+  rows-fit-bits (From k) c is f =
+      part-fits (3 * length (setBits m)) n k (length lent) (c .rows) (ap (λ (d : Choice). d .rows) is)
 
-  pub rows-fit : (w : Wanted) (c : Choice) → Chosen w c → c .fits ≡ true → 3 * length (setAxes 0 m six) * c .rows ≤ length lent
+  pub rows-fit : (w : Wanted) (c : Choice) → Chosen w c → c .fits ≡ true
+      → 3 * length (setAxes 0 m six) * c .rows ≤ length lent
   rows-fit w c is f = subst (λ (i : ℕ). 3 * i * c .rows ≤ length lent) named (rows-fit-bits w c is f)
 
   -- refusal 10, where all rows are wanted and the table is too short
   pub too-short : (w : Wanted) (c : Choice) → Chosen w c → c .fits ≡ false → (r : PartAnswer)
-      → r ≡ record { answer = record { number = 10; place = 0; mask = 0; arrival = n }; rows = 0 } → Gives w m (axesOf j) lent (filled j n lent) r lent
+      → r ≡ record { answer = record { number = 10; place = 0; mask = 0; arrival = n }; rows = 0 }
+      → Gives w m (axesOf j) lent (filled j n lent) r lent
   unfolding by-room
   too-short (Whole o) c is f r e =
       record {
         outcome =
             ap (λ (s : PartAnswer). outcomeOf (s .answer) lent) e
             ∙ refusal-stays (axesOf j) lent (refuse 10 0 0 n lent) o (λ z. omega arith)
-            ∙ ap (λ (b : Bool). ordered o (axesOf j) lent (by-room b)) (sym (lt-ltb (length lent) (cellsNeeded (length (setAxes 0 m six)) n) short));
+            ∙ ap (λ (b : Bool). ordered o (axesOf j) lent (by-room b))
+            (sym (lt-ltb (length lent) (cellsNeeded (length (setAxes 0 m six)) n) short));
         fitted = λ z. absurd (let k = ap (λ (s : PartAnswer). s .answer .number) e in omega arith);
       }
     where
@@ -129,14 +137,16 @@ module _ (m n : ℕ) (six : List Axis) (long : length six ≡ 6) (lent : List �
   too-short (From k) c is f r e = absurd (false≢true (sym f ∙ ap (λ (d : Choice). d .fits) is))
 
   -- the rows
-  accepted : (o : Order) → outcomeOf (record { number = 0; place = 0; mask = m; arrival = n }) (tableOver o (axesOf j) n lent)
+  accepted : (o : Order)
+      → outcomeOf (record { number = 0; place = 0; mask = m; arrival = n }) (tableOver o (axesOf j) n lent)
       ≡ ordered o (axesOf j) lent (accept j n lent)
   accepted Forwards = refl
   accepted Backwards = refl
 
   pub wrote : (w : Wanted) (c : Choice) → Chosen w c → c .fits ≡ true → (r : PartAnswer) (exit : List ℤ)
       → r ≡ record { answer = record { number = 0; place = 0; mask = m; arrival = n }; rows = c .rows }
-      → exit ≡ partOver (c .order) (axesOf j) n (c .first) (c .rows) lent → m < 64 → n ≤ lastTick → length exit ≡ length lent
+      → exit ≡ partOver (c .order) (axesOf j) n (c .first) (c .rows) lent → m < 64
+      → n ≤ lastTick → length exit ≡ length lent
       → Gives w m (axesOf j) lent (filled j n lent) r exit
   unfolding by-room
   wrote (Whole o) c is f r exit e q g l s =
@@ -147,7 +157,8 @@ module _ (m n : ℕ) (six : List Axis) (long : length six ≡ 6) (lent : List �
             (q ∙ ap (λ (d : Choice). partOver (d .order) (axesOf j) n (d .first) (d .rows) lent) is)
             ∙ accepted o
             ∙ ap (λ (b : Bool). ordered o (axesOf j) lent (by-room b))
-            (sym (le-ltb (length lent) (cellsNeeded (length (setAxes 0 m six)) n) (subst (λ (i : ℕ). cellsNeeded i n ≤ length lent) named room)));
+            (sym (le-ltb (length lent) (cellsNeeded (length (setAxes 0 m six)) n)
+            (subst (λ (i : ℕ). cellsNeeded i n ≤ length lent) named room)));
         fitted = λ z. subst (λ (s : Answer). Fitted s exit) (sym (ap (λ (s : PartAnswer). s .answer) e))
             (record { mask = g; last = l; room = omega (arith, room, s) });
       }
@@ -157,8 +168,13 @@ module _ (m n : ℕ) (six : List Axis) (long : length six ≡ 6) (lent : List �
   wrote (From k) c is f r exit e q g l s =
       ap (λ (t : PartAnswer). partOutcome t exit) e
       ∙ ap (λ (l : List ℤ). record { answer = a; rows = c .rows; cells = l }) q
-      ∙ ap (λ (d : Choice). record { answer = a; rows = d .rows; cells = partOver (d .order) (axesOf j) n (d .first) (d .rows) lent }) is
-      ∙ ap (λ (i : ℕ). record { answer = a; rows = partRows i n k (length lent); cells = partOver Forwards (axesOf j) n k (partRows i n k (length lent)) lent })
+      ∙ ap (λ (d : Choice).
+      record { answer = a; rows = d .rows; cells = partOver (d .order) (axesOf j) n (d .first) (d .rows) lent }) is
+      ∙ ap (λ (i : ℕ). record {
+        answer = a;
+        rows = partRows i n k (length lent);
+        cells = partOver Forwards (axesOf j) n k (partRows i n k (length lent)) lent;
+      })
       (named ∙ sym (length-map (setAxes 0 m six) (λ x. x .axis)))
       ∙ ap (λ (x : Answer). partWith x (axesOf j) k lent) (sym (before-filled j n lent))
     where

@@ -18,7 +18,8 @@ use Rattle.model.specs.declared.PartAnswer.{PartAnswer}
 use Rattle.model.specs.declared.Windows.{Windows}
 use Rattle.model.specs.planning.Job.{Job, JobAxis, setBits, axesOf, jobWith, jobWithWeight}
 use Rattle.model.specs.planning.Refusals.{lastTick}
-use Rattle.model.specs.planning.Outcome.{Outcome, outcomeOf, refuse, leastFrom, arrives, partOver, filled, arrived, ordered, beforeTen}
+use Rattle.model.specs.planning.Outcome.{Outcome, outcomeOf, refuse, leastFrom, arrives, partOver, filled, arrived}
+use Rattle.model.specs.planning.Outcome.{ordered, beforeTen}
 use Rattle.model.specs.calls.Parts.{PartOutcome, partRows, partAccepted, partRefused, partWith}
 use Rattle.arrival.specs.declared.Arrival.{Arrival}
 use Rattle.arrival.specs.Arrivals.{leastOr, askedOr, arrivalFor}
@@ -36,10 +37,12 @@ use Rattle.admission.proofs.Weights.{axes-given}
 
 -- an answer that is not 10 is the answer before 10
 pub before-ten : (m : ℕ) (r : Answer) (lent : List ℤ) → (r .number ≡ 10 → ⊥) → r ≡ beforeTen m (outcomeOf r lent)
-before-ten m r lent h = choice-no (eqb (r .number) 10) (record { number = 0; place = 0; mask = m; arrival = r .arrival }) r (ne-eqb (r .number) 10 h)
+before-ten m r lent h = choice-no (eqb (r .number) 10)
+    (record { number = 0; place = 0; mask = m; arrival = r .arrival }) r (ne-eqb (r .number) 10 h)
 
 module _ (m : ℕ) (xs : List Axis) (lent : List ℤ) where
-  pub onward : (w : Wanted) (o o′ : Outcome) (r : PartAnswer) (exit : List ℤ) → o ≡ o′ → Gives w m xs lent o r exit → Gives w m xs lent o′ r exit
+  pub onward : (w : Wanted) (o o′ : Outcome) (r : PartAnswer) (exit : List ℤ) → o ≡ o′
+      → Gives w m xs lent o r exit → Gives w m xs lent o′ r exit
   onward w o o′ r exit e g = subst (λ (q : Outcome). Gives w m xs lent q r exit) e g
 
   -- a refusal before 10, by its numbers
@@ -63,7 +66,8 @@ module _ (m : ℕ) (xs : List Axis) (lent : List ℤ) where
 
 -- ---- with the weights given
 
-part-with-with-weight : (j : Job) (k : ℕ) (lent : List ℤ) (a : Answer) → partWith a (axesOf (jobWithWeight j)) k lent ≡ partWith a (axesOf j) k lent
+part-with-with-weight : (j : Job) (k : ℕ) (lent : List ℤ) (a : Answer)
+    → partWith a (axesOf (jobWithWeight j)) k lent ≡ partWith a (axesOf j) k lent
 part-with-with-weight j k lent a =
     λ i. elim (eqb (a .number) 0) as (λ _. PartOutcome) [ true ↦ accepted i | false ↦ partRefused a lent ]
   where
@@ -74,14 +78,17 @@ part-with-with-weight j k lent a =
     c l = partRows l (a .arrival) k (length lent)
 
     same : length xs ≡ length (axesOf j)
-    same = length-map (jobWithWeight j .axes) (λ x. x .axis) ∙ length-map (j .axes) _ ∙ sym (length-map (j .axes) (λ x. x .axis))
+    same = length-map (jobWithWeight j .axes) (λ x. x .axis) ∙ length-map (j .axes) _
+        ∙ sym (length-map (j .axes) (λ x. x .axis))
 
     accepted : partAccepted a xs k lent ≡ partAccepted a (axesOf j) k lent
     accepted =
         ap (λ (l : ℕ). record { answer = a; rows = c l; cells = partOver Forwards xs (a .arrival) k (c l) lent }) same
-        ∙ ap (λ (l : List ℤ). record { answer = a; rows = c (length (axesOf j)); cells = l }) (part-with-weight Forwards j (a .arrival) k (c (length (axesOf j))) lent)
+        ∙ ap (λ (l : List ℤ). record { answer = a; rows = c (length (axesOf j)); cells = l })
+        (part-with-weight Forwards j (a .arrival) k (c (length (axesOf j))) lent)
 
-module _ (m asked : ℕ) (axes given : List Axis) (v : Windows) (is : given ≡ namedWithWeight m axes) (lent : List ℤ) (r : PartAnswer) (exit : List ℤ) where
+module _ (m asked : ℕ) (axes given : List Axis) (v : Windows) (is : given ≡ namedWithWeight m axes) (lent : List ℤ)
+    (r : PartAnswer) (exit : List ℤ) where
   Given : Wanted → Job → Type 0
   Given w j = Gives w (j .mask) (axesOf j) lent (arrived j asked lent) r exit
 
@@ -92,7 +99,8 @@ module _ (m asked : ℕ) (axes given : List Axis) (v : Windows) (is : given ≡ 
   unfolding Given j
   with-weight (Whole o) g =
       subst (λ (q : Outcome). GivesAll q (r .answer) exit)
-      (ordered-with-weight o j lent (arrived (jobWithWeight j) asked lent) ∙ ap (λ (q : Outcome). ordered o (axesOf j) lent q) (arrived-with-weight j asked lent)) g
+      (ordered-with-weight o j lent (arrived (jobWithWeight j) asked lent)
+      ∙ ap (λ (q : Outcome). ordered o (axesOf j) lent q) (arrived-with-weight j asked lent)) g
   with-weight (From k) g =
       g
       ∙ part-with-with-weight j k lent (beforeTen m (arrived (jobWithWeight j) asked lent))
@@ -102,7 +110,9 @@ module _ (m asked : ℕ) (axes given : List Axis) (v : Windows) (is : given ≡ 
       → GivesFrom w (jobWith m asked axes v) (λ j. arrived j asked) lent r exit
   unfolding Given j
   given-arrives w g =
-      with-weight w (subst (λ (l : List JobAxis). Given w (record { mask = m; asked = asked; axes = l; windows = v })) (axes-given m axes given is) g)
+      with-weight w
+      (subst (λ (l : List JobAxis). Given w (record { mask = m; asked = asked; axes = l; windows = v }))
+      (axes-given m axes given is) g)
 
 -- ---- after the arrival
 
@@ -114,13 +124,17 @@ module _ (j : Job) (lent : List ℤ) where
   arrivals-are zero = go (leastFrom (arrives j) 1 lastTick)
     where
       go : (o : Option ℕ) → afterArrival (leastOr (j .axes) o)
-          ≡ (elim o as (λ _. Outcome) [ some n ↦ filled j n lent | none ↦ refuse 9 0 (leastOr (j .axes) none .mask) 0 lent ])
+          ≡ (elim o as
+          (λ _. Outcome) [ some n ↦ filled j n lent | none ↦ refuse 9 0 (leastOr (j .axes) none .mask) 0 lent ])
       go (some n) = refl
       go none = refl
   arrivals-are (suc n) = go (arrives j (suc n))
     where
       go : (b : Bool) → afterArrival (askedOr (j .axes) (suc n) b)
-          ≡ (elim b as (λ _. Outcome) [ true ↦ filled j (suc n) lent | false ↦ refuse 8 0 (askedOr (j .axes) (suc n) false .mask) 0 lent ])
+          ≡ (elim b as (λ _. Outcome) [
+            | true ↦ filled j (suc n) lent
+            | false ↦ refuse 8 0 (askedOr (j .axes) (suc n) false .mask) 0 lent
+          ])
       go true = refl
       go false = refl
 

@@ -17,17 +17,20 @@ use Rattle.planner.specs.declared.Wanted.{Wanted}
 use Rattle.planner.specs.declared.Wanted.the-variants.{Whole, From}
 use Rattle.planner.specs.Promise.{Fitted, partOutcome}
 
--- the rows that are wanted of so many axes with arrival n, in so many cells: all of them, in an order; or as many as fit from row k on
+-- the rows that are wanted of so many axes with arrival n, in so many cells: all of them, in an
+-- order; or as many as fit from row k on
 abbrev pub choiceFor : Wanted → ℕ → ℕ → ℕ → Choice
 choiceFor (Whole o) axes n cells = record { fits = leb (cellsNeeded axes n) cells; order = o; first = 0; rows = suc n }
 choiceFor (From k) axes n cells = record { fits = true; order = Forwards; first = k; rows = partRows axes n k cells }
 
--- a stage that ends a call for all rows: the answer and the lent table are an outcome of the definitions
+-- a stage that ends a call for all rows: the answer and the lent table are an outcome of the
+-- definitions
 pub record GivesAll (o : Outcome) (r : Answer) (exit : List ℤ) : Type 0 where
   pub outcome : outcomeOf r exit ≡ o
   pub fitted : r .number ≡ 0 → Fitted r exit
 
--- a stage that ends a call for what is wanted, of the axes xs of mask m: o is what the forward call for all rows gives from here on
+-- a stage that ends a call for what is wanted, of the axes xs of mask m: o is what the forward call
+-- for all rows gives from here on
 abbrev pub Gives : Wanted → ℕ → List Axis → List ℤ → Outcome → PartAnswer → List ℤ → Type 0
 Gives (Whole w) m xs lent o r exit = GivesAll (ordered w xs lent o) (r .answer) exit
 Gives (From k) m xs lent o r exit = partOutcome r exit ≡ partWith (beforeTen m o) xs k lent

@@ -20,7 +20,8 @@ grouped true true false w l h = refl
 grouped true false c w l h = refl
 grouped false b c w l h = refl
 
-pub feasible-parts : (g : Leg) (d : ℤ) → feasible g d ≡ (endsAllowed g && (sumIsWhole g d && sumBetween g (required g d)))
+pub feasible-parts : (g : Leg) (d : ℤ)
+    → feasible g d ≡ (endsAllowed g && (sumIsWhole g d && sumBetween g (required g d)))
 feasible-parts g d =
     grouped (leb (natAbs (g .start)) (g .speedLimit)) (leb (natAbs (g .end)) (g .speedLimit))
     (leb (natAbs (g .end -ℤ g .start)) (g .accelerationLimit * g .ticks)) (sumIsWhole g d)

@@ -20,7 +20,8 @@ pub missed-is : (m : ℕ) (x : Axis) (n : ℕ) → missedBy m x n ≡ true → (
 unfolding missedBy
 missed-is m x n e = go (eqb (m % 2) 1) refl e
   where
-    go : (b : Bool) → eqb (m % 2) 1 ≡ b → cond b (not (reachable x n)) false ≡ true → (m % 2 ≡ 1) × (reachable x n ≡ false)
+    go : (b : Bool) → eqb (m % 2) 1 ≡ b → cond b (not (reachable x n)) false ≡ true
+        → (m % 2 ≡ 1) × (reachable x n ≡ false)
     go true f e = (eqb→eq (m % 2) 1 (true-T f), not-true (reachable x n) e)
     go false f e = absurd (false≢true e)
 
@@ -28,13 +29,15 @@ module _ (n : ℕ) where
   by : ℕ → Axis → List JobAxis → List AxisRaises → Bool → List AxisRaises
   by i x xs l b = elim b [ true ↦ raisesFrom n xs l | false ↦ raisesFrom n xs (set l i (raisesOf x n)) ]
 
-  one-misses : (b : Bool) (i : ℕ) (x : Axis) (xs : List JobAxis) (l : List AxisRaises) → cond b (not (reachable x n)) false ≡ true
+  one-misses : (b : Bool) (i : ℕ) (x : Axis) (xs : List JobAxis) (l : List AxisRaises)
+      → cond b (not (reachable x n)) false ≡ true
       → raisesFrom n (pick b i x xs) l ≡ raisesFrom n xs (set l i (raisesOf x n))
   unfolding by
   one-misses true i x xs l e = ap (by i x xs l) (not-true (reachable x n) e)
   one-misses false i x xs l e = absurd (false≢true e)
 
-  one-does-not : (b : Bool) (i : ℕ) (x : Axis) (xs : List JobAxis) (l : List AxisRaises) → cond b (not (reachable x n)) false ≡ false
+  one-does-not : (b : Bool) (i : ℕ) (x : Axis) (xs : List JobAxis) (l : List AxisRaises)
+      → cond b (not (reachable x n)) false ≡ false
       → raisesFrom n (pick b i x xs) l ≡ raisesFrom n xs l
   unfolding by
   one-does-not true i x xs l e = ap (by i x xs l) (not-false (reachable x n) e)

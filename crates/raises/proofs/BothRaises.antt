@@ -35,7 +35,8 @@ module _ (m l : ℕ) where
   pub only-speed : m ≡ 0 → (l ≡ 0 → ⊥) → record { first = SpeedBy l; second = NoRaise } ≡ inOrder (orNone m) (orNone l)
   only-speed e f = together (none-of m e) (some-of l f)
 
-  pub only-acceleration : (m ≡ 0 → ⊥) → l ≡ 0 → record { first = AccelerationBy m; second = NoRaise } ≡ inOrder (orNone m) (orNone l)
+  pub only-acceleration : (m ≡ 0 → ⊥) → l ≡ 0
+      → record { first = AccelerationBy m; second = NoRaise } ≡ inOrder (orNone m) (orNone l)
   only-acceleration e f = together (some-of m e) (none-of l f)
 
   pub acceleration-first : (m ≡ 0 → ⊥) → (l ≡ 0 → ⊥) → m ≤ l

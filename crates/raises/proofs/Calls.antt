@@ -30,9 +30,11 @@ module _ (q : Input) (a : Answer) (e : a ≡ answerOf q) where
   j = inputJob q
 
   abbrev list : Bool → RaisesAnswer
-  list b = record { answer = a; axes = elim b [ true ↦ raisesFrom (j .asked) (j .axes) noneRaised | false ↦ noneRaised ] }
+  list b =
+      record { answer = a; axes = elim b [ true ↦ raisesFrom (j .asked) (j .axes) noneRaised | false ↦ noneRaised ] }
 
-  pub with-raises : a .number ≡ 8 → record { answer = a; axes = raisesFrom (j .asked) (j .axes) noneRaised } ≡ raisesCall q
+  pub with-raises : a .number ≡ 8
+      → record { answer = a; axes = raisesFrom (j .asked) (j .axes) noneRaised } ≡ raisesCall q
   unfolding raisesCall
   with-raises z = sym (ap list (eq-eqb (a .number) 8 z)) ∙ ap (λ (b : Answer). raisesWith b j) e
 
@@ -58,7 +60,10 @@ module _ (ws : List ℕ) (d : DecodedJob) (is : Decodes ws d) where
 
   -- refusals 1, 2 and 14
   pub refusal-promise : (r : RaisesAnswer) → (d .number ≡ 0 → ⊥)
-      → r ≡ record { answer = record { number = d .number; place = d .place; mask = 0; arrival = 0 }; axes = noneRaised } → RaisesPromise (words ws) r
+      → r ≡ record {
+        answer = record { number = d .number; place = d .place; mask = 0; arrival = 0 };
+        axes = noneRaised;
+      } → RaisesPromise (words ws) r
   refusal-promise r h e =
       promised (words ws) r (e ∙ without-raises (words ws) _ (refusal-of-words ws d is h) no-eight)
       (record {

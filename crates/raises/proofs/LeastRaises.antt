@@ -1,4 +1,5 @@
--- The least limit above the one that an axis has is its least raise; and the raises of an axis are those of its task.
+-- The least limit above the one that an axis has is its least raise; and the raises of
+-- an axis are those of its task.
 use Prim.Native.Nat.{ℕ, suc, _+_, _-_, _≤_, _<_}
 use native.Mathlib.Omega.{arith}
 use mathlib.Core.Path.{_≡_, refl, sym, ap, ap₂, _∙_}
@@ -60,8 +61,10 @@ module _ (q : Limit) (t : Task) (r : ℕ) (n : Next (enoughWith q t) (suc (limit
 -- ---- an axis
 
 -- two tests that agree on the candidates
-same-least : (f g : ℕ → Bool) (k count : ℕ) → ((i : ℕ) → k ≤ i → i < k + count → f i ≡ g i) → leastFrom f k count ≡ leastFrom g k count
-same-least f g k count e = one-result g k count (leastFrom f k count) (leastFrom g k count) (go (leastFrom f k count) (result f k count)) (result g k count)
+same-least : (f g : ℕ → Bool) (k count : ℕ) → ((i : ℕ) → k ≤ i → i < k + count → f i ≡ g i)
+    → leastFrom f k count ≡ leastFrom g k count
+same-least f g k count e = one-result g k count (leastFrom f k count) (leastFrom g k count)
+    (go (leastFrom f k count) (result f k count)) (result g k count)
   where
     go : (o : Option ℕ) → Result f k count o → Result g k count o
     go none h = λ i a b t. h i a b (e i a b ∙ t)

@@ -1,5 +1,7 @@
-// The smallest change that makes it (docs/METHOD.md, 8.2): the answer to a job before refusal 10 and, where an asked arrival is turned down with 8,
-// the least raise of each limit alone for which an axis that the mask names can arrive. specs/Promise.antt says what both calls promise of any job.
+// The smallest change that makes it (docs/METHOD.md, 8.2): the answer to a job before
+// refusal 10 and, where an asked arrival is turned down with 8, the least raise of each
+// limit alone for which an axis that the mask names can arrive. specs/Promise.antt says
+// what both calls promise of any job.
 //
 // The way of a job:
 //     raises_words    words::decode         refusals 1, 2 and 14, then as raises_job
@@ -29,8 +31,8 @@ ghost use Rattle.least_limit.specs.Limits.{TaskRanged};
 ghost use Rattle.least_limit.specs.Tasks.{taskWith, fastestOf, TaskIs};
 ghost use Rattle.raises.specs.Promise.{RaisesPromise, orNone, leastRaise};
 
-// The answer to a job with no table lent, so that 10 never comes; where its number is 8, with the raises of each axis that its mask names, and else
-// with none.
+// The answer to a job with no table lent, so that 10 never comes; where its number is 8, with the
+// raises of each axis that its mask names, and else with none.
 pub fn raises_job(job: Job) -> RaisesAnswer
     ensures { λ r. ⌜ RaisesPromise (Input.typed job) r ⌝ }
 {
@@ -171,8 +173,9 @@ fn highest(limit: Limit) -> u64
 
 // ---- what the leg of an arrival asks of the limits
 
-// The task of an axis for tick n. A leg that does not go as far as the straight line between the velocities of its ends is taken with every sign turned, so
-// that only the upper envelope can fall short.
+// The task of an axis for tick n. A leg that does not go as far as the straight line
+// between the velocities of its ends is taken with every sign turned, so that only the
+// upper envelope can fall short.
 fn task_of(x: Axis, n: u32) -> Task
     requires { ⌜ Passed x ⌝ }
     requires { ⌜ n ≤ lastTick ⌝ }
@@ -218,7 +221,8 @@ fn fastest_of(start: i64, landing: Landing, delay: u32) -> u64
     requires { ⌜ Within (2 ^ 47) (landing .velocity) ⌝ }
     requires { ⌜ Within (2 ^ 32) (landing .acceleration) ⌝ }
     requires { ⌜ delay ≤ 512 ⌝ }
-    ensures { λ r. ⌜ r ≡ fastestOf start (landing .velocity) (landing .velocity +ℤ pos delay *ℤ landing .acceleration) ⌝ }
+    ensures { λ r.
+        ⌜ r ≡ fastestOf start (landing .velocity) (landing .velocity +ℤ pos delay *ℤ landing .acceleration) ⌝ }
 {
     let end = landing.velocity;
     let arrived = motion::arrival_velocity(landing, delay);

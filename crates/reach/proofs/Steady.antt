@@ -1,5 +1,7 @@
--- An axis whose target does not accelerate: its planned end velocity is the same for every arrival, its leg has a tick more for each tick that the
--- arrival is later, and the required sum changes by the same number each time. So whether it reaches an arrival can be told from an earlier one's leg.
+-- An axis whose target does not accelerate: its planned end velocity is the same for every
+-- arrival, its leg has a tick more for each tick that the arrival is later, and the
+-- required sum changes by the same number each time. So whether it reaches an arrival can
+-- be told from an earlier one's leg.
 use Prim.Native.Nat.{ℕ, suc, _+_, _-_, _*_, _%_, _≤_, _<_, max}
 use mathlib.Core.Path.{_≡_, refl, sym, ap, subst, _∙_}
 use mathlib.Core.Bool.{Bool, true, false, _&&_}
@@ -20,10 +22,13 @@ use Rattle.model.specs.declared.RestPoint.{RestPoint}
 use Rattle.model.specs.declared.State.{State}
 use Rattle.model.specs.declared.Target.{Target}
 use Rattle.model.specs.declared.Target.the-variants.{Fixed, Moving}
-use Rattle.model.specs.planning.Quantities.{fineSteps, speedLimit, halfPeriod, secondWeight, delay, asMoving, velocityAt, accelerates, finer, onGrid, speedSteps}
+use Rattle.model.specs.planning.Quantities.{fineSteps, speedLimit, halfPeriod, secondWeight, delay, asMoving}
+use Rattle.model.specs.planning.Quantities.{velocityAt, accelerates, finer, onGrid, speedSteps}
 use Rattle.model.specs.planning.Leg.{twiceRequired, sumIsWhole, feasible}
-use Rattle.model.specs.planning.Motion.{shift, startPosition, startVelocity, landingVelocity, landingTick, arrivalVelocity, leg, displacement, requiredSum, reachable}
-use Rattle.model.specs.planning.Refusals.{positionAllowed, velocityAllowed, restAllowed, motionAllowed, targetAllowed, Passed}
+use Rattle.model.specs.planning.Motion.{shift, startPosition, startVelocity, landingVelocity, landingTick}
+use Rattle.model.specs.planning.Motion.{arrivalVelocity, leg, displacement, requiredSum, reachable}
+use Rattle.model.specs.planning.Refusals.{positionAllowed, velocityAllowed, restAllowed, motionAllowed, targetAllowed}
+use Rattle.model.specs.planning.Refusals.{Passed}
 use Rattle.model.specs.theorems.Threshold.{Slow}
 use Rattle.model.proofs.motions.Threshold.{reached-later}
 use Rattle.model.proofs.legs.WholeSum.{sum-is-whole}
@@ -41,11 +46,13 @@ speed-is (Moving m) n = refl
 
 still : (t : Target) (n : ℕ) → accelerates t ≡ false → asMoving t n .acceleration ≡ pos 0
 still (Fixed r) n e = refl
-still (Moving m) n e = natAbs-zero (m .acceleration) (eqb→eq (natAbs (m .acceleration)) 0 (not-false-T (eqb (natAbs (m .acceleration)) 0) e))
+still (Moving m) n e = natAbs-zero (m .acceleration)
+    (eqb→eq (natAbs (m .acceleration)) 0 (not-false-T (eqb (natAbs (m .acceleration)) 0) e))
 
 -- what refusal 6 leaves of its velocity
 rest-slow : (x : Axis) (r : RestPoint) → T (restAllowed x r) → natAbs (r .velocity) ≤ speedLimit x
-rest-slow x r t = leb→le (natAbs (r .velocity)) (speedLimit x) (right (positionAllowed (r .position)) (velocityAllowed x (r .velocity)) t)
+rest-slow x r t = leb→le (natAbs (r .velocity)) (speedLimit x)
+    (right (positionAllowed (r .position)) (velocityAllowed x (r .velocity)) t)
 
 target-slow : (x : Axis) (t : Target) → T (targetAllowed x t) → natAbs (speedOf t) ≤ speedLimit x
 target-slow x (Fixed r) p = rest-slow x r p
@@ -59,15 +66,18 @@ grid-slow f v l h =
     let same-grid : f ≤ f = omega arith in
     rw natAbs-* (mul-le-mul same-grid fine)
 
--- ---- twice the required sum: the target at p with velocity v and acceleration a, d ticks after its own; the shift s; the planned start at q with
--- velocity w; f grid steps in a fine step, and what the position gains, 2ga
+-- ---- twice the required sum: the target at p with velocity v and acceleration a, d ticks
+-- after its own; the shift s; the planned start at q with velocity w; f grid steps in a fine
+-- step, and what the position gains, 2ga
 
 abbrev twice : ℤ → ℤ → ℤ → ℤ → ℤ → ℤ → ℤ → ℤ → ℤ → ℤ
 twice f g s q w p v a d =
-    ((f *ℤ (pos 256 *ℤ (pos 2 *ℤ p +ℤ pos 2 *ℤ (v *ℤ d) +ℤ a *ℤ (d *ℤ d)) +ℤ pos 2 *ℤ (s *ℤ (v +ℤ a *ℤ d))) +ℤ pos 2 *ℤ (g *ℤ a)) -ℤ q) -ℤ w
+    ((f *ℤ (pos 256 *ℤ (pos 2 *ℤ p +ℤ pos 2 *ℤ (v *ℤ d) +ℤ a *ℤ (d *ℤ d)) +ℤ pos 2 *ℤ (s *ℤ (v +ℤ a *ℤ d)))
+    +ℤ pos 2 *ℤ (g *ℤ a)) -ℤ q) -ℤ w
     -ℤ f *ℤ (pos 256 *ℤ (v +ℤ a *ℤ d) +ℤ s *ℤ a)
 
-later : (f g s q w p v d j : ℤ) → twice f g s q w p v (pos 0) (d +ℤ j) ≡ twice f g s q w p v (pos 0) d +ℤ pos 2 *ℤ (j *ℤ (f *ℤ (pos 256 *ℤ v)))
+later : (f g s q w p v d j : ℤ)
+    → twice f g s q w p v (pos 0) (d +ℤ j) ≡ twice f g s q w p v (pos 0) d +ℤ pos 2 *ℤ (j *ℤ (f *ℤ (pos 256 *ℤ v)))
 later f g s q w p v d j = same (f ∷ g ∷ s ∷ q ∷ w ∷ p ∷ v ∷ d ∷ j ∷ []) (search pol depth 30 fits 9000) tt
 
 before : (n h : ℕ) → h ≤ n → pos (n - h) -ℤ pos n ≡ negℤ (pos h)
@@ -111,8 +121,10 @@ module _ (x : Axis) where
       let a = still (Moving m) n e in
       ap (λ (z : ℤ). twiceOf (m .position) (m .velocity) z (pos (k - h) -ℤ m .tick)) a
       ∙ ap (twiceOf (m .position) (m .velocity) (pos 0)) (since k n h (m .tick) p q)
-      ∙ later (pos (finer x)) gained (shift x) (startPosition x) (startVelocity x) (m .position) (m .velocity) (pos (n - h) -ℤ m .tick) (pos (k - n))
-      ∙ ap (λ (z : ℤ). twiceOf (m .position) (m .velocity) z (pos (n - h) -ℤ m .tick) +ℤ pos 2 *ℤ (pos (k - n) *ℤ onGrid x (driftOf (Moving m)))) (sym a)
+      ∙ later (pos (finer x)) gained (shift x) (startPosition x) (startVelocity x) (m .position) (m .velocity)
+      (pos (n - h) -ℤ m .tick) (pos (k - n))
+      ∙ ap (λ (z : ℤ). twiceOf (m .position) (m .velocity) z (pos (n - h) -ℤ m .tick)
+      +ℤ pos 2 *ℤ (pos (k - n) *ℤ onGrid x (driftOf (Moving m)))) (sym a)
 
   -- ---- an axis that passed
 
@@ -131,13 +143,15 @@ module _ (x : Axis) where
   module _ (passed : Passed x) (steady : accelerates (x .target) ≡ false) where
     velocity-is : (n : ℕ) → landingVelocity x n ≡ onGrid x (pos fineSteps *ℤ speedOf (x .target))
     velocity-is n =
-        ap (onGrid x) (law (asMoving (x .target) n) (still (x .target) n steady) ∙ ap (λ (z : ℤ). pos fineSteps *ℤ z) (speed-is (x .target) n))
+        ap (onGrid x) (law (asMoving (x .target) n) (still (x .target) n steady)
+        ∙ ap (λ (z : ℤ). pos fineSteps *ℤ z) (speed-is (x .target) n))
       where
         none : (v s d : ℤ) → pos 256 *ℤ (v +ℤ pos 0 *ℤ d) +ℤ s *ℤ pos 0 ≡ pos 256 *ℤ v
         none v s d = same (v ∷ s ∷ d ∷ []) (search pol depth 20 fits 9000) tt
 
         law : (m : State) → m .acceleration ≡ pos 0
-            → pos fineSteps *ℤ velocityAt m (pos (landingTick x n)) +ℤ shift x *ℤ m .acceleration ≡ pos fineSteps *ℤ m .velocity
+            → pos fineSteps *ℤ velocityAt m (pos (landingTick x n)) +ℤ shift x *ℤ m .acceleration
+            ≡ pos fineSteps *ℤ m .velocity
         law m e =
             ap (λ (z : ℤ). pos 256 *ℤ (m .velocity +ℤ z *ℤ (pos (landingTick x n) -ℤ m .tick)) +ℤ shift x *ℤ z) e
             ∙ none (m .velocity) (shift x) (pos (landingTick x n) -ℤ m .tick)
@@ -181,13 +195,15 @@ module _ (x : Axis) where
           split a b = same (a ∷ b ∷ []) (search pol depth 20 fits 9000) tt
 
       wanted-is : requiredSum x n +ℤ pos (k - h - (n - h)) *ℤ drift x ≡ requiredSum x k
-      wanted-is = ap (λ (i : ℕ). requiredSum x n +ℤ pos i *ℤ drift x) {x = k - h - (n - h)} {y = k - n} (omega arith) ∙ sum-later
+      wanted-is = ap (λ (i : ℕ). requiredSum x n +ℤ pos i *ℤ drift x) {x = k - h - (n - h)} {y = k - n} (omega arith)
+          ∙ sum-later
 
       moves : betweenAt (leg x n) (requiredSum x n) (drift x) (k - h) ≡ feasible (leg x k) (displacement x k)
       moves =
           (λ i. endsAllowed (leg-later i) && sumBetween (leg-later i) (wanted-is i))
           ∙ ap (λ (b : Bool). endsAllowed (leg x k) && b)
-          (and-yes (sumIsWhole (leg x k) (displacement x k)) (sumBetween (leg x k) (requiredSum x k)) (sum-is-whole x k) refl)
+          (and-yes (sumIsWhole (leg x k) (displacement x k))
+          (sumBetween (leg x k) (requiredSum x k)) (sum-is-whole x k) refl)
           ∙ sym (feasible-parts (leg x k) (displacement x k))
 
       pub reach-later : betweenAt (leg x n) (requiredSum x n) (drift x) (k - h) ≡ reachable x k
@@ -198,14 +214,19 @@ module _ (x : Axis) where
           (leb-yes (subst (λ (z : ℤ). natAbs z ≤ speedSteps x) (sym (arrival-is k)) (landing-slow k))) moves))
 
     pub always-slow : (n : ℕ) → Slow x n
-    always-slow n = record { landed = landing-slow n; arrived = subst (λ (z : ℤ). natAbs z ≤ speedSteps x) (sym (arrival-is n)) (landing-slow n) }
+    always-slow n =
+        record {
+          landed = landing-slow n;
+          arrived = subst (λ (z : ℤ). natAbs z ≤ speedSteps x) (sym (arrival-is n)) (landing-slow n);
+        }
 
     -- what is reached stays reached
     pub lasts : (n : ℕ) → h < n → Lasting (betweenAt (leg x n) (requiredSum x n) (drift x)) (n - h)
     lasts n after j k p q e =
         let here : j + h - h ≡ j = omega arith in
         let there : k + h - h ≡ k = omega arith in
-        let reached = sym (reach-later n (j + h) after (omega arith)) ∙ ap (betweenAt (leg x n) (requiredSum x n) (drift x)) here ∙ e in
+        let reached = sym (reach-later n (j + h) after (omega arith))
+        ∙ ap (betweenAt (leg x n) (requiredSum x n) (drift x)) here ∙ e in
         sym (ap (betweenAt (leg x n) (requiredSum x n) (drift x)) there)
         ∙ reach-later n (k + h) after (omega arith)
         ∙ reached-later x passed (j + h) (k + h) (k + h) (omega arith) (omega arith) (always-slow (k + h)) reached
@@ -219,7 +240,8 @@ module _ (x : Axis) where
 first-past : (n h k : ℕ) → n ≤ k → k < max n (suc h) → k ≤ h
 first-past n h k p q = omega arith
 
-pub none-after : (x : Axis) (n last : ℕ) → n ≤ suc last → last < max n (suc (delay x)) → Next (reachable x) n last (last + 1)
+pub none-after : (x : Axis) (n last : ℕ) → n ≤ suc last → last < max n (suc (delay x))
+    → Next (reachable x) n last (last + 1)
 none-after x n last p q =
     record {
       low = omega arith;
@@ -228,7 +250,8 @@ none-after x n last p q =
       passed = λ l. absurd (omega arith);
     }
 
-pub next-arrival : (x : Axis) → Passed x → accelerates (x .target) ≡ false → (n last f t : ℕ) → f ≡ max n (suc (delay x)) → f ≤ last
+pub next-arrival : (x : Axis) → Passed x → accelerates (x .target) ≡ false → (n last f t : ℕ)
+    → f ≡ max n (suc (delay x)) → f ≤ last
     → Next (betweenAt (leg x f) (requiredSum x f) (drift x)) (f - delay x) (last - delay x) t
     → Next (reachable x) n last (t + delay x)
 next-arrival x passed steady n last f t e h w =

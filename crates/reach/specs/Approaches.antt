@@ -1,4 +1,5 @@
--- An axis whose target accelerates, from a first arrival on (docs/METHOD.md, 3.10): its legs to all arrivals by the one to the first.
+-- An axis whose target accelerates, from a first arrival on (docs/METHOD.md, 3.10): its legs to all
+-- arrivals by the one to the first.
 use Prim.Native.Nat.{ℕ, _+_, _-_, _^_, _≤_, _<_}
 use mathlib.Core.Path.{_≡_}
 use mathlib.Core.Bool.{Bool, true, _&&_}
@@ -64,9 +65,11 @@ pub record Approaches (a : Approach) (last : ℕ) : Type 0 where
   pub few : a .ticks + last ≤ 4096
   pub whole : (i : ℕ) → i ≤ last → sumIsWhole (legOf (profileLater a i)) (travelLater a i) ≡ true
   -- what is reached is reached later, where the target is slow enough by then
-  pub goes : (i j : ℕ) → i ≤ j → j ≤ last → natAbs (arrivedLater a j) ≤ a .«speed_limit» → reachesLater a i ≡ true → reachesLater a j ≡ true
+  pub goes : (i j : ℕ) → i ≤ j → j ≤ last → natAbs (arrivedLater a j) ≤ a .«speed_limit»
+      → reachesLater a i ≡ true → reachesLater a j ≡ true
   -- what is reached is one run
-  pub run : (i j k : ℕ) → i ≤ j → j ≤ k → k ≤ last → reachesLater a i ≡ true → reachesLater a k ≡ true → reachesLater a j ≡ true
+  pub run : (i j k : ℕ) → i ≤ j → j ≤ k → k ≤ last → reachesLater a i ≡ true
+      → reachesLater a k ≡ true → reachesLater a j ≡ true
 
 -- the approach of an axis from arrival n on
 pub record ApproachIs (x : Axis) (n : ℕ) (a : Approach) : Type 0 where

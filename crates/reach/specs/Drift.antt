@@ -1,4 +1,5 @@
--- From one arrival to the next, where the target does not accelerate: by how much the required sum changes.
+-- From one arrival to the next, where the target does not accelerate: by how
+-- much the required sum changes.
 use lib.IntN.{ℤ, pos, _*ℤ_}
 use Rattle.model.specs.declared.Axis.{Axis}
 use Rattle.model.specs.declared.Target.{Target}

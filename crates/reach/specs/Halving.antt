@@ -1,4 +1,5 @@
--- What the functions promise that find the last arrival at which a target is slow enough (docs/METHOD.md, 3.10).
+-- What the functions promise that find the last arrival at which a target is slow
+-- enough (docs/METHOD.md, 3.10).
 use Prim.Native.Nat.{ℕ, _≤_}
 use mathlib.Core.Path.{_≡_}
 use mathlib.Core.Bool.{Bool, true, false, cond}
@@ -11,10 +12,12 @@ use lib.Signed.{ltZ}
 abbrev pub roomToward : ℕ → ℤ → ℤ → ℤ
 roomToward limit velocity change = cond (ltZ change (pos 0)) (pos limit +ℤ velocity) (pos limit -ℤ velocity)
 
--- the last of the ticks 0 to `most` at which it can be within the limit: where it is at one of them it is at r too, which is none before that
+-- the last of the ticks 0 to `most` at which it can be within the limit: where it is at one of them
+-- it is at r too, which is none before that
 pub record TicksWithin (limit : ℕ) (velocity change : ℤ) (most r : ℕ) : Type 0 where
   pub high : r ≤ most
-  pub later : (k : ℕ) → k ≤ most → natAbs (velocity +ℤ pos k *ℤ change) ≤ limit → (k ≤ r) × (natAbs (velocity +ℤ pos r *ℤ change) ≤ limit)
+  pub later : (k : ℕ) → k ≤ most → natAbs (velocity +ℤ pos k *ℤ change) ≤ limit
+      → (k ≤ r) × (natAbs (velocity +ℤ pos r *ℤ change) ≤ limit)
 
 -- ---- a test of candidates
 

@@ -1,5 +1,5 @@
-// An axis whose target accelerates, from one arrival on: what does not change from arrival to arrival is worked out once, and the arrivals are halved down
-// to the first that it reaches.
+// An axis whose target accelerates, from one arrival on: what does not change from arrival to
+// arrival is worked out once, and the arrivals are halved down to the first that it reaches.
 use model::Axis;
 use profile::Profile;
 ghost use Prim.Native.Nat.{_+_, _-_, _^_, _≤_, _<_};
@@ -12,12 +12,14 @@ ghost use Rattle.model.specs.planning.Refusals.{lastTick, Passed};
 ghost use Rattle.envelopes.specs.Sums.{Next};
 ghost use Rattle.envelopes.specs.Skips.{LastingTo, Further};
 ghost use Rattle.reach.specs.Halving.{roomToward, TicksWithin};
-ghost use Rattle.reach.specs.Approaches.{endLater, arrivedLater, travelLater, profileLater, reachesLater, ApproachRanged, Approaches, ApproachIs};
+ghost use Rattle.reach.specs.Approaches.{endLater, arrivedLater, travelLater, profileLater, reachesLater};
+ghost use Rattle.reach.specs.Approaches.{ApproachRanged, Approaches, ApproachIs};
 
 // So many arrivals are halved down in twelve turns: there are no more.
 const WIDEST_SPAN: u32 = 4096;
 
-// The leg to the first arrival: its limits, ends, displacement and ticks. With each arrival the velocity of its end changes by as much.
+// The leg to the first arrival: its limits, ends, displacement and ticks. With each arrival the
+// velocity of its end changes by as much.
 pub struct Approach {
     pub speed_limit: u64,
     pub acceleration_limit: u64,
@@ -139,7 +141,8 @@ pub fn room_toward(limit: u64, velocity: i64, change: i64) -> i64
     most - velocity
 }
 
-// The last of the ticks 0 to `most` at which a velocity that changes by the same number each tick can be within a limit.
+// The last of the ticks 0 to `most` at which a velocity that changes by the same number
+// each tick can be within a limit.
 pub fn ticks_within(limit: u64, velocity: i64, change: i64, most: u32) -> u32
     requires { ⌜ limit ≤ 2 ^ 37 ⌝ }
     requires { ⌜ Within (2 ^ 49) velocity ⌝ }
@@ -179,7 +182,8 @@ fn further(a: Approach, last: u32, low: u32, step: u32) -> u32
     low
 }
 
-// The first arrival that is reached, where the first of all is not and the last is: each turn halves what is left.
+// The first arrival that is reached, where the first of all is not and the last is:
+// each turn halves what is left.
 fn first_reached(a: Approach, last: u32) -> u32
     requires { ⌜ Approaches a last ⌝ }
     requires { ⌜ LastingTo (reachesLater a) 0 last ⌝ }
@@ -197,7 +201,8 @@ fn first_reached(a: Approach, last: u32) -> u32
     low + 1
 }
 
-// The first arrival of those to the last that is reached, or one past the last: none is, unless the last at which the target is slow enough is.
+// The first arrival of those to the last that is reached, or one past the last: none is, unless the
+// last at which the target is slow enough is.
 pub fn next_later(a: Approach, last: u32) -> u32
     requires { ⌜ Approaches a last ⌝ }
     ensures { λ r. ⌜ Next (reachesLater a) 0 last r ⌝ }

@@ -1,4 +1,5 @@
-// Whether an axis reaches an arrival, and which it reaches next (docs/METHOD.md, section 3, rule 4, and 3.10).
+// Whether an axis reaches an arrival, and which it reaches next
+// (docs/METHOD.md, section 3, rule 4, and 3.10).
 mod approach;
 
 use approach::approach_of;
@@ -44,7 +45,8 @@ pub fn reaches(x: Axis, n: u32) -> bool
 
 // ---- whether it reaches any
 
-// The last arrival from n to the last at which the target is not too fast: where one of them is reached, it is.
+// The last arrival from n to the last at which the target is not too fast: where
+// one of them is reached, it is.
 fn last_slow(x: Axis, n: u32, last: u32) -> u32
     requires { ⌜ Passed x ⌝ }
     requires { ⌜ delay x < n ⌝ }
@@ -60,7 +62,8 @@ fn last_slow(x: Axis, n: u32, last: u32) -> u32
     n + ticks_within(limit, arrived, change, last - n)
 }
 
-// Whether the axis can arrive at some tick up to the last: at the last of those at which its target is slow enough.
+// Whether the axis can arrive at some tick up to the last: at the last of those at
+// which its target is slow enough.
 fn reaches_while_slow(x: Axis, last: u32) -> bool
     requires { ⌜ Passed x ⌝ }
     requires { ⌜ last ≤ lastTick ⌝ }
@@ -88,7 +91,8 @@ pub fn reaches_some(x: Axis, last: u32) -> bool
     next_reached(x, last, last) == last
 }
 
-// Whether the axis, where it reaches a tick up to n, does not reach n: only a target that accelerates can be too fast by then.
+// Whether the axis, where it reaches a tick up to n, does not reach n: only a target that
+// accelerates can be too fast by then.
 pub fn loses(x: Axis, n: u32) -> bool
     requires { ⌜ Passed x ⌝ }
     requires { ⌜ n ≤ lastTick ⌝ }
@@ -114,7 +118,8 @@ fn first_after(n: u32, delay: u32) -> u32
     n
 }
 
-// By how much the required sum changes from one arrival to the next, where the target does not accelerate, in fine steps.
+// By how much the required sum changes from one arrival to the next, where the target does
+// not accelerate, in fine steps.
 fn drift_of(target: Target) -> i64
     requires { ⌜ Within (2 ^ 20) (speedOf target) ⌝ }
     ensures { λ r. ⌜ Is (2 ^ 28) r (driftOf target) ⌝ }
@@ -137,8 +142,9 @@ fn drift(x: Axis) -> i64
     motion::grid_steps(x) * drift_of(target)
 }
 
-// The least arrival from n to the last that the axis reaches, or one past the last, where the target does not accelerate: arrivals that surely fall short are
-// passed over, and then the sums of the envelopes are carried from one arrival to the next.
+// The least arrival from n to the last that the axis reaches, or one past the last, where the
+// target does not accelerate: arrivals that surely fall short are passed over, and then the sums of
+// the envelopes are carried from one arrival to the next.
 fn next_steady(x: Axis, n: u32, last: u32) -> u32
     requires { ⌜ Passed x ⌝ }
     requires { ⌜ accelerates (x .target) ≡ false ⌝ }

@@ -1,4 +1,5 @@
--- Refusals 4, 12, 5, 15, 6, 16, 17 and 13, in checking order, are what admission tests of axes and windows.
+-- Refusals 4, 12, 5, 15, 6, 16, 17 and 13, in checking order, are what
+-- admission tests of axes and windows.
 use Prim.Native.Nat.{ℕ}
 use mathlib.Core.Path.{_≡_, refl, sym, ap}
 use mathlib.Core.Bool.{Bool, true, false}
@@ -43,4 +44,5 @@ module _ (w : Windows) where
   window-right e = sym (ap by-window e)
 
   pub no-windows : w .given ≡ false → Passed ≡ windowRefusal w
-  no-windows e = window-right (ap (λ (b : Bool). elim b as (λ _. Option ℕ) [ true ↦ windowsRefused w | false ↦ none ]) e)
+  no-windows e =
+      window-right (ap (λ (b : Bool). elim b as (λ _. Option ℕ) [ true ↦ windowsRefused w | false ↦ none ]) e)

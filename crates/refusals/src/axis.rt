@@ -1,12 +1,15 @@
-// The refusals that one axis meets by itself (docs/METHOD.md, section 7, numbers 4, 12, 5, 15, 6, 16 and 17), in checking order.
+// The refusals that one axis meets by itself (docs/METHOD.md, section 7, numbers 4, 12, 5, 15, 6,
+// 16 and 17), in checking order.
 use model::Axis;
 use model::RestPoint;
 use model::SecondSway;
 use model::State;
 use model::Target;
 ghost use mathlib.Core.Path.{_≡_};
-ghost use Rattle.model.specs.planning.Refusals.{within, limitsRefused, dampingRefused, blendRefused, swayRefused, valuesRefused, accelerationRefused, flyingRefused};
-ghost use Rattle.model.specs.planning.Refusals.{swayAllowed, positionAllowed, velocityAllowed, restAllowed, motionAllowed, targetAllowed, accelerationRefusedBy, flies};
+ghost use Rattle.model.specs.planning.Refusals.{within, limitsRefused, dampingRefused, blendRefused, swayRefused};
+ghost use Rattle.model.specs.planning.Refusals.{valuesRefused, accelerationRefused, flyingRefused};
+ghost use Rattle.model.specs.planning.Refusals.{swayAllowed, positionAllowed, velocityAllowed, restAllowed};
+ghost use Rattle.model.specs.planning.Refusals.{motionAllowed, targetAllowed, accelerationRefusedBy, flies};
 ghost use Rattle.model.specs.declared.Target.the-variants.{Moving};
 ghost use Rattle.refusals.specs.Checks.{testsFor, firstMet};
 
@@ -176,7 +179,8 @@ fn flying_refused(x: Axis) -> bool
     flies(target)
 }
 
-// The rank in checking order of the first of refusals 4, 12, 5, 15, 6, 16 and 17 that meets the axis, from 0 on, or one past the last; 17 is one of them only
+// The rank in checking order of the first of refusals 4, 12, 5, 15, 6, 16 and 17
+// that meets the axis, from 0 on, or one past the last; 17 is one of them only
 // where fixed targets must be at rest.
 pub fn first_refused(x: Axis, resting: bool) -> usize
     ensures { λ r. ⌜ r ≡ firstMet (testsFor resting) x ⌝ }

@@ -1,5 +1,5 @@
-// The refusals of axes and of windows (docs/METHOD.md, section 7, numbers 4, 12, 5, 15, 6, 16, 17 and 13), in checking order. `axis` has those that one axis
-// meets by itself.
+// The refusals of axes and of windows (docs/METHOD.md, section 7, numbers 4, 12, 5, 15, 6, 16, 17
+// and 13), in checking order. `axis` has those that one axis meets by itself.
 mod axis;
 
 use axis::first_refused;
@@ -12,10 +12,12 @@ ghost use Prim.Native.Nat.{_<_, min};
 ghost use lib.Dec.{eqb};
 ghost use lib.ListN.{length};
 ghost use Rattle.model.specs.planning.Job.{setAxes};
-ghost use Rattle.refusals.specs.Checks.{windowRefusal, testsFor, firstRefusal, firstMet, leastRank, lowestAxis, numberOf};
+ghost use Rattle.refusals.specs.Checks.{windowRefusal, testsFor, firstRefusal, firstMet, leastRank, lowestAxis};
+ghost use Rattle.refusals.specs.Checks.{numberOf};
 
-// The first of refusals 4, 12, 5, 15, 6, 16, 17 and 13, or none; 17 only where fixed targets must be at rest. Each number is checked over all axes,
-// lowest first, before the next number: that is the least rank of all axes, at the lowest axis that has it.
+// The first of refusals 4, 12, 5, 15, 6, 16, 17 and 13, or none; 17 only where fixed targets must
+// be at rest. Each number is checked over all axes, lowest first, before the next number: that is
+// the least rank of all axes, at the lowest axis that has it.
 pub fn check(mask: u32, axes: [Axis; 6], windows: Windows, resting: bool) -> Checked
     ensures { λ r. ⌜ r ≡ firstRefusal (testsFor resting) (setAxes 0 mask axes) windows ⌝ }
 {
@@ -28,7 +30,8 @@ pub fn check(mask: u32, axes: [Axis; 6], windows: Windows, resting: bool) -> Che
     window_refusal(windows)
 }
 
-// The least rank in checking order of a refusal that meets an axis of the mask, or the number of tests.
+// The least rank in checking order of a refusal that meets an axis of the mask, or the number of
+// tests.
 fn least_rank(mask: u32, axes: [Axis; 6], resting: bool) -> usize
     ensures { λ r. ⌜ r ≡ leastRank (testsFor resting) (setAxes 0 mask axes) ⌝ }
 {
@@ -46,7 +49,8 @@ fn least_rank(mask: u32, axes: [Axis; 6], resting: bool) -> usize
     least
 }
 
-// The rank of the first refusal that meets an axis, where it is lower than one of other axes; else that one.
+// The rank of the first refusal that meets an axis, where it is lower than one of other axes; else
+// that one.
 fn lower_rank(axis: Axis, resting: bool, other: usize) -> usize
     ensures { λ r. ⌜ r ≡ min (firstMet (testsFor resting) axis) other ⌝ }
 {
@@ -92,7 +96,8 @@ fn number_of(rank: usize) -> u32
     order[rank]
 }
 
-// How many refusals are about one axis: 17 is the last of them, and only where fixed targets must be at rest.
+// How many refusals are about one axis: 17 is the last of them, and only where
+// fixed targets must be at rest.
 fn test_count(resting: bool) -> usize
     ensures { λ r. ⌜ r ≡ length (testsFor resting) ⌝ }
 {

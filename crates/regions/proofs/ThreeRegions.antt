@@ -1,6 +1,7 @@
--- The velocities of rule 5 lie in three regions: up to tick `rise`, and from `fall` ticks before the end on, a velocity is on a ramp, and
--- neither the cruise c nor c + 1 changes it; between, it is the cruise. A ramp that falls towards c is, with every sign turned, one that
--- rises towards −c − 1, so that most laws are of rising ramps.
+-- The velocities of rule 5 lie in three regions: up to tick `rise`, and from `fall` ticks before
+-- the end on, a velocity is on a ramp, and neither the cruise c nor c + 1 changes it; between, it
+-- is the cruise. A ramp that falls towards c is, with every sign turned, one that rises towards −c
+-- − 1, so that most laws are of rising ramps.
 use Prim.Native.Nat.{ℕ, suc, _+_, _-_, _*_, _/_, _≤_, _<_}
 use mathlib.Core.Path.{_≡_, refl, sym, ap, ap₂, subst, _∙_}
 use mathlib.Core.List.{[], _∷_}
@@ -31,7 +32,8 @@ turn = all₂ _ (λ a b c d. simp whole (omega arith))
 turn-back : (x y : ℤ) → negℤ y ≤ℤ turned x → x <ℤ y
 turn-back = all₂ _ (λ a b c d. simp whole (omega arith))
 
--- ---- one tick: the speed limit l, the ends s and e, and how far a velocity may be from the one (a) and from the other (b)
+-- ---- one tick: the speed limit l, the ends s and e, and how far a velocity may be from the
+-- one (a) and from the other (b)
 
 highest-swap : (l a b : ℕ) (s e : ℤ) → highest l b a e s ≡ highest l a b s e
 highest-swap l a b = all₂ _ (λ c d e f. simp whole (omega arith))
@@ -40,16 +42,19 @@ lowest-swap : (l a b : ℕ) (s e : ℤ) → lowest l b a e s ≡ lowest l a b s 
 lowest-swap l a b = all₂ _ (λ c d e f. simp whole (omega arith))
 
 -- on a ramp from s towards c that is nearer to s than the ramp to e
-rising : (l a b : ℕ) (s e c d : ℤ) → Within l s → Within l c → Within (a + b) (e -ℤ s) → (s +ℤ pos a) ≤ℤ c → (s +ℤ pos a) ≤ℤ (e +ℤ pos b)
+rising : (l a b : ℕ) (s e c d : ℤ) → Within l s → Within l c → Within (a + b) (e -ℤ s) → (s +ℤ pos a) ≤ℤ c
+    → (s +ℤ pos a) ≤ℤ (e +ℤ pos b)
     → c ≤ℤ d → clamp (lowest l a b s e) (highest l a b s e) d ≡ s +ℤ pos a
 rising l a b = all₄ _ (λ c d e f g h i j. simp whole (omega arith))
 
-falling : (l a b : ℕ) (s e c d : ℤ) → Within l c → (negℤ s +ℤ pos a) ≤ℤ turned c → (negℤ s +ℤ pos a) ≤ℤ (negℤ e +ℤ pos b) → d ≤ℤ (c +ℤ pos 1)
+falling : (l a b : ℕ) (s e c d : ℤ) → Within l c → (negℤ s +ℤ pos a) ≤ℤ turned c
+    → (negℤ s +ℤ pos a) ≤ℤ (negℤ e +ℤ pos b) → d ≤ℤ (c +ℤ pos 1)
     → clamp (lowest l a b s e) (highest l a b s e) d ≡ s -ℤ pos a
 falling l a b = all₄ _ (λ c d e f g h i j. simp whole (omega arith))
 
 -- past both ramps
-level : (l a b : ℕ) (s e c : ℤ) → Within l c → c ≤ℤ (s +ℤ pos a) → (s -ℤ pos a) ≤ℤ c → c ≤ℤ (e +ℤ pos b) → (e -ℤ pos b) ≤ℤ c
+level : (l a b : ℕ) (s e c : ℤ) → Within l c → c ≤ℤ (s +ℤ pos a) → (s -ℤ pos a) ≤ℤ c
+    → c ≤ℤ (e +ℤ pos b) → (e -ℤ pos b) ≤ℤ c
     → clamp (lowest l a b s e) (highest l a b s e) c ≡ c
 level l a b = all₃ _ (λ c d e f g h. simp whole (omega arith))
 
@@ -73,7 +78,8 @@ change-down a v c h = choice-no (leZ v c) _ _ (le-no v c h)
 
 pub change-within : (a : ℕ) (v c : ℤ) → natAbs (rampChange a v c) ≤ a
 unfolding rampChange
-change-within a v c = by-bool (λ (z : ℤ). natAbs z ≤ a) (leZ v c) _ _ (λ t. omega arith) (λ t. omega (arith, natAbs-negpos a))
+change-within a v c =
+    by-bool (λ (z : ℤ). natAbs z ≤ a) (leZ v c) _ _ (λ t. omega arith) (λ t. omega (arith, natAbs-negpos a))
 
 -- ---- a ramp alone, at a tick at which it has changed by m
 
@@ -132,7 +138,8 @@ module _ (a : ℕ) (some : 0 < a) where
   short j v c =
       by-bool (λ (n : ℕ). j ≤ n → Short (a * j) v c) (leZ v c) _ _
       (λ t h. inl (rises j (natAbs (c -ℤ v)) v c (leZ-yes t) (way-up v c (leZ-yes t)) h))
-      (λ t h. inr (rises j (natAbs (v -ℤ c -ℤ pos 1)) (negℤ v) (turned c) (turn c v (le-fails t)) (way-down v c (le-fails t)) h))
+      (λ t h. inr
+      (rises j (natAbs (v -ℤ c -ℤ pos 1)) (negℤ v) (turned c) (turn c v (le-fails t)) (way-down v c (le-fails t)) h))
 
   past : (j : ℕ) (v c : ℤ) → rampTicks a v c < j → Past (a * j) v c
   unfolding rampTicks
@@ -168,7 +175,8 @@ alone a b s e c (inr u) p = inr (record { short = u; nearer = across _ (turned c
 
 -- the velocity of tick k on it, the change being n a tick
 up-value : (a n k : ℕ) (s c : ℤ) → a ≡ n * k → s ≤ℤ c → s +ℤ pos a ≡ s +ℤ pos k *ℤ rampChange n s c
-up-value a n k s c w t = ap (λ (m : ℕ). s +ℤ pos m) (w ∙ mul-comm n k) ∙ ap (λ (z : ℤ). s +ℤ pos k *ℤ z) (change-up n s c t)
+up-value a n k s c w t =
+    ap (λ (m : ℕ). s +ℤ pos m) (w ∙ mul-comm n k) ∙ ap (λ (z : ℤ). s +ℤ pos k *ℤ z) (change-up n s c t)
 
 down-value : (a n k : ℕ) (s c : ℤ) → a ≡ n * k → negℤ s ≤ℤ turned c → s -ℤ pos a ≡ s +ℤ pos k *ℤ rampChange n s c
 down-value a n k s c w t =
@@ -179,20 +187,27 @@ down-value a n k s c w t =
     minus : (x y : ℤ) → negℤ (x *ℤ y) ≡ x *ℤ negℤ y
     minus x y = same (x ∷ y ∷ []) (search pol depth 20 fits 9000) tt
 
-ramp-value : (l a b : ℕ) (s e c d : ℤ) (n k : ℕ) → a ≡ n * k → Within l s → Within l c → Within (a + b) (e -ℤ s) → c ≤ℤ d → d ≤ℤ (c +ℤ pos 1)
+ramp-value : (l a b : ℕ) (s e c d : ℤ) (n k : ℕ) → a ≡ n * k → Within l s → Within l c
+    → Within (a + b) (e -ℤ s) → c ≤ℤ d → d ≤ℤ (c +ℤ pos 1)
     → OnRamp a b s e c → clamp (lowest l a b s e) (highest l a b s e) d ≡ s +ℤ pos k *ℤ rampChange n s c
 ramp-value l a b s e c d n k w hs hc near h q (inl r) =
     rising l a b s e c d hs hc near (r .short .under) (r .nearer) h ∙ up-value a n k s c w (r .short .towards)
 ramp-value l a b s e c d n k w hs hc near h q (inr r) =
     falling l a b s e c d hc (r .short .under) (r .nearer) q ∙ down-value a n k s c w (r .short .towards)
 
--- a velocity v on a ramp of change u, which is n or −n, is short of c: not above it where the ramp rises, and above it where it falls
+-- a velocity v on a ramp of change u, which is n or −n, is short of c: not above it where the ramp
+-- rises, and above it where it falls
 abbrev pub Towards : ℕ → ℤ → ℤ → ℤ → Type 0
 Towards n u v c = ((u ≡ pos n) × (v ≤ℤ c)) ⊎ ((u ≡ negℤ (pos n)) × (c <ℤ v))
 
-ramp-towards : (a b : ℕ) (s e c : ℤ) (n k : ℕ) → a ≡ n * k → OnRamp a b s e c → Towards n (rampChange n s c) (s +ℤ pos k *ℤ rampChange n s c) c
+ramp-towards : (a b : ℕ) (s e c : ℤ) (n k : ℕ) → a ≡ n * k → OnRamp a b s e c
+    → Towards n (rampChange n s c) (s +ℤ pos k *ℤ rampChange n s c) c
 ramp-towards a b s e c n k w (inl r) =
-    inl (sym (change-up n s c (r .short .towards)), subst (λ (z : ℤ). z ≤ℤ c) (up-value a n k s c w (r .short .towards)) (r .short .under))
+    inl (
+      sym (change-up n s c (r .short .towards)),
+      subst (λ (z : ℤ). z ≤ℤ c)
+          (up-value a n k s c w (r .short .towards)) (r .short .under),
+    )
 ramp-towards a b s e c n k w (inr r) =
     inr (
       sym (change-down n s c (turn-back c s (r .short .towards))),
@@ -249,9 +264,11 @@ pub swapped : (m : ℕ) (x y : ℤ) → Within m (y -ℤ x) → Within m (x -ℤ
 swapped m = all₂ _ (λ a b c d. simp whole (omega arith))
 
 -- two ramps towards c, of which one is under it at each tick
-meet-before : (m n : ℕ) (s e c : ℤ) → s ≤ℤ c → (s +ℤ pos m) ≤ℤ (e +ℤ pos n) → Under m s c ⊎ Under n e c → Rises m n s e c
+meet-before : (m n : ℕ) (s e c : ℤ) → s ≤ℤ c → (s +ℤ pos m) ≤ℤ (e +ℤ pos n)
+    → Under m s c ⊎ Under n e c → Rises m n s e c
 meet-before m n s e c t near (inl u) = record { short = u; nearer = near }
-meet-before m n s e c t near (inr u) = record { short = record { towards = t; under = ≤ℤ-trans near (u .under) }; nearer = near }
+meet-before m n s e c t near (inr u) =
+    record { short = record { towards = t; under = ≤ℤ-trans near (u .under) }; nearer = near }
 
 meet-after : (m n : ℕ) (s e c : ℤ) → e ≤ℤ c → (e +ℤ pos n) ≤ℤ (s +ℤ pos m) → Under m s c ⊎ Under n e c → Rises n m e s c
 meet-after m n s e c t near u = meet-before n m e s c t near (⊎-elim (λ v. inr v) (λ v. inl v) u)
@@ -313,7 +330,8 @@ module _ (g : Leg) (joined : Joined g) (some : 0 < g .accelerationLimit) (c : �
   up-is k h = size-is _ up-some ∙ ap (λ (n : ℕ). e -ℤ s +ℤ pos n) (sym (since-until g k h))
 
   down-is : (k : ℕ) → k ≤ g .ticks → pos downX ≡ negℤ e -ℤ negℤ s +ℤ pos (since g k + until g k)
-  down-is k h = size-is _ down-some ∙ turns s e (pos apart) ∙ ap (λ (n : ℕ). negℤ e -ℤ negℤ s +ℤ pos n) (sym (since-until g k h))
+  down-is k h = size-is _ down-some ∙ turns s e (pos apart)
+      ∙ ap (λ (n : ℕ). negℤ e -ℤ negℤ s +ℤ pos n) (sym (since-until g k h))
     where
       turns : (s e z : ℤ) → s -ℤ e +ℤ z ≡ negℤ e -ℤ negℤ s +ℤ z
       turns s e z = same (s ∷ e ∷ z ∷ []) (search pol depth 20 fits 9000) tt
@@ -340,11 +358,13 @@ module _ (g : Leg) (joined : Joined g) (some : 0 < g .accelerationLimit) (c : �
         (λ (p : k ≤ rampTicks a s c). inl (short a some k s c p)) (lt-or-le (rampTicks a s c) k)
 
     one-up : (k : ℕ) → s ≤ℤ c → e ≤ℤ c → Under (since g k) s c ⊎ Under (until g k) e c
-    one-up k hs he = ⊎-elim (λ u. inl (short-up (since g k) s c hs u)) (λ u. inr (short-up (until g k) e c he u)) (one-short k)
+    one-up k hs he =
+        ⊎-elim (λ u. inl (short-up (since g k) s c hs u)) (λ u. inr (short-up (until g k) e c he u)) (one-short k)
 
     one-down : (k : ℕ) → negℤ s ≤ℤ turned c → negℤ e ≤ℤ turned c
         → Under (since g k) (negℤ s) (turned c) ⊎ Under (until g k) (negℤ e) (turned c)
-    one-down k hs he = ⊎-elim (λ u. inl (short-down (since g k) s c hs u)) (λ u. inr (short-down (until g k) e c he u)) (one-short k)
+    one-down k hs he =
+        ⊎-elim (λ u. inl (short-down (since g k) s c hs u)) (λ u. inr (short-down (until g k) e c he u)) (one-short k)
 
     module _ (k : ℕ) (h : k ≤ g .ticks) where
       meet-start : k ≤ meetingTick g c → OnRamp (since g k) (until g k) s e c
@@ -353,11 +373,13 @@ module _ (g : Leg) (joined : Joined g) (some : 0 < g .accelerationLimit) (c : �
           go : OneSide s e c → OnRamp (since g k) (until g k) s e c
           go (inl p) =
               let half = before (subst (λ (n : ℕ). k ≤ n) (sym (meets-up (p .0))) l) in
-              inl (meet-before (since g k) (until g k) s e c (p .0) (before-half upX _ _ s e (up-is k h) half) (one-up k (p .0) (p .1)))
+              inl (meet-before (since g k) (until g k) s e c (p .0)
+              (before-half upX _ _ s e (up-is k h) half) (one-up k (p .0) (p .1)))
           go (inr p) =
               let half = before (subst (λ (n : ℕ). k ≤ n) (sym (meets-down (turn-back c s (p .0)))) l) in
               inr
-              (meet-before (since g k) (until g k) (negℤ s) (negℤ e) (turned c) (p .0) (before-half downX _ _ (negℤ s) (negℤ e) (down-is k h) half)
+              (meet-before (since g k) (until g k) (negℤ s) (negℤ e) (turned c) (p .0)
+              (before-half downX _ _ (negℤ s) (negℤ e) (down-is k h) half)
               (one-down k (p .0) (p .1)))
 
       meet-end : meetingTick g c < k → OnRamp (until g k) (since g k) e s c
@@ -366,11 +388,13 @@ module _ (g : Leg) (joined : Joined g) (some : 0 < g .accelerationLimit) (c : �
           go : OneSide s e c → OnRamp (until g k) (since g k) e s c
           go (inl p) =
               let half = after (subst (λ (n : ℕ). n < k) (sym (meets-up (p .0))) l) in
-              inl (meet-after (since g k) (until g k) s e c (p .1) (after-half upX _ _ s e (up-is k h) half) (one-up k (p .0) (p .1)))
+              inl (meet-after (since g k) (until g k) s e c (p .1)
+              (after-half upX _ _ s e (up-is k h) half) (one-up k (p .0) (p .1)))
           go (inr p) =
               let half = after (subst (λ (n : ℕ). n < k) (sym (meets-down (turn-back c s (p .0)))) l) in
               inr
-              (meet-after (since g k) (until g k) (negℤ s) (negℤ e) (turned c) (p .1) (after-half downX _ _ (negℤ s) (negℤ e) (down-is k h) half)
+              (meet-after (since g k) (until g k) (negℤ s) (negℤ e) (turned c) (p .1)
+              (after-half downX _ _ (negℤ s) (negℤ e) (down-is k h) half)
               (one-down k (p .0) (p .1)))
 
     pub rise-meets : meetingTick g c ≡ rise g c
@@ -406,7 +430,8 @@ module _ (g : Leg) (joined : Joined g) (some : 0 < g .accelerationLimit) (c : �
       go : (bothRamps g c < g .ticks) ⊎ (g .ticks ≤ bothRamps g c) → OnRamp (since g k) (until g k) s e c
       go (inl p) =
           let r = rise-alone p in
-          alone (since g k) (until g k) s e c (short a some k s c (omega arith)) (past a some (g .ticks - k) e c (omega arith))
+          alone (since g k) (until g k) s e c (short a some k s c (omega arith))
+          (past a some (g .ticks - k) e c (omega arith))
       go (inr p) = let r = rise-meets p in meet-start p k h (omega arith)
 
   end-region : (k : ℕ) → k ≤ g .ticks → rise g c < k → g .ticks ≤ k + fall g c → OnRamp (until g k) (since g k) e s c
@@ -416,10 +441,12 @@ module _ (g : Leg) (joined : Joined g) (some : 0 < g .accelerationLimit) (c : �
       go (inl p) =
           let r = rise-alone p in
           let f = fall-alone p in
-          alone (until g k) (since g k) e s c (short a some (g .ticks - k) e c (omega arith)) (past a some k s c (omega arith))
+          alone (until g k) (since g k) e s c (short a some (g .ticks - k) e c (omega arith))
+          (past a some k s c (omega arith))
       go (inr p) = let r = rise-meets p in meet-end p k h (omega arith)
 
-  level-region : (k : ℕ) → k ≤ g .ticks → rise g c < k → k + fall g c < g .ticks → Past (since g k) s c × Past (until g k) e c
+  level-region : (k : ℕ) → k ≤ g .ticks → rise g c < k → k + fall g c < g .ticks
+      → Past (since g k) s c × Past (until g k) e c
   level-region k h l q = go (lt-or-le (bothRamps g c) (g .ticks))
     where
       go : (bothRamps g c < g .ticks) ⊎ (g .ticks ≤ bothRamps g c) → Past (since g k) s c × Past (until g k) e c
@@ -429,7 +456,8 @@ module _ (g : Leg) (joined : Joined g) (some : 0 < g .accelerationLimit) (c : �
           (past a some k s c (omega arith), past a some (g .ticks - k) e c (omega arith))
       go (inr p) = let r = rise-meets p in let f = fall-meets p in absurd (omega arith)
 
-  pub start-towards : (k : ℕ) → k ≤ g .ticks → k ≤ rise g c → Towards a (rampChange a s c) (s +ℤ pos k *ℤ rampChange a s c) c
+  pub start-towards : (k : ℕ) → k ≤ g .ticks → k ≤ rise g c
+      → Towards a (rampChange a s c) (s +ℤ pos k *ℤ rampChange a s c) c
   start-towards k h l = ramp-towards (since g k) (until g k) s e c a k refl (start-region k h l)
 
   pub end-towards : (k : ℕ) → k ≤ g .ticks → rise g c < k → g .ticks ≤ k + fall g c
@@ -443,16 +471,20 @@ module _ (g : Leg) (joined : Joined g) (some : 0 < g .accelerationLimit) (c : �
 
     pub on-start : (d : ℤ) → c ≤ℤ d → d ≤ℤ (c +ℤ pos 1) → k ≤ rise g c → clamped g d k ≡ s +ℤ pos k *ℤ rampChange a s c
     on-start d p q l =
-        ramp-value L (since g k) (until g k) s e c d a k refl (record { within = joined .start }) inside (apart-at g joined k h) p q (start-region k h l)
+        ramp-value L (since g k) (until g k) s e c d a k refl (record { within = joined .start }) inside
+        (apart-at g joined k h) p q (start-region k h l)
 
     pub on-end : (d : ℤ) → c ≤ℤ d → d ≤ℤ (c +ℤ pos 1) → rise g c < k → g .ticks ≤ k + fall g c
         → clamped g d k ≡ e +ℤ pos (g .ticks - k) *ℤ rampChange a e c
     on-end d p q l m =
-        ap₂ (λ (x y : ℤ). clamp x y d) (lowest-swap L (until g k) (since g k) e s) (highest-swap L (until g k) (since g k) e s)
-        ∙ ramp-value L (until g k) (since g k) e s c d a (g .ticks - k) refl (record { within = joined .end }) inside far p q (end-region k h l m)
+        ap₂ (λ (x y : ℤ). clamp x y d) (lowest-swap L (until g k) (since g k) e s)
+        (highest-swap L (until g k) (since g k) e s)
+        ∙ ramp-value L (until g k) (since g k) e s c d a (g .ticks - k) refl
+        (record { within = joined .end }) inside far p q (end-region k h l m)
       where
         far : Within (until g k + since g k) (s -ℤ e)
-        far = subst (λ (n : ℕ). Within n (s -ℤ e)) (add-comm (since g k) (until g k)) (swapped (since g k + until g k) s e (apart-at g joined k h))
+        far = subst (λ (n : ℕ). Within n (s -ℤ e)) (add-comm (since g k) (until g k))
+            (swapped (since g k + until g k) s e (apart-at g joined k h))
 
     -- a ramp from above is past c
     back : (m : ℕ) (v c : ℤ) → (turned c +ℤ pos 1) ≤ℤ (negℤ v +ℤ pos m) → (v -ℤ pos m) ≤ℤ c
@@ -471,7 +503,8 @@ module _ (g : Leg) (joined : Joined g) (some : 0 < g .accelerationLimit) (c : �
     on-level-raised l q m =
         let r = level-region k h l q in
         level L (since g k) (until g k) s e (c +ℤ pos 1) (more L c inside m)
-        (r .0 .above) (higher _ c (back (since g k) s c (r .0 .below))) (r .1 .above) (higher _ c (back (until g k) e c (r .1 .below)))
+        (r .0 .above) (higher _ c (back (since g k) s c (r .0 .below))) (r .1 .above)
+        (higher _ c (back (until g k) e c (r .1 .below)))
       where
         higher : (x y : ℤ) → x ≤ℤ y → x ≤ℤ (y +ℤ pos 1)
         higher = all₂ _ (λ a b c d. simp whole (omega arith))

@@ -1,5 +1,6 @@
--- The chosen velocities in the three regions of the method (docs/METHOD.md, section 1: the end regions have the greatest acceleration): a ramp from the
--- start, a level part, a ramp to the end. That they are the velocities of rule 5 is the theorem `chosen-in-regions`.
+-- The chosen velocities in the three regions of the method (docs/METHOD.md, section 1: the end
+-- regions have the greatest acceleration): a ramp from the start, a level part, a ramp to the end.
+-- That they are the velocities of rule 5 is the theorem `chosen-in-regions`.
 use Prim.Native.Nat.{ℕ, _+_, _-_, _*_, _/_, _^_, _≤_}
 use mathlib.Core.Bool.{true, false}
 use lib.IntN.{ℤ, pos, negℤ, natAbs, _+ℤ_, _-ℤ_, _*ℤ_}
@@ -17,7 +18,8 @@ rampTicks a v c = elim (leZ v c) [ true ↦ natAbs (c -ℤ v) / a | false ↦ na
 unfoldable pub rampChange : ℕ → ℤ → ℤ → ℤ
 rampChange a v c = elim (leZ v c) [ true ↦ pos a | false ↦ negℤ (pos a) ]
 
--- how many ticks the ramp from the start has before it meets the one to the end, where both stay short of c
+-- how many ticks the ramp from the start has before it meets the one to the
+-- end, where both stay short of c
 unfoldable pub meetingTick : Leg → ℤ → ℕ
 meetingTick g c =
     let a : ℕ = g .accelerationLimit in
@@ -33,11 +35,17 @@ bothRamps g c = rampTicks (g .accelerationLimit) (g .start) c + rampTicks (g .ac
 
 -- the last tick of the first ramp, and how many ticks before the end the other begins
 unfoldable pub rise : Leg → ℤ → ℕ
-rise g c = elim (leb (g .ticks) (bothRamps g c)) [ true ↦ meetingTick g c | false ↦ rampTicks (g .accelerationLimit) (g .start) c ]
+rise g c = elim (leb (g .ticks) (bothRamps g c)) [
+  | true ↦ meetingTick g c
+  | false ↦ rampTicks (g .accelerationLimit) (g .start) c
+]
 
 unfoldable pub fall : Leg → ℤ → ℕ
 fall g c =
-    elim (leb (g .ticks) (bothRamps g c)) [ true ↦ g .ticks - meetingTick g c | false ↦ rampTicks (g .accelerationLimit) (g .end) c ]
+    elim (leb (g .ticks) (bothRamps g c)) [
+      | true ↦ g .ticks - meetingTick g c
+      | false ↦ rampTicks (g .accelerationLimit) (g .end) c
+    ]
 
 -- the velocities at cruise c with r ticks raised, and ramps of given lengths
 abbrev pub withRamps : Leg → ℤ → ℕ → ℕ → ℕ → Regions

@@ -7,10 +7,12 @@ ghost use mathlib.Core.Bool.{true};
 ghost use mathlib.Core.Path.{_≡_};
 ghost use Rattle.whole.specs.Ranges.{Within, Is};
 ghost use Rattle.profile.specs.Profiles.{legOf, Ranged, endsAllowed};
-ghost use Rattle.regions.specs.Regions.{rampTicks, rampChange, meetingTick, withRamps, regionsOf, velocityIn, RegionsRanged};
+ghost use Rattle.regions.specs.Regions.{rampTicks, rampChange, meetingTick, withRamps, regionsOf, velocityIn};
+ghost use Rattle.regions.specs.Regions.{RegionsRanged};
 
-// The chosen velocities in three regions: up to tick `rise` they change by `up` a tick from the start on; from `fall` ticks before the end
-// on they are `down` further from it for each tick that is left; between they are level, the first `raised` of them one above the cruise.
+// The chosen velocities in three regions: up to tick `rise` they change by `up` a tick from the
+// start on; from `fall` ticks before the end on they are `down` further from it for each tick that
+// is left; between they are level, the first `raised` of them one above the cruise.
 pub struct Regions {
     pub start: i64,
     pub rise: u64,
@@ -58,7 +60,8 @@ fn ramp_change(limit: u64, v: i64, c: i64) -> i64
     -change
 }
 
-// How many ticks the ramp from the start has before it meets the one to the end, where both stay short of c.
+// How many ticks the ramp from the start has before it meets the one to the
+// end, where both stay short of c.
 fn meeting_tick(p: Profile, c: i64) -> u64
     requires { ⌜ Ranged p ⌝ }
     requires { ⌜ 0 < p .«acceleration_limit» ⌝ }
@@ -102,7 +105,8 @@ fn with_ramps(p: Profile, cruise: CruisePlan, rise: u64, fall: u64) -> Regions
     }
 }
 
-// The regions of the velocities at a cruise. Two ramps with no tick between them end where they meet.
+// The regions of the velocities at a cruise. Two ramps with no tick between them end where they
+// meet.
 pub fn regions_of(p: Profile, cruise: CruisePlan) -> Regions
     requires { ⌜ Ranged p ⌝ }
     requires { ⌜ 0 < p .«acceleration_limit» ⌝ }

@@ -1,4 +1,5 @@
--- The cells of a plan's rows, as far as they are written: in the table the first k rows from a place on, in an order, and in a row the axes before axis i.
+-- The cells of a plan's rows, as far as they are written: in the table the first k rows from a
+-- place on, in an order, and in a row the axes before axis i.
 use mathlib.Core.Path.{_≡_, refl, sym, ap, _∙_}
 use Rattle.model.proofs.tables.CellPlaces.{blocks-length}
 use Rattle.model.proofs.tables.CellPlaces as Places
@@ -19,7 +20,8 @@ use Rattle.rows.specs.Table.{planRow}
 flatten-append : (l m : List (List ℤ)) → flatten (l ++ m) ≡ flatten l ++ flatten m
 unfolding flatten
 flatten-append [] m = refl
-flatten-append (x ∷ l) m = ap (λ (r : List ℤ). x ++ r) (flatten-append l m) ∙ sym (append-assoc x (flatten l) (flatten m))
+flatten-append (x ∷ l) m =
+    ap (λ (r : List ℤ). x ++ r) (flatten-append l m) ∙ sym (append-assoc x (flatten l) (flatten m))
 
 -- the last of a list of lists
 flatten-last : (l : List (List ℤ)) (m : List ℤ) → flatten (l ++ (m ∷ [])) ≡ flatten l ++ m
@@ -76,7 +78,8 @@ module _ (o : Order) (ps : List AxisPlan) (n j : ℕ) where
   pub rows-length : (k : ℕ) → length (rowsTo o ps n j k) ≡ 3 * length ps * k
   unfolding rowsTo
   rows-length k =
-      Places.rows-length (3 * length ps) (rowOf o ps n) (λ i. blocks-length 3 (axisCells (rowAt o n i)) (λ p. refl) ps) j k
+      Places.rows-length (3 * length ps) (rowOf o ps n)
+      (λ i. blocks-length 3 (axisCells (rowAt o n i)) (λ p. refl) ps) j k
 
   -- all rows
   pub rows-all : (c k : ℕ) → k ≡ c → rowsTo o ps n j k ≡ flatten (tabulate (rowOf o ps n) j c)

@@ -19,7 +19,8 @@ use Rattle.rows.specs.Table.{planRow, rowsOver}
 use Rattle.whole.specs.Lists.{over}
 use Rattle.whole.proofs.Lists.{over-over}
 use Rattle.rows.proofs.FrontPlans.{each-of}
-use Rattle.rows.proofs.Cells.{rowTo, row-none, row-more, row-all, row-long, rowsTo, rows-none, rows-more, rows-length, rows-all}
+use Rattle.rows.proofs.Cells.{rowTo, row-none, row-more, row-all, row-long, rowsTo, rows-none, rows-more}
+use Rattle.rows.proofs.Cells.{rows-length, rows-all}
 
 -- ---- a plan whose rows can be written, and a table that has room for them
 
@@ -35,7 +36,8 @@ module _ {plan : Plan} {j c : ℕ} {t₀ : List ℤ} (f : Front plan j c t₀) w
   long = length-take-le (plan .count) (plan .axes) (omega (arith, f .can .few, f .six))
 
   -- what holds of each of its plans holds of plan i
-  pub of-each : (Q : AxisPlan → Type 0) (i : ℕ) → Each Q (plansOf plan) → i < plan .count → Q (getD (plan .axes) i unsetPlan)
+  pub of-each : (Q : AxisPlan → Type 0) (i : ℕ) → Each Q (plansOf plan) → i < plan .count
+      → Q (getD (plan .axes) i unsetPlan)
   of-each Q i r h = each-of Q (plan .axes) (plan .count) i r (omega (arith, f .can .few, f .six)) h
 
   -- the cells of row k of them have their place in the table, and in them those of axis i
@@ -82,7 +84,8 @@ module _ (o : Order) (ps : List AxisPlan) (n j : ℕ) (t₀ : List ℤ) where
   rows-start = sym (ap (over t₀ 0) (rows-none o ps n j) ∙ over-nil t₀ 0 (omega arith))
 
   -- row k of them, of tick l
-  module _ (k l i at₁ at : ℕ) (t₁ t : List ℤ) (tick : l ≡ rowAt o n (j + k)) (all : i ≡ length ps) (p₁ : at₁ ≡ length (rowsTo o ps n j k)) where
+  module _ (k l i at₁ at : ℕ) (t₁ t : List ℤ) (tick : l ≡ rowAt o n (j + k)) (all : i ≡ length ps)
+      (p₁ : at₁ ≡ length (rowsTo o ps n j k)) where
     more : rowsTo o ps n j k ++ planRow ps l ≡ rowsTo o ps n j (k + 1)
     more = ap (λ (m : ℕ). rowsTo o ps n j k ++ planRow ps m) tick ∙ rows-more o ps n j k
 

@@ -39,7 +39,11 @@ module _ (n i m : ℕ) (axes : List Axis) (here : i < length axes) where
       both b ps = elim b [ true ↦ p ∷ ps | false ↦ ps ]
 
       go : (b : Bool)
-          → plansFor n (elim b as (λ _. List JobAxis) [ true ↦ record { number = i; axis = getD axes i unsetAxis } ∷ later | false ↦ later ])
+          → plansFor n
+          (elim b as (λ _. List JobAxis) [
+            | true ↦ record { number = i; axis = getD axes i unsetAxis } ∷ later
+            | false ↦ later
+          ])
           ≡ both b (plansFor n later)
       go true = λ j. p ∷ plansFor n later
       go false = λ j. plansFor n later
@@ -50,7 +54,8 @@ module _ (n i m : ℕ) (axes : List Axis) (here : i < length axes) where
       ap (λ (k : ℕ). take k (set plans count p) ++ rest) (add-one count)
       ∙ ap (λ (t : List AxisPlan). t ++ rest) (take-suc-set plans count p l)
       ∙ append-assoc (take count plans) (p ∷ []) rest
-      ∙ ap (λ (b : Bool). take count plans ++ (elim b as (λ _. List AxisPlan) [ true ↦ p ∷ rest | false ↦ rest ])) (sym e)
+      ∙ ap (λ (b : Bool). take count plans ++ (elim b as (λ _. List AxisPlan) [ true ↦ p ∷ rest | false ↦ rest ]))
+      (sym e)
       ∙ ap (λ (ps : List AxisPlan). take count plans ++ ps) (sym more)
 
   pub plan-left-out : (plans : List AxisPlan) → eqb (m % 2) 1 ≡ false → plans ++ rest ≡ plans ++ plansFrom n i m axes
@@ -59,9 +64,11 @@ module _ (n i m : ℕ) (axes : List Axis) (here : i < length axes) where
       ∙ ap (λ (ps : List AxisPlan). plans ++ ps) (sym more)
 
 -- all of them are
-pub plans-put : (n i m : ℕ) (axes : List Axis) (plans : List AxisPlan) → i ≡ length axes → plans ++ plansFrom n i m axes ≡ plans
+pub plans-put : (n i m : ℕ) (axes : List Axis) (plans : List AxisPlan) → i ≡ length axes
+    → plans ++ plansFrom n i m axes ≡ plans
 plans-put n i m axes plans e =
-    ap (λ (l : List Axis). plans ++ plansFor n (setAxes i m l)) (ap (λ (k : ℕ). drop k axes) e ∙ drop-length axes) ∙ append-nil plans
+    ap (λ (l : List Axis). plans ++ plansFor n (setAxes i m l)) (ap (λ (k : ℕ). drop k axes) e ∙ drop-length axes)
+    ∙ append-nil plans
 
 -- ---- what holds of each of them holds of one
 
@@ -70,7 +77,8 @@ each-at Q [] i r h = absurd (omega arith)
 each-at Q (p ∷ ps) zero r h = r .0
 each-at Q (p ∷ ps) (suc i) r h = each-at Q ps i (r .1) (omega arith)
 
-pub each-of : (Q : AxisPlan → Type 0) (axes : List AxisPlan) (count i : ℕ) → Each Q (take count axes) → count ≤ length axes → i < count
+pub each-of : (Q : AxisPlan → Type 0) (axes : List AxisPlan) (count i : ℕ) → Each Q (take count axes)
+    → count ≤ length axes → i < count
     → Q (getD axes i unsetPlan)
 each-of Q axes count i r h l =
     let long = length-take-le count axes h in

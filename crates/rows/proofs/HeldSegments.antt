@@ -14,27 +14,33 @@ use Rattle.segments.specs.Segments.{SegmentOf}
 use Rattle.rows.specs.Table.{noSegment, noSegments}
 
 abbrev pub Segmented : List AxisPlan → ℕ → List Segment → Type 0
-Segmented axes count segments = (a : ℕ) → a < count → SegmentOf (blendedVelocity (getD axes a unsetPlan)) (getD segments a noSegment)
+Segmented axes count segments = (a : ℕ) → a < count
+    → SegmentOf (blendedVelocity (getD axes a unsetPlan)) (getD segments a noSegment)
 
 -- none is known
 pub segmented-none : (axes : List AxisPlan) (count : ℕ) → count ≤ 6 → Segmented axes count noSegments
 segmented-none axes count h a l =
-    subst (SegmentOf (blendedVelocity (getD axes a unsetPlan))) (sym (getD-replicate 6 a noSegment noSegment (omega arith)))
+    subst (SegmentOf (blendedVelocity (getD axes a unsetPlan)))
+    (sym (getD-replicate 6 a noSegment noSegment (omega arith)))
     (record { even = λ j f u. absurd (omega arith) })
 
 -- that of axis i is set
-pub segmented-set : (axes : List AxisPlan) (count : ℕ) (segments : List Segment) (i : ℕ) (q : Segment) → i < length segments
-    → SegmentOf (blendedVelocity (getD axes i unsetPlan)) q → Segmented axes count segments → Segmented axes count (set segments i q)
+pub segmented-set : (axes : List AxisPlan) (count : ℕ) (segments : List Segment) (i : ℕ) (q : Segment)
+    → i < length segments
+    → SegmentOf (blendedVelocity (getD axes i unsetPlan)) q → Segmented axes count segments
+    → Segmented axes count (set segments i q)
 segmented-set axes count segments i q h e w a l = go (decLt a i) (decLt i a)
   where
     Goal : ℕ → Type 0
     Goal b = SegmentOf (blendedVelocity (getD axes b unsetPlan)) (getD (set segments i q) b noSegment)
 
     other : (a ≡ i → ⊥) → Goal a
-    other n = subst (SegmentOf (blendedVelocity (getD axes a unsetPlan))) (sym (getD-set-other segments i a q noSegment n)) (w a l)
+    other n = subst (SegmentOf (blendedVelocity (getD axes a unsetPlan)))
+        (sym (getD-set-other segments i a q noSegment n)) (w a l)
 
     go : Dec (a < i) → Dec (i < a) → Goal a
     go (Dec.yes r) d = other (λ u. omega arith)
     go (Dec.no r) (Dec.yes t) = other (λ u. omega arith)
     go (Dec.no r) (Dec.no t) =
-        subst Goal {x = i} {y = a} (omega arith) (subst (SegmentOf (blendedVelocity (getD axes i unsetPlan))) (sym (getD-set-same segments i q noSegment h)) e)
+        subst Goal {x = i} {y = a} (omega arith)
+        (subst (SegmentOf (blendedVelocity (getD axes i unsetPlan))) (sym (getD-set-same segments i q noSegment h)) e)

@@ -22,7 +22,8 @@ use Rattle.rows.specs.Table.{planRow, planPart, rowsOver}
 use Rattle.blended.proofs.BlendedTicks.{cells-are, lands}
 use Rattle.rows.proofs.PlannableAxes.{AllPlannable, all-ranged, all-arrive}
 
-row-is : (n k : ℕ) (xs : List JobAxis) → AllPlannable n xs → k ≤ n → planRow (plansFor n xs) k ≡ row (map (plannedAxis n) (map (λ (x : JobAxis). x .axis) xs)) k
+row-is : (n k : ℕ) (xs : List JobAxis) → AllPlannable n xs → k ≤ n
+    → planRow (plansFor n xs) k ≡ row (map (plannedAxis n) (map (λ (x : JobAxis). x .axis) xs)) k
 unfolding flatten
 row-is n k [] r h = refl
 row-is n k (x ∷ xs) r h =
@@ -34,7 +35,8 @@ all-land n (x ∷ xs) r = (lands (x .axis) n (r .0), all-land n xs (r .1))
 
 -- ---- a plan that is the job's
 
-module _ (m n : ℕ) (xs : List Axis) (plannable : AllPlannable n (setAxes 0 m xs)) (plan : Plan) (is : PlanIs m (setAxes 0 m xs) n plan) where
+module _ (m n : ℕ) (xs : List Axis) (plannable : AllPlannable n (setAxes 0 m xs)) (plan : Plan)
+    (is : PlanIs m (setAxes 0 m xs) n plan) where
   pub fillable : Fillable plan
   fillable =
       record {
@@ -44,7 +46,8 @@ module _ (m n : ℕ) (xs : List Axis) (plannable : AllPlannable n (setAxes 0 m x
         land = of LandsAt (all-land n (setAxes 0 m xs) plannable);
       }
     where
-      of : (Q : ℕ → AxisPlan → Type 0) → Each (Q n) (plansFor n (setAxes 0 m xs)) → Each (Q (plan .arrival)) (plansOf plan)
+      of : (Q : ℕ → AxisPlan → Type 0) → Each (Q n) (plansFor n (setAxes 0 m xs))
+          → Each (Q (plan .arrival)) (plansOf plan)
       of Q h = subst (λ (k : ℕ). Each (Q k) (plansOf plan)) (sym (is .arrival)) (subst (Each (Q n)) (sym (is .plans)) h)
 
   pub plan-arrives : n ≤ lastTick → plan .arrival ≤ lastTick
@@ -58,7 +61,8 @@ module _ (m n : ℕ) (xs : List Axis) (plannable : AllPlannable n (setAxes 0 m x
 
   part-is : (o : Order) (j c : ℕ) → j + c ≤ suc n → planPart o plan j c ≡ part o (axesOf (typedJob m n xs)) n j c
   part-is o j c h =
-      ap₂ (λ (ps : List AxisPlan) (k : ℕ). flatten (tabulate (λ i. planRow ps (rowAt o k i)) j c)) (is .plans) (is .arrival)
+      ap₂ (λ (ps : List AxisPlan) (k : ℕ). flatten (tabulate (λ i. planRow ps (rowAt o k i)) j c))
+      (is .plans) (is .arrival)
       ∙ ap flatten
       (tabulate-same (λ i. planRow (plansFor n (setAxes 0 m xs)) (rowAt o n i))
       (λ i. row (map (plannedAxis n) (axesOf (typedJob m n xs))) (rowAt o n i)) j c
@@ -67,5 +71,6 @@ module _ (m n : ℕ) (xs : List Axis) (plannable : AllPlannable n (setAxes 0 m x
   plans-long : length (plansOf plan) ≡ length (axesOf (typedJob m n xs))
   plans-long = ap length (is .plans) ∙ length-map (setAxes 0 m xs) _ ∙ sym (length-map (setAxes 0 m xs) _)
 
-  pub plan-rows : (o : Order) (j c : ℕ) (lent : List ℤ) → j + c ≤ suc n → rowsOver o plan j c lent ≡ partOver o (axesOf (typedJob m n xs)) n j c lent
+  pub plan-rows : (o : Order) (j c : ℕ) (lent : List ℤ) → j + c ≤ suc n
+      → rowsOver o plan j c lent ≡ partOver o (axesOf (typedJob m n xs)) n j c lent
   plan-rows o j c lent h = λ i. part-is o j c h i ++ drop (3 * plans-long i * c) lent

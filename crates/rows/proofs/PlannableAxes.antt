@@ -1,4 +1,5 @@
--- The axes of a mask that have passed the refusals of one axis and reach the arrival: each can be planned.
+-- The axes of a mask that have passed the refusals of one axis and reach the arrival: each can be
+-- planned.
 use mathlib.Core.Path.{_≡_, refl, sym, subst}
 use mathlib.Core.Bool.{Bool, true, false}
 use mathlib.Core.List.{List, [], _∷_}
@@ -28,7 +29,8 @@ all-plannable n (x ∷ xs) p h e =
     let b = both (reachable (x .axis) n) e in
     (record { passed = p .0; tick = h; reach = b .0 }, all-plannable n xs (p .1) h (b .1))
   where
-    both : (r : Bool) → (elim r as (λ _. Bool) [ true ↦ allReach xs n | false ↦ false ]) ≡ true → (r ≡ true) × (allReach xs n ≡ true)
+    both : (r : Bool) → (elim r as (λ _. Bool) [ true ↦ allReach xs n | false ↦ false ]) ≡ true
+        → (r ≡ true) × (allReach xs n ≡ true)
     both true q = (refl, q)
     both false q = absurd (mathlib.Core.Bool.false≢true q)
 
@@ -40,14 +42,17 @@ plannable-first n i m x xs = go (eqb (m % 2) 1)
     axes : List JobAxis
     axes = setAxes (suc i) (m / 2) xs
 
-    go : (b : Bool) → AllPlannable n (elim b as (λ _. List JobAxis) [ true ↦ record { number = i; axis = x } ∷ axes | false ↦ axes ])
+    go : (b : Bool) → AllPlannable n
+        (elim b as (λ _. List JobAxis) [ true ↦ record { number = i; axis = x } ∷ axes | false ↦ axes ])
         → (b ≡ true → Plannable x n) × AllPlannable n axes
     go true r = ((λ e. r .0), r .1)
     go false r = ((λ e. absurd (mathlib.Core.Bool.false≢true e)), r)
 
 -- axis i of six, where its bit is the lowest of the mask's rest
-module _ (n i rest : ℕ) (axes : List Axis) (here : i < length axes) (plannable : AllPlannable n (setAxes i rest (drop i axes))) where
-  parted : (eqb (rest % 2) 1 ≡ true → Plannable (getD axes i unsetAxis) n) × AllPlannable n (setAxes (suc i) (rest / 2) (drop (suc i) axes))
+module _ (n i rest : ℕ) (axes : List Axis) (here : i < length axes)
+    (plannable : AllPlannable n (setAxes i rest (drop i axes))) where
+  parted : (eqb (rest % 2) 1 ≡ true → Plannable (getD axes i unsetAxis) n)
+      × AllPlannable n (setAxes (suc i) (rest / 2) (drop (suc i) axes))
   parted =
       plannable-first n i rest (getD axes i unsetAxis) (drop (suc i) axes)
       (subst (λ (l : List Axis). AllPlannable n (setAxes i rest l)) (drop-cons axes i unsetAxis here) plannable)

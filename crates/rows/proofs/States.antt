@@ -42,24 +42,32 @@ abbrev pub At : List AxisPlan → ℕ → ℕ → List BlendedState → Type 0
 At axes count k states = (a : ℕ) → a < count → getD states a noStates ≡ blendedStateAt (getD axes a unsetPlan) k
 
 abbrev pub States : List AxisPlan → ℕ → ℕ → ℕ → ℕ → List BlendedState → Type 0
-States axes count k l i states = (a : ℕ) → a < count → getD states a noStates ≡ blendedStateAt (getD axes a unsetPlan) (tickOf i k l a)
+States axes count k l i states = (a : ℕ) → a < count
+    → getD states a noStates ≡ blendedStateAt (getD axes a unsetPlan) (tickOf i k l a)
 
 -- all at tick k: no axis is stepped yet
-pub row-begins : (axes : List AxisPlan) (count k l : ℕ) (states : List BlendedState) → At axes count k states → States axes count k l 0 states
-row-begins axes count k l states h a q = h a q ∙ ap (blendedStateAt (getD axes a unsetPlan)) (sym (tick-before 0 k l a (omega arith)))
+pub row-begins : (axes : List AxisPlan) (count k l : ℕ) (states : List BlendedState) → At axes count k states
+    → States axes count k l 0 states
+row-begins axes count k l states h a q =
+    h a q ∙ ap (blendedStateAt (getD axes a unsetPlan)) (sym (tick-before 0 k l a (omega arith)))
 
 -- and all of them are
-pub row-ends : (axes : List AxisPlan) (count k l : ℕ) (states : List BlendedState) → States axes count k l count states → At axes count l states
+pub row-ends : (axes : List AxisPlan) (count k l : ℕ) (states : List BlendedState)
+    → States axes count k l count states → At axes count l states
 row-ends axes count k l states h a q = h a q ∙ ap (blendedStateAt (getD axes a unsetPlan)) (tick-after count k l a q)
 
 -- axis i, which is the next to be stepped
-pub next-state : (axes : List AxisPlan) (count k l i : ℕ) (states : List BlendedState) → States axes count k l i states → i < count
+pub next-state : (axes : List AxisPlan) (count k l i : ℕ) (states : List BlendedState)
+    → States axes count k l i states → i < count
     → getD states i noStates ≡ blendedStateAt (getD axes i unsetPlan) k
-next-state axes count k l i states h q = h i q ∙ ap (blendedStateAt (getD axes i unsetPlan)) (tick-before i k l i (omega arith))
+next-state axes count k l i states h q =
+    h i q ∙ ap (blendedStateAt (getD axes i unsetPlan)) (tick-before i k l i (omega arith))
 
 -- axis i is stepped
-pub steps : (axes : List AxisPlan) (count k l i : ℕ) (states : List BlendedState) (u : BlendedState) → i < count → count ≤ 6 → length states ≡ 6
-    → u ≡ blendedStateAt (getD axes i unsetPlan) l → States axes count k l i states → States axes count k l (i + 1) (set states i u)
+pub steps : (axes : List AxisPlan) (count k l i : ℕ) (states : List BlendedState) (u : BlendedState) → i < count
+    → count ≤ 6 → length states ≡ 6
+    → u ≡ blendedStateAt (getD axes i unsetPlan) l → States axes count k l i states
+    → States axes count k l (i + 1) (set states i u)
 steps axes count k l i states u m six long e h a q = go (decLt a i) (decLt i a)
   where
     Goal : ℕ → Type 0
@@ -76,10 +84,12 @@ steps axes count k l i states u m six long e h a q = go (decLt a i) (decLt i a)
 
     go : Dec (a < i) → Dec (i < a) → Goal a
     go (yes r) d = other (λ w. omega arith) (tick-after i k l a r ∙ sym (tick-after (i + 1) k l a (omega arith)))
-    go (no r) (yes t) = other (λ w. omega arith) (tick-before i k l a (omega arith) ∙ sym (tick-before (i + 1) k l a (omega arith)))
+    go (no r) (yes t) =
+        other (λ w. omega arith) (tick-before i k l a (omega arith) ∙ sym (tick-before (i + 1) k l a (omega arith)))
     go (no r) (no t) = let w : i ≡ a = omega arith in subst Goal w own
 
--- ---- the state that comes to the row at place j is that of the row's tick, and the one that goes on comes to the next row
+-- ---- the state that comes to the row at place j is that of the row's tick, and the one
+-- that goes on comes to the next row
 
 pub comes : (o : Order) (n j : ℕ) → j ≤ n → comesTo o n j ≡ comesAt o (rowAt o n j)
 comes Forwards n j h = refl

@@ -18,7 +18,17 @@ unsetPlan =
       origin = pos 0;
       destination = pos 0;
       regions =
-          record { start = pos 0; rise = 0; up = pos 0; cruise = pos 0; raised = 0; end = pos 0; fall = 0; down = pos 0; ticks = 0 };
+          record {
+            start = pos 0;
+            rise = 0;
+            up = pos 0;
+            cruise = pos 0;
+            raised = 0;
+            end = pos 0;
+            fall = 0;
+            down = pos 0;
+            ticks = 0;
+          };
       acceleration = pos 0;
       «half_period» = 0;
       «first_weight» = 0;
@@ -48,7 +58,8 @@ abbrev pub Each : (AxisPlan → Type 0) → List AxisPlan → Type 0
 Each Q [] = Unit
 Each Q (p ∷ ps) = Q p × Each Q ps
 
--- a plan whose rows can be written: each of its axes is within the ranges, goes on up to the arrival and lands there
+-- a plan whose rows can be written: each of its axes is within the ranges, goes on up
+-- to the arrival and lands there
 pub record Fillable (plan : Plan) : Type 0 where
   pub few : plan .count ≤ 6
   pub ranged : Each PlanRanges (plansOf plan)

@@ -21,7 +21,8 @@ no-more budget left count e = go (ltb budget left) (ltb-true budget left) e
     go false h e = omega arith
 
 -- the search tries count candidates, and finds tick n, or none where n is 0
-module _ (test : ℕ → Bool) (first budget count n : ℕ) (low : 1 ≤ first) (is : count ≡ cond (ltb budget (candidates first)) budget (candidates first))
+module _ (test : ℕ → Bool) (first budget count n : ℕ) (low : 1 ≤ first)
+    (is : count ≡ cond (ltb budget (candidates first)) budget (candidates first))
     (e : n ≡ orZero (leastFrom test first (first + count - first))) where
   tick-is : n ≡ orZero (leastFrom test first count)
   tick-is = e ∙ ap (λ (k : ℕ). orZero (leastFrom test first k)) {x = first + count - first} {y = count} (omega arith)
@@ -36,7 +37,8 @@ module _ (test : ℕ → Bool) (first budget count n : ℕ) (low : 1 ≤ first) 
   unfolding searchFrom
   by-least = ap (λ (k : ℕ). reportOf first budget (leastFrom test first k)) (is ∙ go (ltb budget (candidates first)))
     where
-      go : (b : Bool) → cond b budget (candidates first) ≡ (elim b as (λ _. ℕ) [ true ↦ budget | false ↦ candidates first ])
+      go : (b : Bool)
+          → cond b budget (candidates first) ≡ (elim b as (λ _. ℕ) [ true ↦ budget | false ↦ candidates first ])
       go true = refl
       go false = refl
 
@@ -46,11 +48,14 @@ module _ (test : ℕ → Bool) (first budget count n : ℕ) (low : 1 ≤ first) 
   pub found-out : (n ≡ 0 → ⊥) → record { report = Found n; tried = n - first + 1 } ≡ searchFrom test first budget
   found-out h = sym (ap (reportOf first budget) (some-least h)) ∙ by-least
 
-  not-found : n ≡ 0 → (b : Bool) → ltb budget (candidates first) ≡ b → notFound first budget b ≡ searchFrom test first budget
+  not-found : n ≡ 0 → (b : Bool) → ltb budget (candidates first) ≡ b
+      → notFound first budget b ≡ searchFrom test first budget
   not-found z b t = sym (ap (notFound first budget) t) ∙ sym (ap (reportOf first budget) (none-least z)) ∙ by-least
 
-  pub spent-out : n ≡ 0 → budget < candidates first → record { report = Spent (first + budget); tried = budget } ≡ searchFrom test first budget
+  pub spent-out : n ≡ 0 → budget < candidates first
+      → record { report = Spent (first + budget); tried = budget } ≡ searchFrom test first budget
   spent-out z h = not-found z true (lt-ltb budget (candidates first) h)
 
-  pub nothing-out : n ≡ 0 → candidates first ≤ budget → record { report = Nothing; tried = candidates first } ≡ searchFrom test first budget
+  pub nothing-out : n ≡ 0 → candidates first ≤ budget
+      → record { report = Nothing; tried = candidates first } ≡ searchFrom test first budget
   nothing-out z h = not-found z false (le-ltb budget (candidates first) h)

@@ -14,7 +14,8 @@ use Rattle.model.specs.planning.Windows.{inWindows}
 use Rattle.model.specs.planning.Job.{Job, jobOf, setAxes}
 use Rattle.model.specs.planning.Admission.{Input, words, typed, admission}
 use Rattle.model.specs.planning.Outcome.{arrives}
-use Rattle.model.specs.calls.Search.{searchFrom, refuseSearch, searchAnswer, firstAllowed, firstChecked, asking, searchRules, searchAfter, searchCall}
+use Rattle.model.specs.calls.Search.{searchFrom, refuseSearch, searchAnswer, firstAllowed, firstChecked, asking}
+use Rattle.model.specs.calls.Search.{searchRules, searchAfter, searchCall}
 use Rattle.model.proofs.calls.SearchCalls.{search-numbered, search-verdict, call-says}
 use Rattle.arrival.specs.Arrivals.{arrivesIn}
 use Rattle.words.specs.declared.DecodedJob.{DecodedJob}
@@ -26,7 +27,8 @@ use Rattle.admission.proofs.Admitted.{Goes, refused, passed}
 use Rattle.admission.proofs.ReadWords as Read
 use Rattle.search.specs.Promise.{SearchPromise}
 
-pub promise : (q : Input) (first budget : ℕ) (r : SearchAnswer) → r ≡ searchCall q first budget → SearchPromise q first budget r
+pub promise : (q : Input) (first budget : ℕ) (r : SearchAnswer) → r ≡ searchCall q first budget
+    → SearchPromise q first budget r
 promise q first budget r e =
     subst (SearchPromise q first budget) (sym e)
     (record {
@@ -62,16 +64,19 @@ module _ (t : Typed.Job) (first budget : ℕ) (c : Checked) (is : c ≡ withoutJ
 
     -- 18
     pub first-refused : firstAllowed first ≡ false → refuseSearch 18 0 ≡ searchCall (typed t) first budget
-    first-refused e = choice-no (firstAllowed first) (searchAnswer (t .mask) (searchFrom (arrives j) first budget)) (refuseSearch 18 0) e ∙ checks-pass
+    first-refused e = choice-no (firstAllowed first) (searchAnswer (t .mask) (searchFrom (arrives j) first budget))
+        (refuseSearch 18 0) e ∙ checks-pass
 
     -- the search, of the axes with the number B of each given
     pub searched : firstAllowed first ≡ true → (given : List Axis) → given ≡ namedWithWeight (t .mask) (t .axes)
-        → searchAnswer (t .mask) (searchFrom (arrivesIn (t .windows) (setAxes 0 (t .mask) given)) first budget) ≡ searchCall (typed t) first budget
+        → searchAnswer (t .mask) (searchFrom (arrivesIn (t .windows) (setAxes 0 (t .mask) given)) first budget)
+        ≡ searchCall (typed t) first budget
     searched e given w =
         ap (λ (test : ℕ → Bool). searchAnswer (t .mask) (searchFrom test first budget))
         {x = arrivesIn (t .windows) (setAxes 0 (t .mask) given)} {y = arrives j}
         (λ i n. inWindows (t .windows) n && given-reaches (t .mask) (t .axes) given w n i)
-        ∙ choice-yes (firstAllowed first) (searchAnswer (t .mask) (searchFrom (arrives j) first budget)) (refuseSearch 18 0) e
+        ∙ choice-yes (firstAllowed first)
+        (searchAnswer (t .mask) (searchFrom (arrives j) first budget)) (refuseSearch 18 0) e
         ∙ checks-pass
 
 -- ---- words

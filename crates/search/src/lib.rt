@@ -1,11 +1,14 @@
-// Planning between servo turns (docs/METHOD.md, 8.4): a search for the common arrival of a job over a budget of candidates, which a later call goes
-// on with. specs/Promise.antt says what both calls promise of any job, first candidate and budget. No candidate past the budget is looked at.
+// Planning between servo turns (docs/METHOD.md, 8.4): a search for the common arrival of a job over
+// a budget of candidates, which a later call goes on with. specs/Promise.antt says what both calls
+// promise of any job, first candidate and budget. No candidate past the budget is looked at.
 //
 // The way of a job:
 //     search_words      words::decode               the refusals of words, then as search_job
-//     search_job        admission::check            refusal 1, those of an axis, and 13; the asked arrival is read as 0, so that 3 never comes
+//     search_job        admission::check            refusal 1, those of an axis, and 13; the asked
+//                                                   arrival is read as 0, so that 3 never comes
 //                       first_allowed               refusal 18
-//                       admission::with_weight      damping as measured to a number B, where there is any
+//                       admission::with_weight      damping as measured to a number B, where there
+//                                                   is any
 //                       search_from                 the search
 use admission::Purpose;
 use model::Axis;
@@ -28,10 +31,12 @@ ghost use Rattle.model.specs.calls.Search.{refuseSearch, searchAnswer, foundTic
 ghost use Rattle.arrival.specs.Arrivals.{arrivesIn};
 ghost use Rattle.search.specs.Promise.{SearchPromise};
 
-// Looks for the least tick from the first candidate on, up to 4,096 and within the budget, that every axis of the mask reaches and that fits a window where
-// the job brings some. The asked arrival and axes that the mask does not name are not looked at.
-// Gives back number 0 with the mask, what was found and the number of candidates tried; or the number of the first refusal in checking order, with the place
-// that it names: those of `planner::plan_job` up to 13, but for 3, and then 18, for a first candidate of 0 or above 4,097.
+// Looks for the least tick from the first candidate on, up to 4,096 and within the budget, that
+// every axis of the mask reaches and that fits a window where the job brings some. The asked
+// arrival and axes that the mask does not name are not looked at. Gives back number 0 with the
+// mask, what was found and the number of candidates tried; or the number of the first refusal in
+// checking order, with the place that it names: those of `planner::plan_job` up to 13, but for 3,
+// and then 18, for a first candidate of 0 or above 4,097.
 pub fn search_job(job: Job, first: u32, budget: u32) -> SearchAnswer
     ensures { λ r. ⌜ SearchPromise (Input.typed job) first budget r ⌝ }
 {
@@ -52,7 +57,8 @@ pub fn search_job(job: Job, first: u32, budget: u32) -> SearchAnswer
     answered(job.mask, found)
 }
 
-// The same for a job as words: the refusals of `planner::plan_words` before 8, but for 3, and then 18.
+// The same for a job as words: the refusals of `planner::plan_words` before 8, but for 3, and
+// then 18.
 pub fn search_words(words: &[u32], first: u32, budget: u32) -> SearchAnswer
     ensures { λ r. ⌜ SearchPromise (Input.words (now (words .entry))) first budget r ⌝ }
 {
@@ -74,8 +80,9 @@ fn first_allowed(first: u32) -> bool
     false
 }
 
-// The least tick from `first` on, up to 4,096 and within the budget, that every axis of the mask reaches and that fits a window where there are some, and
-// the number of candidates tried. A budget that is used up while a candidate is left is spent.
+// The least tick from `first` on, up to 4,096 and within the budget, that every axis of the mask
+// reaches and that fits a window where there are some, and the number of candidates tried. A budget
+// that is used up while a candidate is left is spent.
 fn search_from(
     mask: u32,
     axes: [Axis; 6],

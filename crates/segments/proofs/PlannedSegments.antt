@@ -29,16 +29,19 @@ abbrev pub over : ℤ → ℕ → ℕ → Segment
 over c a b = record { change = c; from = a; until = b }
 
 -- a segment that has tick k, its change being c in the code and d in a law
-pub segment-at : {n b k f u : ℕ} {v : ℕ → ℤ} {c d : ℤ} → SegmentOf v (over d f u) → c ≡ d → f ≤ k → k < u → u ≤ n → Within b d
+pub segment-at : {n b k f u : ℕ} {v : ℕ → ℤ} {c d : ℤ} → SegmentOf v (over d f u) → c ≡ d
+    → f ≤ k → k < u → u ≤ n → Within b d
     → SegmentAt n b v k (over c f u)
 segment-at {n} {b} {k} {f} {u} {v} o e first last end w =
-    subst (λ (z : ℤ). SegmentAt n b v k (over z f u)) (sym e) (record { segment = o; from = first; until = last; short = end; small = w })
+    subst (λ (z : ℤ). SegmentAt n b v k (over z f u)) (sym e)
+    (record { segment = o; from = first; until = last; short = end; small = w })
 
 -- one tick alone
 pub segment-once : (v : ℕ → ℤ) (k : ℕ) → SegmentOf v (over (v (suc k) -ℤ v k) k (k + 1))
 segment-once v k =
     record {
-      even = λ j h l. subst (λ (i : ℕ). v (suc i) ≡ v i +ℤ (v (suc k) -ℤ v k)) {x = k} {y = j} (omega arith) (made (v (suc k)) (v k));
+      even = λ j h l. subst (λ (i : ℕ). v (suc i) ≡ v i +ℤ (v (suc k) -ℤ v k)) {x = k} {y = j}
+          (omega arith) (made (v (suc k)) (v k));
     }
   where
     made : (x y : ℤ) → x ≡ y +ℤ (x -ℤ y)
@@ -54,7 +57,8 @@ module _ {f g : ℕ → ℤ} {q r : Segment} (o : SegmentOf f q) (u : SegmentOf 
   pub segment-mix : (a b : ℕ) → SegmentOf (λ j. mix a b (f j) (g j)) (shared (mix a b (q .change) (r .change)) q r)
   segment-mix a b =
       record {
-        even = λ j h l. (λ i. mix a b (o .even j (omega arith) (omega arith) i) (u .even j (omega arith) (omega arith) i))
+        even = λ j h l.
+            (λ i. mix a b (o .even j (omega arith) (omega arith) i) (u .even j (omega arith) (omega arith) i))
             ∙ ring (pos a) (pos b) (f j) (g j) (q .change) (r .change);
       }
     where
@@ -75,7 +79,8 @@ module _ {f g : ℕ → ℤ} {q r : Segment} (o : SegmentOf f q) (u : SegmentOf 
 pub shared-at : {n b d k : ℕ} {f g h : ℕ → ℤ} {q r : Segment} {c e : ℤ} → SegmentAt n b f k q → SegmentAt n b g k r
     → SegmentOf h (shared e q r) → c ≡ e → Within d e → SegmentAt n d h k (shared c q r)
 shared-at s t o e w =
-    segment-at o e (omega (arith, s .from, t .from)) (omega (arith, s .until, t .until)) (omega (arith, s .short, t .short)) w
+    segment-at o e (omega (arith, s .from, t .from)) (omega (arith, s .until, t .until))
+    (omega (arith, s .short, t .short)) w
 
 -- ---- the regions: where the ramp to the end begins, and where the raised ticks end
 
@@ -117,7 +122,8 @@ module _ (r : Regions) where
 
     pub raised-last : raisedUntil r n ≤ n
     raised-last =
-        by-bool (λ (a : ℕ). a ≤ n) (ltb (r .raised) (n - r .rise)) _ _ (λ t. let s = ltb→lt (r .raised) (n - r .rise) t in omega arith) (λ t. omega arith)
+        by-bool (λ (a : ℕ). a ≤ n) (ltb (r .raised) (n - r .rise)) _ _
+        (λ t. let s = ltb→lt (r .raised) (n - r .rise) t in omega arith) (λ t. omega arith)
 
 -- ---- the planned velocities
 
@@ -131,7 +137,11 @@ module _ (p : AxisPlan) where
 
   -- on the ramp from the start
   pub segment-rising : g .rise < g .ticks → SegmentOf (plannedAt p) (over (g .up) 0 (g .rise))
-  segment-rising h = record { even = λ j _ l. rises (suc j) (omega arith) ∙ more j ∙ ap (λ (v : ℤ). v +ℤ g .up) (sym (rises j (omega arith))) }
+  segment-rising h =
+      record {
+        even = λ j _ l. rises (suc j) (omega arith) ∙ more j
+            ∙ ap (λ (v : ℤ). v +ℤ g .up) (sym (rises j (omega arith)));
+      }
     where
       rises : (j : ℕ) → j ≤ g .rise → plannedAt p j ≡ g .start +ℤ pos j *ℤ g .up
       rises j l = sym (planned-before p j (omega arith)) ∙ in-start g j l
@@ -169,16 +179,21 @@ module _ (p : AxisPlan) where
       ring : (v j a : ℤ) → v +ℤ j *ℤ a ≡ v +ℤ (j +ℤ pos 1) *ℤ a +ℤ (pos 0 -ℤ a)
       ring v j a = same (v ∷ j ∷ a ∷ []) (search pol depth 20 fits 9000) tt
 
-      less : (j : ℕ) → j < g .ticks → g .end +ℤ pos (g .ticks - suc j) *ℤ g .down ≡ g .end +ℤ pos (g .ticks - j) *ℤ g .down +ℤ (pos 0 -ℤ g .down)
+      less : (j : ℕ) → j < g .ticks
+          → g .end +ℤ pos (g .ticks - suc j) *ℤ g .down ≡ g .end +ℤ pos (g .ticks - j) *ℤ g .down +ℤ (pos 0 -ℤ g .down)
       less j l =
           ring (g .end) (pos (g .ticks - suc j)) (g .down)
-          ∙ ap (λ (i : ℕ). g .end +ℤ pos i *ℤ g .down +ℤ (pos 0 -ℤ g .down)) {x = g .ticks - suc j + 1} {y = g .ticks - j} (omega arith)
+          ∙ ap (λ (i : ℕ). g .end +ℤ pos i *ℤ g .down +ℤ (pos 0 -ℤ g .down)) {x = g .ticks - suc j + 1}
+          {y = g .ticks - j} (omega arith)
 
   -- on the level part, whose last tick is n
   module _ (n : ℕ) (h : g .rise ≤ n) (end : suc (n + g .fall) ≡ g .ticks) where
     pub segment-raised : SegmentOf (plannedAt p) (over (pos 0) (g .rise + 1) (raisedUntil g n))
     segment-raised =
-        record { even = λ j a b. at (suc j) (omega arith) b ∙ nothing _ ∙ ap (λ (v : ℤ). v +ℤ pos 0) (sym (at j (omega arith) (omega arith))) }
+        record {
+          even = λ j a b. at (suc j) (omega arith) b ∙ nothing _
+              ∙ ap (λ (v : ℤ). v +ℤ pos 0) (sym (at j (omega arith) (omega arith)));
+        }
       where
         at : (j : ℕ) → g .rise < j → j ≤ raisedUntil g n → plannedAt p j ≡ g .cruise +ℤ pos 1
         at j a b =
@@ -188,7 +203,10 @@ module _ (p : AxisPlan) where
 
     pub segment-level : SegmentOf (plannedAt p) (over (pos 0) (raisedUntil g n + 1) n)
     segment-level =
-        record { even = λ j a b. at (suc j) (omega arith) b ∙ nothing _ ∙ ap (λ (v : ℤ). v +ℤ pos 0) (sym (at j a (omega arith))) }
+        record {
+          even = λ j a b. at (suc j) (omega arith) b ∙ nothing _
+              ∙ ap (λ (v : ℤ). v +ℤ pos 0) (sym (at j a (omega arith)));
+        }
       where
         at : (j : ℕ) → raisedUntil g n + 1 ≤ j → j ≤ n → plannedAt p j ≡ g .cruise
         at j a b =
@@ -198,7 +216,8 @@ module _ (p : AxisPlan) where
 -- ---- d ticks before
 
 module _ (p : AxisPlan) (d : ℕ) where
-  pub segment-back : {q : Segment} → SegmentOf (plannedAt p) q → SegmentOf (velocityBack p d) (over (q .change) (q .from + d) (q .until + d))
+  pub segment-back : {q : Segment} → SegmentOf (plannedAt p) q
+      → SegmentOf (velocityBack p d) (over (q .change) (q .from + d) (q .until + d))
   segment-back {q} o =
       record {
         even = λ j h l. sym (back-late p d (suc j) (omega arith))
@@ -218,12 +237,14 @@ module _ (p : AxisPlan) (d : ℕ) where
 
   -- ---- the blends
 
-  pub segment-blend : {q r : Segment} → SegmentOf (velocityBack p d) q → SegmentOf (velocityBack p (d + p .«half_period»)) r
+  pub segment-blend : {q r : Segment} → SegmentOf (velocityBack p d) q
+      → SegmentOf (velocityBack p (d + p .«half_period»)) r
       → SegmentOf (blendedBack p d) (shared (mix (p .«first_weight») (p .«second_weight») (q .change) (r .change)) q r)
   unfolding blendedBack
   segment-blend o u = segment-mix o u (p .«first_weight») (p .«second_weight»)
 
-pub segment-added : (p : AxisPlan) {s : SecondSway} {q : Segment} → p .«second_sway» ≡ s → SegmentOf (λ k. added s (λ d. blendedBack p d k)) q
+pub segment-added : (p : AxisPlan) {s : SecondSway} {q : Segment} → p .«second_sway» ≡ s
+    → SegmentOf (λ k. added s (λ d. blendedBack p d k)) q
     → SegmentOf (blendedVelocity p) q
 unfolding blendedVelocity
 segment-added p e o = segment-same (λ k. ap (λ (s : SecondSway). added s (λ d. blendedBack p d k)) e) o

@@ -41,15 +41,18 @@ module _ (stops : List Stop) (count : ℕ) (few : count ≤ length stops) where
   by-dwell : ℕ → Bool → Option ℕ
   by-dwell i b = elim b [ true ↦ firstLongDwell (suc i) (left (i + 1)) | false ↦ some i ]
 
-  dwell-is : (i : ℕ) (d : Stop) → i < count → firstLongDwell i (left i) ≡ by-dwell i (leb (getD stops i d .dwell) longestDwell)
+  dwell-is : (i : ℕ) (d : Stop) → i < count
+      → firstLongDwell i (left i) ≡ by-dwell i (leb (getD stops i d .dwell) longestDwell)
   unfolding by-dwell
   dwell-is i d h = ap (firstLongDwell i) (left-more i d h)
 
-  pub long-here : (i : ℕ) (d : Stop) → i < count → longestDwell < getD stops i d .dwell → firstLongDwell i (left i) ≡ some i
+  pub long-here : (i : ℕ) (d : Stop) → i < count → longestDwell < getD stops i d .dwell
+      → firstLongDwell i (left i) ≡ some i
   unfolding by-dwell
   long-here i d h e = dwell-is i d h ∙ ap (by-dwell i) (lt-leb (getD stops i d .dwell) longestDwell e)
 
-  pub long-later : (i : ℕ) (d : Stop) → i < count → getD stops i d .dwell ≤ longestDwell → firstLongDwell i (left i) ≡ firstLongDwell (i + 1) (left (i + 1))
+  pub long-later : (i : ℕ) (d : Stop) → i < count → getD stops i d .dwell ≤ longestDwell
+      → firstLongDwell i (left i) ≡ firstLongDwell (i + 1) (left (i + 1))
   unfolding by-dwell
   long-later i d h e =
       dwell-is i d h
@@ -67,7 +70,11 @@ module _ (stops : List Stop) (count : ℕ) (few : count ≤ length stops) where
     where
       go : (b : Bool) → leb (getD stops i d .dwell) longestDwell ≡ b → by-dwell i b ≡ none
           → (getD stops i d .dwell ≤ longestDwell) × (firstLongDwell (i + 1) (left (i + 1)) ≡ none)
-      go true t e = (leb-true (getD stops i d .dwell) longestDwell t, sym (ap (λ (k : ℕ). firstLongDwell k (left (i + 1))) (next-one i)) ∙ e)
+      go true t e = (
+        leb-true (getD stops i d .dwell) longestDwell t,
+        sym
+            (ap (λ (k : ℕ). firstLongDwell k (left (i + 1))) (next-one i)) ∙ e,
+      )
       go false t e = absurd (let z : _≡_ {A = ℕ} 0 1 = cc in omega arith)
 
   -- ---- the legs
@@ -79,7 +86,8 @@ module _ (stops : List Stop) (count : ℕ) (few : count ≤ length stops) where
     by-leg : List ℕ → Bool → Legs
     by-leg l b =
         elim b [
-          | true ↦ legsFrom t (left (i + 1)) (n + a .arrival + getD stops i d .dwell) (getD stops i d .positions) (l ++ ((n + a .arrival) ∷ []))
+          | true ↦ legsFrom t (left (i + 1)) (n + a .arrival + getD stops i d .dwell) (getD stops i d .positions)
+              (l ++ ((n + a .arrival) ∷ []))
           | false ↦ refusedLeg a (length l)
         ]
 
@@ -92,16 +100,19 @@ module _ (stops : List Stop) (count : ℕ) (few : count ≤ length stops) where
     leg-refused l e = legs-are l ∙ ap (by-leg l) (ne-eqb (a .number) 0 e)
 
     pub leg-made : (l : List ℕ) → a .number ≡ 0 → legsFrom t (left i) n here l
-        ≡ legsFrom t (left (i + 1)) (n + a .arrival + getD stops i d .dwell) (getD stops i d .positions) (l ++ ((n + a .arrival) ∷ []))
+        ≡ legsFrom t (left (i + 1)) (n + a .arrival + getD stops i d .dwell) (getD stops i d .positions)
+        (l ++ ((n + a .arrival) ∷ []))
     unfolding by-leg
     leg-made l e = legs-are l ∙ ap (by-leg l) (eq-eqb (a .number) 0 e)
 
-  pub legs-made : (t : TourSettings) (n : ℕ) (here : List ℤ) (i : ℕ) (l : List ℕ) → count ≤ i → legsFrom t (left i) n here l ≡ allLegs t n l
+  pub legs-made : (t : TourSettings) (n : ℕ) (here : List ℤ) (i : ℕ) (l : List ℕ) → count ≤ i
+      → legsFrom t (left i) n here l ≡ allLegs t n l
   legs-made t n here i l h = ap (λ (ss : List Stop). legsFrom t ss n here l) (left-none i h)
 
 -- ---- lists that are stored into in order
 
-pub stored-next : {A : Type 0} (l : List A) (i : ℕ) (v : A) → i < length l → take (i + 1) (set l i v) ≡ take i l ++ (v ∷ [])
+pub stored-next : {A : Type 0} (l : List A) (i : ℕ) (v : A) → i < length l
+    → take (i + 1) (set l i v) ≡ take i l ++ (v ∷ [])
 stored-next l i v h = ap (λ (k : ℕ). take k (set l i v)) (sym (next-one i)) ∙ take-suc-set l i v h
 
 -- one entry more of l over the front of e
@@ -114,8 +125,10 @@ front-next l e i d h k =
     ∙ ap (λ (r : List _). r ++ drop (suc i) e) (sym (take-suc l i d h))
     ∙ ap (λ (m : ℕ). take m l ++ drop m e) (next-one i)
 
-pub front-length : {A : Type 0} (l e r : List A) (i : ℕ) → i ≤ length l → i ≤ length e → r ≡ take i l ++ drop i e → length r ≡ length e
-front-length l e r i h k q = ap length q ∙ length-front e (take i l) i (length-take-le i l h ∙ sym (length-take-le i e k))
+pub front-length : {A : Type 0} (l e r : List A) (i : ℕ) → i ≤ length l → i ≤ length e
+    → r ≡ take i l ++ drop i e → length r ≡ length e
+front-length l e r i h k q =
+    ap length q ∙ length-front e (take i l) i (length-take-le i l h ∙ sym (length-take-le i e k))
 
 -- ---- the ways out of the legs
 
@@ -125,7 +138,8 @@ emptyStop = record { positions = []; dwell = 0 }
 
 -- the first refused leg, at stop i
 pub refused-row : (a : Answer) (i count : ℕ) (l : List ℕ) → (a .number ≡ 0 → ⊥) → i ≤ length l
-    → legsIn (record { number = a .number; place = i; mask = a .mask; arrival = a .arrival; total = 0; arrivals = l }) count ≡ refusedLeg a (length (take i l))
+    → legsIn (record { number = a .number; place = i; mask = a .mask; arrival = a .arrival; total = 0; arrivals = l })
+    count ≡ refusedLeg a (length (take i l))
 refused-row a i count l e h =
     λ j. record {
       number = a .number;
@@ -150,18 +164,22 @@ leg-at (l ∷ ls) (p ∷ ps) [] i h k m = absurd (omega arith)
 leg-at (l ∷ ls) (p ∷ ps) (q ∷ qs) zero h k m = refl
 leg-at (l ∷ ls) (p ∷ ps) (q ∷ qs) (suc i) h k m = leg-at ls ps qs i (omega arith) (omega arith) (omega arith)
 
-pub legs-long : (ls : List AxisLimits) (ps qs : List ℤ) (n : ℕ) → length ls ≡ n → length ps ≡ n → length qs ≡ n → length (legAxes ls ps qs) ≡ n
+pub legs-long : (ls : List AxisLimits) (ps qs : List ℤ) (n : ℕ) → length ls ≡ n → length ps ≡ n → length qs ≡ n
+    → length (legAxes ls ps qs) ≡ n
 legs-long [] ps qs n h k m = h
 legs-long (l ∷ ls) [] qs n h k m = k
 legs-long (l ∷ ls) (p ∷ ps) [] n h k m = m
 legs-long (l ∷ ls) (p ∷ ps) (q ∷ qs) zero h k m = absurd (omega arith)
-legs-long (l ∷ ls) (p ∷ ps) (q ∷ qs) (suc n) h k m = ap suc (legs-long ls ps qs n (omega arith) (omega arith) (omega arith))
+legs-long (l ∷ ls) (p ∷ ps) (q ∷ qs) (suc n) h k m =
+    ap suc (legs-long ls ps qs n (omega arith) (omega arith) (omega arith))
 
 -- the axes before axis i are those of the leg, and so is axis i
 pub legs-next : (t : TourSettings) (here there : List ℤ) (axes : List Axis) (i : ℕ) (x : Axis)
-    → i < length (t .limits) → i < length here → i < length there → i < length (legAxes (t .limits) here there) → i < length axes
+    → i < length (t .limits) → i < length here → i < length there
+    → i < length (legAxes (t .limits) here there) → i < length axes
     → x ≡ legAxisAt t here there i
-    → take i axes ≡ take i (legAxes (t .limits) here there) → take (i + 1) (set axes i x) ≡ take (i + 1) (legAxes (t .limits) here there)
+    → take i axes ≡ take i (legAxes (t .limits) here there)
+    → take (i + 1) (set axes i x) ≡ take (i + 1) (legAxes (t .limits) here there)
 legs-next t here there axes i x l p q h k e f =
     let g = legAxes (t .limits) here there in
     stored-next axes i x k

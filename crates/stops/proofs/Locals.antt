@@ -4,9 +4,11 @@
 --     copied-in     the value of one of its fields, read from within entry n
 --     plain-owned   what a plain struct owns, had for nothing
 --     word-owned    the same of a machine word
---     freed         the room at entry n and its end, which stands after it, are given up: a local that holds nothing
+--     freed         the room at entry n and its end, which stands after it, are given
+--                   up: a local that holds nothing
 --     ended         the same of a local that holds a value
---     gave          what a call gives back: its tokens, what its result owns, and what it ensures of it
+--     gave          what a call gives back: its tokens, what its result owns, and what it ensures
+--                   of it
 -- Assumes nothing.
 use mathlib.Core.Path.{_≡_, refl, subst}
 use Prim.Native.Nat.{ℕ, zero, _+_, _<_, _^_}
@@ -41,13 +43,15 @@ module _ {M : Type 1} (𝓤 : URA M) (H : Heap 𝓤) (A : Atoms 𝓤) (n : ℕ) 
   abbrev pub others : List (Item 𝓤)
   others = del 𝓤 H A n (del 𝓤 H A n Γ)
 
-  taken : (i j : Item 𝓤) → nth 𝓤 H A n Γ ≡ i → nth 𝓤 H A n (del 𝓤 H A n Γ) ≡ j → ent 𝓤 (⋆ 𝓤 H A Γ) (sep 𝓤 (mean 𝓤 H A i) (⋆ 𝓤 H A (j ∷ others)))
+  taken : (i j : Item 𝓤) → nth 𝓤 H A n Γ ≡ i → nth 𝓤 H A n (del 𝓤 H A n Γ) ≡ j
+      → ent 𝓤 (⋆ 𝓤 H A Γ) (sep 𝓤 (mean 𝓤 H A i) (⋆ 𝓤 H A (j ∷ others)))
   taken i j is-i is-j =
       via 𝓤 (sep 𝓤 (mean 𝓤 H A i) (⋆ 𝓤 H A (del 𝓤 H A n Γ)))
       (subst (λ (k : Item 𝓤). ent 𝓤 (⋆ 𝓤 H A Γ) (sep 𝓤 (mean 𝓤 H A k) (⋆ 𝓤 H A (del 𝓤 H A n Γ)))) is-i (pull 𝓤 H A n Γ))
       (monoR 𝓤 (mean 𝓤 H A i)
       (via 𝓤 (sep 𝓤 (mean 𝓤 H A j) (⋆ 𝓤 H A others))
-      (subst (λ (k : Item 𝓤). ent 𝓤 (⋆ 𝓤 H A (del 𝓤 H A n Γ)) (sep 𝓤 (mean 𝓤 H A k) (⋆ 𝓤 H A others))) is-j (pull 𝓤 H A n (del 𝓤 H A n Γ)))
+      (subst (λ (k : Item 𝓤). ent 𝓤 (⋆ 𝓤 H A (del 𝓤 H A n Γ)) (sep 𝓤 (mean 𝓤 H A k) (⋆ 𝓤 H A others))) is-j
+      (pull 𝓤 H A n (del 𝓤 H A n Γ)))
       (push 𝓤 H A j others)))
 
 module _ {M : Type 1} {𝓤 : URA M} {H : Heap 𝓤} {A : Atoms 𝓤} {K : Type 0} {W : Given 𝓤 H A} {Γ : List (Item 𝓤)} where
@@ -55,14 +59,18 @@ module _ {M : Type 1} {𝓤 : URA M} {H : Heap 𝓤} {A : Atoms 𝓤} {K : Type 
   here t = from t (stop t)
 
   pub copied : K → (n : ℕ) {E : Env 𝓤 H} {i : ℕ} {q : Share} {v : Val}
-      → nth 𝓤 H A n Γ ≡ ‵ (fat q (spotOf 𝓤 H E i .0) (spotOf 𝓤 H E i .1) (spotOf 𝓤 H E i .2) v) → Opd K W Γ E (copy (place i [])) v
+      → nth 𝓤 H A n Γ ≡ ‵ (fat q (spotOf 𝓤 H E i .0) (spotOf 𝓤 H E i .1) (spotOf 𝓤 H E i .2) v)
+      → Opd K W Γ E (copy (place i [])) v
   copied t n e = load t (here t) (look t n e)
 
-  pub copied-in : K → (n : ℕ) {E : Env 𝓤 H} {i k : ℕ} {q : Share} {τ : Ty} {d : ℕ} {v : Val} {back : Val → Item 𝓤} → fieldOf (spotOf 𝓤 H E i .0) k ≡ some (τ, d)
-      → Part K W (nth 𝓤 H A n Γ) q τ (spotOf 𝓤 H E i .1) (spotOf 𝓤 H E i .2 + d) v back → Opd K W Γ E (copy (place i (field k ∷ []))) v
+  pub copied-in : K → (n : ℕ) {E : Env 𝓤 H} {i k : ℕ} {q : Share} {τ : Ty} {d : ℕ} {v : Val} {back : Val → Item 𝓤}
+      → fieldOf (spotOf 𝓤 H E i .0) k ≡ some (τ, d)
+      → Part K W (nth 𝓤 H A n Γ) q τ (spotOf 𝓤 H E i .1) (spotOf 𝓤 H E i .2 + d) v back
+      → Opd K W Γ E (copy (place i (field k ∷ []))) v
   copied-in t n e part = load t (from t (fld t e (stop t))) (look-in t n part)
 
-  pub plain-owned : K → (T : Declared) → Plains (fields T) → {G : Goal 𝓤 H} (x : row T .Denot) (vs : List Val) → Is (row T) x vs
+  pub plain-owned : K → (T : Declared) → Plains (fields T)
+      → {G : Goal 𝓤 H} (x : row T .Denot) (vs : List Val) → Is (row T) x vs
       → Step K W (‵ (row T .own x vs) ∷ Γ) G Γ G
   plain-owned t T plain x vs is = owned t (row T) (Is (row T)) (makes T plain 𝓤 H A) x vs is
 
@@ -74,9 +82,13 @@ module _ {M : Type 1} {𝓤 : URA M} {H : Heap 𝓤} {A : Atoms 𝓤} {K : Type 
   freed t n {τ} {b} e at-end =
       let room = ‵ (froom τ b zero) in
       let end = ‵ (fdies τ b) in
-      step (λ s. record { prf = via 𝓤 _ (taken 𝓤 H A n Γ room end e at-end) (via 𝓤 _ (push 𝓤 H A room (end ∷ others 𝓤 H A n Γ)) ((free1 t $ s) .prf)) })
+      step (λ s. record {
+        prf = via 𝓤 _ (taken 𝓤 H A n Γ room end e at-end)
+            (via 𝓤 _ (push 𝓤 H A room (end ∷ others 𝓤 H A n Γ)) ((free1 t $ s) .prf));
+      })
 
-  pub ended : K → (n : ℕ) {τ : Ty} {b : ℕ} {v : Val} {E : Env 𝓤 H} {g : Goal 𝓤 H} → nth 𝓤 H A n Γ ≡ ‵ (fat fullShare τ b zero v)
+  pub ended : K → (n : ℕ) {τ : Ty} {b : ℕ} {v : Val} {E : Env 𝓤 H} {g : Goal 𝓤 H}
+      → nth 𝓤 H A n Γ ≡ ‵ (fat fullShare τ b zero v)
       → nth 𝓤 H A n (del 𝓤 H A n Γ) ≡ ‵ (fdies τ b) → Step K W (others 𝓤 H A n Γ) (frees E g) Γ (frees ((τ, b) ∷ E) g)
   ended t n {τ} {b} {v} e at-end =
       let room = ‵ (froom τ b zero) in

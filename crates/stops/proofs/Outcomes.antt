@@ -9,7 +9,8 @@ use lib.Dec.{eqb, leb, ltb}
 use borrow.Author.Tests.{le-leb, lt-leb, lt-ltb, le-ltb, eq-eqb, ne-eqb}
 use Rattle.model.specs.declared.Stop.{Stop}
 use Rattle.model.specs.declared.TourSettings.{TourSettings}
-use Rattle.model.specs.calls.Tour.{Legs, TourOutcome, refuseTour, arrivalsOver, afterLegs, legsFrom, mostStops, firstLongDwell, dwellsChecked, stopsChecked, tourBy}
+use Rattle.model.specs.calls.Tour.{Legs, TourOutcome, refuseTour, arrivalsOver, afterLegs, legsFrom, mostStops}
+use Rattle.model.specs.calls.Tour.{firstLongDwell, dwellsChecked, stopsChecked, tourBy}
 use Rattle.stops.specs.declared.LegRow.{LegRow}
 use Rattle.stops.specs.Parts.{legsIn}
 
@@ -24,7 +25,8 @@ module _ (t : TourSettings) (count : ℕ) (stops : List Stop) (lent : List ℕ) 
   by-most b = elim b [ true ↦ dwellsChecked t count stops lent | false ↦ refuseTour 11 mostStops 0 0 lent ]
 
   by-dwell : Option ℕ → TourOutcome
-  by-dwell o = elim o [ some i ↦ refuseTour 11 i 0 0 lent | none ↦ afterLegs count (legsFrom t stops 0 (t .start) []) lent ]
+  by-dwell o =
+      elim o [ some i ↦ refuseTour 11 i 0 0 lent | none ↦ afterLegs count (legsFrom t stops 0 (t .start) []) lent ]
 
   pub no-stops : count ≡ 0 → refuseTour 0 0 0 0 lent ≡ answered
   unfolding by-count
@@ -47,7 +49,8 @@ module _ (t : TourSettings) (count : ℕ) (stops : List Stop) (lent : List ℕ) 
     unfolding by-dwell
     long-dwell i f = ap by-dwell f ∙ few-stops e h
 
-    module _ (f : none ≡ firstLongDwell 0 stops) (g : LegRow) (is : legsIn g count ≡ legsFrom t stops 0 (t .start) []) where
+    module _ (f : none ≡ firstLongDwell 0 stops) (g : LegRow)
+        (is : legsIn g count ≡ legsFrom t stops 0 (t .start) []) where
       by-number : Bool → TourOutcome
       by-number b =
           elim b [
@@ -68,7 +71,14 @@ module _ (t : TourSettings) (count : ℕ) (stops : List Stop) (lent : List ℕ) 
         by-room b =
             elim b [
               | true ↦ refuseTour 10 count 0 0 lent
-              | false ↦ record { number = 0; place = 0; mask = g .mask; arrival = 0; total = g .total; arrivals = legsIn g count .arrivals ++ drop count lent }
+              | false ↦ record {
+                number = 0;
+                place = 0;
+                mask = g .mask;
+                arrival = 0;
+                total = g .total;
+                arrivals = legsIn g count .arrivals ++ drop count lent;
+              }
             ]
 
         legs-made : by-room (ltb (length lent) count) ≡ answered
@@ -83,10 +93,24 @@ module _ (t : TourSettings) (count : ℕ) (stops : List Stop) (lent : List ℕ) 
         by-zero b = elim b [ true ↦ take count (g .arrivals) | false ↦ [] ]
 
         pub list-written : count ≤ length lent
-            → record { number = 0; place = 0; mask = g .mask; arrival = 0; total = g .total; arrivals = take count (g .arrivals) ++ drop count lent } ≡ answered
+            → record {
+              number = 0;
+              place = 0;
+              mask = g .mask;
+              arrival = 0;
+              total = g .total;
+              arrivals = take count (g .arrivals) ++ drop count lent;
+            } ≡ answered
         unfolding by-room by-zero
         list-written n =
-            sym (ap (λ (b : Bool). record { number = 0; place = 0; mask = g .mask; arrival = 0; total = g .total; arrivals = by-zero b ++ drop count lent })
+            sym (ap (λ (b : Bool). record {
+              number = 0;
+              place = 0;
+              mask = g .mask;
+              arrival = 0;
+              total = g .total;
+              arrivals = by-zero b ++ drop count lent;
+            })
             (eq-eqb (g .number) 0 z))
             ∙ sym (ap by-room (le-ltb (length lent) count n))
             ∙ legs-made

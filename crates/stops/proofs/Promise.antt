@@ -49,11 +49,14 @@ row-of l = row-is l (heldOf (length l)) (held-64 (length l)) (held-all (length l
 module _ (t : TourSettings) (entry : List ℕ) (r : TourAnswer) (exit : List ℕ) where
   promised : (l : List Stop) → tourOutcomeOf r exit ≡ tourOutcome t l entry → TourPromise t l entry r exit
   promised l is =
-      let zero : r .number ≡ 0 → tourOutcome t l entry .number ≡ 0 = λ z. sym (ap (λ (o : TourOutcome). o .number) is) ∙ z in
+      let zero : r .number ≡ 0 → tourOutcome t l entry .number ≡ 0 =
+      λ z. sym (ap (λ (o : TourOutcome). o .number) is) ∙ z in
       record {
         outcome = is;
-        legs = λ z i h. subst (λ (o : TourOutcome). LegPlanned t (t .start) 0 l (o .arrivals) i) (sym is) (legs-planned t entry l (zero z) i h);
-        total = λ z. subst (λ (o : TourOutcome). o .total ≡ departsAt 0 l (o .arrivals) (length l)) (sym is) (total-planned t entry l (zero z));
+        legs = λ z i h. subst (λ (o : TourOutcome). LegPlanned t (t .start) 0 l (o .arrivals) i) (sym is)
+            (legs-planned t entry l (zero z) i h);
+        total = λ z. subst (λ (o : TourOutcome). o .total ≡ departsAt 0 l (o .arrivals) (length l)) (sym is)
+            (total-planned t entry l (zero z));
       }
 
   -- ---- a row
@@ -70,21 +73,25 @@ module _ (t : TourSettings) (entry : List ℕ) (r : TourAnswer) (exit : List ℕ
       length-append (take n (w .stops)) (replicate (n - 64) noStop) ∙ omega arith
 
   -- the first stops that are lent, as many as there are places
-  row-tour : (w : StopRow) → length (w .stops) ≡ 64 → tourBy t (w .lent) (take (w .lent) (w .stops)) entry ≡ tourOutcome t (rowStops w) entry
+  row-tour : (w : StopRow) → length (w .stops) ≡ 64
+      → tourBy t (w .lent) (take (w .lent) (w .stops)) entry ≡ tourOutcome t (rowStops w) entry
   row-tour w long =
       go (leb (w .lent) 64) refl
       ∙ ap (λ (n : ℕ). tourBy t n (rowStops w) entry) (sym (row-length w long))
     where
-      go : (b : Bool) → leb (w .lent) 64 ≡ b → tourBy t (w .lent) (take (w .lent) (w .stops)) entry ≡ tourBy t (w .lent) (rowStops w) entry
+      go : (b : Bool) → leb (w .lent) 64 ≡ b
+          → tourBy t (w .lent) (take (w .lent) (w .stops)) entry ≡ tourBy t (w .lent) (rowStops w) entry
       go true e =
           let few = leb-true (w .lent) 64 e in
           let none : 0 ≡ w .lent - 64 = omega arith in
           ap (λ (f : List Stop). tourBy t (w .lent) f entry)
-          (sym (append-nil (take (w .lent) (w .stops))) ∙ ap (λ (k : ℕ). take (w .lent) (w .stops) ++ replicate k noStop) none)
+          (sym (append-nil (take (w .lent) (w .stops)))
+          ∙ ap (λ (k : ℕ). take (w .lent) (w .stops) ++ replicate k noStop) none)
       go false e = many (w .lent) (take (w .lent) (w .stops)) (rowStops w) (leb-false (w .lent) 64 e)
 
   pub row-promise : (w : StopRow) → length (w .stops) ≡ 64
-      → tourOutcomeOf r exit ≡ tourBy t (w .lent) (take (w .lent) (w .stops)) entry → TourPromise t (rowStops w) entry r exit
+      → tourOutcomeOf r exit ≡ tourBy t (w .lent) (take (w .lent) (w .stops)) entry
+      → TourPromise t (rowStops w) entry r exit
   row-promise w long e = promised (rowStops w) (e ∙ row-tour w long)
 
   -- the row of a list
@@ -95,7 +102,8 @@ module _ (t : TourSettings) (entry : List ℕ) (r : TourAnswer) (exit : List ℕ
       ∙ ap (λ (n : ℕ). tourBy t n (take n (w .stops)) entry) (row-of l .lent)
       ∙ go (leb (length l) 64) refl
     where
-      go : (b : Bool) → leb (length l) 64 ≡ b → tourBy t (length l) (take (length l) (rowOf l .stops)) entry ≡ tourOutcome t l entry
+      go : (b : Bool) → leb (length l) 64 ≡ b
+          → tourBy t (length l) (take (length l) (rowOf l .stops)) entry ≡ tourOutcome t l entry
       go true e =
           let held = held-few (length l) (leb-true (length l) 64 e) in
           ap (λ (f : List Stop). tourBy t (length l) f entry)

@@ -1,4 +1,5 @@
--- Small tours, computed by the definitions: one axis, L = 10, M = 1, h = 0, B = 128, from rest at 0, with a second sway or none.
+-- Small tours, computed by the definitions: one axis, L = 10, M = 1, h = 0, B = 128, from rest at
+-- 0, with a second sway or none.
 use Prim.Native.Nat.{ℕ}
 use mathlib.Core.Path.{_≡_}
 use mathlib.Core.List.{List, [], _∷_, map}
@@ -15,7 +16,13 @@ settings mask sway =
     record {
       mask = mask;
       start = pos 0 ∷ [];
-      limits = record { «speed_limit» = 10; «acceleration_limit» = 1; «half_period» = 0; «second_weight» = Given 128; «second_sway» = sway } ∷ [];
+      limits = record {
+        «speed_limit» = 10;
+        «acceleration_limit» = 1;
+        «half_period» = 0;
+        «second_weight» = Given 128;
+        «second_sway» = sway;
+      } ∷ [];
     }
 
 abbrev pub stop : ℕ → ℕ → Stop
@@ -51,4 +58,5 @@ cases =
     ∷ []
 
 abbrev pub Small : Type 0
-Small = map (λ (c : Case). tourOutcome (settings (c .mask) (c .sway)) (c .stops) (c .lent)) cases ≡ map (λ (c : Case). c .says) cases
+Small = map (λ (c : Case). tourOutcome (settings (c .mask) (c .sway)) (c .stops) (c .lent)) cases
+    ≡ map (λ (c : Case). c .says) cases

@@ -20,7 +20,14 @@ use Rattle.stops.specs.declared.FirstStop.the-variants.{At, Nowhere}
 use Rattle.stops.specs.declared.LegRow.{LegRow}
 
 abbrev pub noLimits : AxisLimits
-noLimits = record { «speed_limit» = 0; «acceleration_limit» = 0; «half_period» = 0; «second_weight» = Given 0; «second_sway» = Absent }
+noLimits =
+    record {
+      «speed_limit» = 0;
+      «acceleration_limit» = 0;
+      «half_period» = 0;
+      «second_weight» = Given 0;
+      «second_sway» = Absent;
+    }
 
 abbrev pub legAxisAt : TourSettings → List ℤ → List ℤ → ℕ → Axis
 legAxisAt t here there i = legAxis (getD (t .limits) i noLimits) (getD here i (pos 0)) (getD there i (pos 0))
@@ -34,7 +41,8 @@ abbrev pub foundStop : FirstStop → Option ℕ
 foundStop (At i) = some i
 foundStop Nowhere = none
 
--- the legs that a row of `count` arrivals stands for; where a leg was refused its arrivals say nothing
+-- the legs that a row of `count` arrivals stands for; where a leg was refused its arrivals say
+-- nothing
 abbrev pub legsIn : LegRow → ℕ → Legs
 legsIn r count =
     record {

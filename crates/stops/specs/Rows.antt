@@ -17,7 +17,8 @@ emptyRow lent = record { stops = replicate 64 noStop; lent = lent }
 abbrev pub withStop : StopRow → ℕ → Stop → StopRow
 withStop r i s = record { stops = set (r .stops) i s; lent = r .lent }
 
--- The list that a row stands for. More than 64 stops are refused unread, so any stops will do for those that the row has no place for.
+-- The list that a row stands for. More than 64 stops are refused unread, so any stops will do for
+-- those that the row has no place for.
 abbrev pub rowStops : StopRow → List Stop
 rowStops r = take (r .lent) (r .stops) ++ replicate (r .lent - 64) noStop
 

@@ -1,5 +1,6 @@
-// The stops of a tour by value, the job of each leg, and what a tour promises (docs/METHOD.md, 8.1): all of a tour that asks for no answer of the planner.
-// `stop_row` is the only function here over a slice of structs.
+// The stops of a tour by value, the job of each leg, and what a tour promises
+// (docs/METHOD.md, 8.1): all of a tour that asks for no answer of the planner. `stop_row` is the
+// only function here over a slice of structs.
 use model::Axis;
 use model::AxisLimits;
 use model::Job;
@@ -17,7 +18,8 @@ ghost use Rattle.stops.specs.Parts.{legAxisAt, foundStop};
 
 // ---- the lent row by value
 
-// The stops of a tour by value: how many are lent, and the first 64 of them. Places that no stop is stored in have the stop of zeros.
+// The stops of a tour by value: how many are lent, and the first 64 of them. Places that no stop is
+// stored in have the stop of zeros.
 pub struct StopRow {
     pub stops: [Stop; 64],
     pub lent: usize,
@@ -160,7 +162,8 @@ fn leg_axis(settings: TourSettings, here: [i64; 6], there: [i64; 6], i: usize) -
 
 // ---- the legs
 
-// Number 0 with the mask, the total and the arrivals in front; or the first refused leg's number, mask and arrival, with the stop as place.
+// Number 0 with the mask, the total and the arrivals in front; or the first refused leg's number,
+// mask and arrival, with the stop as place.
 pub struct LegRow {
     pub number: u32,
     pub place: usize,
@@ -178,7 +181,15 @@ pub fn leg_row(
     total: u32,
     arrivals: [u32; 64],
 ) -> LegRow
-    ensures { λ r. ⌜ r ≡ record { number = number; place = place; mask = mask; arrival = arrival; total = total; arrivals = arrivals } ⌝ }
+    ensures { λ r.
+        ⌜ r ≡ record {
+          number = number;
+          place = place;
+          mask = mask;
+          arrival = arrival;
+          total = total;
+          arrivals = arrivals;
+        } ⌝ }
 {
     LegRow {
         number: number,

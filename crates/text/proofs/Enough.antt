@@ -1,4 +1,5 @@
--- Buffers that are long enough for a text: the tests of the code, and what follows from them. Assumes nothing.
+-- Buffers that are long enough for a text: the tests of the code, and what
+-- follows from them. Assumes nothing.
 use Prim.Native.Nat.{ℕ, suc, _+_, _*_, _<_, _≤_}
 use native.Mathlib.Omega.{arith}
 use native.Mathlib.Nat.{mul-le-mul}
@@ -57,8 +58,14 @@ module _ (mask n cells bytes : ℕ) where
   fits-parts e =
       let h = both axesTest roomTest (true-T e) in
       let f = both (ltb mask 64) (leb n lastTick) (h .0) in
-      let g = both (leb (cellsNeeded (length (setBits mask)) n) cells) (leb (tableBytes (rowWidth mask) n) bytes) (h .1) in
-      record { mask = ltb→lt mask 64 (f .0); last = leb→le n lastTick (f .1); rows = leb→le _ cells (g .0); text = leb→le _ bytes (g .1) }
+      let g = both (leb (cellsNeeded (length (setBits mask)) n) cells)
+      (leb (tableBytes (rowWidth mask) n) bytes) (h .1) in
+      record {
+        mask = ltb→lt mask 64 (f .0);
+        last = leb→le n lastTick (f .1);
+        rows = leb→le _ cells (g .0);
+        text = leb→le _ bytes (g .1);
+      }
 
   axes-pass : mask < 64 → n ≤ lastTick → axesTest ≡ true
   axes-pass h q = sym (and-yes (ltb mask 64) (leb n lastTick) (ltb-yes h) (sym (leb-yes q)))
@@ -79,7 +86,8 @@ module _ (mask n cells bytes : ℕ) where
         and-yes axesTest roomTest (axes-pass h q)
         (and-no _ (leb (tableBytes (rowWidth mask) n) bytes) (leb-no (subst (λ (k : ℕ). cells < k) needed l)))
 
-    pub rows-fit : 3 * c * (n + 1) ≤ cells → leb (13 + (5 + 21 * (3 * c)) * (n + 1)) bytes ≡ tableFits mask n cells bytes
+    pub rows-fit : 3 * c * (n + 1) ≤ cells
+        → leb (13 + (5 + 21 * (3 * c)) * (n + 1)) bytes ≡ tableFits mask n cells bytes
     rows-fit l =
         and-yes axesTest roomTest (axes-pass h q)
         (and-yes _ (leb (tableBytes (rowWidth mask) n) bytes) (leb-yes (subst (λ (k : ℕ). k ≤ cells) needed l))
@@ -91,7 +99,8 @@ pub put-nothing : {t : List ℕ} (b : Bool) (l : List ℕ) → b ≡ false → W
 put-nothing true l e = absurd (mathlib.Core.Bool.true≢false e)
 put-nothing false l e = record { written = written-nil (omega arith); most = omega arith }
 
-pub put-all : {t u l : List ℕ} {r : ℕ} (b : Bool) → b ≡ true → Room t 0 l → Written t 0 l u r → WrittenAtStart t (onlyIf b l) u r
+pub put-all : {t u l : List ℕ} {r : ℕ} (b : Bool) → b ≡ true → Room t 0 l → Written t 0 l u r
+    → WrittenAtStart t (onlyIf b l) u r
 put-all true e h w = record { written = w; most = omega (arith, h .room) }
 put-all false e h w = absurd (mathlib.Core.Bool.false≢true e)
 
@@ -114,8 +123,10 @@ module _ (mask n c : ℕ) (cells : List ℤ) (t : List ℕ) (e : c ≡ length (s
 
     pub rows-room : length u ≡ length t
         → (n ≤ lastTick) × ((3 * c * suc n ≤ length cells) × (j + rowBytes (3 * c) * suc n ≤ length u))
-    rows-room l =
-        (parts .last, (subst (λ (k : ℕ). 3 * k * suc n ≤ length cells) (sym e) (parts .rows), omega (arith, bytes, next-most)))
+    rows-room l = (
+      parts .last,
+      (subst (λ (k : ℕ). 3 * k * suc n ≤ length cells) (sym e) (parts .rows), omega (arith, bytes, next-most)),
+    )
 
     pub table-done : {v : List ℕ} {r : ℕ} → WrittenWithin (rowBytes (3 * c) * suc n) u j (rowLines (3 * c) cells n) v r
         → WrittenAtStart t (tableWithin mask n cells (length t)) v r
@@ -173,7 +184,8 @@ module _ (o : Outcome) {t : List ℕ} where
       subst (λ (l : List ℕ). WrittenAtStart t l t 0) (sym (text-refused o (length t) e))
       (put-nothing _ _ (lt-leb refusalBytes (length t) h))
 
-  pub put-refused : {u : List ℕ} {r : ℕ} → (o .number ≡ 0 → ⊥) → refusalBytes ≤ length t → WrittenWithin refusalBytes t 0 (lineOf o) u r
+  pub put-refused : {u : List ℕ} {r : ℕ} → (o .number ≡ 0 → ⊥) → refusalBytes ≤ length t
+      → WrittenWithin refusalBytes t 0 (lineOf o) u r
       → WrittenAtStart t (textWithin o (length t)) u r
   put-refused {u} {r} e h w =
       subst (λ (l : List ℕ). WrittenAtStart t l u r) (sym (text-refused o (length t) e))

@@ -10,7 +10,8 @@ use Rattle.model.specs.planning.Refusals.{lastTick}
 use Rattle.model.specs.planning.Outcome.{Outcome, cellsNeeded}
 use Rattle.text.specs.Printed.{rowWidth, tableLines, printed}
 
--- a refusal has at most 81 bytes: 30 of words, spaces and line feed, and numbers of at most 10, 20, 10 and 10 digits
+-- a refusal has at most 81 bytes: 30 of words, spaces and line feed, and numbers of
+-- at most 10, 20, 10 and 10 digits
 abbrev pub refusalBytes : ℕ
 refusalBytes = 81
 
@@ -31,10 +32,12 @@ abbrev pub onlyIf : Bool → List ℕ → List ℕ
 onlyIf true l = l
 onlyIf false l = []
 
--- whether rows 0 to n of the axes of a mask are within the given cells, and a buffer of the given bytes is long enough for them
+-- whether rows 0 to n of the axes of a mask are within the given cells, and a buffer of the
+-- given bytes is long enough for them
 abbrev pub tableFits : ℕ → ℕ → ℕ → ℕ → Bool
 tableFits mask n cells bytes =
-    (ltb mask 64 && leb n lastTick) && (leb (cellsNeeded (length (setBits mask)) n) cells && leb (tableBytes (rowWidth mask) n) bytes)
+    (ltb mask 64 && leb n lastTick)
+    && (leb (cellsNeeded (length (setBits mask)) n) cells && leb (tableBytes (rowWidth mask) n) bytes)
 
 abbrev pub textFits : Outcome → ℕ → Bool
 textFits o bytes =
@@ -43,7 +46,8 @@ textFits o bytes =
       | false ↦ leb refusalBytes bytes
     ]
 
--- what is put into a buffer of the given bytes for an accepted job, and for any outcome: its text, or nothing where it may not fit
+-- what is put into a buffer of the given bytes for an accepted job, and for any outcome: its text,
+-- or nothing where it may not fit
 abbrev pub tableWithin : ℕ → ℕ → List ℤ → ℕ → List ℕ
 tableWithin mask n cells bytes = onlyIf (tableFits mask n (length cells) bytes) (tableLines mask n cells)
 

@@ -1,6 +1,6 @@
--- The text that the table program prints (docs/METHOD.md, 6.4): the arrival and the rows of an accepted job, or one line
--- for a refusal. A text is the list of its bytes. Numbers are in decimal, one space stands between two of them, and a line
--- feed ends each line. Assumes nothing.
+-- The text that the table program prints (docs/METHOD.md, 6.4): the arrival and the rows of an
+-- accepted job, or one line for a refusal. A text is the list of its bytes. Numbers are in decimal,
+-- one space stands between two of them, and a line feed ends each line. Assumes nothing.
 use Prim.Native.Nat.{ℕ, zero, suc, _+_, _*_, _/_, _%_}
 use Prim.Native.Char.{code}
 use Prim.Native.String.{String}

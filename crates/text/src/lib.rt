@@ -1,5 +1,5 @@
-// What the table program reads and prints: the job words of its input bytes, and the text of an answer and its table (docs/METHOD.md, sections 6 and 9).
-// No public function has a `requires`.
+// What the table program reads and prints: the job words of its input bytes, and the text of an
+// answer and its table (docs/METHOD.md, sections 6 and 9). No public function has a `requires`.
 mod lines;
 mod numbers;
 mod words;
@@ -15,8 +15,8 @@ ghost use Rattle.whole.specs.Lists.{WrittenAtStart};
 ghost use Rattle.model.specs.planning.Outcome.{outcomeOf};
 ghost use Rattle.text.specs.Enough.{tableFits, tableWithin, textWithin};
 
-// The most bytes that a text can have (specs/Enough.antt): of a refusal, of the arrival line, of a row's tick with its line feed, and
-// of a cell.
+// The most bytes that a text can have (specs/Enough.antt): of a refusal, of the arrival line, of a
+// row's tick with its line feed, and of a cell.
 const REFUSAL_BYTES: usize = 81;
 
 const ARRIVAL_BYTES: usize = 13;
@@ -25,8 +25,9 @@ const TICK_BYTES: usize = 5;
 
 const CELL_BYTES: usize = 21;
 
-// Puts the text of an answer and its table at the start of `out`, and returns its length. Returns 0, and leaves `out` as it is, where
-// `out` may be too short for the text or the rows of an accepted job are not all in the table.
+// Puts the text of an answer and its table at the start of `out`, and returns its length. Returns
+// 0, and leaves `out` as it is, where `out` may be too short for the text or the rows of an
+// accepted job are not all in the table.
 pub fn answer_text(answer: Answer, table: &[i64], out: &mut [u8]) -> usize
     ensures { λ r. ⌜ WrittenAtStart (now (out .entry))
         (textWithin (outcomeOf answer (now (table .entry))) (length (now (out .entry))))
@@ -45,7 +46,8 @@ pub fn answer_text(answer: Answer, table: &[i64], out: &mut [u8]) -> usize
     put_refusal(out, 0, number, place, mask, arrival)
 }
 
-// Whether rows 0 to n of the axes of a mask are within a table of `cells` cells, and `bytes` bytes are enough for their text.
+// Whether rows 0 to n of the axes of a mask are within a table of `cells` cells, and `bytes`
+// bytes are enough for their text.
 fn table_fits(mask: u32, n: u32, cells: usize, bytes: usize) -> bool
     ensures { λ r. ⌜ r ≡ tableFits mask n cells bytes ⌝ }
 {

@@ -1,5 +1,5 @@
-// The lines of the text, and their parts. Each function writes its text into `out` from the index `at` on, and returns the index
-// after it.
+// The lines of the text, and their parts. Each function writes its text into `out` from the index
+// `at` on, and returns the index after it.
 use crate::numbers::put_labelled;
 use crate::numbers::put_number;
 ghost use Prim.Native.Nat.{suc, _+_, _*_, _≤_};

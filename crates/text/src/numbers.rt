@@ -1,4 +1,5 @@
-// Numbers as text. Each function writes its text into `out` from the index `at` on, and returns the index after it.
+// Numbers as text. Each function writes its text into `out` from the index `at` on,
+// and returns the index after it.
 ghost use Rattle.whole.specs.Lists.{Room, Written};
 ghost use Rattle.text.specs.Printed.{decimal, labelled};
 

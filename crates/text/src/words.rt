@@ -26,8 +26,8 @@ fn word(bytes: &[u8], at: usize) -> u32
     0
 }
 
-// Puts the job words of the bytes at the start of `words`, and returns how many there are. No more bytes are read than `words`
-// has entries for.
+// Puts the job words of the bytes at the start of `words`, and returns how many there are. No more
+// bytes are read than `words` has entries for.
 pub fn words_of(bytes: &[u8], words: &mut [u32]) -> usize
     ensures { λ r. ⌜ WrittenAtStart (now (words .entry))
         (wordsOf (take (4 * length (now (words .entry))) (now (bytes .entry))))

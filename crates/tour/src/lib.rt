@@ -1,13 +1,17 @@
-// A tour of stops (docs/METHOD.md, 8.1). The stops go in as a lent row of records, with a lent list for their arrivals; an answer comes back.
-// Where its number is 0 the list has each stop's arrival in front, counted from the tour's start, and its later entries are as they were.
-// Where it is not 0 the whole list is as it was. crates/stops/specs/Promise.antt says what the call promises of any tour.
+// A tour of stops (docs/METHOD.md, 8.1). The stops go in as a lent row of records, with a
+// lent list for their arrivals; an answer comes back. Where its number is 0 the list has
+// each stop's arrival in front, counted from the tour's start, and its later entries are as
+// they were. Where it is not 0 the whole list is as it was. crates/stops/specs/Promise.antt
+// says what the call promises of any tour.
 //
 // The way of a tour:
-//     plan_tour      stops::stop_row            the lent row by value: these two are the only functions over a slice of structs
+//     plan_tour      stops::stop_row            the lent row by value: these two are the only
+//                                               functions over a slice of structs
 //     tour_of_row    stops::first_long_dwell    refusal 11
 //                    legs_of                    the legs, each by leg_answer: their own refusals
 //                    stops::write_arrivals      refusal 10, or the arrivals
-// A caller in Rattle has no slice of stops to lend: it makes a row by `empty_row` and `with_stop` of `stops` and calls `tour_of_row`, which keeps the same promise.
+// A caller in Rattle has no slice of stops to lend: it makes a row by `empty_row` and `with_stop`
+// of `stops` and calls `tour_of_row`, which keeps the same promise.
 use model::Answer;
 use model::Stop;
 use model::TourAnswer;
@@ -30,7 +34,8 @@ ghost use Rattle.stops.specs.Promise.{TourPromise};
 ghost use Rattle.stops.specs.Rows.{rowStops};
 ghost use Rattle.stops.specs.Parts.{LegIs, legsIn};
 
-// Plans the legs of a tour, from the start over each stop in order, and writes each stop's arrival into the lent list.
+// Plans the legs of a tour, from the start over each stop in order, and writes each
+// stop's arrival into the lent list.
 pub fn plan_tour(settings: TourSettings, stops: &[Stop], arrivals: &mut [u32]) -> TourAnswer
     ensures { λ r. ⌜ TourPromise settings (now (stops .entry)) (now (arrivals .entry)) r (now (arrivals .exit)) ⌝ }
 {
@@ -94,7 +99,8 @@ fn legs_of(settings: TourSettings, stops: [Stop; 64], count: usize) -> LegRow
     leg_row(0, 0, settings.mask, 0, tick, arrivals)
 }
 
-// The answer to the leg between two positions, from rest to rest: that of the typed job that seeks its least arrival, with no table lent.
+// The answer to the leg between two positions, from rest to rest: that of the typed job that seeks
+// its least arrival, with no table lent.
 pub fn leg_answer(settings: TourSettings, here: [i64; 6], there: [i64; 6]) -> Answer
     ensures { λ r. ⌜ LegIs settings here there r ⌝ }
 {

@@ -1,9 +1,13 @@
--- What code computes with signed numbers: the number that an expression of machine numbers is, and how far it is from 0.
--- `search exact` works both out from the ranges of the numbers in it, `Within n z` and `Is n z e` with n a numeral:
---     add-result c = sfits (search exact depth 20) tt          that a sum, a product or a quotient fits an `i64`
---     returns c = exactly (search exact depth 30) tt           what the code computes, with no machine number left in it
--- Three sets of rules: `exact`; `computed`, which also takes the equations that callees ensure; and `loose`, for code that only
--- compares and so needs no range. `search` takes the shallowest proof, and the rules of `loose` would hide a range: so it stands apart.
+-- What code computes with signed numbers: the number that an expression of machine numbers is, and
+-- how far it is from 0. `search exact` works both out from the ranges of the numbers in it,
+-- `Within n z` and `Is n z e` with n a numeral:
+--     add-result c = sfits (search exact depth 20) tt          that a sum, a product or a quotient
+--                                                              fits an `i64`
+--     returns c = exactly (search exact depth 30) tt           what the code computes, with no
+--                                                              machine number left in it
+-- Three sets of rules: `exact`; `computed`, which also takes the equations that callees ensure; and
+-- `loose`, for code that only compares and so needs no range. `search` takes the shallowest proof,
+-- and the rules of `loose` would hide a range: so it stands apart.
 use mathlib.Core.Path.{_≡_, refl, sym, ap, _∙_, subst}
 use mathlib.Core.Bool.{Bool, true, false, cond, _&&_}
 use Prim.Native.Nat.{ℕ, suc, _+_, _-_, _*_, _^_, _<_, _≤_, max}
@@ -81,7 +85,8 @@ pub record Exact (z : ℤ) : Type 0 where
   pub holds : natAbs num ≤ bound
 
 -- a function of two such numbers
-pub both-same {ℓ} : {X : Type ℓ} (f : ℤ → ℤ → X) (x y : ℤ) (p : Exact x) (q : Exact y) → T (p .ok && q .ok) → f x y ≡ f (p .num) (q .num)
+pub both-same {ℓ} : {X : Type ℓ} (f : ℤ → ℤ → X) (x y : ℤ) (p : Exact x) (q : Exact y)
+    → T (p .ok && q .ok) → f x y ≡ f (p .num) (q .num)
 both-same f x y p q t = λ i. f (p .same (left (p .ok) (q .ok) t) i) (q .same (right (p .ok) (q .ok) t) i)
 
 -- numbers whose range is known
@@ -260,8 +265,25 @@ x-lt x y p q = record { l = p .num; r = q .num; ok = p .ok && q .ok; is = both-s
 abbrev pub x-le : (x y : ℤ) → Exact x → Exact y → LeTest (leZ x y)
 x-le x y p q = record { l = p .num; r = q .num; ok = p .ok && q .ok; is = both-same leZ x y p q }
 
-pub ruleset exact =
-    (x-add, x-mul, x-neg, x-shr, x-quot, x-rem, x-least, x-greatest, x-back, x-lt, x-le, x-pos, x-negsuc, x-known, x-is, x-u8, x-u32)
+pub ruleset exact = (
+  x-add,
+  x-mul,
+  x-neg,
+  x-shr,
+  x-quot,
+  x-rem,
+  x-least,
+  x-greatest,
+  x-back,
+  x-lt,
+  x-le,
+  x-pos,
+  x-negsuc,
+  x-known,
+  x-is,
+  x-u8,
+  x-u32,
+)
 
 pub ruleset computed = (exact, x-eq)
 
@@ -321,5 +343,6 @@ pub nonneg-cast : (z : ℤ) → pos 0 ≤ℤ z → SFits w64 z → T (nonNeg z) 
 nonneg-cast (pos n) h f = (tt, record { fits = lt-of-lt-of-le (f .sfits) (leb→le (2 ^ 63) (2 ^ 64) tt) })
 nonneg-cast (negsuc n) h f = absurd (h .le)
 
-pub cast-up : (x : ℤ) → SFits w64 x → pos 0 ≤ℤ x → T (nonNeg (toZ w64 (ofZ w64 x))) × Fits w64 (natAbs (toZ w64 (ofZ w64 x)))
+pub cast-up : (x : ℤ) → SFits w64 x → pos 0 ≤ℤ x
+    → T (nonNeg (toZ w64 (ofZ w64 x))) × Fits w64 (natAbs (toZ w64 (ofZ w64 x)))
 cast-up x f h = subst (λ (z : ℤ). T (nonNeg z) × Fits w64 (natAbs z)) (sym (back-id f)) (nonneg-cast x h f)

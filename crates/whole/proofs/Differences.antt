@@ -1,4 +1,5 @@
--- Whole numbers as differences of two natural numbers, which `omega` reads. A statement of whole numbers is proved of differences:
+-- Whole numbers as differences of two natural numbers, which `omega` reads. A statement of whole
+-- numbers is proved of differences:
 --     thm : (x y z : ℤ) → x ≤ℤ y → pos 0 ≤ℤ z → x ≤ℤ (y +ℤ z)
 --     thm = all₃ _ (λ a b c d e f. simp whole (omega arith))
 use mathlib.Core.Path.{_≡_, refl, sym, ap, _∙_, subst}
@@ -134,7 +135,8 @@ pub ⊖-add : (a b c d : ℕ) → (a ⊖ b) +ℤ (c ⊖ d) ≡ (a + c) ⊖ (b + 
     (omega (arith, PN-⊖ a b, PN-⊖ c d, PN-⊖ (a + c) (b + d), PN-add (a ⊖ b) (c ⊖ d)))
 
 -- a difference is a natural number or the negative of one: a = b + k, or b = a + (k + 1)
-⊖-ind : (Q : ℕ → ℕ → ℤ → Type 0) → ((b k : ℕ) → Q (b + k) b (pos k)) → ((a k : ℕ) → Q a (a + suc k) (negsuc k)) → (a b : ℕ) → Q a b (a ⊖ b)
+⊖-ind : (Q : ℕ → ℕ → ℤ → Type 0) → ((b k : ℕ) → Q (b + k) b (pos k))
+    → ((a k : ℕ) → Q a (a + suc k) (negsuc k)) → (a b : ℕ) → Q a b (a ⊖ b)
 ⊖-ind Q f g a b = go (a ⊖ b) (PN-⊖ a b)
   where
     go : (z : ℤ) → P z + b ≡ N z + a → Q a b z
@@ -184,8 +186,23 @@ pub ⊖-sfits : (a b : ℕ) → SFits w64 (a ⊖ b) ↔ ((a < 2 ^ 63 + b) × (b 
 ⊖-sfits = ⊖-ind (λ a b z. SFits w64 z ↔ ((a < 2 ^ 63 + b) × (b ≤ 2 ^ 63 + a))) (λ b k. omega arith) (λ a k. omega arith)
 
 -- a statement of differences becomes one of natural numbers
-pub ruleset whole =
-    (⊖-pos, ⊖-negsuc, ⊖-negpos, ⊖-sub, ⊖-neg, ⊖-add, ⊖-mul, ⊖-abs, ⊖-le, ⊖-lt, ⊖-eq, ⊖-least, ⊖-greatest, ⊖-within, ⊖-sfits)
+pub ruleset whole = (
+  ⊖-pos,
+  ⊖-negsuc,
+  ⊖-negpos,
+  ⊖-sub,
+  ⊖-neg,
+  ⊖-add,
+  ⊖-mul,
+  ⊖-abs,
+  ⊖-le,
+  ⊖-lt,
+  ⊖-eq,
+  ⊖-least,
+  ⊖-greatest,
+  ⊖-within,
+  ⊖-sfits,
+)
 
 -- ---- a statement of numbers, from that of differences
 
@@ -198,7 +215,8 @@ all₂ Q f x y = all₁ (λ x. Q x y) (λ a b. all₁ (Q (a ⊖ b)) (f a b) y) x
 pub all₃ : (Q : ℤ → ℤ → ℤ → Type 0) → ((a b c d e f : ℕ) → Q (a ⊖ b) (c ⊖ d) (e ⊖ f)) → (x y z : ℤ) → Q x y z
 all₃ Q k x y z = all₁ (λ x. Q x y z) (λ a b. all₂ (Q (a ⊖ b)) (k a b) y z) x
 
-pub all₄ : (Q : ℤ → ℤ → ℤ → ℤ → Type 0) → ((a b c d e f g h : ℕ) → Q (a ⊖ b) (c ⊖ d) (e ⊖ f) (g ⊖ h)) → (x y z w : ℤ) → Q x y z w
+pub all₄ : (Q : ℤ → ℤ → ℤ → ℤ → Type 0) → ((a b c d e f g h : ℕ) → Q (a ⊖ b) (c ⊖ d) (e ⊖ f) (g ⊖ h))
+    → (x y z w : ℤ) → Q x y z w
 all₄ Q k x y z w = all₁ (λ x. Q x y z w) (λ a b. all₃ (Q (a ⊖ b)) (k a b) y z w) x
 
 pub all₅ : (Q : ℤ → ℤ → ℤ → ℤ → ℤ → Type 0)
@@ -206,7 +224,8 @@ pub all₅ : (Q : ℤ → ℤ → ℤ → ℤ → ℤ → Type 0)
 all₅ Q k x y z w v = all₁ (λ x. Q x y z w v) (λ a b. all₄ (Q (a ⊖ b)) (k a b) y z w v) x
 
 pub all₆ : (Q : ℤ → ℤ → ℤ → ℤ → ℤ → ℤ → Type 0)
-    → ((a b c d e f g h i j k l : ℕ) → Q (a ⊖ b) (c ⊖ d) (e ⊖ f) (g ⊖ h) (i ⊖ j) (k ⊖ l)) → (x y z w v u : ℤ) → Q x y z w v u
+    → ((a b c d e f g h i j k l : ℕ) → Q (a ⊖ b) (c ⊖ d) (e ⊖ f) (g ⊖ h) (i ⊖ j) (k ⊖ l))
+    → (x y z w v u : ℤ) → Q x y z w v u
 all₆ Q k x y z w v u = all₁ (λ x. Q x y z w v u) (λ a b. all₅ (Q (a ⊖ b)) (k a b) y z w v u) x
 
 pub all₇ : (Q : ℤ → ℤ → ℤ → ℤ → ℤ → ℤ → ℤ → Type 0)

@@ -23,13 +23,16 @@ element [] i h = absurd (omega arith)
 element (x ∷ l) zero h = (x, refl)
 element (x ∷ l) (suc i) h = element l i (omega arith)
 
--- a list that is stored into in order: what is known of the entries before i and of the entry stored at i is known before i + 1
+-- a list that is stored into in order: what is known of the entries before i and of the entry
+-- stored at i is known before i + 1
 pub stored-more : {A : Type 0} (d : A) (f : ℕ → A) (l : List A) (i : ℕ) (v : A) → i < length l → v ≡ f i
     → ((j : ℕ) → j < i → getD l j d ≡ f j) → (j : ℕ) → j < i + 1 → getD (set l i v) j d ≡ f j
 stored-more d f l i v h e g =
-    below-more (λ j. getD (set l i v) j d ≡ f j) i (λ j q. getD-set-other l i j v d (omega arith) ∙ g j q) (getD-set-same l i v d h ∙ e)
+    below-more (λ j. getD (set l i v) j d ≡ f j) i (λ j q. getD-set-other l i j v d (omega arith) ∙ g j q)
+    (getD-set-same l i v d h ∙ e)
 
-pub map-at : {A B : Type 0} (f : A → B) (l : List A) (i : ℕ) (a : A) → getElem? l i ≡ some a → getElem? (map f l) i ≡ some (f a)
+pub map-at : {A B : Type 0} (f : A → B) (l : List A) (i : ℕ) (a : A) → getElem? l i ≡ some a
+    → getElem? (map f l) i ≡ some (f a)
 map-at f [] i a e = absurd (none-some e)
 map-at f (x ∷ l) zero a e = cc
 map-at f (x ∷ l) (suc i) a e = map-at f l i a e

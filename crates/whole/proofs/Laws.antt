@@ -84,7 +84,8 @@ pub *ℤ-mono : {x y z : ℤ} → pos 0 ≤ℤ z → x ≤ℤ y → (x *ℤ z) �
     go = all₃ _ (λ a b c d e f. simp whole (omega arith))
 
 pub *ℤ-cancel : (x y : ℤ) (n : ℕ) → 1 ≤ n → (pos n *ℤ x) ≤ℤ (pos n *ℤ y) → x ≤ℤ y
-*ℤ-cancel x y n h k = ⊎-elim (λ (e : x ≤ℤ y). e) (λ (e : y <ℤ x). absurd (go n x y h (*ℤ-mono (PN-le (omega arith)) (next-≤ℤ y x e)) k)) (≤ℤ-total x y)
+*ℤ-cancel x y n h k = ⊎-elim (λ (e : x ≤ℤ y). e)
+    (λ (e : y <ℤ x). absurd (go n x y h (*ℤ-mono (PN-le (omega arith)) (next-≤ℤ y x e)) k)) (≤ℤ-total x y)
   where
     go : (n : ℕ) (x y : ℤ) → 1 ≤ n → ((y +ℤ pos 1) *ℤ pos n) ≤ℤ (x *ℤ pos n) → (pos n *ℤ x) ≤ℤ (pos n *ℤ y) → ⊥
     go n = all₂ _ (λ a b c d. simp whole (omega arith))

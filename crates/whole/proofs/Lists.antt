@@ -83,7 +83,8 @@ module _ {A : Type 0} where
   upTo-first : (f : ℕ → List A) (n : ℕ) → upTo f (suc n) ≡ f 0 ++ upTo (λ k. f (suc k)) n
   unfolding upTo
   upTo-first f zero = sym (append-nil (f 0))
-  upTo-first f (suc n) = ap (λ (l : List A). l ++ f (suc n)) (upTo-first f n) ∙ append-assoc (f 0) (upTo (λ k. f (suc k)) n) (f (suc n))
+  upTo-first f (suc n) =
+      ap (λ (l : List A). l ++ f (suc n)) (upTo-first f n) ∙ append-assoc (f 0) (upTo (λ k. f (suc k)) n) (f (suc n))
 
   -- ---- writing on
 
@@ -112,7 +113,8 @@ module _ {A : Type 0} where
       record { room = omega (arith, h .room, w .next, written-length (room-front l m h) w, length-append l m) }
 
   -- the room for one list more, from the index that was returned
-  pub room-on : {t u : List A} {i j : ℕ} {l : List A} (m : List A) → j + length m ≤ length t → Written t i l u j → Room t i (l ++ m)
+  pub room-on : {t u : List A} {i j : ℕ} {l : List A} (m : List A) → j + length m ≤ length t
+      → Written t i l u j → Room t i (l ++ m)
   room-on {t} {u} {i} {j} {l} m h w = record { room = omega (arith, w .next, length-append l m) }
 
   -- a turn of a loop that copies l, entry by entry
@@ -126,10 +128,13 @@ module _ {A : Type 0} where
       more = sym (ap (λ (n : ℕ). take n l) (add-one k) ∙ take-suc l k d q)
 
       space : Room t i (take k l ++ (getD l k d ∷ []))
-      space = record { room = omega (arith, h .room, length-append (take k l) (getD l k d ∷ []), length-take-le k l (omega arith)) }
+      space = record {
+        room = omega (arith, h .room, length-append (take k l) (getD l k d ∷ []), length-take-le k l (omega arith));
+      }
 
   -- a loop that writes the parts of upTo f n, of at most b entries each
-  pub within-nil : (f : ℕ → List A) (b : ℕ) {t : List A} {i : ℕ} → i ≤ length t → WrittenWithin (b * 0) t i (upTo f 0) t i
+  pub within-nil : (f : ℕ → List A) (b : ℕ) {t : List A} {i : ℕ} → i ≤ length t
+      → WrittenWithin (b * 0) t i (upTo f 0) t i
   unfolding upTo
   within-nil f b h = record { written = written-nil h; most = omega arith }
 
@@ -142,7 +147,8 @@ module _ {A : Type 0} where
     pub turn-within : length u ≡ length t → j + b ≤ length u
     turn-within e = omega (arith, turn-next)
 
-    pub written-within : {v : List A} {r : ℕ} → WrittenWithin b u j (f k) v r → WrittenWithin (b * (k + 1)) t i (upTo f (k + 1)) v r
+    pub written-within : {v : List A} {r : ℕ} → WrittenWithin b u j (f k) v r
+        → WrittenWithin (b * (k + 1)) t i (upTo f (k + 1)) v r
     written-within {v} {r} x =
         record {
           written =
@@ -164,7 +170,9 @@ module _ {A : Type 0} where
   start-within e w = omega (arith, w .written .next, w .most)
 
 -- the parts that a function makes of the entries of a list
-pub flatten-upTo : {A B : Type 0} (f : A → List B) (d : A) (l : List A) → flatten (map f l) ≡ upTo (λ i. f (getD l i d)) (length l)
+pub flatten-upTo : {A B : Type 0} (f : A → List B) (d : A) (l : List A)
+    → flatten (map f l) ≡ upTo (λ i. f (getD l i d)) (length l)
 unfolding flatten upTo
 flatten-upTo f d [] = refl
-flatten-upTo f d (x ∷ l) = ap (λ m. f x ++ m) (flatten-upTo f d l) ∙ sym (upTo-first (λ i. f (getD (x ∷ l) i d)) (length l))
+flatten-upTo f d (x ∷ l) =
+    ap (λ m. f x ++ m) (flatten-upTo f d l) ∙ sym (upTo-first (λ i. f (getD (x ∷ l) i d)) (length l))

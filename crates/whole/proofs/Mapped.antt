@@ -1,5 +1,5 @@
--- An array that is stored into entry by entry, each the image of another array's entry, is in the end the image of that array: `stored-all`.
--- Assumes nothing.
+-- An array that is stored into entry by entry, each the image of another array's entry, is in the
+-- end the image of that array: `stored-all`. Assumes nothing.
 use Prim.Native.Nat.{ℕ, suc, _+_, _<_}
 use native.Mathlib.Numerals.{add-one}
 use mathlib.Core.Path.{_≡_, sym, ap, _∙_}

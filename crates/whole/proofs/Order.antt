@@ -1,4 +1,5 @@
--- Tests of order as equations of Booleans, the lesser and the greater of two, and a number brought between two.
+-- Tests of order as equations of Booleans, the lesser and the greater of two,
+-- and a number brought between two.
 use mathlib.Core.Path.{_≡_, refl, sym, ap}
 use mathlib.Core.Bool.{Bool, true, false, cond}
 use Prim.Native.Nat.{ℕ, zero, suc, _%_, _<_}

@@ -1,8 +1,10 @@
--- A solver for identities of the ring ℤ. The atoms are listed, and `search` writes both sides as expressions over them:
+-- A solver for identities of the ring ℤ. The atoms are listed, and `search` writes both
+-- sides as expressions over them:
 --     square : (a b : ℤ) → (a +ℤ b) *ℤ (a +ℤ b) ≡ a *ℤ a +ℤ pos 2 *ℤ (a *ℤ b) +ℤ b *ℤ b
 --     square a b = same (a ∷ b ∷ []) (search pol depth 20 fits 9000) tt
--- Two expressions have one value where their normal forms are the same. A normal form is a list of monomials, each a coefficient and
--- the sorted list of its variables. That the list is sorted is no part of the proof: only what it evaluates to is.
+-- Two expressions have one value where their normal forms are the same. A normal form is a list of
+-- monomials, each a coefficient and the sorted list of its variables. That the list is sorted is no
+-- part of the proof: only what it evaluates to is.
 use mathlib.Core.Path.{_≡_, refl, sym, ap, _∙_}
 use mathlib.Core.Bool.{Bool, true, false, _&&_}
 use mathlib.Core.List.{List, [], _∷_}
@@ -135,7 +137,8 @@ module _ (ρ : List ℤ) where
 
   merge-is : (m n : List ℕ) → product (merge m n) ≡ product m *ℤ product n
   merge-is [] n = sym (one-*ℤ (product n))
-  merge-is (v ∷ m) n = insert-is v (merge m n) ∙ ap (λ (z : ℤ). at ρ v *ℤ z) (merge-is m n) ∙ sym (*ℤ-assoc (at ρ v) (product m) (product n))
+  merge-is (v ∷ m) n = insert-is v (merge m n) ∙ ap (λ (z : ℤ). at ρ v *ℤ z) (merge-is m n)
+      ∙ sym (*ℤ-assoc (at ρ v) (product m) (product n))
 
   front-is : (c : ℤ) (m : List ℕ) (p : Poly) → sum (front c m p) ≡ c *ℤ product m +ℤ sum p
   front-is (pos zero) m p = sym (ap (λ (z : ℤ). z +ℤ sum p) (zero-*ℤ (product m)) ∙ +ℤ-idl (sum p))
@@ -146,7 +149,8 @@ module _ (ρ : List ℤ) where
   sameVars-is [] [] t = refl
   sameVars-is [] (y ∷ ys) t = absurd t
   sameVars-is (x ∷ xs) [] t = absurd t
-  sameVars-is (x ∷ xs) (y ∷ ys) t = let p = both (eqb x y) (sameVars xs ys) t in λ i. eqb→eq x y (p .0) i ∷ sameVars-is xs ys (p .1) i
+  sameVars-is (x ∷ xs) (y ∷ ys) t = let p = both (eqb x y) (sameVars xs ys) t in
+      λ i. eqb→eq x y (p .0) i ∷ sameVars-is xs ys (p .1) i
 
   -- the law of `put`: one monomial into a polynomial, r being the rest with it put in
   join : (c d m p : ℤ) → (c +ℤ d) *ℤ m +ℤ p ≡ c *ℤ m +ℤ (d *ℤ m +ℤ p)
@@ -155,18 +159,21 @@ module _ (ρ : List ℤ) where
   swap : (x y p : ℤ) → y +ℤ (x +ℤ p) ≡ x +ℤ (y +ℤ p)
   swap = all₃ _ (λ a b c d e f. simp whole (omega arith))
 
-  put-is : (b l : Bool) (c : ℤ) (m : List ℕ) (d : ℤ) (n : List ℕ) (p r : Poly) → (T b → m ≡ n) → sum r ≡ c *ℤ product m +ℤ sum p
+  put-is : (b l : Bool) (c : ℤ) (m : List ℕ) (d : ℤ) (n : List ℕ) (p r : Poly) → (T b → m ≡ n)
+      → sum r ≡ c *ℤ product m +ℤ sum p
       → sum (put b l c m d n p r) ≡ c *ℤ product m +ℤ (d *ℤ product n +ℤ sum p)
   put-is true l c m d n p r e h =
       front-is (c +ℤ d) n p
       ∙ join c d (product n) (sum p)
       ∙ ap (λ (k : List ℕ). c *ℤ product k +ℤ (d *ℤ product n +ℤ sum p)) (sym (e tt))
   put-is false true c m d n p r e h = refl
-  put-is false false c m d n p r e h = ap (λ (z : ℤ). d *ℤ product n +ℤ z) h ∙ swap (c *ℤ product m) (d *ℤ product n) (sum p)
+  put-is false false c m d n p r e h =
+      ap (λ (z : ℤ). d *ℤ product n +ℤ z) h ∙ swap (c *ℤ product m) (d *ℤ product n) (sum p)
 
   plusMono-is : (c : ℤ) (m : List ℕ) (p : Poly) → sum (plusMono c m p) ≡ c *ℤ product m +ℤ sum p
   plusMono-is c m nil = front-is c m nil
-  plusMono-is c m (mono d n p) = put-is (sameVars m n) (earlier m n) c m d n p (plusMono c m p) (sameVars-is m n) (plusMono-is c m p)
+  plusMono-is c m (mono d n p) =
+      put-is (sameVars m n) (earlier m n) c m d n p (plusMono c m p) (sameVars-is m n) (plusMono-is c m p)
 
   plus-is : (p q : Poly) → sum (plus p q) ≡ sum p +ℤ sum q
   plus-is nil q = sym (+ℤ-idl (sum q))
@@ -179,10 +186,13 @@ module _ (ρ : List ℤ) where
   across c d m n p s = simp (*ℤ-+ℤ, *ℤ-assoc, left-comm, +ℤ-assoc)
 
   timesMono-is : (c : ℤ) (m : List ℕ) (p s : Poly) → sum (timesMono c m p s) ≡ (c *ℤ product m) *ℤ sum p +ℤ sum s
-  timesMono-is c m nil s = sym (ap (λ (z : ℤ). z +ℤ sum s) (*ℤ-comm (c *ℤ product m) (pos 0) ∙ zero-*ℤ (c *ℤ product m)) ∙ +ℤ-idl (sum s))
+  timesMono-is c m nil s =
+      sym (ap (λ (z : ℤ). z +ℤ sum s) (*ℤ-comm (c *ℤ product m) (pos 0) ∙ zero-*ℤ (c *ℤ product m)) ∙ +ℤ-idl (sum s))
   timesMono-is c m (mono d n p) s =
-      plusMono-is (c *ℤ d) (merge m n) (timesMono c m p s) ∙ ap (λ (z : ℤ). (c *ℤ d) *ℤ z +ℤ sum (timesMono c m p s)) (merge-is m n)
-      ∙ ap (λ (z : ℤ). (c *ℤ d) *ℤ (product m *ℤ product n) +ℤ z) (timesMono-is c m p s) ∙ across c d (product m) (product n) (sum p) (sum s)
+      plusMono-is (c *ℤ d) (merge m n) (timesMono c m p s)
+      ∙ ap (λ (z : ℤ). (c *ℤ d) *ℤ z +ℤ sum (timesMono c m p s)) (merge-is m n)
+      ∙ ap (λ (z : ℤ). (c *ℤ d) *ℤ (product m *ℤ product n) +ℤ z) (timesMono-is c m p s)
+      ∙ across c d (product m) (product n) (sum p) (sum s)
 
   times-is : (p q : Poly) → sum (times p q) ≡ sum p *ℤ sum q
   times-is nil q = sym (zero-*ℤ (sum q))
@@ -218,7 +228,8 @@ module _ (ρ : List ℤ) where
   samePoly-is nil (mono d n q) t = absurd t
   samePoly-is (mono c m p) nil t = absurd t
   samePoly-is (mono c m p) (mono d n q) t =
-      let h = both (sameCoefficient c d) (sameVars m n && samePoly p q) t in let k = both (sameVars m n) (samePoly p q) (h .1) in
+      let h = both (sameCoefficient c d) (sameVars m n && samePoly p q) t in
+      let k = both (sameVars m n) (samePoly p q) (h .1) in
       λ i. mono (sameCoefficient-is c d (h .0) i) (sameVars-is m n (k .0) i) (samePoly-is p q (k .1) i)
 
   pub ring : (l r : Ex) → T (samePoly (norm l) (norm r)) → value ρ l ≡ value ρ r

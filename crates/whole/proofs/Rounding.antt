@@ -1,5 +1,6 @@
--- Division rounded down, to the nearest and, as the machine divides, toward zero. Theorems that hold whichever way a half is
--- rounded take no more of `nearestQuotient` than `nearest-half`: it is off by a half at most.
+-- Division rounded down, to the nearest and, as the machine divides, toward zero. Theorems
+-- that hold whichever way a half is rounded take no more of `nearestQuotient` than
+-- `nearest-half`: it is off by a half at most.
 use mathlib.Core.Path.{_≡_, refl, sym, ap, ap₂, _∙_}
 use mathlib.Core.Logic.{⊎-elim, _↔_}
 use Prim.Native.Nat.{ℕ, zero, suc, _+_, _*_, _/_, _%_, _<_, _≤_}
@@ -23,9 +24,15 @@ pub record Floor (z : ℤ) (m : ℕ) (r : ℤ) : Type 0 where
 
 pub shr-floor : (z : ℤ) (m : ℕ) → 0 < m → Floor z m (shrZ z m)
 shr-floor (pos a) m h =
-    record { low = simp whole (omega (arith, div-add-mod a m, mod-lt a h)); high = simp whole (omega (arith, div-add-mod a m, mod-lt a h)) }
+    record {
+      low = simp whole (omega (arith, div-add-mod a m, mod-lt a h));
+      high = simp whole (omega (arith, div-add-mod a m, mod-lt a h));
+    }
 shr-floor (negsuc a) m h =
-    record { low = simp whole (omega (arith, div-add-mod a m, mod-lt a h)); high = simp whole (omega (arith, div-add-mod a m, mod-lt a h)) }
+    record {
+      low = simp whole (omega (arith, div-add-mod a m, mod-lt a h));
+      high = simp whole (omega (arith, div-add-mod a m, mod-lt a h));
+    }
 
 floor-le : (z m r s : ℤ) → pos 0 ≤ℤ m → (m *ℤ r) ≤ℤ z → z <ℤ (m *ℤ s +ℤ m) → r ≤ℤ s
 floor-le z m r s h k l =
@@ -36,14 +43,16 @@ floor-le z m r s h k l =
 
 pub floor-unique : {z : ℤ} {m : ℕ} {r s : ℤ} → Floor z m r → Floor z m s → r ≡ s
 floor-unique {z} {m} {r} {s} f g =
-    ≤ℤ-antisym (floor-le z (pos m) r s (not-negative m) (f .low) (g .high)) (floor-le z (pos m) s r (not-negative m) (g .low) (f .high))
+    ≤ℤ-antisym (floor-le z (pos m) r s (not-negative m) (f .low) (g .high))
+    (floor-le z (pos m) s r (not-negative m) (g .low) (f .high))
 
 -- halves: twice a number is even, and half of it is the number; an even number is twice its half
 pub twice-even : (z : ℤ) → natAbs (pos 2 *ℤ z) % 2 ≡ 0
 twice-even z = rw natAbs-* (omega arith)
 
 pub half-twice : (z : ℤ) → shrZ (pos 2 *ℤ z) 2 ≡ z
-half-twice z = floor-unique (shr-floor (pos 2 *ℤ z) 2 (omega arith)) (record { low = ≤ℤ-refl (pos 2 *ℤ z); high = more (pos 2 *ℤ z) })
+half-twice z = floor-unique (shr-floor (pos 2 *ℤ z) 2 (omega arith))
+    (record { low = ≤ℤ-refl (pos 2 *ℤ z); high = more (pos 2 *ℤ z) })
   where
     more : (x : ℤ) → x <ℤ (x +ℤ pos 2)
     more = all₁ _ (λ a b. simp whole (omega arith))
@@ -61,7 +70,8 @@ pub record WithinHalf (x : ℤ) (d : ℕ) (r : ℤ) : Type 0 where
 
 -- for `simp` on differences
 pub half-iff : (x : ℤ) (d : ℕ) (r : ℤ)
-    → WithinHalf x d r ↔ (((pos d *ℤ (pos 2 *ℤ r -ℤ pos 1)) ≤ℤ (pos 2 *ℤ x)) × ((pos 2 *ℤ x) ≤ℤ (pos d *ℤ (pos 2 *ℤ r +ℤ pos 1))))
+    → WithinHalf x d r
+    ↔ (((pos d *ℤ (pos 2 *ℤ r -ℤ pos 1)) ≤ℤ (pos 2 *ℤ x)) × ((pos 2 *ℤ x) ≤ℤ (pos d *ℤ (pos 2 *ℤ r +ℤ pos 1))))
 half-iff x d r = (λ h. (h .low, h .high), λ h. record { low = h .0; high = h .1 })
 
 -- a size, rounded, and the same with the sign turned
@@ -95,7 +105,8 @@ nearest-half (negsuc a) d h = half-neg d (pos (suc a)) (pos (nearestSize (suc a)
 
 -- the same left and right: the negative is rounded to the negative
 pub nearest-neg : (x : ℤ) (d : ℕ) → 0 < d → nearestQuotient (negℤ x) d ≡ negℤ (nearestQuotient x d)
-nearest-neg (pos zero) d h = let z : nearestSize 0 d ≡ 0 = div-eq-of-lt (omega arith) in ap (λ (n : ℕ). pos n) z ∙ sym (ap (λ (n : ℕ). negℤ (pos n)) z)
+nearest-neg (pos zero) d h = let z : nearestSize 0 d ≡ 0 = div-eq-of-lt (omega arith) in
+    ap (λ (n : ℕ). pos n) z ∙ sym (ap (λ (n : ℕ). negℤ (pos n)) z)
 nearest-neg (pos (suc a)) d h = refl
 nearest-neg (negsuc a) d h = sym (negℤ-negℤ (pos (nearestSize (suc a) d)))
 
@@ -109,13 +120,17 @@ nearest-times c (negsuc a) d h k =
 half-whole : {z : ℤ} {d : ℕ} {r : ℤ} → 0 < d → WithinHalf (pos d *ℤ z) d r → r ≡ z
 half-whole {z} {d} {r} h w =
     ≤ℤ-antisym
-    (⊎-elim (λ (e : r ≤ℤ z). e) (λ (e : z <ℤ r). absurd (above d z r h (*ℤ-mono (not-negative d) (next-≤ℤ z r e)) (w .low))) (≤ℤ-total r z))
-    (⊎-elim (λ (e : z ≤ℤ r). e) (λ (e : r <ℤ z). absurd (below d z r h (*ℤ-mono (not-negative d) (next-≤ℤ r z e)) (w .high))) (≤ℤ-total z r))
+    (⊎-elim (λ (e : r ≤ℤ z). e)
+    (λ (e : z <ℤ r). absurd (above d z r h (*ℤ-mono (not-negative d) (next-≤ℤ z r e)) (w .low))) (≤ℤ-total r z))
+    (⊎-elim (λ (e : z ≤ℤ r). e)
+    (λ (e : r <ℤ z). absurd (below d z r h (*ℤ-mono (not-negative d) (next-≤ℤ r z e)) (w .high))) (≤ℤ-total z r))
   where
-    above : (d : ℕ) (z r : ℤ) → 0 < d → ((z +ℤ pos 1) *ℤ pos d) ≤ℤ (r *ℤ pos d) → (pos d *ℤ (pos 2 *ℤ r -ℤ pos 1)) ≤ℤ (pos 2 *ℤ (pos d *ℤ z)) → ⊥
+    above : (d : ℕ) (z r : ℤ) → 0 < d → ((z +ℤ pos 1) *ℤ pos d) ≤ℤ (r *ℤ pos d)
+        → (pos d *ℤ (pos 2 *ℤ r -ℤ pos 1)) ≤ℤ (pos 2 *ℤ (pos d *ℤ z)) → ⊥
     above d = all₂ _ (λ a b c e. simp whole (omega arith))
 
-    below : (d : ℕ) (z r : ℤ) → 0 < d → ((r +ℤ pos 1) *ℤ pos d) ≤ℤ (z *ℤ pos d) → (pos 2 *ℤ (pos d *ℤ z)) ≤ℤ (pos d *ℤ (pos 2 *ℤ r +ℤ pos 1)) → ⊥
+    below : (d : ℕ) (z r : ℤ) → 0 < d → ((r +ℤ pos 1) *ℤ pos d) ≤ℤ (z *ℤ pos d)
+        → (pos 2 *ℤ (pos d *ℤ z)) ≤ℤ (pos d *ℤ (pos 2 *ℤ r +ℤ pos 1)) → ⊥
     below d = all₂ _ (λ a b c e. simp whole (omega arith))
 
 pub nearest-whole : (d : ℕ) (z : ℤ) → 0 < d → nearestQuotient (pos d *ℤ z) d ≡ z
@@ -134,12 +149,14 @@ half-size {x} {d} {r} n h k w = natAbs-iff n r .1 (low, high)
     below d n = all₂ _ (λ a b c e. simp whole (omega arith))
 
     high : r ≤ℤ pos n
-    high = ⊎-elim (λ (e : r ≤ℤ pos n). e) (λ (e : pos n <ℤ r). absurd (above d n x r h k (*ℤ-mono (not-negative d) (next-≤ℤ (pos n) r e)) (w .low)))
+    high = ⊎-elim (λ (e : r ≤ℤ pos n). e)
+        (λ (e : pos n <ℤ r). absurd (above d n x r h k (*ℤ-mono (not-negative d) (next-≤ℤ (pos n) r e)) (w .low)))
         (≤ℤ-total r (pos n))
 
     low : negℤ (pos n) ≤ℤ r
     low = ⊎-elim (λ (e : negℤ (pos n) ≤ℤ r). e)
-        (λ (e : r <ℤ negℤ (pos n)). absurd (below d n x r h k (*ℤ-mono (not-negative d) (next-≤ℤ r (negℤ (pos n)) e)) (w .high)))
+        (λ (e : r <ℤ negℤ (pos n)). absurd
+        (below d n x r h k (*ℤ-mono (not-negative d) (next-≤ℤ r (negℤ (pos n)) e)) (w .high)))
         (≤ℤ-total (negℤ (pos n)) r)
 
 -- ---- the machine's division, toward zero

@@ -1,5 +1,5 @@
--- Whole numbers: the lesser and the greater of two, a number brought between two, the sum of a range, and division rounded to the
--- nearest. The size of z is the library's `natAbs z`.
+-- Whole numbers: the lesser and the greater of two, a number brought between two, the sum of a
+-- range, and division rounded to the nearest. The size of z is the library's `natAbs z`.
 use Prim.Native.Nat.{ℕ, zero, suc, _+_, _*_, _/_}
 use mathlib.Core.Bool.{cond}
 use lib.IntN.{ℤ, pos, negsuc, negℤ, _+ℤ_}
@@ -24,7 +24,8 @@ sumTo f (suc n) = sumTo f n +ℤ f (suc n)
 abbrev pub nearestSize : ℕ → ℕ → ℕ
 nearestSize n m = (2 * n + m) / (2 * m)
 
--- x / m rounded to the nearest whole number, halves away from zero: the size is rounded, halves upward, and keeps its sign
+-- x / m rounded to the nearest whole number, halves away from zero: the size is rounded,
+-- halves upward, and keeps its sign
 abbrev pub nearestQuotient : ℤ → ℕ → ℤ
 nearestQuotient (pos n) m = pos (nearestSize n m)
 nearestQuotient (negsuc n) m = negℤ (pos (nearestSize (suc n) m))

@@ -1,5 +1,6 @@
--- Lists written over from an index on, and lists put together one part after another: what a function leaves that fills a
--- lent table or a lent buffer. Their laws are in proofs/Lists.antt. Assumes nothing.
+-- Lists written over from an index on, and lists put together one part after another: what a
+-- function leaves that fills a lent table or a lent buffer. Their laws are in
+-- proofs/Lists.antt. Assumes nothing.
 use Prim.Native.Nat.{ℕ, zero, suc, _+_, _≤_}
 use mathlib.Core.Path.{_≡_}
 use mathlib.Core.List.{List, [], _++_}
@@ -19,7 +20,8 @@ module _ {A : Type 0} where
   pub record Room (t : List A) (i : ℕ) (l : List A) : Type 0 where
     pub room : i + length l ≤ length t
 
-  -- what a function promises that writes l from index i on and returns the index after it: the list t has become u, and r is returned
+  -- what a function promises that writes l from index i on and returns the index after it: the list
+  -- t has become u, and r is returned
   pub record Written (t : List A) (i : ℕ) (l : List A) (u : List A) (r : ℕ) : Type 0 where
     pub list : u ≡ over t i l
     pub next : r ≡ i + length l

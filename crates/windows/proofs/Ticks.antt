@@ -1,4 +1,5 @@
--- The ticks from a first one on and before another that fit one window are those from `firstTick` on and before `afterLast`: `ticks-fit`, `fit-ticks`.
+-- The ticks from a first one on and before another that fit one window are those from `firstTick`
+-- on and before `afterLast`: `ticks-fit`, `fit-ticks`.
 use Prim.Native.Nat.{ℕ, _+_, _-_, _≤_, _<_}
 use native.Mathlib.Omega.{arith}
 use mathlib.Core.Path.{_≡_, refl}
@@ -20,14 +21,16 @@ fit-is n dwell w e =
     go (leb (w .opening) n) (ltb n (w .closing)) (leb (n + dwell) (w .closing))
     (leb-true (w .opening) n) (ltb-true n (w .closing)) (leb-true (n + dwell) (w .closing)) e
   where
-    go : (a b c : Bool) → (a ≡ true → w .opening ≤ n) → (b ≡ true → n < w .closing) → (c ≡ true → n + dwell ≤ w .closing)
+    go : (a b c : Bool) → (a ≡ true → w .opening ≤ n) → (b ≡ true → n < w .closing)
+        → (c ≡ true → n + dwell ≤ w .closing)
         → a && (b && c) ≡ true → Fit n dwell w
     go true true c f g h e = record { opened = f refl; within = g refl; stays = h e }
     go true false c f g h e = absurd (false≢true e)
     go false b c f g h e = absurd (false≢true e)
 
 is-fit : (n dwell : ℕ) (w : Window) → Fit n dwell w → fitsWindow n dwell w ≡ true
-is-fit n dwell w f = λ i. le-leb (w .opening) n (f .opened) i && (lt-ltb n (w .closing) (f .within) i && le-leb (n + dwell) (w .closing) (f .stays) i)
+is-fit n dwell w f = λ i. le-leb (w .opening) n (f .opened) i
+    && (lt-ltb n (w .closing) (f .within) i && le-leb (n + dwell) (w .closing) (f .stays) i)
 
 -- ---- by cases
 
@@ -42,7 +45,8 @@ module _ (first after n : ℕ) where
   is-first : (w : Window) → firstTick first w ≤ n → (first ≤ n) × (w .opening ≤ n)
   is-first w h = go (ltb (w .opening) first) (ltb-true (w .opening) first) (ltb-false (w .opening) first) h
     where
-      go : (b : Bool) → (b ≡ true → w .opening < first) → (b ≡ false → first ≤ w .opening) → cond b first (w .opening) ≤ n → (first ≤ n) × (w .opening ≤ n)
+      go : (b : Bool) → (b ≡ true → w .opening < first) → (b ≡ false → first ≤ w .opening)
+          → cond b first (w .opening) ≤ n → (first ≤ n) × (w .opening ≤ n)
       go true f g h = let k = f refl in (h, omega arith)
       go false f g h = let k = g refl in (omega arith, h)
 
@@ -63,10 +67,14 @@ module _ (first after n : ℕ) where
 -- ---- the ticks of a window
 
 module _ (first after n dwell : ℕ) (w : Window) where
-  pub fit-ticks : first ≤ n → n < after → fitsWindow n dwell w ≡ true → (firstTick first w ≤ n) × (n < afterLast dwell after w)
+  pub fit-ticks : first ≤ n → n < after → fitsWindow n dwell w ≡ true
+      → (firstTick first w ≤ n) × (n < afterLast dwell after w)
   fit-ticks h k e =
-      let f = fit-is n dwell w e in
-      (first-is first after n w h (f .opened), go (eqb dwell 0) (ltb (w .closing) dwell) (ltb-true (w .closing) dwell) (f .within) (f .stays))
+      let f = fit-is n dwell w e in (
+        first-is first after n w h (f .opened),
+        go (eqb dwell 0) (ltb (w .closing) dwell)
+            (ltb-true (w .closing) dwell) (f .within) (f .stays),
+      )
     where
       go : (a b : Bool) → (b ≡ true → w .closing < dwell) → n < w .closing → n + dwell ≤ w .closing
           → n < cond a (upTo after (w .closing)) (cond b 0 (upTo after (w .closing - dwell + 1)))
@@ -74,16 +82,19 @@ module _ (first after n dwell : ℕ) (w : Window) where
       go false true f p q = absurd (let z = f refl in omega arith)
       go false false f p q = up-to first after n (w .closing - dwell + 1) k (omega arith)
 
-  pub ticks-fit : firstTick first w ≤ n → n < afterLast dwell after w → (first ≤ n) × (n < after) × (fitsWindow n dwell w ≡ true)
+  pub ticks-fit : firstTick first w ≤ n → n < afterLast dwell after w
+      → (first ≤ n) × (n < after) × (fitsWindow n dwell w ≡ true)
   ticks-fit h k =
       let o = is-first first after n w h in
-      let s = go (eqb dwell 0) (ltb (w .closing) dwell) (eqb-true dwell 0) (eqb-false dwell 0) (ltb-false (w .closing) dwell) k in
+      let s = go (eqb dwell 0) (ltb (w .closing) dwell) (eqb-true dwell 0) (eqb-false dwell 0)
+      (ltb-false (w .closing) dwell) k in
       (o .0, s .0, is-fit n dwell w (record { opened = o .1; within = s .1; stays = s .2 }))
     where
       go : (a b : Bool) → (a ≡ true → dwell ≡ 0) → (a ≡ false → dwell ≡ 0 → ⊥) → (b ≡ false → dwell ≤ w .closing)
           → n < cond a (upTo after (w .closing)) (cond b 0 (upTo after (w .closing - dwell + 1)))
           → (n < after) × (n < w .closing) × (n + dwell ≤ w .closing)
-      go true b f g p k = let u = to-up first after n (w .closing) k in let z = f refl in (u .0, u .1, omega (arith, u .1))
+      go true b f g p k = let u = to-up first after n (w .closing) k in let z = f refl in
+          (u .0, u .1, omega (arith, u .1))
       go false true f g p k = absurd (omega arith)
       go false false f g p k =
           let u = to-up first after n (w .closing - dwell + 1) k in

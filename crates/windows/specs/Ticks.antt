@@ -1,4 +1,5 @@
--- The ticks from a first one on and before another that fit one window, as a first one and the one after the last (`ticks-fit` in proofs/Ticks.antt).
+-- The ticks from a first one on and before another that fit one window, as a first one and the one
+-- after the last (`ticks-fit` in proofs/Ticks.antt).
 use Prim.Native.Nat.{ℕ, _-_, _+_}
 use mathlib.Core.Bool.{cond}
 use lib.Dec.{eqb, ltb}

@@ -6,11 +6,13 @@ ghost use Prim.Native.Nat.{_≤_};
 ghost use lib.ListN.{take};
 ghost use mathlib.Core.Bool.{true};
 ghost use mathlib.Core.Option.{none};
-ghost use Rattle.model.specs.planning.Windows.{noWindows, fitsWindow, fitsOne, inWindows, inOrderAfter, firstWrongWindow, windowsRefused, refused13};
+ghost use Rattle.model.specs.planning.Windows.{noWindows, fitsWindow, fitsOne, inWindows, inOrderAfter};
+ghost use Rattle.model.specs.planning.Windows.{firstWrongWindow, windowsRefused, refused13};
 ghost use Rattle.windows.specs.Places.{placeOf};
 ghost use Rattle.windows.specs.Ticks.{firstTick, upTo, afterLast};
 
-// Whether an arrival fits a window: at its opening or later, below its closing, and its dwell ends at the closing or before.
+// Whether an arrival fits a window: at its opening or later, below its closing, and its dwell
+// ends at the closing or before.
 fn fits(tick: u32, dwell: u32, window: Window) -> bool
     requires { ⌜ tick ≤ 4096 ⌝ }
     requires { ⌜ dwell ≤ 4096 ⌝ }
@@ -24,7 +26,8 @@ fn fits(tick: u32, dwell: u32, window: Window) -> bool
     false
 }
 
-// Whether an arrival is allowed by the windows of a job: any where it brings none, else one that fits a window.
+// Whether an arrival is allowed by the windows of a job: any where it brings
+// none, else one that fits a window.
 pub fn allows(windows: Windows, tick: u32) -> bool
     requires { ⌜ refused13 windows ≡ none ⌝ }
     requires { ⌜ tick ≤ 4096 ⌝ }
@@ -61,7 +64,8 @@ pub enum Place {
     Nowhere,
 }
 
-// Whether a window closes after it opens, and opens at the tick at which the one before it closed, or later.
+// Whether a window closes after it opens, and opens at the tick at which the
+// one before it closed, or later.
 fn in_order_after(closed: u32, window: Window) -> bool
     ensures { λ r. ⌜ r ≡ inOrderAfter closed window ⌝ }
 {
@@ -71,7 +75,8 @@ fn in_order_after(closed: u32, window: Window) -> bool
     false
 }
 
-// The first window that does not close after it opens, or that opens before the one before it closes.
+// The first window that does not close after it opens, or that opens before the one before it
+// closes.
 fn first_wrong(list: [Window; 32], count: usize) -> Place
     requires { ⌜ count ≤ 32 ⌝ }
     ensures { λ r. ⌜ placeOf r ≡ firstWrongWindow 0 0 (take count list) ⌝ }
@@ -143,7 +148,8 @@ pub fn first_tick(window: Window, first: u32) -> u32
     window.opening
 }
 
-// The tick after the last one, before `after`, that fits the window; where none does, a tick that is not after the window's first.
+// The tick after the last one, before `after`, that fits the window; where none does, a tick that
+// is not after the window's first.
 pub fn after_last(window: Window, dwell: u32, after: u32) -> u32
     requires { ⌜ dwell ≤ 4096 ⌝ }
     ensures { λ r. ⌜ r ≡ afterLast dwell after window ⌝ }

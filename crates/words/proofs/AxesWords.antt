@@ -51,7 +51,8 @@ module _ (ws : List ℕ) (n i m : ℕ) where
 
   -- the axes after axis i, from any index and any six
   abbrev Later : Type 0
-  Later = (at : ℕ) (six : List Axis) → Matches ws six (readAll ws n (suc i) (m / 2) (going at six)) (axes later at (drop at ws))
+  Later = (at : ℕ) (six : List Axis)
+      → Matches ws six (readAll ws n (suc i) (m / 2) (going at six)) (axes later at (drop at ws))
 
   one-read : (at : ℕ) (six : List Axis) → Later → (r : Reading Axis) → Follows ws at r
       → Matches ws six (readAll ws n (suc i) (m / 2) (withAxis i (going at six) (axisReading r)))
@@ -95,16 +96,19 @@ module _ (ws : List ℕ) (i m : ℕ) (s : AxesReading) where
   pub turn-unset : s .got ≡ true → (m % 2 ≡ 1 → ⊥) → s ≡ readOn ws i m s
   turn-unset e h = sym (going-on false e (ne-eqb (m % 2) 1 h))
 
-  pub turn-set : s .got ≡ true → m % 2 ≡ 1 → (r q : AxisReading) → r ≡ axisHere → r ≡ q → withAxis i s q ≡ readOn ws i m s
+  pub turn-set : s .got ≡ true → m % 2 ≡ 1 → (r q : AxisReading) → r ≡ axisHere → r ≡ q
+      → withAxis i s q ≡ readOn ws i m s
   turn-set e h r q p f = ap (withAxis i s) (sym f ∙ p) ∙ sym (going-on true e (eq-eqb (m % 2) 1 h))
 
 -- an axis has at most twelve words
-reading-end : (ws : List ℕ) (i : ℕ) (s : AxesReading) (r : Reading Axis) → Follows ws (s .at) r → withAxis i s (axisReading r) .at ≤ s .at + 13
+reading-end : (ws : List ℕ) (i : ℕ) (s : AxesReading) (r : Reading Axis) → Follows ws (s .at) r
+    → withAxis i s (axisReading r) .at ≤ s .at + 13
 reading-end ws i s (got x j vs) h = h .1
 reading-end ws i s (wrong p) h = h
 
 pub turn-end : (ws : List ℕ) (i m : ℕ) (s : AxesReading) → readOn ws i m s .at ≤ s .at + 13
-turn-end ws i m s = go (s .got) (eqb (m % 2) 1) (reading-end ws i s (axis (s .at) (drop (s .at) ws)) (axis-follows ws (s .at)))
+turn-end ws i m s =
+    go (s .got) (eqb (m % 2) 1) (reading-end ws i s (axis (s .at) (drop (s .at) ws)) (axis-follows ws (s .at)))
   where
     read : AxesReading
     read = withAxis i s (axisReading (axis (s .at) (drop (s .at) ws)))

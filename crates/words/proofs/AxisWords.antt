@@ -14,7 +14,8 @@ use Rattle.model.specs.declared.Target.the-variants.{Fixed, Moving}
 use Rattle.model.specs.planning.Words.{Reading, got, wrong, Reader, _>>=_, give, signed, next, position, target, axis}
 use Rattle.model.proofs.words.Spelling.{assoc₂}
 use Rattle.words.specs.declared.AxisReading.the-variants.{Got, Wrong}
-use Rattle.words.specs.ByIndex.{isKind, passing, firstWrong, signedAt, positionAt, restAt, stateAt, axisAt, axisReading}
+use Rattle.words.specs.ByIndex.{isKind, passing, firstWrong, signedAt, positionAt, restAt, stateAt, axisAt}
+use Rattle.words.specs.ByIndex.{axisReading}
 use Rattle.words.proofs.Reader.{on, next-is, step-field, step-signed, step-position, step-sway, passing-within}
 use Rattle.words.proofs.Reader.{after, after-none, after-short, after-full, after-both, run-within, full-there}
 
@@ -29,7 +30,8 @@ module _ (ws : List ℕ) (i : ℕ) where
   abbrev ninth : ℕ
   ninth = passing ws goal 14
 
-  -- once the words of kinds 3 to 10 are there: a fixed target or, where a word of kind 11 follows, a moving one
+  -- once the words of kinds 3 to 10 are there: a fixed target or, where a word
+  -- of kind 11 follows, a moving one
   by-target : Bool → Reader Axis
   by-target b = λ j vs. _>>=_ (target b (positionAt ws goal) (signedAt ws (ninth + 1))) (λ g. give (axisAt ws i g)) j vs
 
@@ -40,7 +42,8 @@ module _ (ws : List ℕ) (i : ℕ) where
   tail : ℕ → List ℕ → Reading Axis
   tail =
       λ j vs.
-      _>>=_ (position 9) (λ p. _>>=_ (signed 10) (λ v. _>>=_ (next 11) (λ b. _>>=_ (target b p v) (λ g. give (axisAt ws i g))))) j vs
+      _>>=_ (position 9)
+      (λ p. _>>=_ (signed 10) (λ v. _>>=_ (next 11) (λ b. _>>=_ (target b p v) (λ g. give (axisAt ws i g))))) j vs
 
   axis-is : axis i (drop i ws) ≡ after ws first 3 6 (tail goal (drop goal ws))
   unfolding tail axisAt restAt
@@ -60,15 +63,18 @@ module _ (ws : List ℕ) (i : ℕ) where
       (step-signed ws 10 0 (ninth + 1) (ninth + 2) _ _ (omega arith)
       (after-none ws _ 11 _))
 
-  rest-by : (b : Bool) → isKind ws (ninth + 2) 11 ≡ b → rest (ninth + 2) (drop (ninth + 2) ws) ≡ by-target b (ninth + 2) (drop (ninth + 2) ws)
+  rest-by : (b : Bool) → isKind ws (ninth + 2) 11 ≡ b
+      → rest (ninth + 2) (drop (ninth + 2) ws) ≡ by-target b (ninth + 2) (drop (ninth + 2) ws)
   unfolding rest
-  rest-by b e = ap (on by-target) (next-is ws (ninth + 2) 11) ∙ ap (λ (m : Bool). by-target m (ninth + 2) (drop (ninth + 2) ws)) e
+  rest-by b e = ap (on by-target) (next-is ws (ninth + 2) 11)
+      ∙ ap (λ (m : Bool). by-target m (ninth + 2) (drop (ninth + 2) ws)) e
 
   -- a fixed target
   fixed : Axis
   fixed = axisAt ws i (Fixed (restAt ws goal))
 
-  rest-fixed : isKind ws (ninth + 2) 11 ≡ false → rest (ninth + 2) (drop (ninth + 2) ws) ≡ got fixed (ninth + 2) (drop (ninth + 2) ws)
+  rest-fixed : isKind ws (ninth + 2) 11 ≡ false
+      → rest (ninth + 2) (drop (ninth + 2) ws) ≡ got fixed (ninth + 2) (drop (ninth + 2) ws)
   unfolding fixed by-target restAt
   rest-fixed e = rest-by false e
 
@@ -77,10 +83,12 @@ module _ (ws : List ℕ) (i : ℕ) where
   moving = axisAt ws i (Moving (stateAt ws goal))
 
   toward : ℤ → ℤ → Target
-  toward a t = Moving (record { position = positionAt ws goal; velocity = signedAt ws (ninth + 1); acceleration = a; tick = t })
+  toward a t =
+      Moving (record { position = positionAt ws goal; velocity = signedAt ws (ninth + 1); acceleration = a; tick = t })
 
   rest-moving : isKind ws (ninth + 2) 11 ≡ true
-      → rest (ninth + 2) (drop (ninth + 2) ws) ≡ after ws (ninth + 2) 11 2 (got moving (ninth + 4) (drop (ninth + 4) ws))
+      → rest (ninth + 2) (drop (ninth + 2) ws)
+      ≡ after ws (ninth + 2) 11 2 (got moving (ninth + 4) (drop (ninth + 4) ws))
   unfolding by-target toward moving stateAt
   rest-moving e =
       rest-by true e
@@ -88,7 +96,8 @@ module _ (ws : List ℕ) (i : ℕ) where
       ∙ step-signed ws 11 1 (ninth + 2) (ninth + 3) _ _ (omega arith)
       (step-signed ws 12 0 (ninth + 3) (ninth + 4) _ _ (omega arith) (after-none ws _ 13 _))
 
-  -- ---- what the code returns, by the runs of its words: n of kinds 3 to 8, m of 9 and 10, l of 11 and 12
+  -- ---- what the code returns, by the runs of its words: n of kinds 3 to 8, m of 9 and 10, l of 11
+  -- and 12
 
   module _ (s : ℕ) (es : s ≡ first) (n : ℕ) (is : n ≡ firstWrong ws s 3 6) where
     run₁ : n ≡ firstWrong ws first 3 6
@@ -101,9 +110,11 @@ module _ (ws : List ℕ) (i : ℕ) where
     start-there h = full-there ws first 3 5 (full₁ h)
 
     pub axis-short : n < s + 6 → Wrong n ≡ axisReading (axis i (drop i ws))
-    axis-short h = ap (λ (p : ℕ). Wrong p) run₁ ∙ sym (ap axisReading (axis-is ∙ after-short ws first 3 6 _ (omega (arith, es, run₁))))
+    axis-short h = ap (λ (p : ℕ). Wrong p) run₁
+        ∙ sym (ap axisReading (axis-is ∙ after-short ws first 3 6 _ (omega (arith, es, run₁))))
 
-    module _ (h : s + 6 ≤ n) (g : ℕ) (eg : g ≡ passing ws (s + 6) 13) (t : ℕ) (et : t ≡ passing ws g 14) (m : ℕ) (im : m ≡ firstWrong ws t 9 2) where
+    module _ (h : s + 6 ≤ n) (g : ℕ) (eg : g ≡ passing ws (s + 6) 13) (t : ℕ) (et : t ≡ passing ws g 14) (m : ℕ)
+        (im : m ≡ firstWrong ws t 9 2) where
       is-goal : g ≡ goal
       is-goal = eg ∙ ap (λ (k : ℕ). passing ws (k + 6) 13) es
 
@@ -123,7 +134,8 @@ module _ (ws : List ℕ) (i : ℕ) where
       axis-tail = axis-is ∙ after-full ws first 3 6 _ (full₁ h) ∙ tail-is
 
       pub axis-half : m < t + 2 → Wrong m ≡ axisReading (axis i (drop i ws))
-      axis-half k = ap (λ (p : ℕ). Wrong p) run₂ ∙ sym (ap axisReading (axis-tail ∙ after-short ws ninth 9 2 _ (omega (arith, is-ninth, run₂))))
+      axis-half k = ap (λ (p : ℕ). Wrong p) run₂
+          ∙ sym (ap axisReading (axis-tail ∙ after-short ws ninth 9 2 _ (omega (arith, is-ninth, run₂))))
 
       module _ (full : t + 2 ≤ m) where
         axis-rest : axis i (drop i ws) ≡ rest (ninth + 2) (drop (ninth + 2) ws)
@@ -132,7 +144,8 @@ module _ (ws : List ℕ) (i : ℕ) where
         kind-there : (b : Bool) → isKind ws (t + 2) 11 ≡ b → isKind ws (ninth + 2) 11 ≡ b
         kind-there b e = sym (ap (λ (k : ℕ). isKind ws (k + 2) 11) is-ninth) ∙ e
 
-        pub axis-fixed : isKind ws (t + 2) 11 ≡ false → Got (axisAt ws i (Fixed (restAt ws g))) (t + 2) ≡ axisReading (axis i (drop i ws))
+        pub axis-fixed : isKind ws (t + 2) 11 ≡ false
+            → Got (axisAt ws i (Fixed (restAt ws g))) (t + 2) ≡ axisReading (axis i (drop i ws))
         unfolding fixed
         axis-fixed e =
             (λ j. Got (axisAt ws i (Fixed (restAt ws (is-goal j)))) (is-ninth j + 2))
@@ -156,7 +169,8 @@ module _ (ws : List ℕ) (i : ℕ) where
               ap (λ (p : ℕ). Wrong p) run₃
               ∙ sym (ap axisReading (axis-motion ∙ after-short ws (ninth + 2) 11 2 _ (omega (arith, is-ninth, run₃))))
 
-          pub axis-moving : t + 4 ≤ l → Got (axisAt ws i (Moving (stateAt ws g))) (t + 4) ≡ axisReading (axis i (drop i ws))
+          pub axis-moving : t + 4 ≤ l
+              → Got (axisAt ws i (Moving (stateAt ws g))) (t + 4) ≡ axisReading (axis i (drop i ws))
           unfolding moving
           axis-moving k =
               (λ j. Got (axisAt ws i (Moving (stateAt ws (is-goal j)))) (is-ninth j + 4))
@@ -174,12 +188,14 @@ module _ (ws : List ℕ) (i : ℕ) where
   rest-follows : Follows (rest (ninth + 2) (drop (ninth + 2) ws))
   rest-follows = ⊎-elim
       (λ e. subst Follows (sym (rest-moving e))
-      (after-both ws (ninth + 2) 11 2 _ Follows (refl, omega (arith, near)) (omega (arith, near, run-within ws (ninth + 2) 11 2))))
+      (after-both ws (ninth + 2) 11 2 _ Follows (refl, omega (arith, near))
+      (omega (arith, near, run-within ws (ninth + 2) 11 2))))
       (λ e. subst Follows (sym (rest-fixed e)) (refl, omega (arith, near)))
       (either (isKind ws (ninth + 2) 11))
 
   tail-follows : Follows (tail goal (drop goal ws))
-  tail-follows = subst Follows (sym tail-is) (after-both ws ninth 9 2 _ Follows rest-follows (omega (arith, near, run-within ws ninth 9 2)))
+  tail-follows = subst Follows (sym tail-is)
+      (after-both ws ninth 9 2 _ Follows rest-follows (omega (arith, near, run-within ws ninth 9 2)))
 
   pub axis-follows : Follows (axis i (drop i ws))
   axis-follows =

@@ -14,7 +14,8 @@ use lib.Dec.{eqb, ltb}
 use borrow.Author.Tests.{ltb-true, ltb-false, lt-ltb, le-ltb}
 use Rattle.model.specs.declared.Axis.{Axis}
 use Rattle.model.specs.planning.Job.{JobAxis, setBits}
-use Rattle.model.specs.planning.Words.{kind, payload, firstBadLong, Reading, got, wrong, axes, ending, readJob, afterMask, goodMask, noMask, spelled, decided, decode}
+use Rattle.model.specs.planning.Words.{kind, payload, firstBadLong, Reading, got, wrong, axes, ending, readJob}
+use Rattle.model.specs.planning.Words.{afterMask, goodMask, noMask, spelled, decided, decode}
 use Rattle.words.specs.declared.AxesReading.{AxesReading}
 use Rattle.words.specs.declared.DecodedJob.{DecodedJob}
 use Rattle.words.specs.Decoding.{unsetAxes, placed, wordJob, refusedJob, decodedJob, decidedJob}
@@ -82,7 +83,8 @@ module _ {A : Type 0} (a : A) (ws : List ℕ) (i : ℕ) where
       (λ t. let h = ltb-true i (length ws) t in
       ending-there h ∙ ap (λ (b : Bool). ends a i b (ltb (i + 1) (length ws))) (sym (end-inside ws i h)))
       (λ t. ap (ending a i) (drop-of-length-le ws {i = i} (ltb-false i (length ws) t))
-      ∙ sym (ap (λ (b : Bool). ends a i (cond b (eqb (payloadAt ws i) 0) false) (ltb (i + 1) (length ws))) (outside ws i 15 t)))
+      ∙ sym (ap (λ (b : Bool). ends a i (cond b (eqb (payloadAt ws i) 0) false) (ltb (i + 1) (length ws)))
+      (outside ws i 15 t)))
       (either (ltb i (length ws)))
 
 -- ---- from the mask on
@@ -117,13 +119,15 @@ module _ (ws : List ℕ) (m asked : ℕ) (s : AxesReading) where
       ∙ ap (λ (k : ℕ). decidedJob ws (ending (readJob m asked xs) k (drop k ws))) (sym b)
       ∙ ap (decidedJob ws) (ending-is (readJob m asked xs) ws (s .at))
       ∙ by-ends (isEnd ws (s .at)) (ltb (s .at + 1) (length ws))
-      ∙ ap (λ (six : List Axis). closed long m asked (s .at) six (isEnd ws (s .at)) (ltb (s .at + 1) (length ws))) (sym d)
+      ∙ ap (λ (six : List Axis). closed long m asked (s .at) six (isEnd ws (s .at)) (ltb (s .at + 1) (length ws)))
+      (sym d)
     where
       by-long : (o : Option ℕ) → decodedJob (spelled o (readJob m asked xs)) ≡ unless o m asked (placed xs unsetAxes)
       by-long (some p) = refl
       by-long none = refl
 
-      by-ends : (b l : Bool) → decidedJob ws (ends (readJob m asked xs) (s .at) b l) ≡ closed long m asked (s .at) (placed xs unsetAxes) b l
+      by-ends : (b l : Bool) → decidedJob ws (ends (readJob m asked xs) (s .at) b l)
+          ≡ closed long m asked (s .at) (placed xs unsetAxes) b l
       by-ends true true = refl
       by-ends true false = by-long long
       by-ends false l = refl
@@ -139,13 +143,15 @@ module _ (ws : List ℕ) (m : ℕ) where
   pub no-asked : isKind ws 1 2 ≡ false → refusedJob 2 1 ≡ after
   no-asked e = sym (ap by-asked (field-no ws 2 1 e))
 
-  module _ (e : isKind ws 1 2 ≡ true) (asked : ℕ) (a : asked ≡ payloadAt ws 1) (s : AxesReading) (is : s ≡ readAll ws 6 0 m begun) where
+  module _ (e : isKind ws 1 2 ≡ true) (asked : ℕ) (a : asked ≡ payloadAt ws 1) (s : AxesReading)
+      (is : s ≡ readAll ws 6 0 m begun) where
     axes-read : Reading (List JobAxis)
     axes-read = axes (setBits m) 2 (drop 2 ws)
 
     matches : Matches ws unsetAxes s axes-read
     unfolding axes-read
-    matches = subst (λ (q : AxesReading). Matches ws unsetAxes q (axes (setBits m) 2 (drop 2 ws))) (sym is) (reads ws 6 0 m 2 unsetAxes)
+    matches = subst (λ (q : AxesReading). Matches ws unsetAxes q (axes (setBits m) 2 (drop 2 ws)))
+        (sym is) (reads ws 6 0 m 2 unsetAxes)
 
     after-is : after ≡ read ws m asked s axes-read
     unfolding axes-read
@@ -170,7 +176,8 @@ module _ (ws : List ℕ) (m : ℕ) where
     pub left-over : s .got ≡ true → isEnd ws (s .at) ≡ true → s .at + 1 < length ws → refusedJob 2 (s .at + 1) ≡ after
     left-over h p k = by-end true true h p (lt-ltb _ _ k)
 
-    module _ (h : s .got ≡ true) (p : isEnd ws (s .at) ≡ true) (k : length ws ≤ s .at + 1) (f : ℕ) (is-f : f ≡ badLongIn ws (s .at) 0) where
+    module _ (h : s .got ≡ true) (p : isEnd ws (s .at) ≡ true) (k : length ws ≤ s .at + 1) (f : ℕ)
+        (is-f : f ≡ badLongIn ws (s .at) 0) where
       count : length ws ≡ suc (s .at)
       count = omega (arith, end-there ws (s .at) p)
 
@@ -192,14 +199,16 @@ by-mask w ws b = elim b [ true ↦ decidedJob (w ∷ ws) (afterMask (payload w) 
 decode-is : (w : ℕ) (ws : List ℕ) → decodedJob (decode (w ∷ ws)) ≡ by-mask w ws (eqb (kind w) 1 && goodMask (payload w))
 decode-is w ws = go (eqb (kind w) 1 && goodMask (payload w))
   where
-    go : (b : Bool) → decodedJob (elim b [ true ↦ decided (w ∷ ws) (afterMask (payload w) 1 ws) | false ↦ noMask ]) ≡ by-mask w ws b
+    go : (b : Bool)
+        → decodedJob (elim b [ true ↦ decided (w ∷ ws) (afterMask (payload w) 1 ws) | false ↦ noMask ]) ≡ by-mask w ws b
     go true = refl
     go false = refl
 
 pub no-mask-word : (ws : List ℕ) → isKind ws 0 1 ≡ false → refusedJob 1 0 ≡ decodedJob (decode ws)
 no-mask-word [] e = refl
 no-mask-word (w ∷ ws) e =
-    sym (decode-is w ws ∙ ap (λ (b : Bool). by-mask w ws (b && goodMask (payload w))) (sym (inside (w ∷ ws) 0 1 (omega arith)) ∙ e))
+    sym (decode-is w ws
+    ∙ ap (λ (b : Bool). by-mask w ws (b && goodMask (payload w))) (sym (inside (w ∷ ws) 0 1 (omega arith)) ∙ e))
 
 pub bad-mask : (ws : List ℕ) → goodMask (payloadAt ws 0) ≡ false → refusedJob 1 0 ≡ decodedJob (decode ws)
 bad-mask [] e = refl

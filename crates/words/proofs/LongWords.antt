@@ -39,15 +39,19 @@ finds : (ws : List ℕ) (n i : ℕ) → length ws ≡ i + suc n → Says (i + n)
 unfolding badLongIn
 finds ws zero i l =
     let one : drop i ws ≡ getD ws i 0 ∷ [] =
-    drop-cons ws i 0 (omega arith) ∙ ap (λ (vs : List ℕ). getD ws i 0 ∷ vs) (drop-of-length-le ws {i = suc i} (omega arith)) in
+    drop-cons ws i 0 (omega arith)
+    ∙ ap (λ (vs : List ℕ). getD ws i 0 ∷ vs) (drop-of-length-le ws {i = suc i} (omega arith)) in
     subst (λ (vs : List ℕ). Says (i + 0) i (firstBadLong i vs)) (sym one) (omega arith)
 finds ws (suc n) i l =
     let more : drop (suc i) ws ≡ getD ws (suc i) 0 ∷ drop (suc (suc i)) ws = drop-cons ws (suc i) 0 (omega arith) in
     let two : drop i ws ≡ getD ws i 0 ∷ getD ws (suc i) 0 ∷ drop (suc (suc i)) ws =
     drop-cons ws i 0 (omega arith) ∙ ap (λ (vs : List ℕ). getD ws i 0 ∷ vs) more in
-    let later = subst (λ (vs : List ℕ). Says (suc i + n) (badLongIn ws n (suc i)) (firstBadLong (suc i) vs)) more (finds ws n (suc i) (omega arith)) in
-    subst (λ (vs : List ℕ). Says (i + suc n) (cond (isBadLong ws i) i (badLongIn ws n (suc i))) (firstBadLong i vs)) (sym two)
-    (subst (λ (b : Bool). Says (i + suc n) (cond (isBadLong ws i) i (badLongIn ws n (suc i))) (by b)) (bad-long-is ws i (omega arith))
+    let later = subst (λ (vs : List ℕ). Says (suc i + n) (badLongIn ws n (suc i)) (firstBadLong (suc i) vs)) more
+    (finds ws n (suc i) (omega arith)) in
+    subst (λ (vs : List ℕ). Says (i + suc n) (cond (isBadLong ws i) i (badLongIn ws n (suc i))) (firstBadLong i vs))
+    (sym two)
+    (subst (λ (b : Bool). Says (i + suc n) (cond (isBadLong ws i) i (badLongIn ws n (suc i))) (by b))
+    (bad-long-is ws i (omega arith))
     (go (isBadLong ws i) (firstBadLong (suc i) (getD ws (suc i) 0 ∷ drop (suc (suc i)) ws)) later))
   where
     by : Bool → Option ℕ

@@ -1,4 +1,5 @@
--- A run of words of kinds first, first + 1, ..: what the loop that looks for the first wrong one passes.
+-- A run of words of kinds first, first + 1, ..: what the loop that looks for the first wrong one
+-- passes.
 use Prim.Native.Nat.{ℕ, suc, _+_, _-_, _<_, _≤_}
 use Rattle.whole.proofs.Counting.{one-less, none-left}
 use native.Mathlib.Omega.{arith}
@@ -23,7 +24,8 @@ module _ (ws : List ℕ) (at first n : ℕ) where
   unfolding from by
   go-on j h e = opened j h ∙ ap (by j) e ∙ moved
     where
-      moved : firstWrong ws (suc (at + j)) (suc (first + j)) (n - (j + 1)) ≡ firstWrong ws (at + (j + 1)) (first + (j + 1)) (n - (j + 1))
+      moved : firstWrong ws (suc (at + j)) (suc (first + j)) (n - (j + 1))
+          ≡ firstWrong ws (at + (j + 1)) (first + (j + 1)) (n - (j + 1))
       moved =
           let p : suc (at + j) ≡ at + (j + 1) = omega arith in
           let q : suc (first + j) ≡ first + (j + 1) = omega arith in

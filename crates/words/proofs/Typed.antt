@@ -13,7 +13,8 @@ use Rattle.model.specs.declared.Windows.{Windows}
 use Rattle.model.specs.planning.Windows.{noWindows}
 use Rattle.model.specs.planning.Job.{Job, JobAxis, setFrom, setBits, setAxes, jobOf, unsetAxis}
 use Rattle.model.specs.planning.Words.{Reading, got, wrong, _>>=_, give, kind, payload, field, axis, axes, ending}
-use Rattle.model.specs.planning.Words.{firstBadLong, readJob, afterMask, goodMask, Decoded, noMask, badWord, badLong, job, spelled, decided, decode}
+use Rattle.model.specs.planning.Words.{firstBadLong, readJob, afterMask, goodMask, Decoded, noMask, badWord, badLong}
+use Rattle.model.specs.planning.Words.{job, spelled, decided, decode}
 use Rattle.words.specs.declared.DecodedJob.{DecodedJob}
 use Rattle.words.specs.Decoding.{unsetAxes, placed, decodedJob, Decodes}
 use Rattle.words.proofs.Reader.{on}
@@ -37,7 +38,8 @@ bits-from zero i m [] e = tt
 bits-from zero i m (x ∷ xs) e = absurd (let z : _≡_ {A = ℕ} 0 1 = cc in omega arith)
 bits-from (suc n) i m xs e = go (eqb (m % 2) 1) xs (setFrom n (suc i) (m / 2)) e (λ ys. bits-from n (suc i) (m / 2) ys)
   where
-    go : (b : Bool) (xs : List JobAxis) (later : List ℕ) → _≡_ {A = List ℕ} (numbers xs) (elim b [ true ↦ i ∷ later | false ↦ later ])
+    go : (b : Bool) (xs : List JobAxis) (later : List ℕ)
+        → _≡_ {A = List ℕ} (numbers xs) (elim b [ true ↦ i ∷ later | false ↦ later ])
         → ((ys : List JobAxis) → numbers ys ≡ later → From (suc i) ys) → From i xs
     go true [] later e h = tt
     go true (x ∷ xs) later e h =
@@ -51,7 +53,8 @@ placed-long [] six = refl
 placed-long (x ∷ xs) six = placed-long xs (set six (x .number) (x .axis)) ∙ length-set six (x .number) (x .axis)
 
 -- what stands below the numbers stays
-placed-below : (xs : List JobAxis) (six : List Axis) (i k : ℕ) → From i xs → k < i → getD (placed xs six) k unsetAxis ≡ getD six k unsetAxis
+placed-below : (xs : List JobAxis) (six : List Axis) (i k : ℕ) → From i xs → k < i
+    → getD (placed xs six) k unsetAxis ≡ getD six k unsetAxis
 placed-below [] six i k f h = refl
 placed-below (x ∷ xs) six i k (f, fs) h =
     placed-below xs (set six (x .number) (x .axis)) i k fs h
@@ -73,7 +76,8 @@ module _ (n i m : ℕ) where
   abbrev Later : Type 0
   Later = (ys : List JobAxis) (s : List Axis) → length s ≡ suc i + n → numbers ys ≡ later → rest (placed ys s) ≡ ys
 
-  by-bit : (b : Bool) (xs : List JobAxis) (six : List Axis) → length six ≡ i + suc n → numbers xs ≡ bits b → Later → picked b (placed xs six) ≡ xs
+  by-bit : (b : Bool) (xs : List JobAxis) (six : List Axis) → length six ≡ i + suc n → numbers xs ≡ bits b → Later
+      → picked b (placed xs six) ≡ xs
   by-bit true [] six l e h = absurd (let z : _≡_ {A = ℕ} 0 1 = cc in omega arith)
   by-bit true (x ∷ xs) six l e h =
       let first : x .number ≡ i = cc in
@@ -105,7 +109,8 @@ axes-numbered : (ns : List ℕ) (i : ℕ) (ws : List ℕ) → Numbered ns (axes 
 axes-numbered [] i ws = refl
 axes-numbered (n ∷ ns) i ws = first (axis i ws) (axes-numbered ns)
   where
-    others : (x : Axis) (r : Reading (List JobAxis)) → Numbered ns r → Numbered (n ∷ ns) (on (λ xs. give (record { number = n; axis = x } ∷ xs)) r)
+    others : (x : Axis) (r : Reading (List JobAxis)) → Numbered ns r
+        → Numbered (n ∷ ns) (on (λ xs. give (record { number = n; axis = x } ∷ xs)) r)
     others x (got xs j vs) e = ap (λ (l : List ℕ). n ∷ l) e
     others x (wrong p) e = tt
 
@@ -189,7 +194,8 @@ decodes ws r e =
     typed-of (badWord p) h z = absurd (omega arith)
     typed-of (badLong p) h z = absurd (omega arith)
     typed-of (job j) (g, ns, w) z =
-        ap₂ (λ (xs : List JobAxis) (v : Windows). job (record { mask = j .mask; asked = j .asked; axes = xs; windows = v }))
+        ap₂ (λ (xs : List JobAxis) (v : Windows). job
+        (record { mask = j .mask; asked = j .asked; axes = xs; windows = v }))
         (sym (axes-again 6 0 (j .mask) (j .axes) unsetAxes refl ns)) w
 
     allowed-of : (d : Decoded) → Sound d → decodedJob d .number ≡ 0 → goodMask (decodedJob d .job .mask) ≡ true

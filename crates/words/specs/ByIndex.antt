@@ -1,4 +1,5 @@
--- How the code reads words: by index into the whole list, where the definitions of `Words` take one word after another.
+-- How the code reads words: by index into the whole list, where the definitions of
+-- `Words` take one word after another.
 use Prim.Native.Nat.{ℕ, zero, suc, _+_, _/_, _%_}
 use mathlib.Core.Bool.{Bool, true, false, not, cond}
 use mathlib.Core.List.{List}
@@ -34,7 +35,8 @@ isKind ws i k = cond (ltb i (length ws)) (eqb (kind (getD ws i 0)) k) false
 abbrev pub isEnd : List ℕ → ℕ → Bool
 isEnd ws i = cond (isKind ws i 15) (eqb (payloadAt ws i) 0) false
 
--- the first index from i on whose word is not of the kind due there: k, k + 1, .., of n words; i + n where each is
+-- the first index from i on whose word is not of the kind due there: k, k + 1, ..,
+-- of n words; i + n where each is
 unfoldable pub firstWrong : List ℕ → ℕ → ℕ → ℕ → ℕ
 firstWrong ws i k zero = i
 firstWrong ws i k (suc n) = cond (isKind ws i k) (firstWrong ws (suc i) (suc k) n) i

@@ -14,7 +14,9 @@ returns : tie.Need-returns
 returns c =
     let a = c .before .before .args in
     let bad = sym (c .before .mask-allowed .ensures) ∙ not-true _ (c .if1 .taken) in
-    sym (ap withoutJob (mask-refused (rulesFor (a .purpose)) (record { mask = a .mask; asked = a .asked; axes = a .axes; windows = a .windows }) bad))
+    sym (ap withoutJob
+    (mask-refused (rulesFor (a .purpose))
+    (record { mask = a .mask; asked = a .asked; axes = a .axes; windows = a .windows }) bad))
 
 asked-read-requires : tie.Need-asked-read-requires
 asked-read-requires c κs = search needs
@@ -25,7 +27,8 @@ returns-2 c =
     let a = e .before .before .args in
     let good = sym (e .before .mask-allowed .ensures) ∙ not-false _ (e .if1 .left) in
     let n = c .before .asked-read in
-    asked-late (a .purpose) (record { mask = a .mask; asked = a .asked; axes = a .axes; windows = a .windows }) good (n .result) (n .ensures) (c .if2 .taken)
+    asked-late (a .purpose) (record { mask = a .mask; asked = a .asked; axes = a .axes; windows = a .windows }) good
+    (n .result) (n .ensures) (c .if2 .taken)
 
 must-rest-requires : tie.Need-must-rest-requires
 must-rest-requires c κs = search needs
@@ -41,7 +44,8 @@ returns-3 c =
     let good = sym (e .before .mask-allowed .ensures) ∙ not-false _ (e .if1 .left) in
     let n = f .before .asked-read in
     let m = c .before .must-rest in
-    asked-in-time (a .purpose) (record { mask = a .mask; asked = a .asked; axes = a .axes; windows = a .windows }) good (n .result) (n .ensures) (f .if2 .left) (m .result) (m .ensures) (c .check .result) (c .check .ensures)
+    asked-in-time (a .purpose) (record { mask = a .mask; asked = a .asked; axes = a .axes; windows = a .windows }) good
+    (n .result) (n .ensures) (f .if2 .left) (m .result) (m .ensures) (c .check .result) (c .check .ensures)
 
 pub check-spec : {M : Type 1} → statement M
 check-spec =

@@ -50,12 +50,14 @@ loop-less : tie.Need-loop-less Inv-loop μ-loop
 loop-less c = omega arith
 
 -- after a turn axis i is by hand where its bit is set, and as it was where not
-turned : (c : tie.Joined1 Inv-loop μ-loop) → let l = c .before .before .loop in c .if1 .given ≡ set (l .given) (l .i) (handAt (l .given) (l .i) (l .bits))
+turned : (c : tie.Joined1 Inv-loop μ-loop) → let l = c .before .before .loop in
+    c .if1 .given ≡ set (l .given) (l .i) (handAt (l .given) (l .i) (l .bits))
 turned c =
     let l = c .before .before .loop in
     let put : Axis → List Axis = set (l .given) (l .i) in
     ⊎-elim
-    (λ w. w .3 ∙ ap put (w .2 .ensures ∙ hand-named (l .given) (l .i) (l .bits) (omega (arith, l .inv .long)) (omega arith)))
+    (λ w. w .3
+    ∙ ap put (w .2 .ensures ∙ hand-named (l .given) (l .i) (l .bits) (omega (arith, l .inv .long)) (omega arith)))
     (λ w. w .1
     ∙ sym (set-getD (l .given) (l .i) unsetAxis)
     ∙ ap put (hand-unnamed (l .given) (l .i) (l .bits) (omega (arith, l .inv .long)) (λ e. omega arith)))
@@ -68,7 +70,8 @@ loop-again c =
     record {
       low = omega arith;
       long = ap (λ (a : List Axis). length a) t ∙ length-set (l .given) (l .i) _ ∙ l .inv .long;
-      stored = ap (handFrom (l .i + 1) _) t ∙ hand-next (l .i) (l .bits) (l .given) (omega (arith, l .inv .long)) ∙ l .inv .stored;
+      stored = ap (handFrom (l .i + 1) _) t
+          ∙ hand-next (l .i) (l .bits) (l .given) (omega (arith, l .inv .long)) ∙ l .inv .stored;
     }
 
 returns : tie.Need-returns Inv-loop μ-loop

@@ -29,7 +29,8 @@ regions-of-requires c κs =
     let j = c .pre .0 in
     (j .ranged, (j .acceleration, (j .ends, within (search computed depth 9) tt)))
 
-regions-are : (c : tie.After-regions-of) → c .regions-of .result ≡ regionsOf (legOf (c .before .args .p)) (c .before .args .c) 0
+regions-are : (c : tie.After-regions-of)
+    → c .regions-of .result ≡ regionsOf (legOf (c .before .args .p)) (c .before .args .c) 0
 regions-are c =
     let a = c .before .args in
     let w = small (c .before) in
@@ -41,14 +42,17 @@ area-of-requires c κs =
     let a = c .before in
     let j = a .pre .0 in
     let g = legOf (a .args .p) in
-    let r = regions-ranged g (joined a) (j .acceleration) (j .ranged .«speed_limit») (j .ranged .«acceleration_limit») (j .ranged .ticks) in
-    subst (λ (x : Regions). RegionsRanged x × (0 < x .ticks)) (sym (regions-are c)) (r (a .args .c) 0 (small a), j .some)
+    let r = regions-ranged g (joined a) (j .acceleration) (j .ranged .«speed_limit»)
+    (j .ranged .«acceleration_limit») (j .ranged .ticks) in
+    subst (λ (x : Regions). RegionsRanged x × (0 < x .ticks)) (sym (regions-are c))
+    (r (a .args .c) 0 (small a), j .some)
 
 returns : tie.Need-returns
 returns c =
     let a = c .before .before in
     then-is (is-of (search computed depth 9) tt)
-    (ap areaOf (regions-are (c .before)) ∙ area-is-sum (legOf (a .args .p)) (joined a) (a .pre .0 .acceleration) (a .args .c) (a .pre .1))
+    (ap areaOf (regions-are (c .before))
+    ∙ area-is-sum (legOf (a .args .p)) (joined a) (a .pre .0 .acceleration) (a .args .c) (a .pre .1))
 
 pub area-at-spec : {M : Type 1} → statement M
 area-at-spec = tie.close (tie.spec regions-of-requires area-of-requires returns)

@@ -50,7 +50,8 @@ ramp-area-requires-2 c κs =
 abbrev known : tie.After-struct-told5 → tie.After-parts-of
 known c = c .before .before .before .before .before .before .before .before
 
-level-is : (c : tie.After-struct-told5) → Is 4096 (toZ w64 (known c .parts-of .result .level)) (pos (known c .parts-of .result .level))
+level-is : (c : tie.After-struct-told5)
+    → Is 4096 (toZ w64 (known c .parts-of .result .level)) (pos (known c .parts-of .result .level))
 level-is c = cast-small 4096 (known c .parts-of .result .level) (few-of (known c) .level) tt
 
 mul-result : tie.Need-mul-result

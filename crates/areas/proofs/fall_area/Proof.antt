@@ -21,7 +21,8 @@ cast-left : tie.Need-cast-left
 cast-left c = search needs
 
 -- the ticks after tick k
-left-is : (a : tie.Start) → Is 4096 (toZ w64 (a .args .r .ticks - 1 - a .args .k)) (pos (a .args .r .ticks - 1 - a .args .k))
+left-is : (a : tie.Start)
+    → Is 4096 (toZ w64 (a .args .r .ticks - 1 - a .args .k)) (pos (a .args .r .ticks - 1 - a .args .k))
 left-is a = cast-small 4096 (a .args .r .ticks - 1 - a .args .k) (omega (arith, a .pre .0 .ticks)) tt
 
 mul-after : tie.Need-mul-after
@@ -40,7 +41,9 @@ ramp-area-requires c κs =
 abbrev After : tie.Start → ℤ
 After a =
     let r = a .args .r in
-    toZ w64 (ofZ w64 (toZ w64 (ofZ w64 (r .end)) +ℤ toZ w64 (ofZ w64 (toZ w64 (r .ticks - 1 - a .args .k) *ℤ toZ w64 (ofZ w64 (r .down))))))
+    toZ w64 (ofZ w64
+    (toZ w64 (ofZ w64 (r .end))
+    +ℤ toZ w64 (ofZ w64 (toZ w64 (r .ticks - 1 - a .args .k) *ℤ toZ w64 (ofZ w64 (r .down))))))
 
 returns : tie.Need-returns
 unfolding fallArea

@@ -27,7 +27,8 @@ returns : tie.Need-returns
 returns c =
     let r = c .before .before .before .args .r in
     let m : c .before .at-most .result ≡ risingTicks r = c .before .at-most .ensures in
-    let n : c .at-most2 .result ≡ fallingTicks r = c .at-most2 .ensures ∙ ap (λ (k : ℕ). min (r .fall) (r .ticks - 1 - k)) m in
+    let n : c .at-most2 .result ≡ fallingTicks r =
+    c .at-most2 .ensures ∙ ap (λ (k : ℕ). min (r .fall) (r .ticks - 1 - k)) m in
     λ i. record { rising = m i; level = r .ticks - 1 - m i - n i; falling = n i }
 
 pub parts-of-spec : {M : Type 1} → statement M

@@ -29,7 +29,8 @@ sub-t7 c = search needs
 returns : tie.Need-returns
 returns c =
     let a = c .before .before .before .before .before .args in
-    let m : c .before .before .before .before .at-most .result ≡ risingTo (a .r) (a .k) = c .before .before .before .before .at-most .ensures in
+    let m : c .before .before .before .before .at-most .result ≡ risingTo (a .r) (a .k) =
+    c .before .before .before .before .at-most .ensures in
     let s : c .before .before .less .result ≡ lastLevel (a .r) = c .before .before .less .ensures in
     let l : c .less2 .result ≡ levelTo (a .r) (a .k) =
     c .less2 .ensures ∙ ap (λ (n : ℕ). n - a .r .rise) (c .before .at-most2 .ensures ∙ ap (min (a .k)) s) in

@@ -31,7 +31,8 @@ cast-steps c = omega (arith, few c)
 ticks-are : (c : tie.Start) → Is 4096 (toZ w64 (c .args .n)) (pos (c .args .n))
 ticks-are c = cast-small 4096 (c .args .n) (c .pre .1 .1) tt
 
-steps-are : (c : tie.Start) → Is (2 ^ 24) (toZ w64 (c .args .n * (c .args .n + 1) / 2)) (pos (c .args .n * (c .args .n + 1) / 2))
+steps-are : (c : tie.Start)
+    → Is (2 ^ 24) (toZ w64 (c .args .n * (c .args .n + 1) / 2)) (pos (c .args .n * (c .args .n + 1) / 2))
 steps-are c = cast-small (2 ^ 24) (c .args .n * (c .args .n + 1) / 2) (omega (arith, few c)) tt
 
 mul-result : tie.Need-mul-result

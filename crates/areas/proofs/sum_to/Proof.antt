@@ -32,7 +32,8 @@ few r k p e h =
 few-of : (c : tie.After-parts-to) → Few (c .parts-to .result)
 few-of c =
     let a = c .before in
-    few (a .args .r) (a .args .k) (c .parts-to .result) (c .parts-to .ensures) (omega (arith, a .pre .0 .ticks, a .pre .1))
+    few (a .args .r) (a .args .k) (c .parts-to .result) (c .parts-to .ensures)
+    (omega (arith, a .pre .0 .ticks, a .pre .1))
 
 parts-to-requires : tie.Need-parts-to-requires
 parts-to-requires c κs = search needs
@@ -108,7 +109,8 @@ returns c =
     let last = c .before .fall-area .ensures in
     let cruise = d .before .pre .0 .cruise in
     then-is (is-of (search exact depth 30 fits 9000) tt)
-    ((λ i. rampArea (s i) (u i) (p i .rising) +ℤ (pos (p i .level) *ℤ r .cruise +ℤ pos (min (r .raised) (p i .level))) +ℤ fallArea r k (p i .falling))
+    ((λ i. rampArea (s i) (u i) (p i .rising) +ℤ (pos (p i .level) *ℤ r .cruise +ℤ pos (min (r .raised) (p i .level)))
+    +ℤ fallArea r k (p i .falling))
     ∙ area-to-is-sum r k (omega (arith, d .before .pre .1)))
 
 pub sum-to-spec : {M : Type 1} → statement M

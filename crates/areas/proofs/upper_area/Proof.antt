@@ -28,18 +28,21 @@ small c = record { within = c .before .pre .ranged .«speed_limit» }
 
 regions-of-requires : tie.Need-regions-of-requires
 regions-of-requires c κs =
-    let j = c .before .pre in (j .ranged, (j .acceleration, (j .ends, subst (Within (2 ^ 37)) (sym (cruise-is c)) (small c))))
+    let j = c .before .pre in
+    (j .ranged, (j .acceleration, (j .ends, subst (Within (2 ^ 37)) (sym (cruise-is c)) (small c))))
 
 regions-are : (c : tie.After-regions-of)
     → let p = c .before .before .args .p in c .regions-of .result ≡ regionsOf (legOf p) (pos (p .«speed_limit»)) 0
-regions-are c = c .regions-of .ensures ∙ (λ i. regionsOf (legOf (c .before .before .args .p)) (cruise-is (c .before) i) 0)
+regions-are c =
+    c .regions-of .ensures ∙ (λ i. regionsOf (legOf (c .before .before .args .p)) (cruise-is (c .before) i) 0)
 
 plannable : (c : tie.After-regions-of) → RegionsRanged (c .regions-of .result) × (0 < c .regions-of .result .ticks)
 plannable c =
     let a = c .before .before in
     let j = a .pre in
     let g = legOf (a .args .p) in
-    let r = regions-ranged g (ends-joined g (j .ends)) (j .acceleration) (j .ranged .«speed_limit») (j .ranged .«acceleration_limit») (j .ranged .ticks) in
+    let r = regions-ranged g (ends-joined g (j .ends)) (j .acceleration) (j .ranged .«speed_limit»)
+    (j .ranged .«acceleration_limit») (j .ranged .ticks) in
     subst (λ (x : Regions). RegionsRanged x × (0 < x .ticks)) (sym (regions-are c)) (r _ 0 (small (c .before)), j .some)
 
 area-of-requires : tie.Need-area-of-requires

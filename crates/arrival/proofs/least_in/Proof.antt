@@ -18,7 +18,8 @@ use Rattle.arrival.proofs.least_in.Tie as tie
 abbrev Inv-loop : tie.InvT-loop
 Inv-loop count dwell first after list i₀ i =
     record {
-      least : searched (λ n. true) first after dwell (drop i (take count list)) ≡ searched (λ n. true) first after dwell (take count list);
+      least : searched (λ n. true) first after dwell (drop i (take count list))
+          ≡ searched (λ n. true) first after dwell (take count list);
       low : i ≤ count;
       long : length (take count list) ≡ count;
     }
@@ -27,7 +28,8 @@ abbrev μ-loop : tie.MeasureT-loop
 μ-loop count dwell first after list i₀ i = count - i
 
 loop-holds : tie.Need-loop-holds Inv-loop μ-loop
-loop-holds c = record { least = refl; low = omega arith; long = length-take-le (c .args .count) (c .args .t1) (omega arith) }
+loop-holds c =
+    record { least = refl; low = omega arith; long = length-take-le (c .args .count) (c .args .t1) (omega arith) }
 
 mul-window : tie.Need-mul-window Inv-loop μ-loop
 mul-window c = omega arith
@@ -49,9 +51,12 @@ returns c =
     let f = c .before .before .first-tick in
     let g = c .before .after-last in
     let above = first-above (a .first) (getD (a .t1) (l .i) noWindow) in
-    let here = first-passes (λ n. true) (f .result) (g .result) (f .result) (omega arith) (c .if1 .taken) (λ k p q. absurd (omega arith)) refl in
-    let is = in-window (λ n. true) (a .first) (a .after) (a .dwell) low (a .t1) (a .count) (l .i) (omega (arith, l .inv .long)) (omega arith)
-    (f .result) (g .result) (f .result) (f .ensures) (g .ensures) here (λ z. absurd (omega (arith, z, f .ensures, above, low))) in
+    let here = first-passes (λ n. true) (f .result) (g .result) (f .result) (omega arith) (c .if1 .taken)
+    (λ k p q. absurd (omega arith)) refl in
+    let is = in-window (λ n. true) (a .first) (a .after) (a .dwell) low (a .t1) (a .count) (l .i)
+    (omega (arith, l .inv .long)) (omega arith)
+    (f .result) (g .result) (f .result) (f .ensures) (g .ensures) here
+    (λ z. absurd (omega (arith, z, f .ensures, above, low))) in
     ap orZero (sym is ∙ l .inv .least)
 
 add-i : tie.Need-add-i Inv-loop μ-loop
@@ -67,8 +72,10 @@ loop-again c =
     let low = c .before .before .before .before .before .before .pre .1 .1 .0 in
     let f = c .before .before .first-tick in
     let g = c .before .after-last in
-    let is = past-window (λ n. true) (a .first) (a .after) (a .dwell) low (a .t1) (a .count) (l .i) (omega (arith, l .inv .long)) (omega arith)
-    (f .result) (g .result) 0 (f .ensures) (g .ensures) (none-to-try (λ n. true) (f .result) (g .result) (c .if1 .left)) refl in
+    let is = past-window (λ n. true) (a .first) (a .after) (a .dwell) low (a .t1) (a .count) (l .i)
+    (omega (arith, l .inv .long)) (omega arith)
+    (f .result) (g .result) 0 (f .ensures) (g .ensures)
+    (none-to-try (λ n. true) (f .result) (g .result) (c .if1 .left)) refl in
     record { least = sym is ∙ l .inv .least; low = omega arith; long = l .inv .long }
 
 returns-2 : tie.Need-returns-2 Inv-loop μ-loop
@@ -76,7 +83,8 @@ returns-2 c =
     let l = c .before .loop in
     let a = c .before .before .args in
     let over = ended (take (a .count) (a .t1)) (l .i) (omega (arith, l .inv .long)) in
-    ap orZero (sym (ap (λ (r : List Window). searched (λ n. true) (a .first) (a .after) (a .dwell) r) over) ∙ l .inv .least)
+    ap orZero
+    (sym (ap (λ (r : List Window). searched (λ n. true) (a .first) (a .after) (a .dwell) r) over) ∙ l .inv .least)
 
 pub least-in-spec : {M : Type 1} → statement M
 least-in-spec =

@@ -10,7 +10,8 @@ use Rattle.model.specs.planning.Outcome.{allReach}
 use Rattle.model.specs.declared.Axis.{Axis}
 use Rattle.model.specs.planning.Job.{setAxes}
 use Rattle.arrival.specs.Arrivals.{After}
-use Rattle.arrival.proofs.Leading.{bitsFrom, bits-first, bits-later, reach, passed-at, reach-of, axis-misses, every-axis, reach-between, reach-loses}
+use Rattle.arrival.proofs.Leading.{bitsFrom, bits-first, bits-later, reach, passed-at, reach-of, axis-misses}
+use Rattle.arrival.proofs.Leading.{every-axis, reach-between, reach-loses}
 use Rattle.arrival.proofs.Leading.{Led, turn-done, led-rest, bits-none, reach-unnamed, led-all, led-nowhere}
 use Rattle.arrival.proofs.least_reached.Statement.{statement}
 use Rattle.arrival.proofs.least_reached.Tie as tie
@@ -50,8 +51,10 @@ one-more f n e h j p = go (lt-or-le j n)
     go (inr l) = ap f {x = j} {y = n} (omega arith) ∙ h
 
 -- after the turn of an axis: the next one, or all where no bit is left
-gone : (mask : ℕ) (axes : List Axis) (first last number again n bits : ℕ) → bits ≡ bitsFrom mask (number + 1) → number < 6
-    → Led (allReach (setAxes 0 mask axes)) (reach mask axes) first last (number + 1) again n → (r : ℕ) → After bits number r
+gone : (mask : ℕ) (axes : List Axis) (first last number again n bits : ℕ)
+    → bits ≡ bitsFrom mask (number + 1) → number < 6
+    → Led (allReach (setAxes 0 mask axes)) (reach mask axes) first last (number + 1) again n
+    → (r : ℕ) → After bits number r
     → (bits ≡ bitsFrom mask r) × Led (allReach (setAxes 0 mask axes)) (reach mask axes) first last r again n
 gone mask axes first last number again n bits e h s r (inl (z, f)) = (
   z ∙ sym (subst (λ (i : ℕ). bitsFrom mask i ≡ 0) (sym f) (zero-on 6 (omega arith))),
@@ -64,8 +67,11 @@ gone mask axes first last number again n bits e h s r (inl (z, f)) = (
     zero-on j p =
         let k : number + 1 + (j - (number + 1)) ≡ j = omega arith in
         subst (λ (i : ℕ). bitsFrom mask i ≡ 0) k (bits-none mask (number + 1) (j - (number + 1)) (sym e ∙ z))
-gone mask axes first last number again n bits e h s r (inr (z, f)) =
-    (e ∙ ap (bitsFrom mask) (sym f), subst (λ (i : ℕ). Led (allReach (setAxes 0 mask axes)) (reach mask axes) first last i again n) (sym f) s)
+gone mask axes first last number again n bits e h s r (inr (z, f)) = (
+  e ∙ ap (bitsFrom mask) (sym f),
+  subst
+      (λ (i : ℕ). Led (allReach (setAxes 0 mask axes)) (reach mask axes) first last i again n) (sym f) s,
+)
 
 loop-holds : tie.Need-loop-holds Inv-loop μ-loop Inv-loop2 μ-loop2
 loop-holds c =
@@ -97,7 +103,8 @@ next-for-requires c κs =
     let l = c .before .before .loop in
     let a = c .before .before .before in
     let few = c .before .loop-test .taken in
-    let here = passed-at (a .args .mask) (a .args .t2) (a .pre .0) (l .number) (l .bits) (l .inv .bits) (omega (arith, few, l .inv .six)) in
+    let here = passed-at (a .args .mask) (a .args .t2) (a .pre .0) (l .number) (l .bits) (l .inv .bits)
+    (omega (arith, few, l .inv .six)) in
     (here, (l .inv .led .high, a .pre .1 .1))
 
 again-after-requires : tie.Need-again-after-requires Inv-loop μ-loop Inv-loop2 μ-loop2
@@ -108,17 +115,21 @@ abbrev start : tie.After-again-after Inv-loop μ-loop Inv-loop2 μ-loop2 → tie
 start c = c .before .before .before .before .before
 
 turn : (c : tie.After-again-after Inv-loop μ-loop Inv-loop2 μ-loop2)
-    → Led (allReach (setAxes 0 (start c .args .mask) (start c .args .t2))) (reach (start c .args .mask) (start c .args .t2)) (start c .args .first)
-    (start c .args .last) (c .before .before .before .before .loop .number + 1) (c .again-after .result) (c .before .next-for .result)
+    → Led (allReach (setAxes 0 (start c .args .mask) (start c .args .t2)))
+    (reach (start c .args .mask) (start c .args .t2)) (start c .args .first)
+    (start c .args .last) (c .before .before .before .before .loop .number + 1)
+    (c .again-after .result) (c .before .next-for .result)
 turn c =
     let l = c .before .before .before .before .loop in
     let a = start c in
     let mask = a .args .mask in
     let axes = a .args .t2 in
     let here = c .before .before .before .loop-test .taken in
-    let next = reach-of mask axes (l .number) (l .bits) (l .n) (a .args .last) _ (l .inv .bits) (c .before .next-for .ensures) in
+    let next = reach-of mask axes (l .number) (l .bits) (l .n) (a .args .last) _ (l .inv .bits)
+    (c .before .next-for .ensures) in
     let one = axis-misses mask axes (l .number) (omega (arith, here, l .inv .six)) in
-    turn-done (allReach (setAxes 0 mask axes)) (reach mask axes) (a .args .first) (a .args .last) (l .number) (l .again) (l .n) (l .inv .led) _ next one
+    turn-done (allReach (setAxes 0 mask axes)) (reach mask axes) (a .args .first) (a .args .last) (l .number) (l .again)
+    (l .n) (l .inv .led) _ next one
     (λ i h. reach-between mask axes (a .pre .0) i (omega (arith, here, l .inv .six))) _ (c .again-after .ensures)
 
 -- past the last
@@ -149,7 +160,8 @@ loop-again c =
     let axes = a .args .t2 in
     let later = bits-later mask (l .number) (l .bits) (l .inv .bits) in
     let m = more _ _ _ (c .number-after .ensures) (b .before .before .before .loop-test .taken) in
-    let w = gone mask axes (a .args .first) (a .args .last) (l .number) (b .again-after .result) (b .before .next-for .result) (l .bits / 2) later
+    let w = gone mask axes (a .args .first) (a .args .last) (l .number) (b .again-after .result)
+    (b .before .next-for .result) (l .bits / 2) later
     (b .before .before .before .loop-test .taken) (turn b) _ (c .number-after .ensures) in
     record { few = m .1; six = l .inv .six; bits = w .0; inside = λ h. c .before .if1 .left; led = w .1 }
 
@@ -164,7 +176,8 @@ loop2-holds c =
       few = omega arith;
       bits = bits-first (a .mask);
       inside = l .inv .inside (omega arith);
-      led = subst (λ (i : ℕ). Led test (reach (a .mask) (a .t2)) (a .first) (a .last) i (l .again) (l .n)) done (l .inv .led);
+      led = subst
+          (λ (i : ℕ). Led test (reach (a .mask) (a .t2)) (a .first) (a .last) i (l .again) (l .n)) done (l .inv .led);
       lower = λ j h. absurd (omega arith);
     }
 
@@ -179,7 +192,8 @@ drops-out-requires c κs =
     let l = c .before .before .loop2 in
     let a = c .before .before .before .before .before in
     let few = c .before .loop2-test .taken in (
-      passed-at (a .args .mask) (a .args .t2) (a .pre .0) (l .asked) (l .left) (l .inv .bits) (omega (arith, few, l .inv .led .few, l .inv .six)),
+      passed-at (a .args .mask) (a .args .t2) (a .pre .0) (l .asked) (l .left) (l .inv .bits)
+          (omega (arith, few, l .inv .led .few, l .inv .six)),
       omega (arith, l .inv .inside, a .pre .1 .1),
     )
 
@@ -193,12 +207,17 @@ returns-2 c =
     let a = c .before .before .before .before .before .before .before .args in
     let six = l .inv .six in
     let few : l .asked < 6 = omega (arith, c .before .before .before .loop2-test .taken, l .inv .led .few) in
-    led-nowhere (allReach (setAxes 0 (a .mask) (a .t2))) (reach (a .mask) (a .t2)) (a .first) (a .last) (f .again) (f .n) (l .inv .led)
-    (λ i h. axis-misses (a .mask) (a .t2) i (omega (arith, h, six))) (λ k e. every-axis (a .mask) (a .t2) k (λ j h. e j (omega (arith, h, six))))
-    (l .asked) few (reach-loses (a .mask) (a .t2) (l .asked) (l .left) (f .n) _ (l .inv .bits) (c .before .drops-out .ensures) .lost (c .if2 .taken))
+    led-nowhere (allReach (setAxes 0 (a .mask) (a .t2))) (reach (a .mask) (a .t2)) (a .first) (a .last)
+    (f .again) (f .n) (l .inv .led)
+    (λ i h. axis-misses (a .mask) (a .t2) i (omega (arith, h, six)))
+    (λ k e. every-axis (a .mask) (a .t2) k (λ j h. e j (omega (arith, h, six))))
+    (l .asked) few
+    (reach-loses (a .mask) (a .t2) (l .asked) (l .left) (f .n) _ (l .inv .bits)
+    (c .before .drops-out .ensures) .lost (c .if2 .taken))
 
 add-asked : tie.Need-add-asked Inv-loop μ-loop Inv-loop2 μ-loop2
-add-asked c = omega (arith, c .before .before .before .loop2-test .taken, c .before .before .before .before .loop2 .inv .led .few)
+add-asked c =
+    omega (arith, c .before .before .before .loop2-test .taken, c .before .before .before .before .loop2 .inv .led .few)
 
 loop2-less : tie.Need-loop2-less Inv-loop μ-loop Inv-loop2 μ-loop2
 loop2-less c = omega (arith, c .before .before .before .loop2-test .taken)
@@ -210,7 +229,8 @@ loop2-again c =
     let a = c .before .before .before .before .before .before .before .args in
     let few : l .asked < 6 = omega (arith, c .before .before .before .loop2-test .taken, l .inv .led .few) in
     let t = l .inv .led .turned (l .asked) few (l .inv .inside) in
-    let here = reach-loses (a .mask) (a .t2) (l .asked) (l .left) (f .n) _ (l .inv .bits) (c .before .drops-out .ensures) .kept (c .if2 .left) (t .0) (t .1 .0) (t .1 .1) in
+    let here = reach-loses (a .mask) (a .t2) (l .asked) (l .left) (f .n) _ (l .inv .bits)
+    (c .before .drops-out .ensures) .kept (c .if2 .left) (t .0) (t .1 .0) (t .1 .1) in
     record {
       six = l .inv .six;
       few = omega (arith, c .before .before .before .loop2-test .taken);
@@ -226,8 +246,10 @@ returns-3 c =
     let f = c .before .before .before .loop in
     let a = c .before .before .before .before .args in
     let six = l .inv .six in
-    led-all (allReach (setAxes 0 (a .mask) (a .t2))) (reach (a .mask) (a .t2)) (a .first) (a .last) (f .again) (f .n) (l .inv .led)
-    (λ i h. axis-misses (a .mask) (a .t2) i (omega (arith, h, six))) (λ k e. every-axis (a .mask) (a .t2) k (λ j h. e j (omega (arith, h, six))))
+    led-all (allReach (setAxes 0 (a .mask) (a .t2))) (reach (a .mask) (a .t2)) (a .first) (a .last)
+    (f .again) (f .n) (l .inv .led)
+    (λ i h. axis-misses (a .mask) (a .t2) i (omega (arith, h, six)))
+    (λ k e. every-axis (a .mask) (a .t2) k (λ j h. e j (omega (arith, h, six))))
     (l .inv .inside) (λ j h. l .inv .lower j (omega (arith, h, c .loop2-test .left)))
 
 pub least-reached-spec : {M : Type 1} → statement M

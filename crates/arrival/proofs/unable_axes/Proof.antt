@@ -45,8 +45,10 @@ array-copy-out-axis c = omega arith
 
 unable-bit-requires : tie.Need-unable-bit-requires Inv-loop μ-loop
 unable-bit-requires c κs =
-    let l = c .before .before .loop in
-    (passed-from (l .number) (l .bits) (c .before .before .before .args .t2) (omega arith) (l .inv .passed) .here, c .before .before .before .pre .1)
+    let l = c .before .before .loop in (
+      passed-from (l .number) (l .bits) (c .before .before .before .args .t2) (omega arith) (l .inv .passed) .here,
+      c .before .before .before .pre .1,
+    )
 
 add-unable : tie.Need-add-unable Inv-loop μ-loop
 add-unable c =

@@ -23,7 +23,8 @@ returns : tie.Need-returns
 returns c =
     let a = c .before .before in
     let w = position a in
-    state-landed (a .args .p) (a .args .n) _ _ (a .pre .1 .1) (exactly (search exact depth 9) tt) (exactly (search exact depth 9) tt)
+    state-landed (a .args .p) (a .args .n) _ _ (a .pre .1 .1) (exactly (search exact depth 9) tt)
+    (exactly (search exact depth 9) tt)
 
 pub arrived-spec : {M : Type 1} → statement M
 arrived-spec = tie.close (tie.spec blended-velocity-requires mul-t5 returns)

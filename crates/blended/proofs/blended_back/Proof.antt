@@ -31,8 +31,10 @@ returns c =
     let p = a .args .p in
     let d = a .args .d in
     let k = a .args .k in
-    let one : toZ w64 (ofZ w64 (c .before .before .before .velocity-back .result)) ≡ velocityBack p d k = exactly (search exact depth 9) tt in
-    let other : toZ w64 (ofZ w64 (c .before .velocity-back2 .result)) ≡ velocityBack p (d + p .«half_period») k = exactly (search exact depth 9) tt in
+    let one : toZ w64 (ofZ w64 (c .before .before .before .velocity-back .result)) ≡ velocityBack p d k =
+    exactly (search exact depth 9) tt in
+    let other : toZ w64 (ofZ w64 (c .before .velocity-back2 .result)) ≡ velocityBack p (d + p .«half_period») k =
+    exactly (search exact depth 9) tt in
     blend-is p (a .pre .0) d k _ _ _ (a .pre .1 .1) (exactly (search exact depth 9) tt) one other
 
 pub blended-back-spec : {M : Type 1} → statement M

@@ -30,13 +30,15 @@ abbrev Position : tie.After-started → Type 0
 Position d = Is (2 ^ 61) (d .started .result .position) (blendedPosition (d .before .args .p) 0)
 
 position : (d : tie.After-started) → Position d
-position d = position-is (d .before .args .p) (d .before .pre .0) 0 (d .started .result) (omega arith) (d .started .ensures)
+position d =
+    position-is (d .before .args .p) (d .before .pre .0) 0 (d .started .result) (omega arith) (d .started .ensures)
 
 abbrev Velocity : tie.After-started → Type 0
 Velocity d = Is (2 ^ 46) (d .started .result .velocity) (blendedVelocity (d .before .args .p) 0)
 
 velocity : (d : tie.After-started) → Velocity d
-velocity d = velocity-is (d .before .args .p) (d .before .pre .0) 0 (d .started .result) (omega arith) (d .started .ensures)
+velocity d =
+    velocity-is (d .before .args .p) (d .before .pre .0) 0 (d .started .result) (omega arith) (d .started .ensures)
 
 add-t9 : tie.Need-add-t9
 add-t9 c =

@@ -42,7 +42,8 @@ returns c =
     let a = c .before .before .before in
     let p = a .args .p in
     let k = a .args .k in
-    let once : toZ w64 (ofZ w64 (c .before .before .blended-sum-back .result)) ≡ sumTo (blendedBack p 0) k = exactly (search exact depth 9) tt in
+    let once : toZ w64 (ofZ w64 (c .before .before .blended-sum-back .result)) ≡ sumTo (blendedBack p 0) k =
+    exactly (search exact depth 9) tt in
     blends-sum-is p (a .pre .0) k (a .pre .1) _ (once ∙ sym (all p k (c .enum-told .given .1)))
 
 returns-2 : tie.Need-returns-2
@@ -50,7 +51,8 @@ returns-2 c =
     let a = c .before .before .before .before .before in
     let p = a .args .p in
     let k = a .args .k in
-    blends-sum-is p (a .pre .0) k (a .pre .1) _ (exactly (search exact depth 20) tt ∙ sym (all p k (c .before .before .sway .given .1)))
+    blends-sum-is p (a .pre .0) k (a .pre .1) _
+    (exactly (search exact depth 20) tt ∙ sym (all p k (c .before .before .sway .given .1)))
 
 pub blended-sum-spec : {M : Type 1} → statement M
 blended-sum-spec =

@@ -87,7 +87,8 @@ returns c =
     let a = start d in
     let x = first d in
     let y = second d in
-    blend-sum-is (a .args .p) (a .pre .0) (a .args .k) (a .pre .1 .1) (a .args .d) _ _ _ (exactly (search exact depth 9) tt) refl refl
+    blend-sum-is (a .args .p) (a .pre .0) (a .args .k) (a .pre .1 .1) (a .args .d) _ _ _
+    (exactly (search exact depth 9) tt) refl refl
 
 pub blended-sum-back-spec : {M : Type 1} → statement M
 blended-sum-back-spec =

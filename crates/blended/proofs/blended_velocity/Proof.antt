@@ -41,7 +41,8 @@ returns c =
     let a = c .before .before .before in
     let p = a .args .p in
     let k = a .args .k in
-    let once : toZ w64 (ofZ w64 (c .before .before .blended-back .result)) ≡ blendedBack p 0 k = exactly (search exact depth 9) tt in
+    let once : toZ w64 (ofZ w64 (c .before .before .blended-back .result)) ≡ blendedBack p 0 k =
+    exactly (search exact depth 9) tt in
     blends-are p (a .pre .0) k _ (a .pre .1) (once ∙ sym (all p k (c .enum-told .given .1)))
 
 returns-2 : tie.Need-returns-2
@@ -49,7 +50,8 @@ returns-2 c =
     let a = c .before .before .before .before .before in
     let p = a .args .p in
     let k = a .args .k in
-    blends-are p (a .pre .0) k _ (a .pre .1) (exactly (search exact depth 20) tt ∙ sym (all p k (c .before .before .sway .given .1)))
+    blends-are p (a .pre .0) k _ (a .pre .1)
+    (exactly (search exact depth 20) tt ∙ sym (all p k (c .before .before .sway .given .1)))
 
 pub blended-velocity-spec : {M : Type 1} → statement M
 blended-velocity-spec =

@@ -42,7 +42,8 @@ blended-state-at-requires-2 c κs = search needs
 returns-2 : tie.Need-returns-2
 returns-2 c =
     let a = c .before .before .before .args in
-    c .blended-state-at .ensures ∙ sym (ap (λ (o : Order). blendedStateAt (a .p) (comesTo o (a .n) (a .place))) (c .before .enum-told .given .1))
+    c .blended-state-at .ensures
+    ∙ sym (ap (λ (o : Order). blendedStateAt (a .p) (comesTo o (a .n) (a .place))) (c .before .enum-told .given .1))
 
 returns-3 : tie.Need-returns-3
 returns-3 c =

@@ -30,11 +30,13 @@ first-small a =
     mul-le-mul b (a .pre .«half_period»)
 
 -- the sum as it is computed
-small : (c : tie.After-blends) → c .blends .result * first (start c) + both (start c) * c .before .sway-delay .result ≤ 2 ^ 25
+small : (c : tie.After-blends)
+    → c .blends .result * first (start c) + both (start c) * c .before .sway-delay .result ≤ 2 ^ 25
 small c =
     let a = start c in
     subst (λ (n : ℕ). n * first a + both a * c .before .sway-delay .result ≤ 2 ^ 25) (sym (c .blends .ensures))
-    (subst (λ (d : ℕ). blendsBy (a .args .p .«second_sway») * first a + both a * d ≤ 2 ^ 25) (sym (c .before .sway-delay .ensures))
+    (subst (λ (d : ℕ). blendsBy (a .args .p .«second_sway») * first a + both a * d ≤ 2 ^ 25)
+    (sym (c .before .sway-delay .ensures))
     (lag-small (a .args .p) (a .pre)))
 
 mul-result : tie.Need-mul-result

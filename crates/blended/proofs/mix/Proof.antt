@@ -14,7 +14,8 @@ cast-result-2 : tie.Need-cast-result-2
 cast-result-2 c = search needs
 
 mul-result-2 : tie.Need-mul-result-2
-mul-result-2 c = let b = cast-small (2 ^ 16) (c .args .second-weight) (c .pre .1 .0) tt in sfits (search exact depth 20) tt
+mul-result-2 c = let b = cast-small (2 ^ 16) (c .args .second-weight) (c .pre .1 .0) tt in
+    sfits (search exact depth 20) tt
 
 add-result : tie.Need-add-result
 add-result c =

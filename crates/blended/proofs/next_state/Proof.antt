@@ -36,7 +36,8 @@ Next d = Is (2 ^ 46) (d .blended-velocity .result) (blendedVelocity (d .before .
 
 next : (d : tie.After-blended-velocity) → Next d
 next d =
-    subst (λ (k : ℕ). Is (2 ^ 46) (d .blended-velocity .result) (blendedVelocity (d .before .args .p) k)) (add-one (d .before .args .k))
+    subst (λ (k : ℕ). Is (2 ^ 46) (d .blended-velocity .result) (blendedVelocity (d .before .args .p) k))
+    (add-one (d .before .args .k))
     (d .blended-velocity .ensures)
 
 add-position : tie.Need-add-position
@@ -64,4 +65,5 @@ returns c =
     state-next (a .args .p) (a .args .k) _ _ (exactly (search exact depth 20) tt) (exactly (search exact depth 20) tt)
 
 pub next-state-spec : {M : Type 1} → statement M
-next-state-spec = tie.close (tie.spec add-blended-velocity blended-velocity-requires add-position add-position-2 returns)
+next-state-spec =
+    tie.close (tie.spec add-blended-velocity blended-velocity-requires add-position add-position-2 returns)

@@ -34,19 +34,23 @@ abbrev plan : tie.After-lag-of → AxisPlan
 plan c = start c .args .p
 
 -- all weights together, and each times its delay
-weight-is : (c : tie.After-lag-of) → Is (2 ^ 16) (toZ w64 (c .before .total-weight .result)) (pos (totalWeight (plan c)))
+weight-is : (c : tie.After-lag-of)
+    → Is (2 ^ 16) (toZ w64 (c .before .total-weight .result)) (pos (totalWeight (plan c)))
 weight-is c =
     let e = c .before .total-weight .ensures in
-    then-is (cast-small (2 ^ 16) (c .before .total-weight .result) (omega (arith, e, start c .pre .light)) tt) (ap pos e)
+    then-is (cast-small (2 ^ 16) (c .before .total-weight .result) (omega (arith, e, start c .pre .light)) tt)
+    (ap pos e)
 
 lag-is : (c : tie.After-lag-of) → Is (2 ^ 25) (toZ w64 (c .lag-of .result)) (pos (lagOf (plan c)))
 lag-is c =
     let e = c .lag-of .ensures in
-    then-is (cast-small (2 ^ 25) (c .lag-of .result) (omega (arith, e, lag-small (plan c) (start c .pre))) tt) (ap pos e)
+    then-is (cast-small (2 ^ 25) (c .lag-of .result) (omega (arith, e, lag-small (plan c) (start c .pre))) tt)
+    (ap pos e)
 
 -- the blended position of a head at rest
 abbrev Origin : tie.After-lag-of → Type 0
-Origin c = Is (2 ^ 60) (toZ w64 (c .before .total-weight .result) *ℤ toZ w64 (ofZ w64 (plan c .origin))) (pos (totalWeight (plan c)) *ℤ plan c .origin)
+Origin c = Is (2 ^ 60) (toZ w64 (c .before .total-weight .result) *ℤ toZ w64 (ofZ w64 (plan c .origin)))
+    (pos (totalWeight (plan c)) *ℤ plan c .origin)
 
 origin-is : (c : tie.After-lag-of) → Origin c
 origin-is c =
@@ -56,7 +60,8 @@ origin-is c =
 
 -- how far a head in motion is behind it
 abbrev Lag : tie.After-lag-of → Type 0
-Lag c = Is (2 ^ 54) (toZ w64 (c .lag-of .result) *ℤ toZ w64 (ofZ w64 (plan c .regions .start))) (pos (lagOf (plan c)) *ℤ plan c .regions .start)
+Lag c = Is (2 ^ 54) (toZ w64 (c .lag-of .result) *ℤ toZ w64 (ofZ w64 (plan c .regions .start)))
+    (pos (lagOf (plan c)) *ℤ plan c .regions .start)
 
 behind : (c : tie.After-lag-of) → Lag c
 behind c =

@@ -17,7 +17,8 @@ same-length : tie.Need-same-length
 same-length c = search needs
 
 returns : tie.Need-returns
-returns c = for-job (c .before .before .before .before .job-of .ensures) (for-answer (c .returned .ensures) (c .before .before .plan-job .ensures))
+returns c = for-job (c .before .before .before .before .job-of .ensures)
+    (for-answer (c .returned .ensures) (c .before .before .plan-job .ensures))
 
 pub polgamir-plan-job-spec : {M : Type 1} → statement M
 polgamir-plan-job-spec =

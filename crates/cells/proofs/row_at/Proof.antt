@@ -16,10 +16,12 @@ sub-result : tie.Need-sub-result
 sub-result c = omega arith
 
 returns : tie.Need-returns
-returns c = let a = c .before .before .args in sym (ap (λ (o : Order). rowAt o (a .n) (a .place)) (c .enum-told .given .1))
+returns c = let a = c .before .before .args in
+    sym (ap (λ (o : Order). rowAt o (a .n) (a .place)) (c .enum-told .given .1))
 
 returns-2 : tie.Need-returns-2
-returns-2 c = let a = c .before .before .args in sym (ap (λ (o : Order). rowAt o (a .n) (a .place)) (c .enum-told2 .given .1))
+returns-2 c = let a = c .before .before .args in
+    sym (ap (λ (o : Order). rowAt o (a .n) (a .place)) (c .enum-told2 .given .1))
 
 pub row-at-spec : {M : Type 1} → statement M
 row-at-spec = tie.close (tie.spec enum-told enum-told-2 sub-result returns returns-2)

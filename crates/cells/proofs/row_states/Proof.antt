@@ -34,13 +34,15 @@ sub-t14 c = sfits (search exact depth 20) tt
 returns : tie.Need-returns
 returns c =
     let a = c .before .before .before .before in
-    forwards-is (a .args .t) (a .args .change) _ _ (exactly (search exact depth 20) tt) (exactly (search exact depth 20) tt)
+    forwards-is (a .args .t) (a .args .change) _ _ (exactly (search exact depth 20) tt)
+    (exactly (search exact depth 20) tt)
     ∙ sym (ap (λ (o : Order). changed o (a .args .t) (a .args .change)) (c .enum-told .given .1))
 
 returns-2 : tie.Need-returns-2
 returns-2 c =
     let a = c .before .before .before .before in
-    backwards-is (a .args .t) (a .args .change) _ _ (exactly (search exact depth 20) tt) (exactly (search exact depth 20) tt)
+    backwards-is (a .args .t) (a .args .change) _ _ (exactly (search exact depth 20) tt)
+    (exactly (search exact depth 20) tt)
     ∙ sym (ap (λ (o : Order). changed o (a .args .t) (a .args .change)) (c .enum-told2 .given .1))
 
 pub row-states-spec : {M : Type 1} → statement M

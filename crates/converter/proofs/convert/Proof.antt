@@ -13,7 +13,8 @@ returns : tie.Need-returns
 returns c =
     let a = c .before .before .before .before .before .before .args in
     let d = c .before .before .before .decode in
-    ends-at-words (a .words .now) (a .lent .now) (d .result) (d .ensures) (c .before .if1 .taken) (c .answer .result) (c .answer .ensures)
+    ends-at-words (a .words .now) (a .lent .now) (d .result) (d .ensures) (c .before .if1 .taken)
+    (c .answer .result) (c .answer .ensures)
 
 check-requires : tie.Need-check-requires
 check-requires c κs = search needs
@@ -32,7 +33,8 @@ returns-2 c =
     let z = b .before .before .before .before .if1 .left in
     let d = b .before .before .before .before .before .before .decode in
     let a = b .before .before .before .before .before .before .before .before .before .args in
-    ends-at-job (a .words .now) (a .lent .now) (d .result) (d .ensures) z (k .result) (k .ensures) (v .0 .0) (v .0 .1 .0) (v .1) (c .answer2 .result)
+    ends-at-job (a .words .now) (a .lent .now) (d .result) (d .ensures) z (k .result) (k .ensures) (v .0 .0)
+    (v .0 .1 .0) (v .1) (c .answer2 .result)
     (c .answer2 .ensures)
 
 enum-told : tie.Need-enum-told
@@ -60,7 +62,8 @@ returns-3 c =
     let d = b .before .before .before .before .before .before .decode in
     let a = b .before .before .before .before .before .before .before .before .before .args in
     let w = c .before .before .write-converted in
-    ends-written (a .words .now) (a .lent .now) (d .result) (d .ensures) z (k .result) (k .ensures) (e .enum-told .given .1) (w .result)
+    ends-written (a .words .now) (a .lent .now) (d .result) (d .ensures) z (k .result) (k .ensures)
+    (e .enum-told .given .1) (w .result)
     (w .last .1 .1 .0) (w .ensures)
 
 pub convert-spec : {M : Type 1} → statement M

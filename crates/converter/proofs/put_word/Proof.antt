@@ -27,7 +27,8 @@ slice-write-lent c =
     let a = s .args in
     one-fits (a .lent .now) (a .at) (a .asked) (a .words .now) (a .i) (s .pre .1 .1)
 
-flies : (c : tie.Then1) → let a = c .before .before .before .before .before .args in flyingAt (a .words .now) (a .i) ≡ true
+flies : (c : tie.Then1) → let a = c .before .before .before .before .before .args in
+    flyingAt (a .words .now) (a .i) ≡ true
 flies c = sym (c .before .before .is-flying .ensures) ∙ c .if1 .taken
 
 fits : (c : tie.Then1) → let a = c .before .before .before .before .before .args in a .at + 3 ≤ length (a .lent .now)

@@ -4,7 +4,8 @@ use mathlib.Core.Path.{_≡_, refl, _∙_}
 use lib.ListN.{length}
 use borrow.Author.Needs.{needs}
 use Rattle.whole.specs.Lists.{Written}
-use Rattle.converter.proofs.Pieces.{pieces, Parts, parts-none, parts-more, piece-room, piece-written, nothing-written, all-written}
+use Rattle.converter.proofs.Pieces.{pieces, Parts, parts-none, parts-more, piece-room, piece-written}
+use Rattle.converter.proofs.Pieces.{nothing-written, all-written}
 use Rattle.converter.proofs.put_words.Statement.{statement}
 use Rattle.converter.proofs.put_words.Tie as tie
 
@@ -36,7 +37,11 @@ put-word-requires c κs =
     let s = c .before .before .before .before .before in
     let a = s .args in (
       omega arith,
-      (omega (arith, s .pre .0), piece-room (a .asked) (a .words .now) (omega arith) (l .inv .parts) (s .pre .1) (l .inv .text) (l .inv .long)),
+      (
+        omega (arith, s .pre .0),
+        piece-room (a .asked) (a .words .now) (omega arith) (l .inv .parts) (s .pre .1)
+            (l .inv .text) (l .inv .long),
+      ),
     )
 
 add-i : tie.Need-add-i Inv-loop μ-loop
@@ -55,7 +60,8 @@ loop-again c =
       low = omega arith;
       long = w .kept .1 .1 .1 .0 ∙ l .inv .long;
       parts = parts-more (a .asked) (a .words .now) (l .i) (omega arith) (l .inv .parts);
-      text = piece-written (a .asked) (a .words .now) (omega arith) (l .inv .parts) (s .pre .1) (l .inv .text) (w .ensures);
+      text = piece-written (a .asked) (a .words .now) (omega arith) (l .inv .parts)
+          (s .pre .1) (l .inv .text) (w .ensures);
     }
 
 same-length : tie.Need-same-length Inv-loop μ-loop

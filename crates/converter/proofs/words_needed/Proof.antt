@@ -45,7 +45,8 @@ loop-again c =
     record {
       low = omega arith;
       few = omega (arith, l .inv .few, p .ensures .1);
-      counted = count-more (a .words .now) (l .i) (l .needed) (p .result) (omega arith) (p .ensures .0) (l .inv .counted);
+      counted =
+          count-more (a .words .now) (l .i) (l .needed) (p .result) (omega arith) (p .ensures .0) (l .inv .counted);
     }
 
 returns : tie.Need-returns Inv-loop μ-loop

@@ -18,7 +18,8 @@ returns c =
     let a = c .before .before .before .before .before .args in
     let n = c .before .before .words-needed in
     let count = n .ensures ∙ pieces.same-length 0 (a .asked) (a .words .now) in
-    too-few (converted (a .asked) (a .words .now)) (a .lent .now) (n .result) count (c .before .if1 .taken) (c .answer .result) (c .answer .ensures)
+    too-few (converted (a .asked) (a .words .now)) (a .lent .now) (n .result) count (c .before .if1 .taken)
+    (c .answer .result) (c .answer .ensures)
 
 put-words-requires : tie.Need-put-words-requires
 put-words-requires c κs =
@@ -41,7 +42,8 @@ returns-2 c =
     let count = n .ensures ∙ pieces.same-length 0 (a .asked) (a .words .now) in
     let room = c .before .before .before .before .before .if1 .left in
     let w = c .before .before .before .put-words in
-    enough (converted (a .asked) (a .words .now)) (a .lent .now) (n .result) count room (w .last .1 .1 .0) (w .ensures) (c .answer2 .result)
+    enough (converted (a .asked) (a .words .now)) (a .lent .now) (n .result) count room (w .last .1 .1 .0)
+    (w .ensures) (c .answer2 .result)
     (c .answer2 .ensures)
 
 pub write-converted-spec : {M : Type 1} → statement M

@@ -19,7 +19,8 @@ cruise-by-requires c κs = search needs
 allowed : (a : tie.Start) → endsAllowed (legOf (a .args .p)) ≡ true
 allowed a =
     let g = legOf (a .args .p) in
-    T-true (endsAllowed g) (left (endsAllowed g) _ (true-T (sym (feasible-parts g (a .args .displacement)) ∙ a .pre .1 .1 .1 .1)))
+    T-true (endsAllowed g)
+    (left (endsAllowed g) _ (true-T (sym (feasible-parts g (a .args .displacement)) ∙ a .pre .1 .1 .1 .1)))
 
 regions-of-requires : tie.Need-regions-of-requires
 regions-of-requires c κs =
@@ -33,7 +34,8 @@ returns c =
     let g = legOf (a .p) in
     let e = c .before .cruise-by .ensures in
     let d : toZ w64 (ofZ w64 (a .displacement)) ≡ a .displacement = exactly (search computed depth 9) tt in
-    c .regions-of .ensures ∙ (λ i. regionsOf g (e .velocity .is i) (e .raised i)) ∙ (λ i. chosenRegions g (required g (d i)))
+    c .regions-of .ensures ∙ (λ i. regionsOf g (e .velocity .is i) (e .raised i))
+    ∙ (λ i. chosenRegions g (required g (d i)))
 
 pub chosen-spec : {M : Type 1} → statement M
 chosen-spec = tie.close (tie.spec cruise-by-requires regions-of-requires returns)

@@ -33,10 +33,12 @@ loop-holds c =
     let a = c .before .args in
     let g = legOf (a .p) in
     let s = toZ w64 (ofZ w64 (a .sum)) in
-    let first : toZ w64 (ofZ w64 (c .negative .result)) ≡ negℤ (pos (a .p .«speed_limit»)) = exactly (search computed depth 9) tt in
+    let first : toZ w64 (ofZ w64 (c .negative .result)) ≡ negℤ (pos (a .p .«speed_limit»)) =
+    exactly (search computed depth 9) tt in
     record {
       short = omega arith;
-      small = subst (Within (a .p .«speed_limit»)) (sym first) (record { within = omega (arith, natAbs-negpos (a .p .«speed_limit»)) });
+      small = subst (Within (a .p .«speed_limit»)) (sym first)
+          (record { within = omega (arith, natAbs-negpos (a .p .«speed_limit»)) });
       climbing = subst (Climbing g s (2 ^ 38)) (sym first) (climb-start g s);
     }
 
@@ -55,10 +57,12 @@ loop-again c =
     let l = c .before .before .loop in
     let g = legOf (a .p) in
     let s = toZ w64 (ofZ w64 (a .sum)) in
-    let next : toZ w64 (ofZ w64 (c .climb-step .result)) ≡ climbStep g s (toZ w64 (l .c)) (l .step) = exactly (search computed depth 9) tt in
+    let next : toZ w64 (ofZ w64 (c .climb-step .result)) ≡ climbStep g s (toZ w64 (l .c)) (l .step) =
+    exactly (search computed depth 9) tt in
     record {
       short = omega arith;
-      small = subst (Within (a .p .«speed_limit»)) (sym next) (climb-inside g s (toZ w64 (l .c)) (l .step) (l .inv .small));
+      small = subst (Within (a .p .«speed_limit»)) (sym next)
+          (climb-inside g s (toZ w64 (l .c)) (l .step) (l .inv .small));
       climbing = subst (Climbing g s (l .step / 2)) (sym next) (climb-next g s (omega arith) (l .inv .climbing));
     }
 
@@ -67,8 +71,12 @@ returns c =
     let a = c .before .before .before .args in
     let l = c .before .loop in
     let s : toZ w64 (ofZ w64 (a .sum)) ≡ a .sum = exactly (search exact depth 9) tt in
-    then-is (record { is = refl; within = omega (arith, l .inv .small .within, c .before .before .before .pre .0 .ranged .«speed_limit») })
-    (climb-end (legOf (a .p)) (toZ w64 (ofZ w64 (a .sum))) (omega arith) (l .inv .climbing) ∙ (λ i. cruise (legOf (a .p)) (s i)))
+    then-is (record {
+      is = refl;
+      within = omega (arith, l .inv .small .within, c .before .before .before .pre .0 .ranged .«speed_limit»);
+    })
+    (climb-end (legOf (a .p)) (toZ w64 (ofZ w64 (a .sum))) (omega arith) (l .inv .climbing)
+    ∙ (λ i. cruise (legOf (a .p)) (s i)))
 
 pub climb-spec : {M : Type 1} → statement M
 climb-spec =

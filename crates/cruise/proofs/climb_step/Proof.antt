@@ -33,7 +33,8 @@ abbrev next : tie.Start → ℤ
 next a = a .args .c +ℤ pos (a .args .step)
 
 next-is : (c : tie.After-signed)
-    → toZ w64 (ofZ w64 (toZ w64 (ofZ w64 (c .before .args .c)) +ℤ toZ w64 (ofZ w64 (c .signed .result)))) ≡ next (c .before)
+    → toZ w64 (ofZ w64 (toZ w64 (ofZ w64 (c .before .args .c)) +ℤ toZ w64 (ofZ w64 (c .signed .result))))
+    ≡ next (c .before)
 next-is c = let w = slow-enough (c .before) in exactly (search computed depth 20) tt
 
 -- it keeps to the speed limit
@@ -41,7 +42,8 @@ small : (c : tie.Then1) → Within (c .before .before .before .args .p .«speed_
 small c =
     let a = c .before .before .before in
     let w = slow-enough a in
-    step-inside (a .args .step) (a .args .p .«speed_limit») (a .args .c) (a .pre .1 .1 .0) (le-taken (c .if1 .taken) (search computed depth 20) tt)
+    step-inside (a .args .step) (a .args .p .«speed_limit») (a .args .c) (a .pre .1 .1 .0)
+    (le-taken (c .if1 .taken) (search computed depth 20) tt)
 
 sum-by-requires : tie.Need-sum-by-requires
 sum-by-requires c κs =
@@ -49,7 +51,8 @@ sum-by-requires c κs =
     (a .pre .0, subst (Within (a .args .p .«speed_limit»)) (sym (next-is (c .before .before))) (small c))
 
 -- the two tests
-slow : (c : tie.Then1) → leZ (next (c .before .before .before)) (pos (c .before .before .before .args .p .«speed_limit»)) ≡ true
+slow : (c : tie.Then1)
+    → leZ (next (c .before .before .before)) (pos (c .before .before .before .args .p .«speed_limit»)) ≡ true
 slow c = let w = slow-enough (c .before .before .before) in sym (le-is (search computed depth 20) tt) ∙ c .if1 .taken
 
 abbrev start : tie.After-sum-by → tie.Start
@@ -67,7 +70,10 @@ returns c =
     let b = c .before in
     let a = start b .args in
     then-is
-    (record { is = next-is (b .before .before .before); within = omega (arith, small (b .before) .within, start b .pre .0 .ranged .«speed_limit») })
+    (record {
+      is = next-is (b .before .before .before);
+      within = omega (arith, small (b .before) .within, start b .pre .0 .ranged .«speed_limit»);
+    })
     (step-up (legOf (a .p)) (a .sum) (a .c) (a .step) (slow (b .before)) (sym (fits b) ∙ c .if2 .taken))
 
 returns-2 : tie.Need-returns-2

@@ -16,7 +16,8 @@ use borrow.Author.Needs.{needs}
 use Rattle.cruise.proofs.cruise_by.Statement.{statement}
 use Rattle.cruise.proofs.cruise_by.Tie as tie
 
--- what a displacement that can be made gives: the ends can be joined, and its cruise keeps to the speed limit
+-- what a displacement that can be made gives: the ends can be joined, and its
+-- cruise keeps to the speed limit
 joinable : (a : tie.Start) → Joinable (a .args .p)
 joinable a =
     let g = legOf (a .args .p) in
@@ -24,7 +25,8 @@ joinable a =
       ranged = a .pre .0;
       acceleration = a .pre .1 .0;
       some = a .pre .1 .1 .0;
-      ends = T-true (endsAllowed g) (left (endsAllowed g) _ (true-T (sym (feasible-parts g (a .args .displacement)) ∙ a .pre .1 .1 .1 .1)));
+      ends = T-true (endsAllowed g)
+          (left (endsAllowed g) _ (true-T (sym (feasible-parts g (a .args .displacement)) ∙ a .pre .1 .1 .1 .1)));
     }
 
 required-requires : tie.Need-required-requires
@@ -47,11 +49,13 @@ abbrev best : tie.Start → ℤ
 best a = cruise (legOf (a .args .p)) (sum a)
 
 cruise-is : (c : tie.After-climb) → Is (2 ^ 37) (toZ w64 (ofZ w64 (c .climb .result))) (best (c .before .before))
-cruise-is c = then-is (is-of (search computed depth 9) tt) (ap (cruise (legOf (c .before .before .args .p))) (sum-is (c .before)))
+cruise-is c =
+    then-is (is-of (search computed depth 9) tt) (ap (cruise (legOf (c .before .before .args .p))) (sum-is (c .before)))
 
 -- what the cruise fits, as the code has it
 fits : (c : tie.After-climb)
-    → sumAt (legOf (c .before .before .args .p)) (toZ w64 (ofZ w64 (c .climb .result))) ≤ℤ toZ w64 (ofZ w64 (c .before .required .result))
+    → sumAt (legOf (c .before .before .args .p)) (toZ w64 (ofZ w64 (c .climb .result)))
+    ≤ℤ toZ w64 (ofZ w64 (c .before .required .result))
 fits c =
     let a = c .before .before in
     let g = legOf (a .args .p) in
@@ -59,11 +63,14 @@ fits c =
     (subst (λ (z : ℤ). sumAt g (best a) ≤ℤ z) (sym (sum-is (c .before)))
     (feasible-cruise g (a .args .displacement) (true-T (a .pre .1 .1 .1 .1)) (a .pre .0 .«speed_limit») .fits))
 
-inside : (c : tie.After-climb) → Within (c .before .before .args .p .«speed_limit») (toZ w64 (ofZ w64 (c .climb .result)))
+inside : (c : tie.After-climb)
+    → Within (c .before .before .args .p .«speed_limit») (toZ w64 (ofZ w64 (c .climb .result)))
 inside c =
     let a = c .before .before in
-    let C = feasible-cruise (legOf (a .args .p)) (a .args .displacement) (true-T (a .pre .1 .1 .1 .1)) (a .pre .0 .«speed_limit») in
-    subst (Within (a .args .p .«speed_limit»)) (sym (cruise-is c .is)) (record { within = natAbs-iff _ _ .1 (C .above, C .below) })
+    let C = feasible-cruise (legOf (a .args .p)) (a .args .displacement)
+    (true-T (a .pre .1 .1 .1 .1)) (a .pre .0 .«speed_limit») in
+    subst (Within (a .args .p .«speed_limit»)) (sym (cruise-is c .is))
+    (record { within = natAbs-iff _ _ .1 (C .above, C .below) })
 
 remainder-requires : tie.Need-remainder-requires
 remainder-requires c κs = (joinable (c .before .before), (within (search computed depth 9) tt, (inside c, fits c)))

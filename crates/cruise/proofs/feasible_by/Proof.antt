@@ -31,14 +31,16 @@ sum-between-requires : tie.Need-sum-between-requires
 sum-between-requires c κs =
     let t = c .before .before .before in
     let a = start (t .before) in
-    let joinable : Joinable (a .args .p) = record { ranged = a .pre .0; acceleration = a .pre .1 .0; some = a .pre .1 .1 .0; ends = allowed t } in
+    let joinable : Joinable (a .args .p) =
+    record { ranged = a .pre .0; acceleration = a .pre .1 .0; some = a .pre .1 .1 .0; ends = allowed t } in
     (joinable, within (search computed depth 9) tt)
 
 -- the second test
 abbrev start₂ : tie.After-sum-is-whole → tie.Start
 start₂ c = start (c .before .before)
 
-whole : (c : tie.After-sum-is-whole) → c .sum-is-whole .result ≡ sumIsWhole (legOf (start₂ c .args .p)) (start₂ c .args .displacement)
+whole : (c : tie.After-sum-is-whole)
+    → c .sum-is-whole .result ≡ sumIsWhole (legOf (start₂ c .args .p)) (start₂ c .args .displacement)
 whole c =
     let a = start₂ c .args in
     let d : toZ w64 (ofZ w64 (a .displacement)) ≡ a .displacement = exactly (search exact depth 9) tt in
@@ -48,7 +50,8 @@ whole c =
 abbrev start₃ : tie.After-required → tie.Start
 start₃ c = start₂ (c .before .before)
 
-sum-is : (c : tie.After-required) → toZ w64 (ofZ w64 (c .required .result)) ≡ required (legOf (start₃ c .args .p)) (start₃ c .args .displacement)
+sum-is : (c : tie.After-required)
+    → toZ w64 (ofZ w64 (c .required .result)) ≡ required (legOf (start₃ c .args .p)) (start₃ c .args .displacement)
 sum-is c =
     let a = start₃ c .args in
     let d : toZ w64 (ofZ w64 (a .displacement)) ≡ a .displacement = exactly (search exact depth 9) tt in
@@ -59,7 +62,8 @@ returns c =
     let b = c .before .before in
     let a = start₂ (b .before) .args in
     and-yes _ _ (allowed (b .before .before))
-    (and-yes _ _ (sym (whole (b .before)) ∙ b .if2 .taken) (c .sum-between .ensures ∙ ap (sumBetween (legOf (a .p))) (sum-is (c .before))))
+    (and-yes _ _ (sym (whole (b .before)) ∙ b .if2 .taken)
+    (c .sum-between .ensures ∙ ap (sumBetween (legOf (a .p))) (sum-is (c .before))))
     ∙ sym (feasible-parts (legOf (a .p)) (a .displacement))
 
 returns-2 : tie.Need-returns-2

@@ -16,7 +16,8 @@ use Rattle.cruise.proofs.remainder.Tie as tie
 -- the cruise keeps to the speed limit
 cruise-is : (a : tie.Start) → toZ w64 (ofZ w64 (a .args .c)) ≡ a .args .c
 cruise-is a =
-    let w : Within (2 ^ 37) (a .args .c) = record { within = omega (arith, a .pre .1 .1 .0 .within, a .pre .0 .ranged .«speed_limit») } in
+    let w : Within (2 ^ 37) (a .args .c) =
+    record { within = omega (arith, a .pre .1 .1 .0 .within, a .pre .0 .ranged .«speed_limit») } in
     exactly (search exact depth 9) tt
 
 sum-by-requires : tie.Need-sum-by-requires

@@ -22,17 +22,20 @@ negative-requires : tie.Need-negative-requires
 negative-requires c κs = search needs
 
 -- the two cruises
-lowest-is : (c : tie.After-negative) → toZ w64 (ofZ w64 (c .negative .result)) ≡ negℤ (pos (c .before .args .p .«speed_limit»))
+lowest-is : (c : tie.After-negative)
+    → toZ w64 (ofZ w64 (c .negative .result)) ≡ negℤ (pos (c .before .args .p .«speed_limit»))
 lowest-is c = exactly (search computed depth 9) tt
 
 lowest-within : (l : ℕ) → Within l (negℤ (pos l))
 lowest-within l = record { within = omega (arith, natAbs-negpos l) }
 
-highest-is : (c : tie.After-signed) → toZ w64 (ofZ w64 (c .signed .result)) ≡ pos (c .before .before .before .before .args .p .«speed_limit»)
+highest-is : (c : tie.After-signed)
+    → toZ w64 (ofZ w64 (c .signed .result)) ≡ pos (c .before .before .before .before .args .p .«speed_limit»)
 highest-is c = exactly (search computed depth 9) tt
 
 sum-by-requires : tie.Need-sum-by-requires
-sum-by-requires c κs = (c .before .pre .0, subst (Within (c .before .args .p .«speed_limit»)) (sym (lowest-is c)) (lowest-within _))
+sum-by-requires c κs =
+    (c .before .pre .0, subst (Within (c .before .args .p .«speed_limit»)) (sym (lowest-is c)) (lowest-within _))
 
 signed-requires : tie.Need-signed-requires
 signed-requires c κs = search needs
@@ -45,11 +48,13 @@ sum-by-requires-2 c κs =
 -- the first test
 low : (c : tie.After-sum-by)
     → leZ (toZ w64 (ofZ w64 (c .sum-by .result))) (toZ w64 (ofZ w64 (c .before .before .args .sum)))
-    ≡ leZ (sumTo (lower (legOf (c .before .before .args .p))) (c .before .before .args .p .ticks - 1)) (c .before .before .args .sum)
+    ≡ leZ (sumTo (lower (legOf (c .before .before .args .p))) (c .before .before .args .p .ticks - 1))
+    (c .before .before .args .sum)
 low c =
     let a = c .before .before in
     let g = legOf (a .args .p) in
-    le-is (search computed depth 9) tt ∙ (λ i. leZ ((ap (sumAt g) (lowest-is (c .before)) ∙ lowest-sum g) i) (a .args .sum))
+    le-is (search computed depth 9) tt
+    ∙ (λ i. leZ ((ap (sumAt g) (lowest-is (c .before)) ∙ lowest-sum g) i) (a .args .sum))
 
 returns : tie.Need-returns
 returns c =
@@ -57,7 +62,8 @@ returns c =
     let g = legOf (a .args .p) in
     and-yes _ _ (sym (low (c .before .before .before)) ∙ c .before .before .if1 .taken)
     (le-is (search computed depth 9) tt
-    ∙ (λ i. leZ (a .args .sum) ((ap (sumAt g) (highest-is (c .before)) ∙ highest-sum g (ends-joined g (a .pre .0 .ends))) i)))
+    ∙ (λ i. leZ (a .args .sum)
+    ((ap (sumAt g) (highest-is (c .before)) ∙ highest-sum g (ends-joined g (a .pre .0 .ends))) i)))
 
 returns-2 : tie.Need-returns-2
 returns-2 c = and-no _ _ (sym (low (c .before)) ∙ c .if1 .left)

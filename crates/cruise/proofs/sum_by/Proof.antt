@@ -14,7 +14,8 @@ use Rattle.cruise.proofs.sum_by.Tie as tie
 -- the cruise keeps to the speed limit
 cruise-is : (a : tie.Start) → toZ w64 (ofZ w64 (a .args .c)) ≡ a .args .c
 cruise-is a =
-    let w : Within (2 ^ 37) (a .args .c) = record { within = omega (arith, a .pre .1 .within, a .pre .0 .ranged .«speed_limit») } in
+    let w : Within (2 ^ 37) (a .args .c) =
+    record { within = omega (arith, a .pre .1 .within, a .pre .0 .ranged .«speed_limit») } in
     exactly (search computed depth 9) tt
 
 enum-told : tie.Need-enum-told
@@ -23,7 +24,8 @@ enum-told c = search needs
 sum-at-requires : tie.Need-sum-at-requires
 sum-at-requires c κs =
     let a = c .before .before in
-    let w : Within (2 ^ 46) (a .args .c) = record { within = omega (arith, a .pre .1 .within, a .pre .0 .ranged .«speed_limit») } in
+    let w : Within (2 ^ 46) (a .args .c) =
+    record { within = omega (arith, a .pre .1 .within, a .pre .0 .ranged .«speed_limit») } in
     (a .pre .0 .ranged, subst (Within (2 ^ 46)) (sym (cruise-is a)) w)
 
 enum-told-2 : tie.Need-enum-told-2

@@ -25,7 +25,8 @@ returns c =
     let p = c .before .before .before .damping2 .given in
     let first = p .0 .0 in
     let ratio = div binary32 (p .0 .1 .0) first in
-    and-yes (aboveZero first) (ratioAllowed ratio) (c .before .if1 .taken) (c .ratio-allowed2 .ensures) ∙ sym (ap dampingAllowed (p .1))
+    and-yes (aboveZero first) (ratioAllowed ratio) (c .before .if1 .taken) (c .ratio-allowed2 .ensures)
+    ∙ sym (ap dampingAllowed (p .1))
 
 returns-2 : tie.Need-returns-2
 returns-2 c = c .ratio-allowed .ensures ∙ sym (ap dampingAllowed (c .before .before .damping .given .1))
@@ -35,7 +36,8 @@ unfolding Ieee.ofBits
 returns-3 c =
     let p = c .before .before .damping2 .given in
     let first = p .0 .0 in
-    and-no (aboveZero first) (ratioAllowed (div binary32 (p .0 .1 .0) first)) (c .if1 .left) ∙ sym (ap dampingAllowed (p .1))
+    and-no (aboveZero first) (ratioAllowed (div binary32 (p .0 .1 .0) first)) (c .if1 .left)
+    ∙ sym (ap dampingAllowed (p .1))
 
 pub damping-allowed-spec : {M : Type 1} → statement M
 damping-allowed-spec =

@@ -13,8 +13,13 @@ feasible-by-requires c κs =
 cruise-by-requires : tie.Need-cruise-by-requires
 cruise-by-requires c κs =
     let a = c .before .before in
-    let d = a .pre .0 in
-    (ranged d, (d .acceleration, (d .some, (within (search exact depth 9) tt, sym (c .before .feasible-by .ensures) ∙ c .if1 .taken))))
+    let d = a .pre .0 in (
+      ranged d,
+      (
+        d .acceleration,
+        (d .some, (within (search exact depth 9) tt, sym (c .before .feasible-by .ensures) ∙ c .if1 .taken)),
+      ),
+    )
 
 added-requires : tie.Need-added-requires
 added-requires c κs = search needs

@@ -34,4 +34,5 @@ returns-2 c = within (search computed depth 12) tt
 
 pub displacement-spec : {M : Type 1} → statement M
 displacement-spec =
-    tie.close (tie.spec mul-drawn-signed drawn-signed-requires add-even mul-even add-even-2 add-result returns returns-2)
+    tie.close
+    (tie.spec mul-drawn-signed drawn-signed-requires add-even mul-even add-even-2 add-result returns returns-2)

@@ -25,4 +25,5 @@ returns : tie.Need-returns
 returns c = within (search computed depth 9) tt
 
 pub drawn-signed-spec : {M : Type 1} → statement M
-drawn-signed-spec = tie.close (tie.spec mul-drawn add-drawn drawn-requires signed-requires signed-requires-2 sub-result returns)
+drawn-signed-spec =
+    tie.close (tie.spec mul-drawn add-drawn drawn-requires signed-requires signed-requires-2 sub-result returns)

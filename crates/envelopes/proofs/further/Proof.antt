@@ -20,13 +20,20 @@ will-do-requires : tie.Need-will-do-requires
 will-do-requires c κs =
     let a = c .before in (
       a .pre .0,
-      (within (search exact depth 9) tt, (within (search exact depth 9) tt, (omega (arith, a .pre .1 .1 .1 .1 .0), omega (arith, c .if1 .taken, a .pre .1 .1 .1 .0)))),
+      (
+        within (search exact depth 9) tt,
+        (
+          within (search exact depth 9) tt,
+          (omega (arith, a .pre .1 .1 .1 .1 .0), omega (arith, c .if1 .taken, a .pre .1 .1 .1 .0)),
+        ),
+      ),
     )
 
 -- the test, of the numbers as they were given
 tested : (c : tie.After-will-do)
     → c .will-do .result
-    ≡ betweenAt (legOf (c .before .before .args .p)) (c .before .before .args .sum) (c .before .before .args .change) (c .before .before .args .low + c .before .before .args .step)
+    ≡ betweenAt (legOf (c .before .before .args .p)) (c .before .before .args .sum) (c .before .before .args .change)
+    (c .before .before .args .low + c .before .before .args .step)
 tested c =
     let a = c .before .before in
     let s : toZ w64 (ofZ w64 (a .args .sum)) ≡ a .args .sum = exactly (search exact depth 9) tt in

@@ -27,7 +27,8 @@ apart a = natAbs (a .args .p .end -ℤ a .args .p .start)
 apart-is : (c : tie.After-size) → c .size .result ≡ apart (c .before .before .before)
 apart-is c =
     let a = c .before .before .before in
-    let d : toZ w64 (ofZ w64 (toZ w64 (ofZ w64 (a .args .p .end)) -ℤ toZ w64 (ofZ w64 (a .args .p .start)))) ≡ a .args .p .end -ℤ a .args .p .start =
+    let d : toZ w64 (ofZ w64 (toZ w64 (ofZ w64 (a .args .p .end)) -ℤ toZ w64 (ofZ w64 (a .args .p .start))))
+    ≡ a .args .p .end -ℤ a .args .p .start =
     exactly (search computed depth 20) tt in
     c .size .ensures ∙ ap natAbs d
 
@@ -37,7 +38,13 @@ not-far a =
     w .within
 
 add-first : tie.Need-add-first
-add-first c = omega (arith, apart-is (c .before), not-far (c .before .before .before .before), c .before .before .before .before .pre .0 .«acceleration_limit»)
+add-first c =
+    omega (
+      arith,
+      apart-is (c .before),
+      not-far (c .before .before .before .before),
+      c .before .before .before .before .pre .0 .«acceleration_limit»,
+    )
 
 div-first : tie.Need-div-first
 div-first c = search needs
@@ -46,7 +53,8 @@ returns : tie.Need-returns
 returns c =
     let b = c .before .before .before in
     let a = b .before .before .before in
-    let w = ap (λ (n : ℕ). (n + (a .args .p .«acceleration_limit» - 1)) / a .args .p .«acceleration_limit») (apart-is b) in
+    let w = ap
+    (λ (n : ℕ). (n + (a .args .p .«acceleration_limit» - 1)) / a .args .p .«acceleration_limit») (apart-is b) in
     record {
       low = omega arith;
       near = enough (apart a) _ _ (a .pre .1) (omega (arith, w, c .if1 .taken));
@@ -57,7 +65,8 @@ returns-2 : tie.Need-returns-2
 returns-2 c =
     let b = c .before .before .before in
     let a = b .before .before .before in
-    let w = ap (λ (n : ℕ). (n + (a .args .p .«acceleration_limit» - 1)) / a .args .p .«acceleration_limit») (apart-is b) in
+    let w = ap
+    (λ (n : ℕ). (n + (a .args .p .«acceleration_limit» - 1)) / a .args .p .«acceleration_limit») (apart-is b) in
     record {
       low = c .if1 .left;
       near = enough (apart a) _ _ (a .pre .1) (omega (arith, w));

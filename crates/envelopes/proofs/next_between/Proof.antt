@@ -46,12 +46,14 @@ abbrev change : tie.Start Inv-loop μ-loop → ℤ
 change a = toZ w64 (ofZ w64 (a .args .change))
 
 -- of the numbers as they were given
-given : (a : tie.Start Inv-loop μ-loop) (r : ℕ) → Next (betweenAt (legOf (a .args .p)) (sum a) (change a)) (a .args .p .ticks) (a .args .last) r
+given : (a : tie.Start Inv-loop μ-loop) (r : ℕ)
+    → Next (betweenAt (legOf (a .args .p)) (sum a) (change a)) (a .args .p .ticks) (a .args .last) r
     → Next (betweenAt (legOf (a .args .p)) (a .args .sum) (a .args .change)) (a .args .p .ticks) (a .args .last) r
 given a r =
     let x : sum a ≡ a .args .sum = exactly (search exact depth 9) tt in
     let y : change a ≡ a .args .change = exactly (search exact depth 9) tt in
-    subst (λ (f : ℕ → Bool). Next f (a .args .p .ticks) (a .args .last) r) (λ i. betweenAt (legOf (a .args .p)) (x i) (y i))
+    subst (λ (f : ℕ → Bool). Next f (a .args .p .ticks) (a .args .last) r)
+    (λ i. betweenAt (legOf (a .args .p)) (x i) (y i))
 
 envelope-sums-requires : tie.Need-envelope-sums-requires Inv-loop μ-loop
 envelope-sums-requires c κs = c .pre .0
@@ -73,7 +75,8 @@ returns c =
       missed = λ k h l. absurd (omega arith);
       passed =
           λ h.
-          sym (between-is g (sum a) (change a) T (joined a T (omega arith)) (r .envelope-sums .result) (r .envelope-sums .ensures) _ (wanted-first (sum a) (change a) T))
+          sym (between-is g (sum a) (change a) T (joined a T (omega arith)) (r .envelope-sums .result)
+          (r .envelope-sums .ensures) _ (wanted-first (sum a) (change a) T))
           ∙ sym (c .before .within-sums .ensures)
           ∙ c .if1 .taken;
     })
@@ -108,19 +111,26 @@ abbrev start : tie.After-within-sums2 Inv-loop μ-loop → tie.Start Inv-loop μ
 start c = c .before .before .before .before .before .before .before .before
 
 tested : (c : tie.After-within-sums2 Inv-loop μ-loop)
-    → c .within-sums2 .result ≡ betweenAt (legOf (start c .args .p)) (sum (start c)) (change (start c)) (c .before .before .loop .t)
+    → c .within-sums2 .result
+    ≡ betweenAt (legOf (start c .args .p)) (sum (start c)) (change (start c)) (c .before .before .loop .t)
 tested c =
     let a = start c in
     let l = c .before .before .loop in
     c .within-sums2 .ensures
-    ∙ between-is (legOf (a .args .p)) (sum a) (change a) (l .t) (joined a (l .t) (l .inv .low)) (l .sums) (l .inv .are) _ (l .inv .is)
+    ∙ between-is (legOf (a .args .p)) (sum a) (change a) (l .t) (joined a (l .t) (l .inv .low))
+    (l .sums) (l .inv .are) _ (l .inv .is)
 
 returns-2 : tie.Need-returns-2 Inv-loop μ-loop
 returns-2 c =
     let b = c .before in
     let l = b .before .before .loop in
     given (start b) (l .t)
-    (record { low = l .inv .low; high = omega (arith, l .inv .high, l .inv .end); missed = l .inv .missed; passed = λ h. sym (tested b) ∙ c .if2 .taken })
+    (record {
+      low = l .inv .low;
+      high = omega (arith, l .inv .high, l .inv .end);
+      missed = l .inv .missed;
+      passed = λ h. sym (tested b) ∙ c .if2 .taken;
+    })
 
 signed-requires : tie.Need-signed-requires Inv-loop μ-loop
 signed-requires c κs = omega (arith, start (c .before) .pre .0 .ranged .«speed_limit»)
@@ -129,7 +139,8 @@ signed-requires-2 : tie.Need-signed-requires-2 Inv-loop μ-loop
 signed-requires-2 c κs = omega (arith, start (c .before .before) .pre .0 .ranged .«acceleration_limit»)
 
 -- the limits
-speed-is : (c : tie.After-signed Inv-loop μ-loop) → toZ w64 (ofZ w64 (c .signed .result)) ≡ pos (start (c .before .before) .args .p .«speed_limit»)
+speed-is : (c : tie.After-signed Inv-loop μ-loop)
+    → toZ w64 (ofZ w64 (c .signed .result)) ≡ pos (start (c .before .before) .args .p .«speed_limit»)
 speed-is c = exactly (search computed depth 9) tt
 
 steep-is : (c : tie.After-signed2 Inv-loop μ-loop)
@@ -143,7 +154,8 @@ step-requires c κs =
     let r = a .pre .0 .ranged in
     let l = b .before .before .loop in
     let longer = joined a (l .t) (l .inv .low) in
-    let ranged = sums-ranged (withTicks (legOf (a .args .p)) (l .t)) longer (a .pre .0 .acceleration) (r .«speed_limit») (r .«acceleration_limit») in (
+    let ranged = sums-ranged (withTicks (legOf (a .args .p)) (l .t)) longer (a .pre .0 .acceleration) (r .«speed_limit»)
+    (r .«acceleration_limit») in (
       subst SumsRanged (sym (l .inv .are)) (ranged (omega (arith, l .inv .high, l .inv .end, a .pre .1 .1 .1 .1 .0))),
       (
         subst (Within (2 ^ 37)) (sym (speed-is (c .before))) (record { within = r .«speed_limit» }),
@@ -155,7 +167,8 @@ add-wanted : tie.Need-add-wanted Inv-loop μ-loop
 add-wanted c =
     let b = c .before .before .before .before in
     let l = b .before .before .loop in
-    let w : Within (2 ^ 62 + 2 ^ 50) (toZ w64 (l .wanted)) = record { within = omega (arith, l .inv .small, l .inv .high, l .inv .end, start b .pre .1 .1 .1 .1 .0) } in
+    let w : Within (2 ^ 62 + 2 ^ 50) (toZ w64 (l .wanted)) =
+    record { within = omega (arith, l .inv .small, l .inv .high, l .inv .end, start b .pre .1 .1 .1 .1 .0) } in
     let d = start b .pre .1 .1 .0 in
     sfits (search exact depth 9) tt
 
@@ -192,7 +205,8 @@ loop-again c =
       small =
           subst (λ (z : ℤ). natAbs z ≤ 2 ^ 62 + (l .t + 1) * 2 ^ 37) (sym back)
           (omega (arith, natAbs-+ (toZ w64 (l .wanted)) (change a), l .inv .small, w .within));
-      missed = missed-next (betweenAt g (sum a) (change a)) T (l .t) (l .inv .missed) (sym (tested b) ∙ c .before .before .before .if2 .left);
+      missed = missed-next (betweenAt g (sum a) (change a)) T (l .t) (l .inv .missed)
+          (sym (tested b) ∙ c .before .before .before .if2 .left);
     }
 
 -- past the last
@@ -202,7 +216,12 @@ returns-3 c =
     let l = b .before .loop in
     let a = b .before .before .before .before .before .before .before in
     given a (l .t)
-    (record { low = l .inv .low; high = omega (arith, l .inv .high, l .inv .end); missed = l .inv .missed; passed = λ h. absurd (omega (arith, c .if3 .taken)) })
+    (record {
+      low = l .inv .low;
+      high = omega (arith, l .inv .high, l .inv .end);
+      missed = l .inv .missed;
+      passed = λ h. absurd (omega (arith, c .if3 .taken));
+    })
 
 -- the stretch is behind, and its last candidate missed
 next-by-halving-requires : tie.Need-next-by-halving-requires Inv-loop μ-loop
@@ -224,7 +243,8 @@ next-by-halving-requires c κs =
               (
                 a .pre .1 .1 .1 .1 .0,
                 (
-                  subst₂ (λ (s d : ℤ). Lasting (betweenAt (legOf (a .args .p)) s d) (a .args .p .ticks)) x y (a .pre .1 .1 .1 .1 .1),
+                  subst₂ (λ (s d : ℤ). Lasting (betweenAt (legOf (a .args .p)) s d) (a .args .p .ticks)) x y
+                      (a .pre .1 .1 .1 .1 .1),
                   l .inv .missed _ (l .inv .start) (omega (arith, b .loop-test .left)),
                 ),
               ),

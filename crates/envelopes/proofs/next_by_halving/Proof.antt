@@ -37,7 +37,8 @@ test a = betweenAt (legOf (a .args .p)) (toZ w64 (ofZ w64 (a .args .sum))) (toZ 
 
 lasting : (a : tie.Start Inv-loop μ-loop) → LastingTo (test a) (a .args .p .ticks) (a .args .last)
 lasting a =
-    subst₂ (λ (x y : ℤ). LastingTo (betweenAt (legOf (a .args .p)) x y) (a .args .p .ticks) (a .args .last)) (sym (sum-is a)) (sym (change-is a))
+    subst₂ (λ (x y : ℤ). LastingTo (betweenAt (legOf (a .args .p)) x y) (a .args .p .ticks) (a .args .last))
+    (sym (sum-is a)) (sym (change-is a))
     (λ j k p q l e. a .pre .1 .1 .1 .1 .1 .1 .0 j k p q e)
 
 loop-holds : tie.Need-loop-holds Inv-loop μ-loop
@@ -50,7 +51,8 @@ loop-holds c =
           record {
             high = c .pre .1 .1 .1 .1 .0;
             missed =
-                subst₂ (λ (x y : ℤ). betweenAt (legOf (c .args .p)) x y (c .args .missed) ≡ false) (sym (sum-is c)) (sym (change-is c))
+                subst₂ (λ (x y : ℤ). betweenAt (legOf (c .args .p)) x y (c .args .missed) ≡ false)
+                (sym (sum-is c)) (sym (change-is c))
                 (c .pre .1 .1 .1 .1 .1 .1 .1);
             passed = λ h. absurd (omega (arith, c .pre .1 .1 .1 .0, c .pre .0 .some, c .pre .1 .1 .1 .1 .1 .0));
           };
@@ -86,7 +88,8 @@ loop-again c =
       from = omega (arith, l .inv .from, not-lower (test a) (a .args .last) (l .low) _ _ f);
       most = omega (arith, l .inv .most);
       some = omega (arith, t .loop-test .taken);
-      bracket = halved (test a) (a .args .p .ticks) (a .args .last) (lasting a) (l .low) (l .width) _ _ (l .inv .from) (omega arith) (l .inv .bracket) f;
+      bracket = halved (test a) (a .args .p .ticks) (a .args .last) (lasting a) (l .low) (l .width) _ _ (l .inv .from)
+          (omega arith) (l .inv .bracket) f;
     }
 
 add-result : tie.Need-add-result Inv-loop μ-loop
@@ -97,7 +100,8 @@ returns c =
     let l = c .before .loop in
     let a = c .before .before in
     let one : l .width ≡ 1 = omega (arith, l .inv .some, c .loop-test .left) in
-    subst₂ (λ (x y : ℤ). Next (betweenAt (legOf (a .args .p)) x y) (a .args .p .ticks) (a .args .last) (l .low + 1)) (sum-is a) (change-is a)
+    subst₂ (λ (x y : ℤ). Next (betweenAt (legOf (a .args .p)) x y) (a .args .p .ticks) (a .args .last) (l .low + 1))
+    (sum-is a) (change-is a)
     (found (test a) (a .args .p .ticks) (a .args .last) (lasting a) (l .low) (l .inv .from)
     (subst (λ (w : ℕ). Bracket (test a) (a .args .last) (l .low) w) one (l .inv .bracket)))
 

@@ -79,7 +79,9 @@ near-joinable c =
 -- the required sum there, and its change, as the code has them
 abbrev sumThere : tie.Else1 → ℤ
 sumThere c =
-    toZ w64 (ofZ w64 (toZ w64 (ofZ w64 (start c .args .sum)) +ℤ toZ w64 (ofZ w64 (toZ w64 (waited c) *ℤ toZ w64 (ofZ w64 (start c .args .change))))))
+    toZ w64 (ofZ w64
+    (toZ w64 (ofZ w64 (start c .args .sum))
+    +ℤ toZ w64 (ofZ w64 (toZ w64 (waited c) *ℤ toZ w64 (ofZ w64 (start c .args .change))))))
 
 sum-is : (c : tie.Else1) → sumThere c ≡ start c .args .sum +ℤ pos (waited c) *ℤ start c .args .change
 sum-is c = let w = waited-is c in exactly (search exact depth 20) tt
@@ -103,9 +105,12 @@ next-lasting-requires c κs =
             subst (λ (p : Profile). p .ticks ≤ a .args .last) (sym e) (b .if1 .left),
             (
               a .pre .1 .1 .1 .1 .1 .1 .1 .1 .0,
-              subst (λ (p : Profile). Lasting (betweenAt (legOf p) (sumThere b) (toZ w64 (ofZ w64 (a .args .change)))) (p .ticks)) (sym e)
-                  (subst₂ (λ (x y : ℤ). Lasting (betweenAt (withTicks (legOf (a .args .p)) (n .result)) x y) (n .result)) (sym (sum-is b)) (sym (change-is b))
-                  (lasting-later (legOf (a .args .p)) (a .args .sum) (a .args .change) (a .args .last) (a .pre .1 .1 .1 .1 .1 .1 .1 .1 .1) (n .result) (n .ensures .low))),
+              subst (λ (p : Profile). Lasting
+                  (betweenAt (legOf p) (sumThere b) (toZ w64 (ofZ w64 (a .args .change)))) (p .ticks)) (sym e)
+                  (subst₂ (λ (x y : ℤ). Lasting (betweenAt (withTicks (legOf (a .args .p)) (n .result)) x y)
+                  (n .result)) (sym (sum-is b)) (sym (change-is b))
+                  (lasting-later (legOf (a .args .p)) (a .args .sum) (a .args .change) (a .args .last)
+                  (a .pre .1 .1 .1 .1 .1 .1 .1 .1 .1) (n .result) (n .ensures .low))),
             ),
           ),
         ),
@@ -120,7 +125,8 @@ returns-2 c =
     next-later (legOf (a .p)) (a .sum) (a .change) (n .result) (n .ensures) (a .last) (c .next-lasting .result)
     (subst (λ (f : ℕ → Bool). Next f (n .result) (a .last) (c .next-lasting .result))
     (λ i. betweenAt (withTicks (legOf (a .p)) (n .result)) (sum-is b i) (change-is b i))
-    (subst (λ (p : Profile). Next (betweenAt (legOf p) (sumThere b) (toZ w64 (ofZ w64 (a .change)))) (p .ticks) (a .last) (c .next-lasting .result))
+    (subst (λ (p : Profile). Next (betweenAt (legOf p) (sumThere b) (toZ w64 (ofZ w64 (a .change)))) (p .ticks)
+    (a .last) (c .next-lasting .result))
     (c .before .with-ticks .ensures) (c .next-lasting .ensures)))
 
 pub next-feasible-spec : {M : Type 1} → statement M

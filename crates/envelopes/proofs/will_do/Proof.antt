@@ -34,7 +34,8 @@ later-is a = cast-small 4096 (a .args .t - a .args .p .ticks) (omega (arith, a .
 envelope-sums-requires : tie.Need-envelope-sums-requires
 envelope-sums-requires c κs =
     let a = c .before .before in
-    subst Joinable (sym (c .with-ticks .ensures)) (longer-joinable (a .args .p) (a .args .t) (a .pre .0) (a .pre .1 .1 .1 .0) (a .pre .1 .1 .1 .1))
+    subst Joinable (sym (c .with-ticks .ensures))
+    (longer-joinable (a .args .p) (a .args .t) (a .pre .0) (a .pre .1 .1 .1 .0) (a .pre .1 .1 .1 .1))
 
 mul-within-sums : tie.Need-mul-within-sums
 mul-within-sums c = let l = later-is (c .before .before .before) in sfits (search exact depth 9) tt
@@ -51,11 +52,16 @@ returns c =
     let a = s .before .before .before in
     let l = later-is a in
     let g = legOf (a .args .p) in
-    let wanted : toZ w64 (ofZ w64 (toZ w64 (ofZ w64 (a .args .sum)) +ℤ toZ w64 (ofZ w64 (toZ w64 (a .args .t - a .args .p .ticks) *ℤ toZ w64 (ofZ w64 (a .args .change)))))) ≡ a .args .sum +ℤ pos (a .args .t - a .args .p .ticks) *ℤ a .args .change =
+    let wanted : toZ w64
+    (ofZ w64
+    (toZ w64 (ofZ w64 (a .args .sum)) +ℤ toZ w64
+    (ofZ w64 (toZ w64 (a .args .t - a .args .p .ticks) *ℤ toZ w64 (ofZ w64 (a .args .change))))))
+    ≡ a .args .sum +ℤ pos (a .args .t - a .args .p .ticks) *ℤ a .args .change =
     exactly (search exact depth 20) tt in
     let sums = s .envelope-sums .ensures ∙ (λ i. envelopeSumsAt (legOf (s .before .with-ticks .ensures i))) in
     c .within-sums .ensures
-    ∙ between-is g (a .args .sum) (a .args .change) (a .args .t) (more-ticks g (a .args .t) (ends-joined g (a .pre .0 .ends)) (a .pre .1 .1 .1 .0))
+    ∙ between-is g (a .args .sum) (a .args .change) (a .args .t)
+    (more-ticks g (a .args .t) (ends-joined g (a .pre .0 .ends)) (a .pre .1 .1 .1 .0))
     (s .envelope-sums .result) sums _ wanted
 
 pub will-do-spec : {M : Type 1} → statement M

@@ -12,7 +12,8 @@ slice-relend-prefix-called : tie.Need-slice-relend-prefix-called
 slice-relend-prefix-called c = search needs
 
 slice-aggregate-called : tie.Need-slice-aggregate-called
-slice-aggregate-called c = sym (length-take-le (c .before .at-most .result) (c .before .before .before .args .buffer .now) (omega arith))
+slice-aggregate-called c =
+    sym (length-take-le (c .before .at-most .result) (c .before .before .before .args .buffer .now) (omega arith))
 
 called-requires : tie.Need-called-requires
 called-requires c κs = search needs

@@ -1,4 +1,5 @@
--- `axes_of` gives the axes that the mask names: before i they are stored, from i on all are unset, and the bits that are left name those to come.
+-- `axes_of` gives the axes that the mask names: before i they are stored, from i on all are unset,
+-- and the bits that are left name those to come.
 use Prim.Native.Nat.{ℕ, _+_, _-_, _≤_, _<_}
 use native.Mathlib.Omega.{arith}
 use mathlib.Core.Path.{_≡_, refl, sym, ap, _∙_}
@@ -63,16 +64,20 @@ loop-less c = omega arith
 
 -- after a turn axis i is as its bit names it: stored, or unset as it was
 turned : (c : tie.Joined1 Inv-loop μ-loop)
-    → let h = c .before .before .loop in c .if1 .axes ≡ set (h .axes) (h .i) (namedAt axisFromC unsetAxis (c .before .before .before .before .args .t2) (h .i) (h .bits))
+    → let h = c .before .before .loop in
+    c .if1 .axes ≡ set (h .axes) (h .i)
+    (namedAt axisFromC unsetAxis (c .before .before .before .before .args .t2) (h .i) (h .bits))
 turned c =
     let h = c .before .before .loop in
     let l = c .before .before .before .before .args .t2 in
     let put : Axis → List Axis = set (h .axes) (h .i) in
     ⊎-elim
-    (λ w. w .3 ∙ ap put (w .2 .ensures ∙ is-named axisFromC unsetAxis l _ (h .i) (h .bits) (omega (arith, h .inv .six)) (omega arith)))
+    (λ w. w .3 ∙ ap put
+    (w .2 .ensures ∙ is-named axisFromC unsetAxis l _ (h .i) (h .bits) (omega (arith, h .inv .six)) (omega arith)))
     (λ w. w .1
     ∙ sym (set-getD (h .axes) (h .i) unsetAxis)
-    ∙ ap put (h .inv .unset (h .i) (omega arith) (omega arith) ∙ not-named axisFromC unsetAxis l (h .i) (h .bits) (λ e. omega arith)))
+    ∙ ap put (h .inv .unset (h .i) (omega arith) (omega arith)
+    ∙ not-named axisFromC unsetAxis l (h .i) (h .bits) (λ e. omega arith)))
     (c .if1 .came)
 
 loop-again : tie.Need-loop-again Inv-loop μ-loop
@@ -89,14 +94,16 @@ loop-again c =
           ∙ h .inv .unset j (omega arith) k;
       stored =
           ap (namedFrom axisFromC unsetAxis l (h .i + 1) _) t
-          ∙ named-next axisFromC unsetAxis l (h .i) (h .bits) (h .axes) (omega (arith, h .inv .six)) (omega (arith, h .inv .long))
+          ∙ named-next axisFromC unsetAxis l (h .i) (h .bits) (h .axes)
+          (omega (arith, h .inv .six)) (omega (arith, h .inv .long))
           ∙ h .inv .stored;
     }
 
 returns : tie.Need-returns Inv-loop μ-loop
 returns c =
     let h = c .before .loop in
-    sym (named-all axisFromC unsetAxis _ (h .i) (h .bits) (h .axes) (omega (arith, h .inv .six)) (omega (arith, h .inv .long))) ∙ h .inv .stored
+    sym (named-all axisFromC unsetAxis _ (h .i) (h .bits) (h .axes) (omega (arith, h .inv .six))
+    (omega (arith, h .inv .long))) ∙ h .inv .stored
 
 pub axes-of-spec : {M : Type 1} → statement M
 axes-of-spec =

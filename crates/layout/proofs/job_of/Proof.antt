@@ -11,7 +11,12 @@ windows-of-requires c κs = search needs
 returns : tie.Need-returns
 returns c =
     let j = c .before .before .before .before .args .job in
-    λ i. record { mask = j .mask; asked = j .asked; axes = c .before .before .axes-of .ensures i; windows = c .windows-of .ensures i }
+    λ i. record {
+      mask = j .mask;
+      asked = j .asked;
+      axes = c .before .before .axes-of .ensures i;
+      windows = c .windows-of .ensures i;
+    }
 
 pub job-of-spec : {M : Type 1} → statement M
 job-of-spec = tie.close (tie.spec axes-of-requires windows-of-requires returns)

@@ -1,4 +1,5 @@
--- `target_of` gives the target that its axis stands for: the test of the kind picks the same case as the definition.
+-- `target_of` gives the target that its axis stands for: the test of the kind picks
+-- the same case as the definition.
 use mathlib.Core.Path.{_≡_, sym, ap, _∙_}
 use mathlib.Core.Bool.{Bool, cond}
 use borrow.Author.Needs.{needs}
@@ -23,13 +24,15 @@ fixed-of-requires : tie.Need-fixed-of-requires
 fixed-of-requires c κs = search needs
 
 returns : tie.Need-returns
-returns c = ap (λ (r : RestPoint). Fixed r) (c .fixed-of .ensures) ∙ fixed (c .before .before .before .args .a) (c .before .if1 .taken)
+returns c = ap (λ (r : RestPoint). Fixed r) (c .fixed-of .ensures)
+    ∙ fixed (c .before .before .before .args .a) (c .before .if1 .taken)
 
 moving-of-requires : tie.Need-moving-of-requires
 moving-of-requires c κs = search needs
 
 returns-2 : tie.Need-returns-2
-returns-2 c = ap (λ (s : State). Moving s) (c .moving-of .ensures) ∙ moving (c .before .before .before .args .a) (c .before .if1 .left)
+returns-2 c = ap (λ (s : State). Moving s) (c .moving-of .ensures)
+    ∙ moving (c .before .before .before .args .a) (c .before .if1 .left)
 
 pub target-of-spec : {M : Type 1} → statement M
 target-of-spec = tie.close (tie.spec fixed-of-requires returns moving-of-requires returns-2)

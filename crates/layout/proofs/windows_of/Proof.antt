@@ -1,4 +1,5 @@
--- `windows_of` gives the windows that its struct stands for: the test of the first field picks the same case as the definition.
+-- `windows_of` gives the windows that its struct stands for: the test of the first field picks
+-- the same case as the definition.
 use native.Mathlib.Omega.{arith}
 use mathlib.Core.Path.{_≡_, sym, ap, _∙_}
 use mathlib.Core.Bool.{Bool, true, cond}

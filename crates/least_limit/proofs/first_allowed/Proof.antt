@@ -16,7 +16,8 @@ need-requires c κs = search needs
 
 sub-least : tie.Need-sub-least
 sub-least c =
-    let a = c .before .before in omega (arith, unit-some (a .args .t) (a .args .limit) (a .pre .0), c .before .unit .ensures)
+    let a = c .before .before in
+    omega (arith, unit-some (a .args .t) (a .args .limit) (a .pre .0), c .before .unit .ensures)
 
 add-least : tie.Need-add-least
 add-least c =
@@ -27,7 +28,8 @@ add-least c =
 
 div-least : tie.Need-div-least
 div-least c =
-    let a = c .before .before in omega (arith, unit-some (a .args .t) (a .args .limit) (a .pre .0), c .before .unit .ensures)
+    let a = c .before .before in
+    omega (arith, unit-some (a .args .t) (a .args .limit) (a .pre .0), c .before .unit .ensures)
 
 limit-in-requires : tie.Need-limit-in-requires
 limit-in-requires c κs = search needs
@@ -41,7 +43,8 @@ rounded a =
     let u = limits.unit (a .args .limit) (a .args .t) in
     (limits.need (a .args .limit) (a .args .t) + (u - 1)) / u
 
-rounded-is : (c : tie.After-need) → (c .need .result + (c .before .unit .result - 1)) / c .before .unit .result ≡ rounded (c .before .before)
+rounded-is : (c : tie.After-need)
+    → (c .need .result + (c .before .unit .result - 1)) / c .before .unit .result ≡ rounded (c .before .before)
 rounded-is c = ap₂ (λ (n u : ℕ). (n + (u - 1)) / u) (c .need .ensures) (c .before .unit .ensures)
 
 returns : tie.Need-returns

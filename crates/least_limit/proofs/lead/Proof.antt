@@ -40,11 +40,14 @@ sum-is : (c : tie.After-upper-area)
 sum-is c = ap (λ (p : Profile). sumTo (upper (legOf p)) (p .ticks - 1)) (c .before .profile-with .ensures .is)
 
 parts-are : (c : tie.After-upper-area)
-    → c .upper-area .result .parts ≡ upperParts (legWith (start c .args .t) (start c .args .limit) (start c .args .value))
-parts-are c = c .upper-area .ensures .parts ∙ ap (λ (p : Profile). upperParts (legOf p)) (c .before .profile-with .ensures .is)
+    → c .upper-area .result .parts
+    ≡ upperParts (legWith (start c .args .t) (start c .args .limit) (start c .args .value))
+parts-are c =
+    c .upper-area .ensures .parts ∙ ap (λ (p : Profile). upperParts (legOf p)) (c .before .profile-with .ensures .is)
 
 tested : (c : tie.After-upper-area)
-    → leZ (toZ w64 (ofZ w64 (start c .args .t .sum))) (toZ w64 (ofZ w64 (c .upper-area .result .sum))) ≡ leZ (start c .args .t .sum) (reached c)
+    → leZ (toZ w64 (ofZ w64 (start c .args .t .sum))) (toZ w64 (ofZ w64 (c .upper-area .result .sum)))
+    ≡ leZ (start c .args .t .sum) (reached c)
 tested c =
     let w = start c .pre .0 .sum in
     le-is (search computed depth 9) tt ∙ ap (leZ (start c .args .t .sum)) (sum-is c)
@@ -56,14 +59,16 @@ returns c =
     record {
       low = omega arith;
       high = omega (arith, a .pre .1 .1 .0);
-      here = λ e. comes-up (a .args .t) (a .args .limit) (a .args .value) (a .pre .1 .0) (sym (tested u) ∙ c .if1 .taken);
+      here = λ e. comes-up (a .args .t) (a .args .limit) (a .args .value) (a .pre .1 .0)
+          (sym (tested u) ∙ c .if1 .taken);
       short = λ h. absurd (omega arith);
     }
 
 gain-requires : tie.Need-gain-requires
 gain-requires c κs =
     let u = c .before .before .before .before in
-    subst PartsRanged (sym (parts-are u)) (parts-few (legWith (start u .args .t) (start u .args .limit) (start u .args .value)) (start u .pre .0 .ticks))
+    subst PartsRanged (sym (parts-are u))
+    (parts-few (legWith (start u .args .t) (start u .args .limit) (start u .args .value)) (start u .pre .0 .ticks))
 
 mul-most : tie.Need-mul-most
 mul-most c =
@@ -90,11 +95,13 @@ left-is c =
 falls : (c : tie.After-struct-known) → reached (area c) <ℤ start (area c) .args .t .sum
 falls c =
     let w = start (area c) .pre .0 .sum in
-    subst (λ (z : ℤ). z <ℤ start (area c) .args .t .sum) (sum-is (area c)) (le-left (c .before .before .before .if1 .left) (search computed depth 9) tt)
+    subst (λ (z : ℤ). z <ℤ start (area c) .args .t .sum) (sum-is (area c))
+    (le-left (c .before .before .before .if1 .left) (search computed depth 9) tt)
 
 cast-next-lower-bound : tie.Need-cast-next-lower-bound
 cast-next-lower-bound c =
-    cast-up _ (sub-next-lower-bound c) (subst (λ (z : ℤ). pos 0 ≤ℤ z) (sym (left-is c)) (sub-nonneg _ _ (<ℤ-weaken (falls c))))
+    cast-up _ (sub-next-lower-bound c)
+    (subst (λ (z : ℤ). pos 0 ≤ℤ z) (sym (left-is c)) (sub-nonneg _ _ (<ℤ-weaken (falls c))))
 
 missing-is : (c : tie.After-struct-known) → natAbs (toZ w64 (ofZ w64 (toZ w64 (ofZ w64 (start (area c) .args .t .sum))
     -ℤ toZ w64 (ofZ w64 (area c .upper-area .result .sum))))) ≡ natAbs (left c)
@@ -102,7 +109,8 @@ missing-is c = ap natAbs (back-id (sub-next-lower-bound c) ∙ left-is c)
 
 -- the sum is the area and what is missing
 sum-above : (s u : ℤ) → u <ℤ s → s ≡ u +ℤ pos (natAbs (s -ℤ u))
-sum-above s u h = sym (add-sub u s) ∙ ap (λ (z : ℤ). u +ℤ z) (sym (pos-natAbs (s -ℤ u) (yes-nonNeg (sub-nonneg u s (<ℤ-weaken h)))))
+sum-above s u h =
+    sym (add-sub u s) ∙ ap (λ (z : ℤ). u +ℤ z) (sym (pos-natAbs (s -ℤ u) (yes-nonNeg (sub-nonneg u s (<ℤ-weaken h)))))
 
 some-left : (m : ℕ) (s u : ℤ) → u <ℤ s → s ≡ u +ℤ pos m → 0 < m
 some-left m = all₂ _ (λ a b c d. simp whole (omega arith))
@@ -111,10 +119,13 @@ next-lower-bound-requires : tie.Need-next-lower-bound-requires
 next-lower-bound-requires c κs =
     let a = start (area c) in
     let w = a .pre .0 .sum in
-    let most : Within (2 ^ 62) (a .args .t .sum -ℤ area c .upper-area .result .sum) = within (search computed depth 9) tt in
+    let most : Within (2 ^ 62) (a .args .t .sum -ℤ area c .upper-area .result .sum) =
+    within (search computed depth 9) tt in
     let same = ap (λ (z : ℤ). natAbs (a .args .t .sum -ℤ z)) (area c .upper-area .ensures .sum .is ∙ sum-is (area c)) in
-    let some = some-left (natAbs (left c)) _ _ (falls c) (sum-above _ _ (falls c)) in
-    (a .pre .1 .1 .0, (a .pre .1 .1 .1, (omega (arith, missing-is c, some), omega (arith, missing-is c, same, most .within))))
+    let some = some-left (natAbs (left c)) _ _ (falls c) (sum-above _ _ (falls c)) in (
+      a .pre .1 .1 .0,
+      (a .pre .1 .1 .1, (omega (arith, missing-is c, some), omega (arith, missing-is c, same, most .within))),
+    )
 
 returns-2 : tie.Need-returns-2
 returns-2 c =
@@ -128,9 +139,11 @@ returns-2 c =
       high = r .most;
       here = λ e. absurd (omega (arith, r .higher));
       short = λ h n l.
-          falls-short (a .args .t) (a .args .limit) (a .args .value) (natAbs (left k)) n (a .pre .0) (a .pre .1 .0) (sum-above _ _ (falls k))
+          falls-short (a .args .t) (a .args .limit) (a .args .value) (natAbs (left k)) n (a .pre .0)
+          (a .pre .1 .0) (sum-above _ _ (falls k))
           (subst (λ (g : ℕ). n * g < a .args .value * g + natAbs (left k)) (ap steps gained)
-          (subst (λ (m : ℕ). n * steps (k .before .gain .result) < a .args .value * steps (k .before .gain .result) + m) (missing-is k) (r .short n l)));
+          (subst (λ (m : ℕ). n * steps (k .before .gain .result) < a .args .value * steps (k .before .gain .result) + m)
+          (missing-is k) (r .short n l)));
     }
 
 pub lead-spec : {M : Type 1} → statement M

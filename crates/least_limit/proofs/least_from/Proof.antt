@@ -7,7 +7,8 @@ use Rattle.least_limit.proofs.FallsShort.{allowed-higher, highest-small
 use Rattle.least_limit.proofs.least_from.Statement.{statement}
 use Rattle.least_limit.proofs.least_from.Tie as tie
 
--- every value before `low` falls short, and `high` is enough or is `after`; a test takes at least one value away
+-- every value before `low` falls short, and `high` is enough or is `after`; a
+-- test takes at least one value away
 abbrev Inv-loop : tie.InvT-loop
 Inv-loop t limit first after low₀ high₀ tests₀ low high tests =
     record {
@@ -51,7 +52,8 @@ lead-requires c κs =
     let first = a .pre .1 .1 .1 .1 (omega (arith, i .least, i .most, v .0, v .1)) in (
       a .pre .0,
       (
-        allowed-higher (a .args .t) (a .args .limit) (a .args .first) (c .next-tested .result) first (omega (arith, i .least, v .0))
+        allowed-higher (a .args .t) (a .args .limit) (a .args .first) (c .next-tested .result) first
+            (omega (arith, i .least, v .0))
             (omega (arith, a .pre .1 .1 .1 .0, i .most, v .1)),
         (v .1, omega (arith, small a, i .most)),
       ),
@@ -103,7 +105,8 @@ returns c =
       low = i .least;
       high = omega (arith, i .order, i .most);
       missed = i .short;
-      passed = λ h. ap (enoughWith (a .args .limit) (a .args .t)) met ∙ i .enough (omega (arith, i .order, i .most, i .least, a .pre .1 .0));
+      passed = λ h. ap (enoughWith (a .args .limit) (a .args .t)) met
+          ∙ i .enough (omega (arith, i .order, i .most, i .least, a .pre .1 .0));
     }
 
 pub least-from-spec : {M : Type 1} → statement M

@@ -33,7 +33,8 @@ otherAllows a =
 tested : (c : tie.After-allows) → c .allows .result ≡ otherAllows (c .before .before)
 tested c =
     let t = c .before .before .args .t in
-    c .allows .ensures ∙ ap (λ (q : Limit). leb (limits.need q t) (limits.unit q t * limits.limitIn q t)) (c .before .other .ensures)
+    c .allows .ensures
+    ∙ ap (λ (q : Limit). leb (limits.need q t) (limits.unit q t * limits.limitIn q t)) (c .before .other .ensures)
 
 returns : tie.Need-returns
 returns c =
@@ -61,14 +62,16 @@ least-from-requires c κs =
           r .high,
           (
             omega (arith, a .pre .1 .1),
-            λ h. both-allow (a .args .t) (a .args .limit) (c .first-allowed .result) yes′ (r .enough h) (omega (arith, r .low)) (omega (arith, a .pre .1 .1)),
+            λ h. both-allow (a .args .t) (a .args .limit) (c .first-allowed .result) yes′ (r .enough h)
+                (omega (arith, r .low)) (omega (arith, a .pre .1 .1)),
           ),
         ),
       ),
     )
 
 -- the values before the first that allows the ends, and those that are searched
-all-missed : (q : Limit) (t : Task) (after first last r : ℕ) → limits.FirstAllowed q t after first → Next (limits.enoughWith q t) first last r
+all-missed : (q : Limit) (t : Task) (after first last r : ℕ) → limits.FirstAllowed q t after first
+    → Next (limits.enoughWith q t) first last r
     → (k : ℕ) → suc (limits.limitIn q t) ≤ k → k < r → limits.enoughWith q t k ≡ false
 all-missed q t after first last r f n k h l = go (lt-or-le k first)
   where

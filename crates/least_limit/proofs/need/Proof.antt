@@ -47,7 +47,8 @@ returns c =
     c .size .ensures ∙ ap natAbs d ∙ sym (ap (λ (q : Limit). limits.need q t) (c .before .enum-told .given .1))
 
 returns-2 : tie.Need-returns-2
-returns-2 c = sym (ap (λ (q : Limit). limits.need q (c .before .before .before .before .args .t)) (c .enum-told2 .given .1))
+returns-2 c =
+    sym (ap (λ (q : Limit). limits.need q (c .before .before .before .before .args .t)) (c .enum-told2 .given .1))
 
 pub need-spec : {M : Type 1} → statement M
 need-spec = tie.close (tie.spec enum-told sub-size size-requires enum-told-2 returns returns-2)

@@ -48,17 +48,32 @@ add-next-2 c =
     omega (arith, div-le-self (a .missing - 1) (a .gain), p .0, p .1 .0, p .1 .1 .1)
 
 -- a value that is not above the one led to
-behind : (c : tie.Else1) (k : ℕ) → let a = c .before .args in k ≤ a .value + (a .missing - 1) / a .gain → k * a .gain < a .value * a .gain + a .missing
+behind : (c : tie.Else1) (k : ℕ) → let a = c .before .args in
+    k ≤ a .value + (a .missing - 1) / a .gain → k * a .gain < a .value * a .gain + a .missing
 behind c k l =
     let a = c .before .args in
-    omega (arith, short (a .value) k (a .missing - 1) (a .gain) (omega (arith, c .if1 .left)) l, c .before .pre .1 .1 .0)
+    omega (
+      arith,
+      short (a .value) k (a .missing - 1) (a .gain)
+          (omega (arith, c .if1 .left)) l,
+      c .before .pre .1 .1 .0,
+    )
 
 returns-2 : tie.Need-returns-2
 returns-2 c =
-    record { higher = c .before .before .pre .0; most = omega arith; short = λ k h. behind (c .before) k (omega (arith, c .if2 .taken, h)) }
+    record {
+      higher = c .before .before .pre .0;
+      most = omega arith;
+      short = λ k h. behind (c .before) k (omega (arith, c .if2 .taken, h));
+    }
 
 returns-3 : tie.Need-returns-3
-returns-3 c = record { higher = omega arith; most = omega (arith, c .if2 .left); short = λ k h. behind (c .before) k (omega (arith, h)) }
+returns-3 c =
+    record {
+      higher = omega arith;
+      most = omega (arith, c .if2 .left);
+      short = λ k h. behind (c .before) k (omega (arith, h));
+    }
 
 pub next-lower-bound-spec : {M : Type 1} → statement M
 next-lower-bound-spec =

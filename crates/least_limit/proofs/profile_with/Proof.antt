@@ -13,7 +13,8 @@ use Rattle.least_limit.proofs.profile_with.Statement.{statement}
 use Rattle.least_limit.proofs.profile_with.Tie as tie
 
 -- the profile that the code makes for the limit q
-made : (p q : Limit) (t : Task) (v : ℕ) (r : Profile) → TaskRanged t → Allowed p t v → p ≡ q → r ≡ profileAt t (speedWith q t v) (accelerationWith q t v)
+made : (p q : Limit) (t : Task) (v : ℕ) (r : Profile) → TaskRanged t → Allowed p t v → p ≡ q
+    → r ≡ profileAt t (speedWith q t v) (accelerationWith q t v)
     → ProfileFor p t v r
 made p q t v r ranged a e is =
     let own = is ∙ ap (λ (l : Limit). profileAt t (speedWith l t v) (accelerationWith l t v)) (sym e) in
@@ -28,27 +29,41 @@ enum-told c = search needs
 
 profile-at-requires : tie.Need-profile-at-requires
 profile-at-requires c κs =
-    let a = c .before .before in
-    (a .pre .0, (a .pre .0 .speed, high (a .args .limit) Acceleration (a .args .t) (a .args .value) (a .pre .1) (c .enum-told .given .1)))
+    let a = c .before .before in (
+      a .pre .0,
+      (
+        a .pre .0 .speed,
+        high (a .args .limit) Acceleration (a .args .t) (a .args .value)
+            (a .pre .1) (c .enum-told .given .1),
+      ),
+    )
 
 enum-told-2 : tie.Need-enum-told-2
 enum-told-2 c = search needs
 
 profile-at-requires-2 : tie.Need-profile-at-requires-2
 profile-at-requires-2 c κs =
-    let a = c .before .before in
-    (a .pre .0, (high (a .args .limit) Speed (a .args .t) (a .args .value) (a .pre .1) (c .enum-told2 .given .1), a .pre .0 .acceleration))
+    let a = c .before .before in (
+      a .pre .0,
+      (
+        high (a .args .limit) Speed (a .args .t) (a .args .value) (a .pre .1)
+            (c .enum-told2 .given .1),
+        a .pre .0 .acceleration,
+      ),
+    )
 
 returns : tie.Need-returns
 returns c =
     let a = c .before .before .before in
-    made (a .args .limit) Acceleration (a .args .t) (a .args .value) (c .profile-at .result) (a .pre .0) (a .pre .1) (c .before .enum-told .given .1)
+    made (a .args .limit) Acceleration (a .args .t) (a .args .value) (c .profile-at .result) (a .pre .0) (a .pre .1)
+    (c .before .enum-told .given .1)
     (c .profile-at .ensures)
 
 returns-2 : tie.Need-returns-2
 returns-2 c =
     let a = c .before .before .before in
-    made (a .args .limit) Speed (a .args .t) (a .args .value) (c .profile-at2 .result) (a .pre .0) (a .pre .1) (c .before .enum-told2 .given .1)
+    made (a .args .limit) Speed (a .args .t) (a .args .value) (c .profile-at2 .result) (a .pre .0) (a .pre .1)
+    (c .before .enum-told2 .given .1)
     (c .profile-at2 .ensures)
 
 pub profile-with-spec : {M : Type 1} → statement M

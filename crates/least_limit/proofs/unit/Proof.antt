@@ -17,7 +17,8 @@ enum-told-2 : tie.Need-enum-told-2
 enum-told-2 c = search needs
 
 returns : tie.Need-returns
-returns c = sym (ap (λ (q : Limit). limits.unit q (c .before .before .before .args .t)) (c .before .enum-told .given .1))
+returns c =
+    sym (ap (λ (q : Limit). limits.unit q (c .before .before .before .args .t)) (c .before .enum-told .given .1))
 
 returns-2 : tie.Need-returns-2
 returns-2 c = search needs

@@ -1,4 +1,5 @@
--- The search for the least tick that passes a test, with a budget (docs/METHOD.md, 8.4): how an undivided search falls into two.
+-- The search for the least tick that passes a test, with a budget (docs/METHOD.md, 8.4): how an
+-- undivided search falls into two.
 use Prim.Native.Nat.{ℕ, zero, suc, _+_, _-_, _<_, _≤_}
 use native.Mathlib.Omega.{arith}
 use mathlib.Core.Path.{_≡_, refl, sym, ap, _∙_}
@@ -19,7 +20,8 @@ orElse : Option ℕ → Option ℕ → Option ℕ
 orElse (some n) o = some n
 orElse none o = o
 
-split : (test : ℕ → Bool) (n b k : ℕ) → leastFrom test n (b + k) ≡ orElse (leastFrom test n b) (leastFrom test (n + b) k)
+split : (test : ℕ → Bool) (n b k : ℕ)
+    → leastFrom test n (b + k) ≡ orElse (leastFrom test n b) (leastFrom test (n + b) k)
 unfolding orElse
 split test n zero k =
     let e : zero + k ≡ k = omega arith in
@@ -72,7 +74,8 @@ module _ (test : ℕ → Bool) (first budget : ℕ) where
   pub whole-search : candidates first ≤ budget → searchFrom test first budget ≡ whole test first
   unfolding searchFrom
   whole-search h =
-      ap (λ (k : ℕ). reportOf first budget (leastFrom test first k)) (all h) ∙ go (leastFrom test first (candidates first))
+      ap (λ (k : ℕ). reportOf first budget (leastFrom test first k)) (all h)
+      ∙ go (leastFrom test first (candidates first))
     where
       go : (o : Option ℕ) → reportOf first budget o ≡ wholly first o
       go (some n) = refl
@@ -89,12 +92,14 @@ module _ (test : ℕ → Bool) (first budget : ℕ) where
       here : searchFrom test first budget ≡ reportOf first budget (leastFrom test first budget)
       here = ap (λ (k : ℕ). reportOf first budget (leastFrom test first k)) (few h)
 
-      parts : whole test first ≡ wholly first (orElse (leastFrom test first budget) (leastFrom test (first + budget) more))
+      parts : whole test first
+          ≡ wholly first (orElse (leastFrom test first budget) (leastFrom test (first + budget) more))
       parts =
           let e : candidates first ≡ budget + more = omega arith in
           ap (λ (k : ℕ). wholly first (leastFrom test first k)) e ∙ ap (wholly first) (split test first budget more)
 
-      from-next : (o : Option ℕ) → leastFrom test (first + budget) more ≡ o → wholly first o ≡ later budget (wholly (first + budget) o)
+      from-next : (o : Option ℕ) → leastFrom test (first + budget) more ≡ o
+          → wholly first o ≡ later budget (wholly (first + budget) o)
       from-next (some n) p =
           let low = least-is test (first + budget) more n p .first in
           let e : n - first + 1 ≡ budget + (n - (first + budget) + 1) = omega arith in
@@ -103,9 +108,11 @@ module _ (test : ℕ → Bool) (first budget : ℕ) where
           let e : candidates first ≡ budget + candidates (first + budget) = omega arith in
           λ j. record { report = Nothing; tried = e j }
 
-      go : (o : Option ℕ) → leastFrom test first budget ≡ o → (searchFrom test first budget ≡ whole test first) ⊎ GoesOn test first budget
+      go : (o : Option ℕ) → leastFrom test first budget ≡ o
+          → (searchFrom test first budget ≡ whole test first) ⊎ GoesOn test first budget
       go (some n) e =
-          inl (here ∙ ap (reportOf first budget) e ∙ sym (parts ∙ ap (λ (o : Option ℕ). wholly first (orElse o (leastFrom test (first + budget) more))) e))
+          inl (here ∙ ap (reportOf first budget) e
+          ∙ sym (parts ∙ ap (λ (o : Option ℕ). wholly first (orElse o (leastFrom test (first + budget) more))) e))
       go none e =
           inr
           (record {
@@ -116,10 +123,12 @@ module _ (test : ℕ → Bool) (first budget : ℕ) where
                 ∙ from-next (leastFrom test (first + budget) more) refl;
           })
 
-  -- a search is the undivided one; or it is spent, and the undivided one goes on at its next candidate
+  -- a search is the undivided one; or it is spent, and the undivided one goes on at its next
+  -- candidate
   pub either-way : (searchFrom test first budget ≡ whole test first) ⊎ GoesOn test first budget
   either-way = go (lt-or-le budget (candidates first))
     where
-      go : (budget < candidates first) ⊎ (candidates first ≤ budget) → (searchFrom test first budget ≡ whole test first) ⊎ GoesOn test first budget
+      go : (budget < candidates first) ⊎ (candidates first ≤ budget)
+          → (searchFrom test first budget ≡ whole test first) ⊎ GoesOn test first budget
       go (inl h) = divided h
       go (inr h) = inl (whole-search h)

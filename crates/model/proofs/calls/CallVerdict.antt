@@ -1,4 +1,5 @@
--- Every call, from words or from typed values, whatever was lent, ends in a verdict: `call-verdict`.
+-- Every call, from words or from typed values, whatever was lent, ends in a verdict:
+-- `call-verdict`.
 use Prim.Native.Nat.{ℕ, zero, suc, _/_, _%_, _≤_}
 use mathlib.Core.Path.{sym, subst}
 use mathlib.Core.Bool.{Bool, true, false}
@@ -32,7 +33,8 @@ set-rising zero i m = tt
 set-rising (suc c) i m = go (eqb (m % 2) 1) (set-rising c (suc i) (m / 2))
   where
     go : (b : Bool) → Rising (suc i) (setFrom c (suc i) (m / 2))
-        → Rising i (elim b as (λ z. List ℕ) [ true ↦ i ∷ setFrom c (suc i) (m / 2) | false ↦ setFrom c (suc i) (m / 2) ])
+        → Rising i
+        (elim b as (λ z. List ℕ) [ true ↦ i ∷ setFrom c (suc i) (m / 2) | false ↦ setFrom c (suc i) (m / 2) ])
     go true h = (omega arith, h)
     go false h = rising-from i (suc i) (setFrom c (suc i) (m / 2)) (omega arith) h
 
@@ -59,10 +61,12 @@ axes-ascend (n ∷ ns) (x ∷ xs) l (r, rs) (e, (h, hs)) =
 
 -- the numbers of its axes ascend
 ascends : (q : Input) (j : Job) → IsJob q j → Ascends 0 (j .axes)
-ascends (words ws) j a = let s = a .1 .1 .inside in axes-ascend (setBits (j .mask)) (j .axes) 0 (set-rising 6 0 (j .mask)) (s .axes)
+ascends (words ws) j a = let s = a .1 .1 .inside in
+    axes-ascend (setBits (j .mask)) (j .axes) 0 (set-rising 6 0 (j .mask)) (s .axes)
 ascends (typed t) j e = subst (λ (i : Job). Ascends 0 (i .axes)) e (set-ascends 0 (t .mask) (t .axes))
 
 pub call-verdict : (q : Input) (lent : List ℤ) → CallVerdict Forwards lent (call q lent) q
 call-verdict q lent =
-    after-admission planningRules (outcomeAfter lent) (λ o n p. Refuses o n p 0 0 lent) (λ o j. Verdict Forwards j lent o) (λ n p. is-refusal) q
+    after-admission planningRules (outcomeAfter lent) (λ o n p. Refuses o n p 0 0 lent)
+    (λ o j. Verdict Forwards j lent o) (λ n p. is-refusal) q
     (λ j a. verdict j lent (ascends q j a))

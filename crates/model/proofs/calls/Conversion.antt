@@ -1,5 +1,5 @@
--- A conversion that returns number 0 wrote words that have the outcome of the old words, by the old rules (`conversion-kept`) and in planning
--- (`conversion-plans`).
+-- A conversion that returns number 0 wrote words that have the outcome of the old words, by the old
+-- rules (`conversion-kept`) and in planning (`conversion-plans`).
 use Prim.Native.Nat.{ℕ, zero, suc, _≤_}
 use native.Mathlib.Omega.{arith}
 use mathlib.Core.Path.{_≡_, refl, sym, ap, _∙_}
@@ -18,10 +18,13 @@ use Rattle.model.specs.planning.Quantities.{asMoving}
 use Rattle.model.specs.planning.Job.{Job, JobAxis}
 use Rattle.model.specs.planning.Words.{Decoded, noMask, badWord, badLong, job, decode}
 use Rattle.model.specs.planning.Refusals.{lastTick, flies, flyingRefused}
-use Rattle.model.specs.planning.Admission.{words, firstAxis, Tests, axisRefusals, Admission, refusedAt, Rules, planningRules, windowed, tested, jobAdmission}
+use Rattle.model.specs.planning.Admission.{words, firstAxis, Tests, axisRefusals, Admission, refusedAt, Rules}
+use Rattle.model.specs.planning.Admission.{planningRules, windowed, tested, jobAdmission}
 use Rattle.model.specs.planning.Outcome.{Outcome, outcomeAfter, callBy, jobOutcomeBy, jobOutcome}
-use Rattle.model.specs.calls.Converter.{oldRefusals, oldRules, oldOutcome, converted, Conversion, unconverted, written, conversionRefusals, conversionRules, jobConversion}
-use Rattle.model.specs.calls.Converter.{convertedTarget, withTarget, convertedAxis, convertedAxes, convertedJob, ConversionKept, ConversionPlans}
+use Rattle.model.specs.calls.Converter.{oldRefusals, oldRules, oldOutcome, converted, Conversion, unconverted}
+use Rattle.model.specs.calls.Converter.{written, conversionRefusals, conversionRules, jobConversion}
+use Rattle.model.specs.calls.Converter.{convertedTarget, withTarget, convertedAxis, convertedAxes, convertedJob}
+use Rattle.model.specs.calls.Converter.{ConversionKept, ConversionPlans}
 use Rattle.model.specs.calls.Converter.{ConversionVerdict, conversionAfter, conversion}
 use Rattle.model.proofs.jobs.OutsideWindows.{Clear}
 use Rattle.model.proofs.jobs.CheckingOrder.{Lacks, lacks}
@@ -47,7 +50,8 @@ axes-still n [] e = refl
 axes-still n (x ∷ xs) e = go (flyingRefused (x .axis)) refl e (axes-still n xs)
   where
     go : (b : Bool) → flyingRefused (x .axis) ≡ b
-        → _≡_ {A = Option ℕ} (elim b as (λ _. Option ℕ) [ true ↦ some (x .number) | false ↦ firstAxis flyingRefused xs ]) none
+        → _≡_ {A = Option ℕ}
+        (elim b as (λ _. Option ℕ) [ true ↦ some (x .number) | false ↦ firstAxis flyingRefused xs ]) none
         → (firstAxis flyingRefused xs ≡ none → convertedAxes n xs ≡ xs) → convertedAxes n (x ∷ xs) ≡ x ∷ xs
     go true t e h = absurd (let z : _≡_ {A = ℕ} 0 1 = cc in omega arith)
     go false t e h = (λ i. record { number = x .number; axis = axis-still n (x .axis) t i } ∷ h e i)
@@ -69,7 +73,8 @@ target-rests n (Moving m) = refl
 none-flies : (n : ℕ) (xs : List JobAxis) → firstAxis flyingRefused (convertedAxes n xs) ≡ none
 none-flies n [] = refl
 none-flies n (x ∷ xs) =
-    (λ i. elim (target-rests n (x .axis .target) i) as (λ _. Option ℕ) [ true ↦ some (x .number) | false ↦ none-flies n xs i ])
+    (λ i. elim (target-rests n (x .axis .target) i) as
+    (λ _. Option ℕ) [ true ↦ some (x .number) | false ↦ none-flies n xs i ])
 
 -- planning's tests and the old ones, where 17 names no axis
 tests-same : (j : Job) → firstAxis flyingRefused (j .axes) ≡ none → tested axisRefusals j ≡ tested oldRefusals j
@@ -78,11 +83,14 @@ tests-same j e = more oldRefusals
     more : (ts : Tests) → tested (ts ++ ((17, flyingRefused) ∷ [])) j ≡ tested ts j
     more [] = ap (λ (o : Option ℕ). elim o as (λ _. Admission) [ some a ↦ refusedAt 17 a | none ↦ windowed j ]) e
     more (t ∷ ts) =
-        ap (λ (z : Admission). elim (firstAxis (t .1) (j .axes)) as (λ _. Admission) [ some a ↦ refusedAt (t .0) a | none ↦ z ]) (more ts)
+        ap (λ (z : Admission). elim (firstAxis (t .1) (j .axes)) as
+        (λ _. Admission) [ some a ↦ refusedAt (t .0) a | none ↦ z ]) (more ts)
 
-outcome-same : (j : Job) (cells : List ℤ) → firstAxis flyingRefused (j .axes) ≡ none → jobOutcome j cells ≡ jobOutcomeBy oldRules j cells
+outcome-same : (j : Job) (cells : List ℤ) → firstAxis flyingRefused (j .axes) ≡ none
+    → jobOutcome j cells ≡ jobOutcomeBy oldRules j cells
 outcome-same j cells e =
-    ap (λ (z : Admission). outcomeAfter cells (elim (leb (j .asked) lastTick) as (λ _. Admission) [ true ↦ z | false ↦ refusedAt 3 1 ])) (tests-same j e)
+    ap (λ (z : Admission). outcomeAfter cells
+    (elim (leb (j .asked) lastTick) as (λ _. Admission) [ true ↦ z | false ↦ refusedAt 3 1 ])) (tests-same j e)
 
 -- ---- what number 0 says
 
@@ -98,7 +106,8 @@ conversion-numbered = record { not-0 = λ n. zeros n; not-10 = λ n. tens n }
     tens zero = lacks 10 axisRefusals refl
     tens (suc n) = lacks 10 oldRefusals refl
 
-last-clear : (t : ℕ × (Axis → Bool)) (ts : Tests) (xs : List JobAxis) → Clear (ts ++ (t ∷ [])) xs → firstAxis (t .1) xs ≡ none
+last-clear : (t : ℕ × (Axis → Bool)) (ts : Tests) (xs : List JobAxis)
+    → Clear (ts ++ (t ∷ [])) xs → firstAxis (t .1) xs ≡ none
 last-clear t [] xs c = c .0
 last-clear t (u ∷ ts) xs c = last-clear t ts xs (c .1)
 
@@ -107,7 +116,8 @@ taken [] r = refl
 taken (x ∷ l) r = ap (λ (k : List ℕ). x ∷ k) (taken l r)
 
 -- the words that were written
-all-written : (ws lent : List ℕ) → written ws lent .number ≡ 0 → take (written ws lent .place) (written ws lent .words) ≡ ws
+all-written : (ws lent : List ℕ) → written ws lent .number ≡ 0
+    → take (written ws lent .place) (written ws lent .words) ≡ ws
 all-written ws lent z = go (ltb (length lent) (length ws)) z
   where
     by : Bool → Conversion
@@ -134,7 +144,8 @@ outcome-by r cells d =
 
 -- by the rules r, which say of a job without a flying target what the old rules say
 module _ (r : Rules) (ws lent : List ℕ) (cells : List ℤ)
-    (of-job : (j : Job) → firstAxis flyingRefused (j .axes) ≡ none → jobOutcomeBy r j cells ≡ jobOutcomeBy oldRules j cells) where
+    (of-job : (j : Job) → firstAxis flyingRefused (j .axes) ≡ none
+    → jobOutcomeBy r j cells ≡ jobOutcomeBy oldRules j cells) where
   abbrev Kept : Conversion → Type 0
   Kept c = callBy r (words (take (c .place) (c .words))) cells ≡ oldOutcome ws cells
 
@@ -142,11 +153,13 @@ module _ (r : Rules) (ws lent : List ℕ) (cells : List ℤ)
   by-asked : (n : ℕ) (j : Job) → j .asked ≡ n → Clear (conversionRefusals n) (j .axes)
       → jobOutcomeBy oldRules (convertedJob j) cells ≡ jobOutcomeBy oldRules j cells
   by-asked zero j a c =
-      ap (λ (xs : List JobAxis). jobOutcomeBy oldRules (record { mask = j .mask; asked = j .asked; axes = xs; windows = j .windows }) cells)
+      ap (λ (xs : List JobAxis). jobOutcomeBy oldRules
+      (record { mask = j .mask; asked = j .asked; axes = xs; windows = j .windows }) cells)
       (axes-still (j .asked) (j .axes) (last-clear (17, flyingRefused) oldRefusals (j .axes) c))
   by-asked (suc n) j a c = converted-outcome j cells (omega arith)
 
-  by-job : (j : Job) → decode ws ≡ job j → (a : Admission) → Comes conversionRules j a → conversionAfter ws lent a .number ≡ 0
+  by-job : (j : Job) → decode ws ≡ job j → (a : Admission) → Comes conversionRules j a
+      → conversionAfter ws lent a .number ≡ 0
       → Kept (conversionAfter ws lent a)
   unfolding outcome-by
   by-job j d a (refuses n p h k) z = absurd (h z)
@@ -170,17 +183,20 @@ module _ (r : Rules) (ws lent : List ℕ) (cells : List ℤ)
   by-decoded noMask e z = absurd (omega arith)
   by-decoded (badWord p) e z = absurd (omega arith)
   by-decoded (badLong p) e z = absurd (omega arith)
-  by-decoded (job j) e z = by-job j e (jobAdmission conversionRules j) (job-comes conversionRules conversion-numbered j) z
+  by-decoded (job j) e z =
+      by-job j e (jobAdmission conversionRules j) (job-comes conversionRules conversion-numbered j) z
 
 pub conversion-kept : ConversionKept
 conversion-kept ws lent z cells = by-decoded oldRules ws lent cells (λ j e. refl) (decode ws) refl z
 
 pub conversion-plans : ConversionPlans
-conversion-plans ws lent z cells = by-decoded planningRules ws lent cells (λ j e. outcome-same j cells e) (decode ws) refl z
+conversion-plans ws lent z cells =
+    by-decoded planningRules ws lent cells (λ j e. outcome-same j cells e) (decode ws) refl z
 
 -- ---- what each number says of the words
 
 pub conversion-verdict : (ws lent : List ℕ) → ConversionVerdict ws lent (conversion ws lent)
 conversion-verdict ws lent =
-    after-admission conversionRules (conversionAfter ws lent) (λ c n p. c ≡ unconverted n p lent) (λ c j. c ≡ jobConversion j ws lent) (λ n p. refl) (words ws)
+    after-admission conversionRules (conversionAfter ws lent) (λ c n p. c ≡ unconverted n p lent)
+    (λ c j. c ≡ jobConversion j ws lent) (λ n p. refl) (words ws)
     (λ j a. refl)

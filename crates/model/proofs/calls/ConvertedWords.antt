@@ -17,10 +17,13 @@ use Rattle.model.specs.declared.Weight.the-variants.{Given}
 use Rattle.model.specs.planning.Quantities.{asMoving}
 use Rattle.model.specs.planning.Job.{Job, setBits}
 use Rattle.model.specs.planning.Words.{kind, payload, twos, longPosition, longAllowed, firstBadLong}
-use Rattle.model.specs.planning.Words.{Reading, got, wrong, Reader, _>>=_, give, field, signed, next, positionBy, position, swayBy, secondSway, target, axis, axes}
-use Rattle.model.specs.planning.Words.{ending, readJob, afterMask, goodMask, Decoded, noMask, job, spelled, decided, decode}
+use Rattle.model.specs.planning.Words.{Reading, got, wrong, Reader, _>>=_, give, field, signed, next, positionBy}
+use Rattle.model.specs.planning.Words.{position, swayBy, secondSway, target, axis, axes}
+use Rattle.model.specs.planning.Words.{ending, readJob, afterMask, goodMask, Decoded, noMask, job, spelled}
+use Rattle.model.specs.planning.Words.{decided, decode}
 use Rattle.model.specs.theorems.Spelling.{word}
-use Rattle.model.specs.calls.Converter.{begins, flyingWord, converted, convertedTarget, convertedAxis, convertedAxes, convertedJob}
+use Rattle.model.specs.calls.Converter.{begins, flyingWord, converted, convertedTarget, convertedAxis}
+use Rattle.model.specs.calls.Converter.{convertedAxes, convertedJob}
 use Rattle.model.proofs.words.Readers.{before}
 use Rattle.model.proofs.words.LongWrong.{bad}
 use Rattle.model.proofs.words.PositionSpelling.{value-of, rest-of, unread, Clean, clean, clean-tail}
@@ -80,22 +83,30 @@ module _ (n : ℕ) (soon : n ≤ 4096) where
   begins-kept k [] = refl
   begins-kept k (w ∷ ws) = go (flyingWord w ws)
     where
-      go : (b : Bool) → begins k (elim b as (λ _. List ℕ) [ true ↦ w ∷ word 11 0 ∷ word 12 n ∷ conv ws | false ↦ w ∷ conv ws ]) ≡ eqb (kind w) k
+      go : (b : Bool)
+          → begins k (elim b as (λ _. List ℕ) [ true ↦ w ∷ word 11 0 ∷ word 12 n ∷ conv ws | false ↦ w ∷ conv ws ])
+          ≡ eqb (kind w) k
       go true = refl
       go false = refl
 
-  -- ---- readers of the old words and of the converted ones: h turns the value of the one into that of the other
+  -- ---- readers of the old words and of the converted ones: h turns the value of
+  -- the one into that of the other
 
   abbrev Turns : {B : Type 0} → Reader B → Reader B → (B → B) → Type 0
-  Turns {B} r s h = (i k : ℕ) (ws : List ℕ) (b : B) (j : ℕ) (vs : List ℕ) → r i ws ≡ got b j vs → (l : ℕ) × (s k (conv ws) ≡ got (h b) l (conv vs))
+  Turns {B} r s h = (i k : ℕ) (ws : List ℕ) (b : B) (j : ℕ) (vs : List ℕ) → r i ws ≡ got b j vs
+      → (l : ℕ) × (s k (conv ws) ≡ got (h b) l (conv vs))
 
-  then : {A B : Type 0} (m m' : Reader A) (g : A → A) (f f' : A → Reader B) (h : B → B) → Turns m m' g → ((a : A) → Turns (f a) (f' (g a)) h)
+  then : {A B : Type 0} (m m' : Reader A) (g : A → A) (f f' : A → Reader B) (h : B → B) → Turns m m' g
+      → ((a : A) → Turns (f a) (f' (g a)) h)
       → Turns (λ i ws. _>>=_ m f i ws) (λ i ws. _>>=_ m' f' i ws) h
   then {A} {B} m m' g f f' h t c i k ws b j vs e =
       let r = before m f i ws b j vs e in
       let q = t i k ws (r .value) (r .index) (r .rest) (r .first) in
-      let u = c (r .value) (r .index) (q .0) (r .rest) b j vs (r .then) in
-      (u .0, ap (λ (z : Reading A). elim z as (λ _. Reading B) [ got a l us ↦ f' a l us | wrong p ↦ wrong p ]) (q .1) ∙ u .1)
+      let u = c (r .value) (r .index) (q .0) (r .rest) b j vs (r .then) in (
+        u .0,
+        ap (λ (z : Reading A). elim z as (λ _. Reading B) [ got a l us ↦ f' a l us | wrong p ↦ wrong p ]) (q .1)
+            ∙ u .1,
+      )
 
   last : {B : Type 0} (b : B) (h : B → B) → Turns (give b) (give (h b)) h
   last b h i k ws o j vs e = (k, (λ l. got (h (value-of e l)) k (conv (rest-of e l))))
@@ -107,25 +118,29 @@ module _ (n : ℕ) (soon : n ≤ 4096) where
   field-turns k h i l [] b j vs e = absurd (unread e)
   field-turns k h i l (w ∷ ws) b j vs e = go (eqb (kind w) k) refl e
     where
-      go : (t : Bool) → eqb (kind w) k ≡ t → (elim t as (λ _. Reading ℕ) [ true ↦ got (payload w) (suc i) ws | false ↦ wrong i ]) ≡ got b j vs
+      go : (t : Bool) → eqb (kind w) k ≡ t
+          → (elim t as (λ _. Reading ℕ) [ true ↦ got (payload w) (suc i) ws | false ↦ wrong i ]) ≡ got b j vs
           → (q : ℕ) × (field k l (conv (w ∷ ws)) ≡ got b q (conv vs))
       go true t e =
           let other = other-kind w ws (λ z. h (sym (eqb-true (kind w) k t) ∙ z)) in (
             suc l,
             ap (field k l) (copied w ws other)
-                ∙ ap (λ (t : Bool). elim t as (λ _. Reading ℕ) [ true ↦ got (payload w) (suc l) (conv ws) | false ↦ wrong l ]) t
+                ∙ ap (λ (t : Bool). elim t as
+                (λ _. Reading ℕ) [ true ↦ got (payload w) (suc l) (conv ws) | false ↦ wrong l ]) t
                 ∙ (λ q. got (value-of e q) (suc l) (conv (rest-of e q))),
           )
       go false t e = absurd (unread e)
 
   signed-turns : (k : ℕ) → (k ≡ 10 → ⊥) → Turns (signed k) (signed k) id
-  signed-turns k h = then (field k) (field k) id (λ a. give (twos a)) (λ a. give (twos a)) id (field-turns k h) (λ a. last (twos a) id)
+  signed-turns k h = then (field k) (field k) id (λ a. give (twos a)) (λ a. give (twos a)) id
+      (field-turns k h) (λ a. last (twos a) id)
 
   next-turns : (k : ℕ) → Turns (next k) (next k) id
   next-turns k i l ws b j vs e =
       let q = sym (next-is k i ws) ∙ e in (
         l,
-        next-is k l (conv ws) ∙ ap (λ (t : Bool). got t l (conv ws)) (begins-kept k ws) ∙ (λ z. got (value-of q z) l (conv (rest-of q z))),
+        next-is k l (conv ws) ∙ ap (λ (t : Bool). got t l (conv ws)) (begins-kept k ws)
+            ∙ (λ z. got (value-of q z) l (conv (rest-of q z))),
       )
 
   position-turns : (k : ℕ) → (k ≡ 10 → ⊥) → Turns (position k) (position k) id
@@ -141,7 +156,8 @@ module _ (n : ℕ) (soon : n ≤ 4096) where
   sway-turns = then (next 13) (next 13) id _ _ id (next-turns 13) by-name
     where
       by-name : (b : Bool) → Turns (swayBy b) (swayBy b) id
-      by-name true = then (field 13) (field 13) id _ _ id (field-turns 13 (λ e. omega arith)) (λ d. last (HalfPeriod d) id)
+      by-name true = then (field 13) (field 13) id _ _ id
+          (field-turns 13 (λ e. omega arith)) (λ d. last (HalfPeriod d) id)
       by-name false = last Absent id
 
   -- ---- the velocity of a target and what follows it
@@ -149,16 +165,19 @@ module _ (n : ℕ) (soon : n ≤ 4096) where
   -- a signed field at a word that is there
   signed-yes : (k i w : ℕ) (ws : List ℕ) → kind w ≡ k → signed k i (w ∷ ws) ≡ got (twos (payload w)) (suc i) ws
   signed-yes k i w ws e =
-      ap (λ (b : Bool). on-twos (elim b as (λ _. Reading ℕ) [ true ↦ got (payload w) (suc i) ws | false ↦ wrong i ])) (eq-eqb (kind w) k e)
+      ap (λ (b : Bool). on-twos (elim b as (λ _. Reading ℕ) [ true ↦ got (payload w) (suc i) ws | false ↦ wrong i ]))
+      (eq-eqb (kind w) k e)
     where
       on-twos : Reading ℕ → Reading ℤ
       on-twos r = elim r [ got a j vs ↦ got (twos a) j vs | wrong p ↦ wrong p ]
 
   kind-read : (k i w : ℕ) (ws : List ℕ) (z : ℤ) (j : ℕ) (vs : List ℕ) → signed k i (w ∷ ws) ≡ got z j vs → kind w ≡ k
-  kind-read k i w ws z j vs e = go (eqb (kind w) k) (eqb-true (kind w) k) (before (field k) (λ a. give (twos a)) i (w ∷ ws) z j vs e .first)
+  kind-read k i w ws z j vs e =
+      go (eqb (kind w) k) (eqb-true (kind w) k) (before (field k) (λ a. give (twos a)) i (w ∷ ws) z j vs e .first)
     where
       go : {a l : ℕ} {us : List ℕ} (b : Bool) → (b ≡ true → kind w ≡ k)
-          → (elim b as (λ _. Reading ℕ) [ true ↦ got (payload w) (suc i) ws | false ↦ wrong i ]) ≡ got a l us → kind w ≡ k
+          → (elim b as (λ _. Reading ℕ) [ true ↦ got (payload w) (suc i) ws | false ↦ wrong i ])
+          ≡ got a l us → kind w ≡ k
       go true f e = f refl
       go false f e = absurd (unread e)
 
@@ -188,7 +207,8 @@ module _ (n : ℕ) (soon : n ≤ 4096) where
       tick : twos (payload (word 12 n)) ≡ pos n
       tick =
           ap (λ (m : ℕ). twos m) same
-          ∙ ap (λ (b : Bool). elim b as (λ _. ℤ) [ true ↦ pos n | false ↦ negℤ (pos (2 ^ 28 - n)) ]) (lt-ltb n (2 ^ 27) (omega (arith, soon)))
+          ∙ ap (λ (b : Bool). elim b as (λ _. ℤ) [ true ↦ pos n | false ↦ negℤ (pos (2 ^ 28 - n)) ])
+          (lt-ltb n (2 ^ 27) (omega (arith, soon)))
 
   module _ (X : Target → Axis) (X-is : (g : Target) → X (convertedTarget n g) ≡ convertedAxis n (X g)) (p : ℤ) where
     -- from the velocity on
@@ -201,7 +221,8 @@ module _ (n : ℕ) (soon : n ≤ 4096) where
     to-is : (v : ℤ) (i : ℕ) (ws : List ℕ) → to v i ws ≡ by-kind (begins 11 ws) v i ws
     unfolding to by-kind
     to-is v i ws =
-        ap (λ (r : Reading Bool). elim r as (λ _. Reading Axis) [ got b j vs ↦ _>>=_ (target b p v) (λ g. give (X g)) j vs | wrong q ↦ wrong q ])
+        ap (λ (r : Reading Bool). elim r as
+        (λ _. Reading Axis) [ got b j vs ↦ _>>=_ (target b p v) (λ g. give (X g)) j vs | wrong q ↦ wrong q ])
         (next-is 11 i ws)
 
     give-turns : (g : Target) → Turns (give (X g)) (give (X (convertedTarget n g))) (convertedAxis n)
@@ -212,7 +233,8 @@ module _ (n : ℕ) (soon : n ≤ 4096) where
     moving-turns : (v : ℤ) → Turns (by-kind true v) (by-kind true v) (convertedAxis n)
     unfolding by-kind
     moving-turns v =
-        then (target true p v) (target true p v) (convertedTarget n) (λ g. give (X g)) (λ g. give (X g)) (convertedAxis n)
+        then (target true p v) (target true p v) (convertedTarget n) (λ g. give (X g))
+        (λ g. give (X g)) (convertedAxis n)
         (target-turns true p v refl) give-turns
 
     -- the velocity of w, before the words vs
@@ -224,12 +246,14 @@ module _ (n : ℕ) (soon : n ≤ 4096) where
         on-to r = elim r [ got v l vs ↦ to v l vs | wrong q ↦ wrong q ]
 
     fixed-read : (w : ℕ) (us : List ℕ) (i : ℕ)
-        → got (X (Fixed (record { position = p; velocity = twos (payload w) }))) i us ≡ by-kind false (twos (payload w)) i us
+        → got (X (Fixed (record { position = p; velocity = twos (payload w) }))) i us
+        ≡ by-kind false (twos (payload w)) i us
     unfolding by-kind
     fixed-read w us i = refl
 
     -- a fixed target with the velocity of the word w, before the words us
-    module _ (w : ℕ) (us : List ℕ) (i k : ℕ) (x : Axis) (j : ℕ) (vs : List ℕ) (t : kind w ≡ 10) (b : begins 11 us ≡ false)
+    module _ (w : ℕ) (us : List ℕ) (i k : ℕ) (x : Axis) (j : ℕ) (vs : List ℕ)
+        (t : kind w ≡ 10) (b : begins 11 us ≡ false)
         (q : got (X (Fixed (record { position = p; velocity = twos (payload w) }))) i us ≡ got x j vs) where
       abbrev v : ℤ
       v = twos (payload w)
@@ -245,7 +269,8 @@ module _ (n : ℕ) (soon : n ≤ 4096) where
       unfolding by
       turned-to z e = sym (ap by (ap not (twos-zero (payload w) (omega arith)) ∙ ap not e))
 
-      ended : (z : Bool) → eqb (payload w) 0 ≡ z → (l : ℕ) → got (X (by (not z))) l (conv us) ≡ got (convertedAxis n x) l (conv vs)
+      ended : (z : Bool) → eqb (payload w) 0 ≡ z → (l : ℕ)
+          → got (X (by (not z))) l (conv us) ≡ got (convertedAxis n x) l (conv vs)
       ended z e l =
           ap (λ (g : Target). got (X g) l (conv us)) (turned-to z e)
           ∙ ap (λ (y : Axis). got y l (conv us)) (X-is (Fixed r))
@@ -254,7 +279,8 @@ module _ (n : ℕ) (soon : n ≤ 4096) where
       on-target : Reading Target → Reading Axis
       on-target z = elim z [ got g l ws ↦ got (X g) l ws | wrong m ↦ wrong m ]
 
-      fixed-turns : (z : Bool) → eqb (payload w) 0 ≡ z → (l : ℕ) × (_>>=_ (signed 10) to k (conv (w ∷ us)) ≡ got (convertedAxis n x) l (conv vs))
+      fixed-turns : (z : Bool) → eqb (payload w) 0 ≡ z
+          → (l : ℕ) × (_>>=_ (signed 10) to k (conv (w ∷ us)) ≡ got (convertedAxis n x) l (conv vs))
       unfolding by-kind by on-target
       fixed-turns true e = (
         suc k,
@@ -277,20 +303,23 @@ module _ (n : ℕ) (soon : n ≤ 4096) where
           flying : flyingWord w us ≡ true
           flying = (λ m. eq-eqb (kind w) 10 t m && (not (e m) && not (b m)))
 
-    by-next : (w : ℕ) (us : List ℕ) (i k : ℕ) (x : Axis) (j : ℕ) (vs : List ℕ) → kind w ≡ 10 → (b : Bool) → begins 11 us ≡ b
+    by-next : (w : ℕ) (us : List ℕ) (i k : ℕ) (x : Axis) (j : ℕ) (vs : List ℕ) → kind w ≡ 10
+        → (b : Bool) → begins 11 us ≡ b
         → by-kind b (twos (payload w)) (suc i) us ≡ got x j vs
         → (l : ℕ) × (_>>=_ (signed 10) to k (conv (w ∷ us)) ≡ got (convertedAxis n x) l (conv vs))
     by-next w us i k x j vs t true e q =
         let m = moving-turns (twos (payload w)) (suc i) (suc k) us x j vs q in
         let still : flyingWord w us ≡ false =
-        ap (λ (c : Bool). eqb (kind w) 10 && (not (eqb (payload w) 0) && not c)) e ∙ and-none (eqb (kind w) 10) (not (eqb (payload w) 0)) in (
+        ap (λ (c : Bool). eqb (kind w) 10 && (not (eqb (payload w) 0) && not c)) e
+        ∙ and-none (eqb (kind w) 10) (not (eqb (payload w) 0)) in (
           m .0,
           read-on w us (conv us) k t (copied w us still)
               ∙ to-is (twos (payload w)) (suc k) (conv us)
               ∙ ap (λ (c : Bool). by-kind c (twos (payload w)) (suc k) (conv us)) (begins-kept 11 us ∙ e)
               ∙ m .1,
         )
-    by-next w us i k x j vs t false e q = fixed-turns w us (suc i) k x j vs t e (fixed-read w us (suc i) ∙ q) (eqb (payload w) 0) refl
+    by-next w us i k x j vs t false e q =
+        fixed-turns w us (suc i) k x j vs t e (fixed-read w us (suc i) ∙ q) (eqb (payload w) 0) refl
 
     velocity-turns : Turns (λ i ws. _>>=_ (signed 10) to i ws) (λ i ws. _>>=_ (signed 10) to i ws) (convertedAxis n)
     velocity-turns i k [] x j vs e = absurd (unread e)
@@ -383,7 +412,8 @@ module _ (n : ℕ) (soon : n ≤ 4096) where
   before-conv w [] b = tt
   before-conv w (u ∷ ws) b = go (flyingWord u ws)
     where
-      go : (t : Bool) → Before w (elim t as (λ _. List ℕ) [ true ↦ u ∷ word 11 0 ∷ word 12 n ∷ conv ws | false ↦ u ∷ conv ws ])
+      go : (t : Bool)
+          → Before w (elim t as (λ _. List ℕ) [ true ↦ u ∷ word 11 0 ∷ word 12 n ∷ conv ws | false ↦ u ∷ conv ws ])
       go true = b
       go false = b
 
@@ -405,7 +435,8 @@ module _ (n : ℕ) (soon : n ≤ 4096) where
       go : (b : Bool) → flyingWord w ws ≡ b → Clean (conv ws) → Clean (conv (w ∷ ws))
       go true t h =
           subst Clean (sym (flown w ws t))
-          (clean-cons w (word 11 0 ∷ word 12 n ∷ conv ws) (not-14 w (word 11 0 ∷ word 12 n ∷ conv ws) (λ e. let k = flying-kind w ws t in omega arith))
+          (clean-cons w (word 11 0 ∷ word 12 n ∷ conv ws)
+          (not-14 w (word 11 0 ∷ word 12 n ∷ conv ws) (λ e. let k = flying-kind w ws t in omega arith))
           (clean-cons (word 11 0) (word 12 n ∷ conv ws) refl
           (clean-cons (word 12 n) (conv ws) (not-14 (word 12 n) (conv ws) (λ e. omega (arith, soon))) h)))
       go false t h = subst Clean (sym (copied w ws t)) (clean-cons w (conv ws) (before-conv w ws (clean-head w ws c)) h)
@@ -414,7 +445,8 @@ module _ (n : ℕ) (soon : n ≤ 4096) where
   none-named i [] c = refl
   none-named i (w ∷ []) c = refl
   none-named i (w ∷ u ∷ ws) c =
-      ap (λ (b : Bool). elim b as (λ _. Option ℕ) [ true ↦ some i | false ↦ firstBadLong (suc i) (u ∷ ws) ]) (c .0) ∙ none-named (suc i) (u ∷ ws) (c .1)
+      ap (λ (b : Bool). elim b as (λ _. Option ℕ) [ true ↦ some i | false ↦ firstBadLong (suc i) (u ∷ ws) ]) (c .0)
+      ∙ none-named (suc i) (u ∷ ws) (c .1)
 
   decoded : (ws : List ℕ) (j : Job) → decode ws ≡ job j → decode (conv ws) ≡ job (turned j)
   decoded [] j e = absurd (let z : _≡_ {A = ℕ} 0 1 = cc in omega arith)
@@ -424,25 +456,30 @@ module _ (n : ℕ) (soon : n ≤ 4096) where
       by-long (some p) i e = absurd (let z : _≡_ {A = ℕ} 0 1 = cc in omega arith)
       by-long none i e = (refl, cc)
 
-      by-reading : kind w ≡ 1 → goodMask (payload w) ≡ true → (r : Reading Job) → afterMask (payload w) 1 ws ≡ r → decided (w ∷ ws) r ≡ job j
+      by-reading : kind w ≡ 1 → goodMask (payload w) ≡ true → (r : Reading Job)
+          → afterMask (payload w) 1 ws ≡ r → decided (w ∷ ws) r ≡ job j
           → decode (conv (w ∷ ws)) ≡ job (turned j)
       by-reading t m (got o i vs) q e =
           let s = by-long (firstBadLong 0 (w ∷ ws)) o e in
           let same : conv (w ∷ ws) ≡ w ∷ conv ws = copied w ws (other-kind w ws (λ z. omega arith)) in
           let read = job-turns (payload w) 1 1 ws o i vs q in
-          let passes : firstBadLong 0 (w ∷ conv ws) ≡ none = none-named 0 (w ∷ conv ws) (subst Clean same (clean-conv (w ∷ ws) (clean 0 (w ∷ ws) (s .0)))) in
+          let passes : firstBadLong 0 (w ∷ conv ws) ≡ none =
+          none-named 0 (w ∷ conv ws) (subst Clean same (clean-conv (w ∷ ws) (clean 0 (w ∷ ws) (s .0)))) in
           ap decode same
-          ∙ (λ l. elim (eq-eqb (kind w) 1 t l && m l) as (λ _. Decoded) [ true ↦ decided (w ∷ conv ws) (read .1 l) | false ↦ noMask ])
+          ∙ (λ l. elim (eq-eqb (kind w) 1 t l && m l) as
+          (λ _. Decoded) [ true ↦ decided (w ∷ conv ws) (read .1 l) | false ↦ noMask ])
           ∙ ap (λ (f : Option ℕ). spelled f (turned o)) passes
           ∙ ap (λ (z : Job). job (turned z)) (s .1)
       by-reading t m (wrong p) q e = absurd (let z : _≡_ {A = ℕ} 0 1 = cc in omega arith)
 
       go : (a b : Bool) → eqb (kind w) 1 ≡ a → goodMask (payload w) ≡ b
-          → (elim (a && b) as (λ _. Decoded) [ true ↦ decided (w ∷ ws) (afterMask (payload w) 1 ws) | false ↦ noMask ]) ≡ job j
+          → (elim (a && b) as (λ _. Decoded) [ true ↦ decided (w ∷ ws) (afterMask (payload w) 1 ws) | false ↦ noMask ])
+          ≡ job j
           → decode (conv (w ∷ ws)) ≡ job (turned j)
       go true true t m e = by-reading (eqb-true (kind w) 1 t) m (afterMask (payload w) 1 ws) refl e
       go true false t m e = absurd (let z : _≡_ {A = ℕ} 0 1 = cc in omega arith)
       go false b t m e = absurd (let z : _≡_ {A = ℕ} 0 1 = cc in omega arith)
 
-pub converted-words : (ws : List ℕ) (j : Job) → j .asked ≤ 4096 → decode ws ≡ job j → decode (converted (j .asked) ws) ≡ job (convertedJob j)
+pub converted-words : (ws : List ℕ) (j : Job) → j .asked ≤ 4096 → decode ws ≡ job j
+    → decode (converted (j .asked) ws) ≡ job (convertedJob j)
 converted-words ws j h e = decoded (j .asked) h ws j e

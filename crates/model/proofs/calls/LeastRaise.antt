@@ -1,4 +1,5 @@
--- The least raise of a limit: what it says (`raise-is`), and that there is none where the highest limit is not enough (`raise-missing`).
+-- The least raise of a limit: what it says (`raise-is`), and that there is none where the highest
+-- limit is not enough (`raise-missing`).
 use Prim.Native.Nat.{ℕ, zero, suc, _+_, _-_, _≤_, _<_}
 use mathlib.Core.Path.{_≡_, refl, sym, subst, _∙_}
 use mathlib.Core.Bool.{Bool, true, false, false≢true}
@@ -45,9 +46,12 @@ module _ (q : Limit) (x : Axis) (n : ℕ) (p : Passed x) where
   rises : (a b : ℕ) → limitOf q x ≤ a → a ≤ b → b ≤ highest q → test a ≡ true → test b ≡ true
   rises a b h k m e = T-true (test b) (go q (limit-passes q x p a h (omega arith)) k m (true-T e))
     where
-      go : (q : Limit) → Passed (withLimit q a x) → a ≤ b → b ≤ highest q → T (reachable (withLimit q a x) n) → T (reachable (withLimit q b x) n)
-      go Acceleration s k m = wider-decided (withLimit Acceleration a x) (speedLimit x) b (omega arith) k n (some-acceleration _ s) (speed-limit x p)
-      go Speed s k m = wider-decided (withLimit Speed a x) b (accelerationLimit x) k (omega arith) n (some-acceleration _ s) m
+      go : (q : Limit) → Passed (withLimit q a x) → a ≤ b → b ≤ highest q → T (reachable (withLimit q a x) n)
+          → T (reachable (withLimit q b x) n)
+      go Acceleration s k m = wider-decided (withLimit Acceleration a x) (speedLimit x) b (omega arith) k n
+          (some-acceleration _ s) (speed-limit x p)
+      go Speed s k m =
+          wider-decided (withLimit Speed a x) b (accelerationLimit x) k (omega arith) n (some-acceleration _ s) m
 
   -- ---- what the definition tries
 
@@ -62,7 +66,8 @@ module _ (q : Limit) (x : Axis) (n : ℕ) (p : Passed x) where
   unfolding raiseOf
   raise-missing short =
       one-result tried 1 most (leastFrom tried 1 most) none (result tried 1 most)
-      (λ i h k e. false≢true (sym short ∙ rises (limitOf q x + i) (highest q) (omega arith) (omega (arith, range)) (omega arith) e))
+      (λ i h k e. false≢true
+      (sym short ∙ rises (limitOf q x + i) (highest q) (omega arith) (omega (arith, range)) (omega arith) e))
     where
       range : limitOf q x ≤ highest q
       range = limit-range q x p
@@ -75,7 +80,8 @@ module _ (q : Limit) (x : Axis) (n : ℕ) (p : Passed x) where
   decided : (k : ℕ) → limitOf q x ≤ k → k ≤ highest q → Enough k ↔ T (test k)
   decided k a b = reach-is (withLimit q k x) n (limit-passes q x p k a b)
 
-  pub raise-is : (Reachable x n → ⊥) → RaiseIs (λ k. Reachable (withLimit q k x) n) (limitOf q x) (highest q) (raiseOf q x n)
+  pub raise-is : (Reachable x n → ⊥)
+      → RaiseIs (λ k. Reachable (withLimit q k x) n) (limitOf q x) (highest q) (raiseOf q x n)
   unfolding raiseOf
   raise-is misses = go (leastFrom tried 1 most) (result tried 1 most)
     where
@@ -92,7 +98,8 @@ module _ (q : Limit) (x : Axis) (n : ℕ) (p : Passed x) where
       no-test : (i : ℕ) → limitOf q x + i ≤ highest q → (tried i ≡ true → ⊥) → Enough (limitOf q x + i) → ⊥
       no-test i h f e = f (T-true (tried i) (decided (limitOf q x + i) (omega arith) h .0 e))
 
-      go : (o : Option ℕ) → Result tried 1 most o → RaiseIs (λ k. Reachable (withLimit q k x) n) (limitOf q x) (highest q) o
+      go : (o : Option ℕ) → Result tried 1 most o
+          → RaiseIs (λ k. Reachable (withLimit q k x) n) (limitOf q x) (highest q) o
       go none f = no-raise nowhere
         where
           nowhere : (i : ℕ) → limitOf q x + i ≤ highest q → Enough (limitOf q x + i) → ⊥
@@ -100,7 +107,8 @@ module _ (q : Limit) (x : Axis) (n : ℕ) (p : Passed x) where
           nowhere (suc i) h = no-test (suc i) h (f (suc i) (omega arith) (omega arith))
       go (some r) f =
           let within : limitOf q x + r ≤ highest q = omega (arith, range, f .last) in
-          raise r (f .first) within (decided (limitOf q x + r) (omega arith) within .1 (true-T (f .passes))) (below within)
+          raise r (f .first) within
+          (decided (limitOf q x + r) (omega arith) within .1 (true-T (f .passes))) (below within)
         where
           below : limitOf q x + r ≤ highest q → (i : ℕ) → i < r → Enough (limitOf q x + i) → ⊥
           below w zero h = short 0 refl

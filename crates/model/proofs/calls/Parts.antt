@@ -1,5 +1,6 @@
--- A part of a table: its rows are the table's, and it is accepted where the table is: `parts-hold`. Parts one after the other are the table:
--- `parts-make-the-table`. And what is known of the axes of a job that is accepted.
+-- A part of a table: its rows are the table's, and it is accepted where the table is:
+-- `parts-hold`. Parts one after the other are the table: `parts-make-the-table`. And what is
+-- known of the axes of a job that is accepted.
 use Prim.Native.Nat.{ℕ, zero, suc, _+_, _-_, _*_, _≤_, _<_}
 use mathlib.Core.Path.{_≡_, refl, sym, ap, subst, _∙_}
 use mathlib.Core.Bool.{true}
@@ -18,12 +19,15 @@ use Rattle.model.specs.declared.Order.the-variants.{Forwards}
 use Rattle.model.specs.planning.Rows.{plannedAxis, cells, row, tabulate, table, part}
 use Rattle.model.specs.planning.Job.{Job, jobOf, axesOf}
 use Rattle.model.specs.planning.Refusals.{AllPassed}
-use Rattle.model.specs.planning.Outcome.{Outcome, Input, words, typed, call, inputJob, inputAxes, cellsNeeded, allReach, answerOf}
-use Rattle.model.specs.theorems.Verdict.{Verdict, refused3, refused4, refused12, refused5, refused15, refused6, refused16, refused17}
+use Rattle.model.specs.planning.Outcome.{Outcome, Input, words, typed, call, inputJob, inputAxes, cellsNeeded}
+use Rattle.model.specs.planning.Outcome.{allReach, answerOf}
+use Rattle.model.specs.theorems.Verdict.{Verdict, refused3, refused4, refused12, refused5, refused15, refused6}
+use Rattle.model.specs.theorems.Verdict.{refused16, refused17}
 use Rattle.model.specs.theorems.Verdict.{refused13, refused8, refused9, refused10, accepted}
 use Rattle.model.specs.theorems.Verdict.{CallVerdict, words1, words2, words14, wordsJob, typed1, typedJobs}
 use Rattle.model.specs.planning.Demand.{Demand3}
-use Rattle.model.specs.calls.Parts.{partRows, PartOutcome, partAccepted, partCall, PartOf, PartsHold, nextRow, partsWritten, PartsMakeTheTable}
+use Rattle.model.specs.calls.Parts.{partRows, PartOutcome, partAccepted, partCall, PartOf, PartsHold, nextRow}
+use Rattle.model.specs.calls.Parts.{partsWritten, PartsMakeTheTable}
 use Rattle.model.proofs.tables.CellPlaces.{rows-length, blocks-length}
 use Rattle.model.proofs.jobs.Verdict.{reach-all}
 use Rattle.model.proofs.words.WordsAre.{job-spelled}
@@ -44,10 +48,13 @@ module _ (b : ℕ) (f : ℕ → List ℤ) (even : (k : ℕ) → length (f k) ≡
       λ i. blocks (e i) (g i)
   parted j (suc a) c =
       ap (blocks j) {x = suc a + c} {y = suc (a + c)} (omega arith)
-      ∙ ap (λ (l : List ℤ). f j ++ l) (parted (suc j) a c ∙ ap (λ (i : ℕ). blocks (suc j) a ++ blocks i c) {x = suc j + a} {y = j + suc a} (omega arith))
+      ∙ ap (λ (l : List ℤ). f j ++ l)
+      (parted (suc j) a c
+      ∙ ap (λ (i : ℕ). blocks (suc j) a ++ blocks i c) {x = suc j + a} {y = j + suc a} (omega arith))
       ∙ sym (append-assoc (f j) (blocks (suc j) a) (blocks (j + suc a) c))
 
-  taken : (k c n : ℕ) (rest : List ℤ) → k + c ≤ n → take (b * c) (drop (b * k) (flatten (tabulate f 0 n) ++ rest)) ≡ flatten (tabulate f k c)
+  taken : (k c n : ℕ) (rest : List ℤ) → k + c ≤ n
+      → take (b * c) (drop (b * k) (flatten (tabulate f 0 n) ++ rest)) ≡ flatten (tabulate f k c)
   unfolding blocks
   taken k c n rest h =
       ap (λ (l : List ℤ). take (b * c) (drop (b * k) (l ++ rest))) all
@@ -81,14 +88,17 @@ module _ (b : ℕ) (f : ℕ → List ℤ) (even : (k : ℕ) → length (f k) ≡
 pub record Accepted (j : Job) (lent : List ℤ) (o : Outcome) : Type 0 where
   pub passed : AllPassed (j .axes)
   pub reach : allReach (j .axes) (o .arrival) ≡ true
-  pub cells : o .cells ≡ table Forwards (axesOf j) (o .arrival) ++ drop (cellsNeeded (length (axesOf j)) (o .arrival)) lent
+  pub cells : o .cells ≡ table Forwards (axesOf j) (o .arrival)
+      ++ drop (cellsNeeded (length (axesOf j)) (o .arrival)) lent
 
 by-verdict : (j : Job) (lent : List ℤ) (o : Outcome) → Verdict Forwards j lent o → o .number ≡ 0 → Accepted j lent o
 by-verdict j lent o (accepted n p w a room e) z =
     record {
       passed = p;
-      reach = subst (λ (m : ℕ). allReach (j .axes) m ≡ true) (sym (e .arrival)) (T-true _ (reach-all (j .axes) n p (a .arrives .reached)));
-      cells = e .cells ∙ ap (λ (m : ℕ). table Forwards (axesOf j) m ++ drop (cellsNeeded (length (axesOf j)) m) lent) (sym (e .arrival));
+      reach = subst (λ (m : ℕ). allReach (j .axes) m ≡ true) (sym (e .arrival))
+          (T-true _ (reach-all (j .axes) n p (a .arrives .reached)));
+      cells = e .cells ∙ ap
+          (λ (m : ℕ). table Forwards (axesOf j) m ++ drop (cellsNeeded (length (axesOf j)) m) lent) (sym (e .arrival));
     }
 by-verdict j lent o (refused3 a e) z = absurd (let n = e .number in omega arith)
 by-verdict j lent o (refused4 i a b e) z = absurd (let n = e .number in omega arith)
@@ -108,11 +118,13 @@ abbrev pub MaskAllowed : Input → Type 0
 MaskAllowed (words ws) = Unit
 MaskAllowed (typed t) = (1 ≤ t .mask) × (t .mask ≤ 63)
 
-by-call : (q : Input) (lent : List ℤ) (o : Outcome) → CallVerdict Forwards lent o q → o .number ≡ 0 → MaskAllowed q × Accepted (inputJob q) lent o
+by-call : (q : Input) (lent : List ℤ) (o : Outcome) → CallVerdict Forwards lent o q → o .number ≡ 0
+    → MaskAllowed q × Accepted (inputJob q) lent o
 by-call q lent o (words1 ws a e) z = absurd (let n = e .number in omega arith)
 by-call q lent o (words2 ws p a e) z = absurd (let n = e .number in omega arith)
 by-call q lent o (words14 ws p a e) z = absurd (let n = e .number in omega arith)
-by-call q lent o (wordsJob ws j a v) z = (tt, subst (λ (i : Job). Accepted i lent o) (sym (job-spelled ws j a)) (by-verdict j lent o v z))
+by-call q lent o (wordsJob ws j a v) z =
+    (tt, subst (λ (i : Job). Accepted i lent o) (sym (job-spelled ws j a)) (by-verdict j lent o v z))
 by-call q lent o (typed1 t a e) z = absurd (let n = e .number in omega arith)
 by-call q lent o (typedJobs t a b v) z = ((a, b), by-verdict (jobOf t) lent o v z)
 
@@ -160,22 +172,26 @@ module _ (q : Input) (z : answerOf q .number ≡ 0) where
   f i = row (map (plannedAxis n) xs) i
 
   even : (i : ℕ) → length (f i) ≡ b
-  even i = blocks-length 3 (cells i) (λ t. refl) (map (plannedAxis n) xs) ∙ ap (λ (l : ℕ). 3 * l) (length-map xs (plannedAxis n))
+  even i = blocks-length 3 (cells i) (λ t. refl) (map (plannedAxis n) xs)
+      ∙ ap (λ (l : ℕ). 3 * l) (length-map xs (plannedAxis n))
 
   -- how many rows a part has
   abbrev count : ℕ → List ℤ → ℕ
   count k lent = partRows (length xs) n k (length lent)
 
   -- the rows of a part
-  part-taken : (k : ℕ) (lent : List ℤ) → take (b * count k lent) (partAccepted (answerOf q) xs k lent .cells) ≡ part Forwards xs n k (count k lent)
+  part-taken : (k : ℕ) (lent : List ℤ)
+      → take (b * count k lent) (partAccepted (answerOf q) xs k lent .cells) ≡ part Forwards xs n k (count k lent)
   part-taken k lent =
       let c = count k lent in
       let some = part Forwards xs n k c in
-      ap (λ (m : ℕ). take m (some ++ drop (b * c) lent)) (sym (rows-length b f even k c)) ∙ take-append-seam some (drop (b * c) lent)
+      ap (λ (m : ℕ). take m (some ++ drop (b * c) lent)) (sym (rows-length b f even k c))
+      ∙ take-append-seam some (drop (b * c) lent)
 
   -- the call for all rows, with a table that has room
   module _ (whole : List ℤ) (room : cellsNeeded (length xs) n ≤ length whole) where
-    is-accepted : (call q whole .number ≡ 0) × ((call q whole .arrival ≡ n) × Demand3 Forwards xs n (call q whole .cells))
+    is-accepted : (call q whole .number ≡ 0)
+        × ((call q whole .arrival ≡ n) × Demand3 Forwards xs n (call q whole .cells))
     is-accepted = job-accepted q whole z room
 
     all-rows : call q whole .cells ≡ flatten (tabulate f 0 (suc n)) ++ drop (cellsNeeded (length xs) n) whole
@@ -217,7 +233,8 @@ parts-hold q k lent whole z room =
     subst (λ (p : PartOutcome). PartOf q (n q z) k (p .rows) (p .cells) (call q whole)) (part-accepted q k lent z)
     (record { number = a .0; arrival = a .1 .0; demand3 = a .1 .1; rows = go (lt-or-le (suc (n q z)) k) })
   where
-    a : (call q whole .number ≡ 0) × ((call q whole .arrival ≡ n q z) × Demand3 Forwards (inputAxes q) (n q z) (call q whole .cells))
+    a : (call q whole .number ≡ 0)
+        × ((call q whole .arrival ≡ n q z) × Demand3 Forwards (inputAxes q) (n q z) (call q whole .cells))
     a = is-accepted q z whole room
 
     c : ℕ
@@ -227,15 +244,18 @@ parts-hold q k lent whole z room =
     none m l l′ e = ap (λ (i : ℕ). take i l) e ∙ sym (ap (λ (i : ℕ). take i l′) e)
 
     go : (suc (n q z) < k) ⊎ (k ≤ suc (n q z))
-        → take (b q z * c) (partAccepted (answerOf q) (inputAxes q) k lent .cells) ≡ take (b q z * c) (drop (b q z * k) (call q whole .cells))
+        → take (b q z * c) (partAccepted (answerOf q) (inputAxes q) k lent .cells)
+        ≡ take (b q z * c) (drop (b q z * k) (call q whole .cells))
     go (inl h) = let e : c ≡ 0 = omega arith in none (b q z * c) _ _ (ap (λ (i : ℕ). b q z * i) e ∙ mul-zero (b q z))
     go (inr h) =
         part-taken q z k lent
-        ∙ sym (taken (b q z) (f q z) (even q z) k c (suc (n q z)) (drop (cellsNeeded (length (inputAxes q)) (n q z)) whole) (omega arith))
+        ∙ sym (taken (b q z) (f q z) (even q z) k c (suc (n q z))
+        (drop (cellsNeeded (length (inputAxes q)) (n q z)) whole) (omega arith))
         ∙ ap (λ (l : List ℤ). take (b q z * c) (drop (b q z * k) l)) (sym (all-rows q z whole room))
 
 pub parts-make-the-table : PartsMakeTheTable
-parts-make-the-table q lents whole z end long = (same, subst (Demand3 Forwards (inputAxes q) (n q z)) (sym same) (is-accepted q z whole room .1 .1))
+parts-make-the-table q lents whole z end long =
+    (same, subst (Demand3 Forwards (inputAxes q) (n q z)) (sym same) (is-accepted q z whole room .1 .1))
   where
     room : cellsNeeded (length (inputAxes q)) (n q z) ≤ length whole
     room = omega (arith, long)
@@ -251,5 +271,6 @@ parts-make-the-table q lents whole z end long = (same, subst (Demand3 Forwards (
         all .1 .cells
         ∙ ap (part Forwards (inputAxes q) (n q z) 0) every
         ∙ sym (append-nil (table Forwards (inputAxes q) (n q z)))
-        ∙ ap (λ (l : List ℤ). table Forwards (inputAxes q) (n q z) ++ l) (sym (drop-of-length-le whole {i = cellsNeeded (length (inputAxes q)) (n q z)} (omega (arith, long))))
+        ∙ ap (λ (l : List ℤ). table Forwards (inputAxes q) (n q z) ++ l)
+        (sym (drop-of-length-le whole {i = cellsNeeded (length (inputAxes q)) (n q z)} (omega (arith, long))))
         ∙ sym (all-rows q z whole room)

@@ -27,10 +27,13 @@ use Rattle.model.specs.planning.Job.{Job, JobAxis, setAxes, jobOf, bit}
 use Rattle.model.specs.planning.Refusals.{AllPassed, Passed}
 use Rattle.model.specs.planning.Outcome.{Outcome, Input, typed, inputJob, call, beforeTen, answerOf}
 use Rattle.model.specs.theorems.Verdict.{Among, Names, Refuses, Verdict, CallVerdict, typed1, typedJobs}
-use Rattle.model.specs.theorems.Verdict.{refused3, refused4, refused12, refused5, refused15, refused6, refused16, refused17}
+use Rattle.model.specs.theorems.Verdict.{refused3, refused4, refused12, refused5, refused15, refused6, refused16}
+use Rattle.model.specs.theorems.Verdict.{refused17}
 use Rattle.model.specs.theorems.Verdict.{refused13, refused8, refused9, refused10, accepted}
-use Rattle.model.specs.calls.Raises.{limitOf, highest, withLimit, raiseOf, noRaises, inOrder, raisesOf, raisesFrom, noneRaised, raisesWith, raisesCall}
-use Rattle.model.specs.calls.Raises.{RaiseIs, reported, Ordered, neither, acceleration, speed, acceleration-first, speed-first}
+use Rattle.model.specs.calls.Raises.{limitOf, highest, withLimit, raiseOf, noRaises, inOrder, raisesOf}
+use Rattle.model.specs.calls.Raises.{raisesFrom, noneRaised, raisesWith, raisesCall}
+use Rattle.model.specs.calls.Raises.{RaiseIs, reported, Ordered, neither, acceleration, speed, acceleration-first}
+use Rattle.model.specs.calls.Raises.{speed-first}
 use Rattle.model.specs.calls.Raises.{RaisesSay, Named, RaisesHold, RaisesVerdict, refuseRaises, RaisesCallVerdict}
 use Rattle.model.proofs.jobs.Masks.{Ascends}
 use Rattle.model.proofs.jobs.Verdict.{first-among, later-among, passed-among, reach-is}
@@ -82,7 +85,8 @@ reported-is q (some m) (some l) = go q (leb m l)
 raises-say : (x : Axis) (n : ℕ) → Passed x → (Reachable x n → ⊥) → RaisesSay x n (raisesOf x n)
 raises-say x n p misses =
     record {
-      each = λ q. subst (RaiseIs (λ k. Reachable (withLimit q k x) n) (limitOf q x) (highest q)) (sym (own q)) (raise-is q x n p misses);
+      each = λ q. subst (RaiseIs (λ k. Reachable (withLimit q k x) n) (limitOf q x) (highest q))
+          (sym (own q)) (raise-is q x n p misses);
       ordered = ordered-is (raiseOf Acceleration x n) (raiseOf Speed x n);
     }
   where
@@ -111,7 +115,8 @@ set-below zero i m (x ∷ six) h =
 set-below (suc k) i m (x ∷ six) h =
     let next : suc i + k ≡ i + suc k = omega arith in
     let half : m / 2 < 2 ^ k = omega (arith, h, pow-suc 2 k) in
-    go (eqb (m % 2) 1) (subst (λ (c : ℕ). Below c (setAxes (suc i) (m / 2) six)) next (set-below k (suc i) (m / 2) six half))
+    go (eqb (m % 2) 1)
+    (subst (λ (c : ℕ). Below c (setAxes (suc i) (m / 2) six)) next (set-below k (suc i) (m / 2) six half))
   where
     go : (b : Bool) → Below (i + suc k) (setAxes (suc i) (m / 2) six)
         → Below (i + suc k) (elim b as (λ _. List JobAxis) [
@@ -123,7 +128,8 @@ set-below (suc k) i m (x ∷ six) h =
 
 module _ (n : ℕ) where
   abbrev after : JobAxis → List JobAxis → List AxisRaises → Bool → List AxisRaises
-  after x xs l b = elim b [ true ↦ raisesFrom n xs l | false ↦ raisesFrom n xs (set l (x .number) (raisesOf (x .axis) n)) ]
+  after x xs l b =
+      elim b [ true ↦ raisesFrom n xs l | false ↦ raisesFrom n xs (set l (x .number) (raisesOf (x .axis) n)) ]
 
   -- an entry stays where no axis that misses n has its number
   untouched : (xs : List JobAxis) (l : List AxisRaises) (i : ℕ)
@@ -132,7 +138,8 @@ module _ (n : ℕ) where
   untouched [] l i f = refl
   untouched (x ∷ xs) l i f = go (reachable (x .axis) n) refl (λ k. untouched xs k i (λ y m. f y (later-among x xs y m)))
     where
-      go : (b : Bool) → reachable (x .axis) n ≡ b → ((k : List AxisRaises) → getD (raisesFrom n xs k) i noRaises ≡ getD k i noRaises)
+      go : (b : Bool) → reachable (x .axis) n ≡ b
+          → ((k : List AxisRaises) → getD (raisesFrom n xs k) i noRaises ≡ getD k i noRaises)
           → getD (after x xs l b) i noRaises ≡ getD l i noRaises
       go true e h = h l
       go false e h =
@@ -142,10 +149,12 @@ module _ (n : ℕ) where
   ascending-later : (k : ℕ) (xs : List JobAxis) → Ascends k xs → (x : JobAxis) → Among xs x → k ≤ x .number
   ascending-later k [] a x m = absurd (none-some (m .1))
   ascending-later k (y ∷ xs) a x (zero, e) = let s : y ≡ x = cc in subst (λ (z : JobAxis). k ≤ z .number) s (a .0)
-  ascending-later k (y ∷ xs) a x (suc i, e) = let h = ascending-later (suc (y .number)) xs (a .1) x (i, e) in omega (arith, a .0)
+  ascending-later k (y ∷ xs) a x (suc i, e) = let h = ascending-later (suc (y .number)) xs (a .1) x (i, e) in
+      omega (arith, a .0)
 
   -- an axis that misses n has its raises at its number
-  at-own : (k : ℕ) (xs : List JobAxis) (l : List AxisRaises) → Ascends k xs → Below (length l) xs → (x : JobAxis) → Among xs x
+  at-own : (k : ℕ) (xs : List JobAxis) (l : List AxisRaises) → Ascends k xs
+      → Below (length l) xs → (x : JobAxis) → Among xs x
       → reachable (x .axis) n ≡ false → getD (raisesFrom n xs l) (x .number) noRaises ≡ raisesOf (x .axis) n
   at-own k [] l a b x m e = absurd (none-some (m .1))
   at-own k (y ∷ xs) l a b x (zero, s) e =
@@ -159,9 +168,12 @@ module _ (n : ℕ) where
           untouched xs (set l (y .number) (raisesOf (y .axis) n)) (y .number)
           (λ z m f q. let h = ascending-later (suc (y .number)) xs (a .1) z m in omega arith)
           ∙ getD-set-same l (y .number) (raisesOf (y .axis) n) noRaises (b .0)
-  at-own k (y ∷ xs) l a b x (suc i, s) e = go (reachable (y .axis) n) (λ r h. at-own (suc (y .number)) xs r (a .1) h x (i, s) e)
+  at-own k (y ∷ xs) l a b x (suc i, s) e =
+      go (reachable (y .axis) n) (λ r h. at-own (suc (y .number)) xs r (a .1) h x (i, s) e)
     where
-      go : (t : Bool) → ((r : List AxisRaises) → Below (length r) xs → getD (raisesFrom n xs r) (x .number) noRaises ≡ raisesOf (x .axis) n)
+      go : (t : Bool)
+          → ((r : List AxisRaises) → Below (length r) xs
+          → getD (raisesFrom n xs r) (x .number) noRaises ≡ raisesOf (x .axis) n)
           → getD (after y xs l t) (x .number) noRaises ≡ raisesOf (x .axis) n
       go true h = h l (b .1)
       go false h =
@@ -187,7 +199,11 @@ pub record Eight (j : Job) (m : ℕ) : Type 0 where
 module _ (j : Job) (o : Outcome) (e : o .number ≡ 8) where
   by-verdict : Verdict Forwards j [] o → Eight j (o .mask)
   by-verdict (refused8 m a b p w n f r) =
-      record { last = b; passed = p; names = subst (Names (λ x. Reachable x (j .asked) → ⊥) (j .axes)) (sym (r .mask)) f }
+      record {
+        last = b;
+        passed = p;
+        names = subst (Names (λ x. Reachable x (j .asked) → ⊥) (j .axes)) (sym (r .mask)) f;
+      }
   by-verdict (refused3 a r) = let z = r .number in absurd (omega arith)
   by-verdict (refused4 i a b r) = let z = r .number in absurd (omega arith)
   by-verdict (refused12 i a b c r) = let z = r .number in absurd (omega arith)
@@ -212,7 +228,8 @@ module _ (t : Typed.Job) where
       let s = same-refusal (t .mask) o 8 (λ z. omega arith) e in
       go (s .0) (s .1) (call-verdict (typed t) [])
     where
-      go : o .number ≡ 8 → o .mask ≡ answerOf (typed t) .mask → CallVerdict Forwards [] o (typed t) → Eight (jobOf t) (answerOf (typed t) .mask) × (t .mask < 64)
+      go : o .number ≡ 8 → o .mask ≡ answerOf (typed t) .mask → CallVerdict Forwards [] o (typed t)
+          → Eight (jobOf t) (answerOf (typed t) .mask) × (t .mask < 64)
       go n m (typed1 _ h r) = let z = r .number in absurd (omega arith)
       go n m (typedJobs _ h k v) = (subst (Eight (jobOf t)) m (by-verdict (jobOf t) o n v), omega arith)
 
@@ -232,19 +249,23 @@ module _ (t : Typed.Job) where
   each-named : a .number ≡ 8 → RaisesHold (jobOf t) (with-list (raisesFrom (t .asked) xs noneRaised))
   each-named number = go (eight number .0) (eight number .1)
     where
-      go : Eight (jobOf t) (a .mask) → t .mask < 64 → RaisesHold (jobOf t) (with-list (raisesFrom (t .asked) xs noneRaised))
-      go g six = record { named = named; others = λ i h. untouched (t .asked) xs noneRaised i (reached i h) ∙ none-raised i }
+      go : Eight (jobOf t) (a .mask) → t .mask < 64
+          → RaisesHold (jobOf t) (with-list (raisesFrom (t .asked) xs noneRaised))
+      go g six =
+          record { named = named; others = λ i h. untouched (t .asked) xs noneRaised i (reached i h) ∙ none-raised i }
         where
           reach : (x : JobAxis) → Among xs x → Reachable (x .axis) (t .asked) ↔ T (reachable (x .axis) (t .asked))
           reach x m = reach-is (x .axis) (t .asked) (passed-among xs (g .passed) x m)
 
           -- an axis that does not reach the asked arrival is named
-          reached : (i : ℕ) → (Named a i → ⊥) → (x : JobAxis) → Among xs x → reachable (x .axis) (t .asked) ≡ false → x .number ≡ i → ⊥
+          reached : (i : ℕ) → (Named a i → ⊥) → (x : JobAxis) → Among xs x
+              → reachable (x .axis) (t .asked) ≡ false → x .number ≡ i → ⊥
           reached i other x m e s =
               other (
                 number,
                 ap (bit (a .mask)) (sym s)
-                    ∙ g .names .each x m .1 (λ r. false≢true (sym e ∙ T-true (reachable (x .axis) (t .asked)) (reach x m .0 r))),
+                    ∙ g .names .each x m .1
+                    (λ r. false≢true (sym e ∙ T-true (reachable (x .axis) (t .asked)) (reach x m .0 r))),
               )
 
           named : (x : JobAxis) → Among xs x → Named a (x .number)
@@ -252,13 +273,16 @@ module _ (t : Typed.Job) where
           named x m h =
               let misses = g .names .each x m .0 (h .1) in
               let missed = T-false (reachable (x .axis) (t .asked)) (λ r. misses (reach x m .1 r)) in
-              let own = at-own (t .asked) 0 xs noneRaised (set-ascends 0 (t .mask) (t .axes)) (set-below 6 0 (t .mask) (t .axes) six) x m missed in
-              subst (RaisesSay (x .axis) (t .asked)) (sym own) (raises-say (x .axis) (t .asked) (passed-among xs (g .passed) x m) misses)
+              let own = at-own (t .asked) 0 xs noneRaised (set-ascends 0 (t .mask) (t .axes))
+              (set-below 6 0 (t .mask) (t .axes) six) x m missed in
+              subst (RaisesSay (x .axis) (t .asked)) (sym own)
+              (raises-say (x .axis) (t .asked) (passed-among xs (g .passed) x m) misses)
 
   pub raises-hold : RaisesHold (jobOf t) (raisesCall (typed t))
   unfolding raisesCall
   raises-hold =
-      by-bool (λ (l : List AxisRaises). RaisesHold (jobOf t) (with-list l)) (eqb (a .number) 8) _ _ (λ y. each-named (eqb→eq (a .number) 8 y))
+      by-bool (λ (l : List AxisRaises). RaisesHold (jobOf t) (with-list l)) (eqb (a .number) 8) _ _
+      (λ y. each-named (eqb→eq (a .number) 8 y))
       (λ n. no-other (λ z. subst (λ (b : Bool). T (not b)) (eq-eqb (a .number) 8 z) n))
 
 -- ---- what each number says
@@ -269,13 +293,18 @@ module _ (q : Input) (r : RaisesAnswer) (is : r ≡ raisesCall q) where
   unfolding raisesCall answerOf
   refused n p w e =
       is
-      ∙ ap (λ (a : Answer). raisesWith a (inputJob q)) (refused-answer (inputJob q .mask) (call q []) n p 0 0 [] (w .not-10) e)
+      ∙ ap (λ (a : Answer). raisesWith a (inputJob q))
+      (refused-answer (inputJob q .mask) (call q []) n p 0 0 [] (w .not-10) e)
       ∙ ap (λ (b : Bool). record {
         answer = refuseRaises n p .answer;
-        axes = elim b as (λ _. List AxisRaises) [ true ↦ raisesFrom (inputJob q .asked) (inputJob q .axes) noneRaised | false ↦ noneRaised ];
+        axes = elim b as (λ _. List AxisRaises) [
+          | true ↦ raisesFrom (inputJob q .asked) (inputJob q .axes) noneRaised
+          | false ↦ noneRaised
+        ];
       }) (ne-eqb n 8 (w .not-8))
 
-  judged : RaisesHold (inputJob q) r → (j : Job) → inputJob q ≡ j → Verdict Forwards j [] (call q []) → RaisesVerdict j r
+  judged : RaisesHold (inputJob q) r → (j : Job) → inputJob q ≡ j
+      → Verdict Forwards j [] (call q []) → RaisesVerdict j r
   unfolding raisesCall answerOf
   judged h j e v =
       record {

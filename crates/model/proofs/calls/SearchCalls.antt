@@ -1,5 +1,6 @@
--- The call of a search with a budget: what each number says of it (`search-verdict`, `call-says`), and that calls which go on from spent give what one
--- undivided call gives (`continuing`, `within-4096`).
+-- The call of a search with a budget: what each number says of it (`search-verdict`,
+-- `call-says`), and that calls which go on from spent give what one undivided call gives
+-- (`continuing`, `within-4096`).
 use Prim.Native.Nat.{ℕ, suc, _+_, _-_, _≤_, _<_}
 use native.Mathlib.Omega.{arith}
 use mathlib.Core.Path.{_≡_, refl, sym, ap, subst, _∙_}
@@ -15,10 +16,12 @@ use Rattle.model.specs.declared.Report.{Report}
 use Rattle.model.specs.declared.Report.the-variants.{Found, Spent, Nothing}
 use Rattle.model.specs.declared.SearchAnswer.{SearchAnswer}
 use Rattle.model.specs.planning.Job.{Job}
-use Rattle.model.specs.planning.Admission.{Input, inputJob, axisRefusals, Admission, tested, jobAdmission, admission}
+use Rattle.model.specs.planning.Admission.{Input, inputJob, axisRefusals, Admission, tested, jobAdmission}
+use Rattle.model.specs.planning.Admission.{admission}
 use Rattle.model.specs.planning.Outcome.{arrives, leastFrom, outcomeAfter}
 use Rattle.model.specs.theorems.Verdict.{Arrives, Passing}
-use Rattle.model.specs.calls.Search.{candidates, searchFrom, refuseSearch, searchAnswer, firstAllowed, firstChecked, asking}
+use Rattle.model.specs.calls.Search.{candidates, searchFrom, refuseSearch, searchAnswer, firstAllowed}
+use Rattle.model.specs.calls.Search.{firstChecked, asking}
 use Rattle.model.specs.calls.Search.{searchRules, searchAfter, searchCall, undivided, after, continued, callsMade}
 use Rattle.model.specs.calls.Search.{Continues, ended, goesOn, ContinuingIsUndivided, AtLeast1, EndsWithin4096}
 use Rattle.model.specs.calls.Search.{SearchSays, found, spent, nothing, Planned, SearchVerdict}
@@ -26,7 +29,8 @@ use Rattle.model.specs.calls.Search.{refusedAs, refused18, reports, Sear
 use Rattle.model.proofs.words.WordsAre.{either-said}
 use Rattle.model.proofs.jobs.WindowsInWords.{windows-right}
 use Rattle.model.proofs.jobs.CheckingOrder.{lacks, clear-passed}
-use Rattle.model.proofs.jobs.Admissions.{Way, stops, passes, ways, not-among, Numbered, Comes, refuses, goes, comes, after-admission}
+use Rattle.model.proofs.jobs.Admissions.{Way, stops, passes, ways, not-among, Numbered, Comes, refuses, goes}
+use Rattle.model.proofs.jobs.Admissions.{comes, after-admission}
 use Rattle.model.proofs.calls.Budgets.{whole, wholly, whole-search, GoesOn, either-way}
 use Rattle.model.proofs.calls.SearchSays.{search-says, planned}
 
@@ -39,7 +43,8 @@ search-numbered = record { not-0 = λ n. lacks 0 axisRefusals refl; not-10 = λ 
 first-wrong : (first : ℕ) → T (not (firstAllowed first)) → (first ≡ 0) ⊎ (4097 < first)
 first-wrong first t = go (ltb 0 first) (leb first 4097) (nltb→le 0 first) (nleb→lt first 4097) t
   where
-    go : (a b : Bool) → (T (not a) → first ≤ 0) → (T (not b) → 4097 < first) → T (not (a && b)) → (first ≡ 0) ⊎ (4097 < first)
+    go : (a b : Bool) → (T (not a) → first ≤ 0) → (T (not b) → 4097 < first) → T (not (a && b))
+        → (first ≡ 0) ⊎ (4097 < first)
     go true true f g t = absurd t
     go true false f g t = inr (g tt)
     go false b f g t = let h : first ≤ 0 = f tt in inl (omega arith)
@@ -49,7 +54,8 @@ first-right first t = let b = both (ltb 0 first) (leb first 4097) t in (ltb→lt
 
 module _ (j : Job) (first budget : ℕ) where
   -- a tick that was found can be asked for
-  can-ask : Passing (asking 0 j) → 1 ≤ first → (r : Report) (tried n : ℕ) → SearchSays j first budget r tried → r ≡ Found n → Planned j n
+  can-ask : Passing (asking 0 j) → 1 ≤ first → (r : Report) (tried n : ℕ)
+      → SearchSays j first budget r tried → r ≡ Found n → Planned j n
   can-ask p h r tried n (found k a b c d f) e =
       let s : k ≡ n = cc in
       subst (Planned j) s (planned j p k (omega arith) b d)
@@ -59,10 +65,12 @@ module _ (j : Job) (first budget : ℕ) where
   job-verdict : SearchVerdict j first budget (searchAfter first budget (jobAdmission searchRules j))
   job-verdict = go (tested axisRefusals (asking 0 j)) refl (ways axisRefusals (asking 0 j))
     where
-      go : (a : Admission) → tested axisRefusals (asking 0 j) ≡ a → Way axisRefusals (asking 0 j) a → SearchVerdict j first budget (searchAfter first budget a)
+      go : (a : Admission) → tested axisRefusals (asking 0 j) ≡ a → Way axisRefusals (asking 0 j) a
+          → SearchVerdict j first budget (searchAfter first budget a)
       go a e (stops n p o) = refusedAs n p o (λ lent. ap (outcomeAfter lent) e) refl
       go a e (passes c w) =
-          let p : Passing (asking 0 j) = record { asked = omega arith; axes = clear-passed (j .axes) c; windows = windows-right (j .windows) w } in
+          let p : Passing (asking 0 j) =
+          record { asked = omega arith; axes = clear-passed (j .axes) c; windows = windows-right (j .windows) w } in
           by-bool (SearchVerdict j first budget) (firstAllowed first) _ _
           (λ t.
           let h = first-right first t in
@@ -92,12 +100,14 @@ pub searches : (q : Input) (first budget : ℕ) → searchCall q first budget .n
 unfolding searchCall
 searches q first budget = go (admission searchRules q) refl (comes searchRules search-numbered q)
   where
-    not-18 : (j : Job) (b : Bool) → (T b → Allowed first) → (elim b as (λ _. SearchAnswer) [ true ↦ answer j first budget | false ↦ refuseSearch 18 0 ]) .number ≡ 0
+    not-18 : (j : Job) (b : Bool) → (T b → Allowed first)
+        → (elim b as (λ _. SearchAnswer) [ true ↦ answer j first budget | false ↦ refuseSearch 18 0 ]) .number ≡ 0
         → Allowed first
     not-18 j true h e = h tt
     not-18 j false h e = absurd (omega arith)
 
-    go : (a : Admission) → admission searchRules q ≡ a → Comes searchRules (inputJob q) a → searchAfter first budget a .number ≡ 0 → Searches q first
+    go : (a : Admission) → admission searchRules q ≡ a → Comes searchRules (inputJob q) a
+        → searchAfter first budget a .number ≡ 0 → Searches q first
     go a e (refuses n p h k) z = absurd (h z)
     go a e (goes h c w) z =
         record {
@@ -115,7 +125,8 @@ module _ (q : Input) (is : (f b : ℕ) → Allowed f → searchCall q f b ≡ an
   all first = searchAnswer (inputJob q .mask) (whole test first)
 
   undivided-is : (first : ℕ) → Allowed first → undivided q first ≡ all first
-  undivided-is first h = is first 4096 h ∙ ap (searchAnswer (inputJob q .mask)) (whole-search test first 4096 (omega (arith, h .0)))
+  undivided-is first h =
+      is first 4096 h ∙ ap (searchAnswer (inputJob q .mask)) (whole-search test first 4096 (omega (arith, h .0)))
 
   turn : List ℕ → SearchAnswer → SearchAnswer
   turn bs a = elim (a .report) [ Found n ↦ a | Spent next ↦ after (a .tried) (continued q bs next) | Nothing ↦ a ]
@@ -124,15 +135,18 @@ module _ (q : Input) (is : (f b : ℕ) → Allowed f → searchCall q f b ≡ an
   unfolding turn
   ends bs first = go (leastFrom test first (candidates first))
     where
-      go : (o : Option ℕ) → turn bs (searchAnswer (inputJob q .mask) (wholly first o)) ≡ searchAnswer (inputJob q .mask) (wholly first o)
+      go : (o : Option ℕ) → turn bs (searchAnswer (inputJob q .mask) (wholly first o))
+          ≡ searchAnswer (inputJob q .mask) (wholly first o)
       go (some n) = refl
       go none = refl
 
-  -- a call ends as the undivided one does; or it is spent, and the undivided one goes on from its next candidate
+  -- a call ends as the undivided one does; or it is spent, and the undivided one
+  -- goes on from its next candidate
   call-goes : (first budget : ℕ) → Allowed first → (searchCall q first budget ≡ all first) ⊎ GoesOn test first budget
   call-goes first budget h = go (either-way test first budget)
     where
-      go : (searchFrom test first budget ≡ whole test first) ⊎ GoesOn test first budget → (searchCall q first budget ≡ all first) ⊎ GoesOn test first budget
+      go : (searchFrom test first budget ≡ whole test first) ⊎ GoesOn test first budget
+          → (searchCall q first budget ≡ all first) ⊎ GoesOn test first budget
       go (inl e) = inl (is first budget h ∙ ap (searchAnswer (inputJob q .mask)) e)
       go (inr g) = inr g
 
@@ -140,7 +154,8 @@ module _ (q : Input) (is : (f b : ℕ) → Allowed f → searchCall q f b ≡ an
     pub next-allowed : Allowed (first + budget)
     next-allowed = (omega (arith, h .0), omega (arith, g .left))
 
-    spends : searchCall q first budget ≡ searchAnswer (inputJob q .mask) (record { report = Spent (first + budget); tried = budget })
+    spends : searchCall q first budget
+        ≡ searchAnswer (inputJob q .mask) (record { report = Spent (first + budget); tried = budget })
     spends = is first budget h ∙ ap (searchAnswer (inputJob q .mask)) (g .is)
 
     rest-is : undivided q first ≡ after budget (undivided q (first + budget))
@@ -157,7 +172,8 @@ module _ (q : Input) (is : (f b : ℕ) → Allowed f → searchCall q f b ≡ an
     onward : (a : SearchAnswer) → Continues q (first + budget) a → Continues q first (after budget a)
     onward a (ended e) = ended (ap (after budget) e ∙ sym rest-is)
     onward a (goesOn next l t r u) =
-        let same : budget + (a .tried + undivided q next .tried) ≡ budget + a .tried + undivided q next .tried = omega arith in
+        let same : budget + (a .tried + undivided q next .tried)
+        ≡ budget + a .tried + undivided q next .tried = omega arith in
         goesOn next l (omega arith) r
         (rest-is
         ∙ ap (after budget) u
@@ -177,17 +193,21 @@ module _ (q : Input) (is : (f b : ℕ) → Allowed f → searchCall q f b ≡ an
       go : (searchCall q first 0 ≡ all first) ⊎ GoesOn test first 0 → Continues q first (searchCall q first 0)
       go (inl e) = ended (e ∙ sym (undivided-is first h))
       go (inr g) =
-          subst (Continues q first) (sym (spends first 0 h g)) (goesOn (first + 0) (g .left) refl refl (rest-is first 0 h g))
+          subst (Continues q first) (sym (spends first 0 h g))
+          (goesOn (first + 0) (g .left) refl refl (rest-is first 0 h g))
   continues (b ∷ bs) first h = go (call-goes first b h) (λ g. continues bs (first + b) (next-allowed first b h g))
     where
       go : (searchCall q first b ≡ all first) ⊎ GoesOn test first b
-          → (GoesOn test first b → Continues q (first + b) (continued q bs (first + b))) → Continues q first (turn bs (searchCall q first b))
+          → (GoesOn test first b → Continues q (first + b) (continued q bs (first + b)))
+          → Continues q first (turn bs (searchCall q first b))
       go (inl e) ih = ended (ap (turn bs) e ∙ ends bs first ∙ sym (undivided-is first h))
       go (inr g) ih =
-          subst (Continues q first) (sym (one-more first b h g bs)) (onward first b h g (continued q bs (first + b)) (ih g))
+          subst (Continues q first) (sym (one-more first b h g bs))
+          (onward first b h g (continued q bs (first + b)) (ih g))
 
   -- as many calls as there are candidates
-  finishes : (bs : List ℕ) (first : ℕ) → Allowed first → AtLeast1 bs → candidates first ≤ length bs → continued q bs first ≡ undivided q first
+  finishes : (bs : List ℕ) (first : ℕ) → Allowed first → AtLeast1 bs → candidates first ≤ length bs
+      → continued q bs first ≡ undivided q first
   unfolding continued turn
   finishes [] first h l c = go (call-goes first 0 h)
     where
@@ -198,7 +218,8 @@ module _ (q : Input) (is : (f b : ℕ) → Allowed f → searchCall q f b ≡ an
       go (call-goes first b h) (λ g. finishes bs (first + b) (next-allowed first b h g) ls (omega arith))
     where
       go : (searchCall q first b ≡ all first) ⊎ GoesOn test first b
-          → (GoesOn test first b → continued q bs (first + b) ≡ undivided q (first + b)) → turn bs (searchCall q first b) ≡ undivided q first
+          → (GoesOn test first b → continued q bs (first + b) ≡ undivided q (first + b))
+          → turn bs (searchCall q first b) ≡ undivided q first
       go (inl e) ih = ap (turn bs) e ∙ ends bs first ∙ sym (undivided-is first h)
       go (inr g) ih = one-more first b h g bs ∙ ap (after b) (ih g) ∙ sym (rest-is first b h g)
 
@@ -241,7 +262,8 @@ within-4096 q first bs z l c =
 pub search-verdict : (q : Input) (first budget : ℕ) → SearchCallVerdict q first budget (searchCall q first budget)
 unfolding searchCall
 search-verdict q first budget =
-    after-admission searchRules (searchAfter first budget) (λ a n p. a ≡ refuseSearch n p) (λ a j. SearchVerdict j first budget a) (λ n p. refl) q
+    after-admission searchRules (searchAfter first budget) (λ a n p. a ≡ refuseSearch n p)
+    (λ a j. SearchVerdict j first budget a) (λ n p. refl) q
     (λ j i. job-verdict j first budget)
 
 -- a call with number 0: what its report says, and that a tick that it found can be asked for
@@ -249,22 +271,28 @@ pub record CallSays (j : Job) (first budget : ℕ) (a : SearchAnswer) : Type 0 w
   pub says : SearchSays j first budget (a .report) (a .tried)
   pub asked : (n : ℕ) → a .report ≡ Found n → Planned j n
 
-job-says : (j : Job) (first budget : ℕ) (a : SearchAnswer) → a .number ≡ 0 → SearchVerdict j first budget a → CallSays j first budget a
+job-says : (j : Job) (first budget : ℕ) (a : SearchAnswer) → a .number ≡ 0
+    → SearchVerdict j first budget a → CallSays j first budget a
 job-says j first budget a z (refusedAs n p k f e) =
-    absurd (not-among 0 axisRefusals n (λ e. omega arith) (lacks 0 axisRefusals refl) k (sym (ap (λ (r : SearchAnswer). r .number) e) ∙ z))
+    absurd (not-among 0 axisRefusals n (λ e. omega arith) (lacks 0 axisRefusals refl) k
+    (sym (ap (λ (r : SearchAnswer). r .number) e) ∙ z))
 job-says j first budget a z (refused18 p h e) = absurd (let m = ap (λ (r : SearchAnswer). r .number) e in omega arith)
 job-says j first budget a z (reports p l h k s asked) = record { says = s; asked = asked }
 
-pub call-says : (q : Input) (first budget : ℕ) (a : SearchAnswer) → a .number ≡ 0 → SearchCallVerdict q first budget a → CallSays (inputJob q) first budget a
+pub call-says : (q : Input) (first budget : ℕ) (a : SearchAnswer) → a .number ≡ 0 → SearchCallVerdict q first budget a
+    → CallSays (inputJob q) first budget a
 call-says q first budget a z =
-    either-said (λ n p. a ≡ refuseSearch n p) (λ j. SearchVerdict j first budget a) (CallSays (inputJob q) first budget a) q
+    either-said (λ n p. a ≡ refuseSearch n p) (λ j. SearchVerdict j first budget a)
+    (CallSays (inputJob q) first budget a) q
     (λ n p w e. absurd (w .not-0 (sym (ap (λ (r : SearchAnswer). r .number) e) ∙ z)))
     (λ j s v. subst (λ (i : Job). CallSays i first budget a) (sym s) (job-says j first budget a z v))
 
 -- a tick that arrives within the budget is reported, or an earlier one
-pub found-if-any : (j : Job) (first budget tried n : ℕ) (r : Report) → SearchSays j first budget r tried → first ≤ n → n ≤ 4096 → n < first + budget
+pub found-if-any : (j : Job) (first budget tried n : ℕ) (r : Report) → SearchSays j first budget r tried → first ≤ n
+    → n ≤ 4096 → n < first + budget
     → Arrives j n → (m : ℕ) × ((r ≡ Found m) × (m ≤ n))
-found-if-any j first budget tried n r (found m a b c d f) h k l arrives = (m, (refl, not-below m n (λ q. f n h q arrives)))
+found-if-any j first budget tried n r (found m a b c d f) h k l arrives =
+    (m, (refl, not-below m n (λ q. f n h q arrives)))
   where
     not-below : (m n : ℕ) → (n < m → ⊥) → m ≤ n
     not-below m n h = omega (arith, h)

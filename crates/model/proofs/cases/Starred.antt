@@ -1,4 +1,5 @@
--- The starred field cases A to J, cases of laser windows, of a second sway, of raises and of the converter, by computing the definitions.
+-- The starred field cases A to J, cases of laser windows, of a second sway, of raises and of the
+-- converter, by computing the definitions.
 use mathlib.Core.Path.{refl}
 use mathlib.Core.List.{flatten}
 use Rattle.model.specs.planning.Quantities.{finer}

@@ -1,5 +1,6 @@
--- What admission comes to, for any rules: a refusal that is neither 0 nor 10, or the job with all that its checks passed (`comes`); and what a call says
--- that goes on from it, whatever the call is for (`after-admission`).
+-- What admission comes to, for any rules: a refusal that is neither 0 nor 10, or the job with
+-- all that its checks passed (`comes`); and what a call says that goes on from it, whatever the
+-- call is for (`after-admission`).
 use Prim.Native.Nat.{ℕ, _≤_}
 use native.Mathlib.Omega.{arith}
 use mathlib.Core.Path.{_≡_, refl, sym, _∙_}
@@ -13,7 +14,8 @@ use Rattle.model.specs.planning.Windows.{refused13}
 use Rattle.model.specs.planning.Job.{Job, jobOf}
 use Rattle.model.specs.planning.Words.{Decoded, noMask, badWord, badLong, job, decode, goodMask}
 use Rattle.model.specs.planning.Refusals.{lastTick}
-use Rattle.model.specs.planning.Admission.{Input, words, typed, jobRead, inputJob, firstAxis, Tests, numbersOf, OneOf}
+use Rattle.model.specs.planning.Admission.{Input, words, typed, jobRead, inputJob, firstAxis, Tests, numbersOf}
+use Rattle.model.specs.planning.Admission.{OneOf}
 use Rattle.model.specs.planning.Admission.{Admission, refusedAt, admitted, Rules, tested, jobAdmission, admission}
 use Rattle.model.specs.theorems.Verdict.{WordsAre, ByInput}
 use Rattle.model.proofs.words.WordsAre.{words-are, Says, SaysTyped, by-input}
@@ -30,7 +32,8 @@ pub data Way (ts : Tests) (j : Job) : Admission → Type 0 where
 pub ways : (ts : Tests) (j : Job) → Way ts j (tested ts j)
 ways [] j = go (refused13 (j .windows)) refl
   where
-    go : (o : Option ℕ) → refused13 (j .windows) ≡ o → Way [] j (elim o as (λ _. Admission) [ some p ↦ refusedAt 13 p | none ↦ admitted j ])
+    go : (o : Option ℕ) → refused13 (j .windows) ≡ o
+        → Way [] j (elim o as (λ _. Admission) [ some p ↦ refusedAt 13 p | none ↦ admitted j ])
     go (some p) e = stops 13 p (inl refl)
     go none e = passes tt e
 ways (t ∷ ts) j = go (firstAxis (t .1) (j .axes)) refl (ways ts j)
@@ -61,7 +64,8 @@ pub record Numbered (r : Rules) : Type 0 where
 -- what becomes of the job j
 pub data Comes (r : Rules) (j : Job) : Admission → Type 0 where
   refuses : (n p : ℕ) → (n ≡ 0 → ⊥) → (n ≡ 10 → ⊥) → Comes r j (refusedAt n p)
-  goes : r .reads j .asked ≤ lastTick → Clear (r .tests (r .reads j .asked)) (r .reads j .axes) → refused13 (r .reads j .windows) ≡ none
+  goes : r .reads j .asked ≤ lastTick → Clear (r .tests (r .reads j .asked)) (r .reads j .axes)
+      → refused13 (r .reads j .windows) ≡ none
       → Comes r j (admitted (r .reads j))
 
 module _ (r : Rules) (s : Numbered r) where
@@ -98,7 +102,8 @@ module _ (r : Rules) (s : Numbered r) where
       go (job j) = job-comes j
   comes (typed t) = go (goodMask (t .mask))
     where
-      go : (b : Bool) → Comes r (jobOf t) (elim b as (λ _. Admission) [ true ↦ jobAdmission r (jobOf t) | false ↦ refusedAt 1 0 ])
+      go : (b : Bool)
+          → Comes r (jobOf t) (elim b as (λ _. Admission) [ true ↦ jobAdmission r (jobOf t) | false ↦ refusedAt 1 0 ])
       go true = job-comes (jobOf t)
       go false = refuses 1 0 (λ z. omega arith) (λ z. omega arith)
 
@@ -109,20 +114,29 @@ abbrev pub IsJob : Input → Job → Type 0
 IsJob (words ws) j = WordsAre ws (job j)
 IsJob (typed t) j = jobOf t ≡ j
 
-module _ {X : Type 0} (r : Rules) (f : Admission → X) (R : X → ℕ → ℕ → Type 0) (P : X → Job → Type 0) (stop : (n p : ℕ) → R (f (refusedAt n p)) n p) where
-  pub after-admission : (q : Input) → ((j : Job) → IsJob q j → P (f (jobAdmission r j)) j) → ByInput (R (f (admission r q))) (P (f (admission r q))) q
+module _ {X : Type 0} (r : Rules) (f : Admission → X) (R : X → ℕ → ℕ → Type 0) (P : X → Job → Type 0)
+    (stop : (n p : ℕ) → R (f (refusedAt n p)) n p) where
+  pub after-admission : (q : Input) → ((j : Job) → IsJob q j → P (f (jobAdmission r j)) j)
+      → ByInput (R (f (admission r q))) (P (f (admission r q))) q
   after-admission (words ws) h =
-      by-input (R (f (admission r (words ws)))) (P (f (admission r (words ws)))) (words ws) (go (decode ws) (words-are ws (decode ws) .0 refl))
+      by-input (R (f (admission r (words ws)))) (P (f (admission r (words ws)))) (words ws)
+      (go (decode ws) (words-are ws (decode ws) .0 refl))
     where
       by : Decoded → Admission
-      by d = elim d [ noMask ↦ refusedAt 1 0 | badWord p ↦ refusedAt 2 p | badLong p ↦ refusedAt 14 p | job j ↦ jobAdmission r j ]
+      by d = elim d [
+        | noMask ↦ refusedAt 1 0
+        | badWord p ↦ refusedAt 2 p
+        | badLong p ↦ refusedAt 14 p
+        | job j ↦ jobAdmission r j
+      ]
 
       go : (d : Decoded) → WordsAre ws d → Says (R (f (by d))) (P (f (by d))) d
       go noMask a = stop 1 0
       go (badWord p) a = stop 2 p
       go (badLong p) a = stop 14 p
       go (job j) a = h j a
-  after-admission (typed t) h = by-input (R (f (admission r (typed t)))) (P (f (admission r (typed t)))) (typed t) (go (goodMask (t .mask)))
+  after-admission (typed t) h =
+      by-input (R (f (admission r (typed t)))) (P (f (admission r (typed t)))) (typed t) (go (goodMask (t .mask)))
     where
       by : Bool → Admission
       by b = elim b [ true ↦ jobAdmission r (jobOf t) | false ↦ refusedAt 1 0 ]

@@ -1,5 +1,5 @@
--- The answer before refusal 10: it does not depend on what is lent, and where its number is 0 the call with any table that has room is accepted
--- with this arrival and meets demand 3.
+-- The answer before refusal 10: it does not depend on what is lent, and where its number is 0 the
+-- call with any table that has room is accepted with this arrival and meets demand 3.
 use Prim.Native.Nat.{ℕ, zero, suc, _≤_, _<_}
 use native.Mathlib.Omega.{arith}
 use mathlib.Core.Path.{_≡_, refl, sym, ap, subst, _∙_}
@@ -16,7 +16,8 @@ use Rattle.model.specs.declared.Order.the-variants.{Forwards}
 use Rattle.model.specs.planning.Job.{Job, maskWhere}
 use Rattle.model.specs.planning.Motion.{reachable}
 use Rattle.model.specs.planning.Refusals.{lastTick}
-use Rattle.model.specs.planning.Admission.{Input, inputJob, inputAxes, axisRefusals, Admission, planningRules, admission}
+use Rattle.model.specs.planning.Admission.{Input, inputJob, inputAxes, axisRefusals, Admission, planningRules}
+use Rattle.model.specs.planning.Admission.{admission}
 use Rattle.model.specs.planning.Outcome.{Outcome, call, refuse, accept, filled, arrived, outcomeAfter}
 use Rattle.model.specs.planning.Outcome.{cellsNeeded, leastFrom, arrives, reachesNone, beforeTen, answerOf}
 use Rattle.model.specs.theorems.Verdict.{Verdict, refused3, refused4, refused12, refused5, refused15, refused6}
@@ -42,10 +43,12 @@ missed-mask j n = maskWhere (λ x. not (reachable x n)) (j .axes)
 -- ---- the same whatever is lent
 
 -- with or without room for the table
-pub before-filled : (j : Job) (n : ℕ) (lent : List ℤ) → beforeTen (j .mask) (filled j n lent) ≡ record { number = 0; place = 0; mask = j .mask; arrival = n }
+pub before-filled : (j : Job) (n : ℕ) (lent : List ℤ)
+    → beforeTen (j .mask) (filled j n lent) ≡ record { number = 0; place = 0; mask = j .mask; arrival = n }
 before-filled j n lent = go (ltb (length lent) (cellsNeeded (length (j .axes)) n))
   where
-    go : (b : Bool) → beforeTen (j .mask) (elim b as (λ _. Outcome) [ true ↦ refuse 10 0 0 n lent | false ↦ accept j n lent ])
+    go : (b : Bool)
+        → beforeTen (j .mask) (elim b as (λ _. Outcome) [ true ↦ refuse 10 0 0 n lent | false ↦ accept j n lent ])
         ≡ record { number = 0; place = 0; mask = j .mask; arrival = n }
     go true = refl
     go false = refl
@@ -60,14 +63,18 @@ module _ (j : Job) (l l' : List ℤ) where
   arrived-same : (asked : ℕ) → Same (arrived j asked)
   arrived-same zero = go (leastFrom (arrives j) 1 lastTick)
     where
-      go : (o : Option ℕ) → beforeTen (j .mask) (elim o as (λ _. Outcome) [ some n ↦ filled j n l | none ↦ refuse 9 0 (none-mask j) 0 l ])
-          ≡ beforeTen (j .mask) (elim o as (λ _. Outcome) [ some n ↦ filled j n l' | none ↦ refuse 9 0 (none-mask j) 0 l' ])
+      go : (o : Option ℕ) → beforeTen (j .mask)
+          (elim o as (λ _. Outcome) [ some n ↦ filled j n l | none ↦ refuse 9 0 (none-mask j) 0 l ])
+          ≡ beforeTen (j .mask)
+          (elim o as (λ _. Outcome) [ some n ↦ filled j n l' | none ↦ refuse 9 0 (none-mask j) 0 l' ])
       go (some n) = filled-same n
       go none = refl
   arrived-same (suc n) = go (arrives j (suc n))
     where
-      go : (b : Bool) → beforeTen (j .mask) (elim b as (λ _. Outcome) [ true ↦ filled j (suc n) l | false ↦ refuse 8 0 (missed-mask j (suc n)) 0 l ])
-          ≡ beforeTen (j .mask) (elim b as (λ _. Outcome) [ true ↦ filled j (suc n) l' | false ↦ refuse 8 0 (missed-mask j (suc n)) 0 l' ])
+      go : (b : Bool) → beforeTen (j .mask)
+          (elim b as (λ _. Outcome) [ true ↦ filled j (suc n) l | false ↦ refuse 8 0 (missed-mask j (suc n)) 0 l ])
+          ≡ beforeTen (j .mask)
+          (elim b as (λ _. Outcome) [ true ↦ filled j (suc n) l' | false ↦ refuse 8 0 (missed-mask j (suc n)) 0 l' ])
       go true = filled-same (suc n)
       go false = refl
 
@@ -110,7 +117,8 @@ module _ (m : ℕ) (o : Outcome) where
       go false s e = inr e
 
   -- a refusal is the call's own
-  pub same-refusal : (k : ℕ) → (k ≡ 0 → ⊥) → beforeTen m o .number ≡ k → (o .number ≡ k) × (o .mask ≡ beforeTen m o .mask)
+  pub same-refusal : (k : ℕ) → (k ≡ 0 → ⊥) → beforeTen m o .number ≡ k
+      → (o .number ≡ k) × (o .mask ≡ beforeTen m o .mask)
   same-refusal k not-zero = go (eqb (o .number) 10)
     where
       go : (b : Bool) → by-ten b .number ≡ k → (o .number ≡ k) × (o .mask ≡ by-ten b .mask)
@@ -142,7 +150,8 @@ module _ (lent : List ℤ) (o : Outcome) (e : o .number ≡ 10) where
   of-job j (refused13 p a b c d r) = let z = r .number in absurd (omega arith)
   of-job j (refused8 n a b c w d f r) = let z = r .number in absurd (omega arith)
   of-job j (refused9 n a b w c d r) = let z = r .number in absurd (omega arith)
-  of-job j (refused10 n a w b h r) = subst (λ (k : ℕ). length lent < cellsNeeded (length (j .axes)) k) (sym (r .arrival)) h
+  of-job j (refused10 n a w b h r) =
+      subst (λ (k : ℕ). length lent < cellsNeeded (length (j .axes)) k) (sym (r .arrival)) h
   of-job j (accepted n a w b c r) = let z = r .number in absurd (omega arith)
 
   ten-short : (q : Input) → CallVerdict Forwards lent o q → Short lent o (inputJob q)
@@ -157,14 +166,21 @@ module _ (q : Input) (lent : List ℤ) where
 
   pub job-accepted : answerOf q .number ≡ 0
       → cellsNeeded (length (inputAxes q)) (answerOf q .arrival) ≤ length lent
-      → (o .number ≡ 0) × ((o .arrival ≡ answerOf q .arrival) × Demand3 Forwards (inputAxes q) (answerOf q .arrival) (o .cells))
+      → (o .number ≡ 0)
+      × ((o .arrival ≡ answerOf q .arrival) × Demand3 Forwards (inputAxes q) (answerOf q .arrival) (o .cells))
   job-accepted z room =
       let n = answerOf q .arrival in
       let same = same-answer q lent in
       let m = inputJob q .mask in
       let arrives : o .arrival ≡ n = sym (same-arrival m o) ∙ ap (λ (a : Answer). a .arrival) same in
-      let number = go arrives (zero-or-ten m o (ap (λ (a : Answer). a .number) same ∙ z)) in
-      (number, (arrives, subst (λ (k : ℕ). Demand3 Forwards (inputAxes q) k (o .cells)) arrives (demand3 Forwards q lent number)))
+      let number = go arrives (zero-or-ten m o (ap (λ (a : Answer). a .number) same ∙ z)) in (
+        number,
+        (
+          arrives,
+          subst (λ (k : ℕ). Demand3 Forwards (inputAxes q) k (o .cells)) arrives
+              (demand3 Forwards q lent number),
+        ),
+      )
     where
       go : o .arrival ≡ answerOf q .arrival → (o .number ≡ 10) ⊎ (o .number ≡ 0) → o .number ≡ 0
       go a (inr e) = e

@@ -1,4 +1,5 @@
--- The list of numbered tests of an axis: which numbers it lacks, and what axes have that none of its tests refuses.
+-- The list of numbered tests of an axis: which numbers it lacks, and what axes have
+-- that none of its tests refuses.
 use Prim.Native.Nat.{ℕ}
 use mathlib.Core.Path.{_≡_, refl}
 use mathlib.Core.Bool.{Bool, true, false, not, _&&_, false≢true}
@@ -25,11 +26,13 @@ pub lacks : (k : ℕ) (ts : Tests) → none-is k ts ≡ true → Lacks k ts
 lacks k [] e = tt
 lacks k (t ∷ ts) e = go (eqb (t .0) k) refl e (lacks k ts)
   where
-    go : (b : Bool) → eqb (t .0) k ≡ b → not b && none-is k ts ≡ true → (none-is k ts ≡ true → Lacks k ts) → Lacks k (t ∷ ts)
+    go : (b : Bool) → eqb (t .0) k ≡ b → not b && none-is k ts ≡ true
+        → (none-is k ts ≡ true → Lacks k ts) → Lacks k (t ∷ ts)
     go true q e h = absurd (false≢true e)
     go false q e h = (eqb-false (t .0) k q, h e)
 
 pub clear-passed : (xs : List JobAxis) → Clear axisRefusals xs → AllPassed xs
 clear-passed xs (l, (d, (b, (s, (v, (a, (f, _))))))) =
-    all-passed xs (none-refused _ xs l) (none-refused _ xs d) (none-refused _ xs b) (none-refused _ xs s) (none-refused _ xs v) (none-refused _ xs a)
+    all-passed xs (none-refused _ xs l) (none-refused _ xs d) (none-refused _ xs b) (none-refused _ xs s)
+    (none-refused _ xs v) (none-refused _ xs a)
     (none-refused _ xs f)

@@ -1,5 +1,6 @@
--- A job with damping as measured, and the same job with each B entered by hand: of one axis every definition but refusal 12 reads the weight as a number only,
--- so that both sides compute to the same; so do arrivals, tables and the tests of the axes.
+-- A job with damping as measured, and the same job with each B entered by hand: of one axis every
+-- definition but refusal 12 reads the weight as a number only, so that both sides compute to the
+-- same; so do arrivals, tables and the tests of the axes.
 use Prim.Native.Nat.{ℕ, zero, suc, _/_, _%_}
 use native.Mathlib.Omega.{arith}
 use mathlib.Core.Path.{_≡_, refl, ap, _∙_}
@@ -20,13 +21,16 @@ use Rattle.model.specs.planning.Motion.{Tick}
 use Rattle.model.specs.planning.Rows.{plannedAxis, blend, blendBy, cells}
 use Rattle.model.specs.planning.Job.{Job, JobAxis, setAxes, axesOf, withWeight, axesWithWeight, jobWithWeight}
 use Rattle.model.specs.planning.Quantities.{finer}
-use Rattle.model.specs.planning.Refusals.{lastTick, limitsRefused, dampingRefused, blendRefused, swayRefused, valuesRefused, accelerationRefused, flyingRefused}
+use Rattle.model.specs.planning.Refusals.{lastTick, limitsRefused, dampingRefused, blendRefused, swayRefused}
+use Rattle.model.specs.planning.Refusals.{valuesRefused, accelerationRefused, flyingRefused}
 use Rattle.model.specs.planning.Refusals.{restAllowed, targetAllowed, AllPassed}
-use Rattle.model.specs.planning.Outcome.{Outcome, outcomeOf, answerIn, refuse, partOver, ordered, allReach, leastFrom, arrives, reachesNone}
+use Rattle.model.specs.planning.Outcome.{Outcome, outcomeOf, answerIn, refuse, partOver, ordered, allReach}
+use Rattle.model.specs.planning.Outcome.{leastFrom, arrives, reachesNone}
 use Rattle.model.specs.planning.Admission.{firstAxis, Tests, axisRefusals, Admission, refusedAt, admitted, tested}
 use Rattle.model.specs.planning.Outcome.{filled, arrived}
 use Rattle.model.proofs.jobs.MappedAxes.{cells-alike, Blind, AllBlind, first-mapped}
-use Rattle.model.proofs.jobs.MappedAxes.{mask-mapped, reach-mapped, arrives-mapped, over-mapped, filled-mapped, asked-mapped, tested-mapped}
+use Rattle.model.proofs.jobs.MappedAxes.{mask-mapped, reach-mapped, arrives-mapped, over-mapped, filled-mapped}
+use Rattle.model.proofs.jobs.MappedAxes.{asked-mapped, tested-mapped}
 
 -- ---- the axes
 
@@ -62,7 +66,10 @@ set-with-weight i m (x ∷ xs) = go (eqb (m % 2) 1) (set-with-weight (suc i) (m 
           | false ↦ setAxes (suc i) (m / 2) (map withWeight xs)
         ])
         ≡ axesWithWeight
-        (elim b as (λ _. List JobAxis) [ true ↦ record { number = i; axis = x } ∷ setAxes (suc i) (m / 2) xs | false ↦ setAxes (suc i) (m / 2) xs ])
+        (elim b as (λ _. List JobAxis) [
+          | true ↦ record { number = i; axis = x } ∷ setAxes (suc i) (m / 2) xs
+          | false ↦ setAxes (suc i) (m / 2) xs
+        ])
     go true h = ap (λ (l : List JobAxis). record { number = i; axis = withWeight x } ∷ l) h
     go false h = h
 
@@ -83,11 +90,13 @@ least-with-weight j = ap (λ (t : ℕ → Bool). leastFrom t 1 lastTick) (λ i n
 none-with-weight : Blind withWeight (λ x. reachesNone x)
 none-with-weight x =
     ap (λ (o : Option ℕ). elim o as (λ _. Bool) [ some n ↦ false | none ↦ true ])
-    (least-with-weight (record { mask = 0; asked = 0; axes = record { number = 0; axis = x } ∷ []; windows = noWindows }))
+    (least-with-weight
+    (record { mask = 0; asked = 0; axes = record { number = 0; axis = x } ∷ []; windows = noWindows }))
 
 -- ---- the table
 
-blend-with-weight : (n k : ℕ) (x : Axis) (f : Tick → ℤ) → blend (plannedAxis n (withWeight x)) k f ≡ blend (plannedAxis n x) k f
+blend-with-weight : (n k : ℕ) (x : Axis) (f : Tick → ℤ)
+    → blend (plannedAxis n (withWeight x)) k f ≡ blend (plannedAxis n x) k f
 unfolding finer
 blend-with-weight n k x f = go (x .«second_sway»)
   where
@@ -102,7 +111,8 @@ cells-with-weight n k x = cells-alike n k (withWeight x) x (blend-with-weight n 
 -- ---- the outcome
 
 abbrev afterDamping : Tests
-afterDamping = (5, blendRefused) ∷ (15, swayRefused) ∷ (6, valuesRefused) ∷ (16, accelerationRefused) ∷ (17, flyingRefused) ∷ []
+afterDamping =
+    (5, blendRefused) ∷ (15, swayRefused) ∷ (6, valuesRefused) ∷ (16, accelerationRefused) ∷ (17, flyingRefused) ∷ []
 
 abbrev fromDamping : Tests
 fromDamping = (12, dampingRefused) ∷ afterDamping
@@ -115,22 +125,26 @@ unfolding finer
 filled-with-weight j n lent = filled-mapped withWeight n (cells-with-weight n) j lent
 
 -- some of its rows
-pub part-with-weight : (o : Order) (j : Job) (n i c : ℕ) (lent : List ℤ) → partOver o (axesOf (jobWithWeight j)) n i c lent ≡ partOver o (axesOf j) n i c lent
+pub part-with-weight : (o : Order) (j : Job) (n i c : ℕ) (lent : List ℤ)
+    → partOver o (axesOf (jobWithWeight j)) n i c lent ≡ partOver o (axesOf j) n i c lent
 unfolding finer
 part-with-weight o j n i c lent = over-mapped withWeight n (cells-with-weight n) o j i c lent
 
 -- the same with the rows in an order
-pub ordered-with-weight : (o : Order) (j : Job) (lent : List ℤ) (r : Outcome) → ordered o (axesOf (jobWithWeight j)) lent r ≡ ordered o (axesOf j) lent r
+pub ordered-with-weight : (o : Order) (j : Job) (lent : List ℤ) (r : Outcome)
+    → ordered o (axesOf (jobWithWeight j)) lent r ≡ ordered o (axesOf j) lent r
 unfolding finer
 ordered-with-weight Forwards j lent r = refl
 ordered-with-weight Backwards j lent r =
     λ i.
     elim (eqb (r .number) 0) as (λ _. Outcome) [
-      | true ↦ outcomeOf (answerIn r) (over-mapped withWeight (r .arrival) (cells-with-weight (r .arrival)) Backwards j 0 (suc (r .arrival)) lent i)
+      | true ↦ outcomeOf (answerIn r)
+          (over-mapped withWeight (r .arrival) (cells-with-weight (r .arrival)) Backwards j 0 (suc (r .arrival)) lent i)
       | false ↦ r
     ]
 
-pub arrived-with-weight : (j : Job) (asked : ℕ) (lent : List ℤ) → arrived (jobWithWeight j) asked lent ≡ arrived j asked lent
+pub arrived-with-weight : (j : Job) (asked : ℕ) (lent : List ℤ)
+    → arrived (jobWithWeight j) asked lent ≡ arrived j asked lent
 unfolding finer
 arrived-with-weight j zero lent =
     λ i.
@@ -138,7 +152,8 @@ arrived-with-weight j zero lent =
       | some n ↦ filled-with-weight j n lent i
       | none ↦ refuse 9 0 (mask-mapped withWeight (λ x. reachesNone x) none-with-weight (j .axes) i) 0 lent
     ]
-arrived-with-weight j (suc n) lent = asked-mapped withWeight (suc n) (omega arith) (λ x. refl) (cells-with-weight (suc n)) j lent
+arrived-with-weight j (suc n) lent =
+    asked-mapped withWeight (suc n) (omega arith) (λ x. refl) (cells-with-weight (suc n)) j lent
 
 -- ---- the tests of the axes, of any call: it goes on by f, and a refusal by 12 has the number 12
 
@@ -146,27 +161,33 @@ none-refused : (l : List JobAxis) → firstAxis dampingRefused (axesWithWeight l
 none-refused [] = refl
 none-refused (x ∷ l) = none-refused l
 
-module _ {X : Type 0} (f : Admission → X) (number : X → ℕ) (numbered : (p : ℕ) → number (f (refusedAt 12 p)) ≡ 12) (j : Job)
+module _ {X : Type 0} (f : Admission → X) (number : X → ℕ)
+    (numbered : (p : ℕ) → number (f (refusedAt 12 p)) ≡ 12) (j : Job)
     (same : f (admitted (jobWithWeight j)) ≡ f (admitted j)) where
   by-damping : Job → Option ℕ → Admission
   by-damping i o = elim o [ some k ↦ refusedAt 12 k | none ↦ tested afterDamping i ]
 
-  damping : (o : Option ℕ) → (number (f (by-damping j o)) ≡ 12 → ⊥) → f (tested fromDamping (jobWithWeight j)) ≡ f (by-damping j o)
+  damping : (o : Option ℕ) → (number (f (by-damping j o)) ≡ 12 → ⊥)
+      → f (tested fromDamping (jobWithWeight j)) ≡ f (by-damping j o)
   unfolding by-damping
   damping (some k) h = absurd (h (numbered k))
   damping none h =
-      ap (λ (o : Option ℕ). f (by-damping (jobWithWeight j) o)) (none-refused (j .axes)) ∙ tested-mapped withWeight f j same afterDamping afterDamping-blind
+      ap (λ (o : Option ℕ). f (by-damping (jobWithWeight j) o)) (none-refused (j .axes))
+      ∙ tested-mapped withWeight f j same afterDamping afterDamping-blind
 
   by-limits : Job → Option ℕ → Admission
   by-limits i o = elim o [ some k ↦ refusedAt 4 k | none ↦ tested fromDamping i ]
 
-  limits : (o : Option ℕ) → (number (f (by-limits j o)) ≡ 12 → ⊥) → f (by-limits (jobWithWeight j) o) ≡ f (by-limits j o)
+  limits : (o : Option ℕ) → (number (f (by-limits j o)) ≡ 12 → ⊥)
+      → f (by-limits (jobWithWeight j) o) ≡ f (by-limits j o)
   unfolding by-damping by-limits
   limits (some k) h = refl
   limits none h = damping (firstAxis dampingRefused (j .axes)) h
 
-  pub tests-with-weight : (number (f (tested axisRefusals j)) ≡ 12 → ⊥) → f (tested axisRefusals (jobWithWeight j)) ≡ f (tested axisRefusals j)
+  pub tests-with-weight : (number (f (tested axisRefusals j)) ≡ 12 → ⊥)
+      → f (tested axisRefusals (jobWithWeight j)) ≡ f (tested axisRefusals j)
   unfolding by-limits
   tests-with-weight h =
-      ap (λ (o : Option ℕ). f (by-limits (jobWithWeight j) o)) (first-mapped withWeight limitsRefused (λ x. refl) (j .axes))
+      ap (λ (o : Option ℕ). f (by-limits (jobWithWeight j) o))
+      (first-mapped withWeight limitsRefused (λ x. refl) (j .axes))
       ∙ limits (firstAxis limitsRefused (j .axes)) h

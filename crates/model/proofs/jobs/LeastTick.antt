@@ -1,4 +1,5 @@
--- The least of some candidates that passes a test is the only result that a search can have: `result`, `one-result`.
+-- The least of some candidates that passes a test is the only result that a search
+-- can have: `result`, `one-result`.
 use Prim.Native.Nat.{ℕ, zero, suc, _+_, _<_, _≤_}
 use native.Mathlib.Omega.{arith}
 use mathlib.Core.Path.{_≡_, refl, sym, ap, subst, _∙_}
@@ -49,7 +50,8 @@ least-is test k count n e = subst (Result test k count) e (result test k count)
 pub none-is : (test : ℕ → Bool) (k count : ℕ) → leastFrom test k count ≡ none → Result test k count none
 none-is test k count e = subst (Result test k count) e (result test k count)
 
-pub one-result : (test : ℕ → Bool) (k count : ℕ) (o p : Option ℕ) → Result test k count o → Result test k count p → o ≡ p
+pub one-result : (test : ℕ → Bool) (k count : ℕ) (o p : Option ℕ) → Result test k count o
+    → Result test k count p → o ≡ p
 one-result test k count none none h g = refl
 one-result test k count none (some n) h g = absurd (h n (g .first) (g .last) (g .passes))
 one-result test k count (some m) none h g = absurd (g m (h .first) (h .last) (h .passes))

@@ -1,5 +1,5 @@
--- A job whose axes are changed by a map, where nothing that the outcome reads of an axis tells the two apart: tests, masks, arrivals and cells
--- are the same.
+-- A job whose axes are changed by a map, where nothing that the outcome reads of an axis tells the
+-- two apart: tests, masks, arrivals and cells are the same.
 use Prim.Native.Nat.{ℕ, zero, suc, _+_, _*_, _^_, _≤_}
 use native.Mathlib.Omega.{arith}
 use mathlib.Core.Path.{_≡_, refl, ap, ap₂, _∙_}
@@ -17,15 +17,18 @@ use Rattle.model.specs.planning.Windows.{inWindows, refused13}
 use Rattle.model.specs.planning.Motion.{Tick, reachable}
 use Rattle.model.specs.planning.Rows.{plannedAxis, blend, divisor, row, rowAt, part, cells, tabulate}
 use Rattle.model.specs.planning.Job.{Job, JobAxis, axesOf, maskWhere}
-use Rattle.model.specs.planning.Outcome.{Outcome, refuse, allReach, arrives, cellsNeeded, partOver, filled, arrived}
+use Rattle.model.specs.planning.Outcome.{Outcome, refuse, allReach, arrives, cellsNeeded, partOver, filled}
+use Rattle.model.specs.planning.Outcome.{arrived}
 use Rattle.model.specs.planning.Admission.{firstAxis, Tests, Admission, refusedAt, admitted, tested}
 
 -- two axes have the same cells where they have the same blends and the same divisor
-pub cells-alike : (n k : ℕ) (x y : Axis) → ((f : Tick → ℤ) → blend (plannedAxis n x) k f ≡ blend (plannedAxis n y) k f) → divisor x ≡ divisor y
+pub cells-alike : (n k : ℕ) (x y : Axis)
+    → ((f : Tick → ℤ) → blend (plannedAxis n x) k f ≡ blend (plannedAxis n y) k f) → divisor x ≡ divisor y
     → cells k (plannedAxis n x) ≡ cells k (plannedAxis n y)
 cells-alike n k x y b d =
     λ i.
-    nearestQuotient (b (λ s. s .position) i) (2 * d i) ∷ nearestQuotient (b (λ s. s .velocity) i) (d i) ∷ nearestQuotient (b (λ s. s .acceleration) i) (d i) ∷ []
+    nearestQuotient (b (λ s. s .position) i) (2 * d i) ∷ nearestQuotient (b (λ s. s .velocity) i) (d i)
+    ∷ nearestQuotient (b (λ s. s .acceleration) i) (d i) ∷ []
 
 module _ (F : Axis → Axis) where
   abbrev pub mapped : List JobAxis → List JobAxis
@@ -49,12 +52,14 @@ module _ (F : Axis → Axis) where
   pub first-mapped : (f : Axis → Bool) → Blind f → (l : List JobAxis) → firstAxis f (mapped l) ≡ firstAxis f l
   first-mapped f h [] = refl
   first-mapped f h (x ∷ l) =
-      ap₂ (λ (b : Bool) (o : Option ℕ). elim b as (λ _. Option ℕ) [ true ↦ some (x .number) | false ↦ o ]) (h (x .axis)) (first-mapped f h l)
+      ap₂ (λ (b : Bool) (o : Option ℕ). elim b as (λ _. Option ℕ) [ true ↦ some (x .number) | false ↦ o ])
+      (h (x .axis)) (first-mapped f h l)
 
   pub mask-mapped : (f : Axis → Bool) → Blind f → (l : List JobAxis) → maskWhere f (mapped l) ≡ maskWhere f l
   mask-mapped f h [] = refl
   mask-mapped f h (x ∷ l) =
-      ap₂ (λ (b : Bool) (m : ℕ). elim b as (λ _. ℕ) [ true ↦ 2 ^ (x .number) + m | false ↦ m ]) (h (x .axis)) (mask-mapped f h l)
+      ap₂ (λ (b : Bool) (m : ℕ). elim b as (λ _. ℕ) [ true ↦ 2 ^ (x .number) + m | false ↦ m ])
+      (h (x .axis)) (mask-mapped f h l)
 
   -- ---- an arrival
 
@@ -71,23 +76,28 @@ module _ (F : Axis → Axis) where
 
   module _ (n : ℕ) (same : (k : ℕ) (x : Axis) → cells k (plannedAxis n (F x)) ≡ cells k (plannedAxis n x)) where
     row-mapped : (l : List JobAxis) (k : ℕ)
-        → row (map (plannedAxis n) (map (λ x. x .axis) (mapped l))) k ≡ row (map (plannedAxis n) (map (λ x. x .axis) l)) k
+        → row (map (plannedAxis n) (map (λ x. x .axis) (mapped l))) k
+        ≡ row (map (plannedAxis n) (map (λ x. x .axis) l)) k
     unfolding flatten
     row-mapped [] k = refl
     row-mapped (x ∷ l) k = ap₂ (λ (c r : List ℤ). c ++ r) (same k (x .axis)) (row-mapped l k)
 
     part-mapped : (o : Order) (j : Job) (i c : ℕ) → part o (axesOf (mappedJob j)) n i c ≡ part o (axesOf j) n i c
-    part-mapped o j i c = ap (λ (f : ℕ → List ℤ). flatten (tabulate f i c)) (λ m k. row-mapped (j .axes) (rowAt o n k) m)
+    part-mapped o j i c =
+        ap (λ (f : ℕ → List ℤ). flatten (tabulate f i c)) (λ m k. row-mapped (j .axes) (rowAt o n k) m)
 
     axes-length : (l : List JobAxis) → length (map (λ x. x .axis) (mapped l)) ≡ length (map (λ x. x .axis) l)
     axes-length [] = refl
     axes-length (x ∷ l) = ap suc (axes-length l)
 
-    pub over-mapped : (o : Order) (j : Job) (i c : ℕ) (lent : List ℤ) → partOver o (axesOf (mappedJob j)) n i c lent ≡ partOver o (axesOf j) n i c lent
-    over-mapped o j i c lent = ap₂ (λ (t : List ℤ) (k : ℕ). t ++ drop (3 * k * c) lent) (part-mapped o j i c) (axes-length (j .axes))
+    pub over-mapped : (o : Order) (j : Job) (i c : ℕ) (lent : List ℤ)
+        → partOver o (axesOf (mappedJob j)) n i c lent ≡ partOver o (axesOf j) n i c lent
+    over-mapped o j i c lent =
+        ap₂ (λ (t : List ℤ) (k : ℕ). t ++ drop (3 * k * c) lent) (part-mapped o j i c) (axes-length (j .axes))
 
     pub filled-mapped : (j : Job) (lent : List ℤ) → filled (mappedJob j) n lent ≡ filled j n lent
-    filled-mapped j lent = λ i. by-room (ltb (length lent) (cellsNeeded (length-mapped (j .axes) i) n)) (over-mapped Forwards j 0 (suc n) lent i)
+    filled-mapped j lent = λ i. by-room (ltb (length lent) (cellsNeeded (length-mapped (j .axes) i) n))
+        (over-mapped Forwards j 0 (suc n) lent i)
       where
         by-room : Bool → List ℤ → Outcome
         by-room b cs =
@@ -97,7 +107,8 @@ module _ (F : Axis → Axis) where
             ]
 
   -- an arrival asked for
-  pub asked-mapped : (n : ℕ) → 1 ≤ n → Blind (λ x. reachable x n) → ((k : ℕ) (x : Axis) → cells k (plannedAxis n (F x)) ≡ cells k (plannedAxis n x))
+  pub asked-mapped : (n : ℕ) → 1 ≤ n → Blind (λ x. reachable x n)
+      → ((k : ℕ) (x : Axis) → cells k (plannedAxis n (F x)) ≡ cells k (plannedAxis n x))
       → (j : Job) (lent : List ℤ) → arrived (mappedJob j) n lent ≡ arrived j n lent
   asked-mapped zero h reach same j lent = absurd (omega arith)
   asked-mapped (suc n) h reach same j lent =
@@ -120,7 +131,8 @@ module _ (F : Axis → Axis) where
         go (some p) = refl
         go none = same
     tested-mapped (t ∷ ts) (b, bs) =
-        ap (λ (o : Option ℕ). f (by (mappedJob j) o)) (first-mapped (t .1) b (j .axes)) ∙ go (firstAxis (t .1) (j .axes)) (tested-mapped ts bs)
+        ap (λ (o : Option ℕ). f (by (mappedJob j) o)) (first-mapped (t .1) b (j .axes))
+        ∙ go (firstAxis (t .1) (j .axes)) (tested-mapped ts bs)
       where
         by : Job → Option ℕ → Admission
         by i o = elim o [ some k ↦ refusedAt (t .0) k | none ↦ tested ts i ]

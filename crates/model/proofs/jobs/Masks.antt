@@ -1,4 +1,5 @@
--- Masks: the bits of a number by halving, and that the mask of the axes for which a test holds names exactly these.
+-- Masks: the bits of a number by halving, and that the mask of the axes for which a
+-- test holds names exactly these.
 use Prim.Native.Nat.{ℕ, zero, suc, _+_, _-_, _*_, _/_, _%_, _^_, _≤_, _<_}
 use mathlib.Core.Path.{_≡_, refl, sym, ap, ap₂, _∙_, subst}
 use mathlib.Core.Bool.{Bool, true, false, not, false≢true}
@@ -18,7 +19,8 @@ use Rattle.model.specs.theorems.Verdict.{Among, Names}
 -- ---- the bits of a number
 
 pub half-bit : (m j : ℕ) → bit m (suc j) ≡ bit (m / 2) j
-half-bit m j = sym (ap (λ (k : ℕ). eqb (k % 2) 1) (N.div-div-eq-div-mul m 2 (2 ^ j) ∙ ap (λ (k : ℕ). m / k) (sym (N.pow-succ' 2 j))))
+half-bit m j = sym
+    (ap (λ (k : ℕ). eqb (k % 2) 1) (N.div-div-eq-div-mul m 2 (2 ^ j) ∙ ap (λ (k : ℕ). m / k) (sym (N.pow-succ' 2 j))))
 
 pub first-bit : (m : ℕ) → bit m 0 ≡ eqb (m % 2) 1
 first-bit m = ap (λ (k : ℕ). eqb (k % 2) 1) (N.div-one m)
@@ -86,14 +88,17 @@ module _ (f : Axis → Bool) where
   -- where no number is i
   doubled : (i : ℕ) (xs : List JobAxis) → Ascends (suc i) xs → maskFrom i f xs ≡ 2 * maskFrom (suc i) f xs
   doubled i [] a = refl
-  doubled i (x ∷ xs) a = go (f (x .axis)) (doubled i xs (ascends-from (suc i) (suc (x .number)) xs (omega (arith, a .0)) (a .1)))
+  doubled i (x ∷ xs) a =
+      go (f (x .axis)) (doubled i xs (ascends-from (suc i) (suc (x .number)) xs (omega (arith, a .0)) (a .1)))
     where
       power : 2 ^ (x .number - i) ≡ 2 * 2 ^ (x .number - suc i)
-      power = ap (λ (k : ℕ). 2 ^ k) {x = x .number - i} {y = suc (x .number - suc i)} (omega (arith, a .0)) ∙ N.pow-succ' 2 (x .number - suc i)
+      power = ap (λ (k : ℕ). 2 ^ k) {x = x .number - i} {y = suc (x .number - suc i)} (omega (arith, a .0))
+          ∙ N.pow-succ' 2 (x .number - suc i)
 
       go : (b : Bool) → maskFrom i f xs ≡ 2 * maskFrom (suc i) f xs
           → (elim b as (λ z. ℕ) [ true ↦ 2 ^ (x .number - i) + maskFrom i f xs | false ↦ maskFrom i f xs ])
-          ≡ 2 * (elim b as (λ z. ℕ) [ true ↦ 2 ^ (x .number - suc i) + maskFrom (suc i) f xs | false ↦ maskFrom (suc i) f xs ])
+          ≡ 2 * (elim b as
+          (λ z. ℕ) [ true ↦ 2 ^ (x .number - suc i) + maskFrom (suc i) f xs | false ↦ maskFrom (suc i) f xs ])
       go true e = omega (arith, power, e)
       go false e = e
 
@@ -106,7 +111,8 @@ module _ (f : Axis → Bool) where
       power = ap (λ (k : ℕ). 2 ^ k) {x = x .number - i} {y = 0} (omega arith)
 
       go : (b : Bool) → maskFrom i f xs ≡ 2 * maskFrom (suc i) f xs
-          → (elim b as (λ z. ℕ) [ true ↦ 2 ^ (x .number - i) + maskFrom i f xs | false ↦ maskFrom i f xs ]) ≡ one-if b + 2 * maskFrom (suc i) f xs
+          → (elim b as (λ z. ℕ) [ true ↦ 2 ^ (x .number - i) + maskFrom i f xs | false ↦ maskFrom i f xs ])
+          ≡ one-if b + 2 * maskFrom (suc i) f xs
       go true d = omega (arith, power, d)
       go false d = omega (arith, d)
 
@@ -125,7 +131,8 @@ module _ (f : Axis → Bool) where
   past-first : (k : ℕ) (x : JobAxis) (xs : List JobAxis) → (x .number ≡ k → ⊥) → holds f k (x ∷ xs) ≡ holds f k xs
   past-first k x xs n = go (eqb (x .number) k) (eqb→eq (x .number) k)
     where
-      go : (b : Bool) → (T b → x .number ≡ k) → (elim b as (λ z. Bool) [ true ↦ f (x .axis) | false ↦ holds f k xs ]) ≡ holds f k xs
+      go : (b : Bool) → (T b → x .number ≡ k)
+          → (elim b as (λ z. Bool) [ true ↦ f (x .axis) | false ↦ holds f k xs ]) ≡ holds f k xs
       go true e = absurd (n (e tt))
       go false e = refl
 
@@ -135,13 +142,15 @@ module _ (f : Axis → Bool) where
       past-first k x xs (λ e. omega (arith, a .0))
       ∙ holds-none k xs (ascends-from (suc k) (suc (x .number)) xs (omega (arith, a .0)) (a .1))
 
-  pub holds-at : (i : ℕ) (xs : List JobAxis) (x : JobAxis) → Ascends i xs → Among xs x → holds f (x .number) xs ≡ f (x .axis)
+  pub holds-at : (i : ℕ) (xs : List JobAxis) (x : JobAxis) → Ascends i xs → Among xs x
+      → holds f (x .number) xs ≡ f (x .axis)
   holds-at i [] x a m = absurd (none-some (m .1))
   holds-at i (y ∷ xs) x a (zero, e) =
       let s : y ≡ x = cc in
       subst (λ (z : JobAxis). holds f (z .number) (y ∷ xs) ≡ f (z .axis)) s (at-first (y .number) y xs refl)
   holds-at i (y ∷ xs) x a (suc k, e) =
-      past-first (x .number) y xs (λ q. omega (arith, above (suc (y .number)) xs k (a .1) e)) ∙ holds-at (suc (y .number)) xs x (a .1) (k, e)
+      past-first (x .number) y xs (λ q. omega (arith, above (suc (y .number)) xs k (a .1) e))
+      ∙ holds-at (suc (y .number)) xs x (a .1) (k, e)
     where
       above : (j : ℕ) (l : List JobAxis) (k : ℕ) → Ascends j l → getElem? l k ≡ some x → j ≤ x .number
       above j [] k a e = absurd (let z : _≡_ {A = ℕ} 0 1 = cc in omega arith)
@@ -174,7 +183,8 @@ module _ (f : Axis → Bool) where
         ∙ low-bit (f (x .axis)) (maskFrom (suc i) f xs)
         ∙ sym (at-first (i + 0) x xs (omega arith))
 
-    here-suc : (d : ℕ) → Bits d → x .number ≡ i → Ascends (suc (x .number)) xs → bit (maskFrom i f (x ∷ xs)) (suc d) ≡ holds f (i + suc d) (x ∷ xs)
+    here-suc : (d : ℕ) → Bits d → x .number ≡ i → Ascends (suc (x .number)) xs
+        → bit (maskFrom i f (x ∷ xs)) (suc d) ≡ holds f (i + suc d) (x ∷ xs)
     here-suc d h e a =
         ap (λ (m : ℕ). bit m (suc d)) (with-first i x xs e a)
         ∙ high-bit (f (x .axis)) (maskFrom (suc i) f xs) d
@@ -188,7 +198,8 @@ module _ (f : Axis → Bool) where
         ∙ low-bit false (maskFrom (suc i) f (x ∷ xs))
         ∙ sym (holds-none (i + 0) (x ∷ xs) (omega (arith, a .0), a .1))
 
-    beyond-suc : (d : ℕ) → Bits d → Ascends (suc i) (x ∷ xs) → bit (maskFrom i f (x ∷ xs)) (suc d) ≡ holds f (i + suc d) (x ∷ xs)
+    beyond-suc : (d : ℕ) → Bits d → Ascends (suc i) (x ∷ xs)
+        → bit (maskFrom i f (x ∷ xs)) (suc d) ≡ holds f (i + suc d) (x ∷ xs)
     beyond-suc d h a =
         ap (λ (m : ℕ). bit m (suc d)) (doubled i (x ∷ xs) a ∙ plus-none (maskFrom (suc i) f (x ∷ xs)))
         ∙ high-bit false (maskFrom (suc i) f (x ∷ xs)) d
@@ -209,14 +220,16 @@ module _ (f : Axis → Bool) where
 
   bits-suc : (d : ℕ) → Bits d → Bits (suc d)
   bits-suc d h i [] a = no-bit (suc d)
-  bits-suc d h i (x ∷ xs) a = by-first _ i x (a .0) (λ e. here-suc i x xs d h e (a .1)) (λ q. beyond-suc i x xs d h (q, a .1))
+  bits-suc d h i (x ∷ xs) a =
+      by-first _ i x (a .0) (λ e. here-suc i x xs d h e (a .1)) (λ q. beyond-suc i x xs d h (q, a .1))
 
   bits-from : (d : ℕ) → Bits d
   bits-from zero = bits-zero
   bits-from (suc d) = bits-suc d (bits-from d)
 
   bits-are : (d : ℕ) (xs : List JobAxis) → Ascends 0 xs → bit (maskWhere f xs) d ≡ holds f d xs
-  bits-are d xs a = ap (λ (m : ℕ). bit m d) (sym (whole-mask xs)) ∙ bits-from d 0 xs a ∙ ap (λ (k : ℕ). holds f k xs) {x = 0 + d} {y = d} (omega arith)
+  bits-are d xs a = ap (λ (m : ℕ). bit m d) (sym (whole-mask xs)) ∙ bits-from d 0 xs a
+      ∙ ap (λ (k : ℕ). holds f k xs) {x = 0 + d} {y = d} (omega arith)
 
   -- the mask of the axes for which the test holds, where the test is true exactly where Q holds
   pub names : (Q : Axis → Type 0) (xs : List JobAxis) → Ascends 0 xs

@@ -1,4 +1,5 @@
--- The weight of damping as measured: it is the largest that docs/METHOD.md asks for, and by computation 128 for ratio 1 and 85 for ratio 0.5.
+-- The weight of damping as measured: it is the largest that docs/METHOD.md asks for, and by
+-- computation 128 for ratio 1 and 85 for ratio 0.5.
 use Prim.Native.Nat.{ℕ, zero, suc, _-_, _≤_, _<_}
 use native.Mathlib.Omega.{arith}
 use mathlib.Core.Path.{_≡_, refl, sym, ap, subst, _∙_}
@@ -57,7 +58,12 @@ skipped r n c e h lower t = go (leb c n) (leb→le c n) (nleb→lt c n)
 met-is : (r : Float) (n : ℕ) → meets r (suc n) ≡ true → IsLargest r (suc n) (largestTo r (suc n))
 met-is r n e =
     subst (IsLargest r (suc n)) (sym (largest-here r (suc n) (omega arith) e))
-    (record { first = omega arith; last = omega arith; met = inl (T-iff (meets r (suc n)) .1 e); larger = λ c l h t. absurd (omega arith) })
+    (record {
+      first = omega arith;
+      last = omega arith;
+      met = inl (T-iff (meets r (suc n)) .1 e);
+      larger = λ c l h t. absurd (omega arith);
+    })
 
 largest-is : (r : Float) (n : ℕ) → IsLargest r (suc n) (largestTo r (suc n))
 largest-is r zero = go (meets r 1) refl
@@ -79,7 +85,12 @@ largest-is r (suc n) = go (meets r (suc (suc n))) refl (largest-is r n)
     go true e i = met-is r (suc n) e
     go false e i =
         subst (IsLargest r (suc (suc n))) (sym (missed r (suc n) e))
-        (record { first = i .first; last = omega (arith, i .last); met = i .met; larger = λ c l h. skipped r (suc n) c e h (i .larger c l) })
+        (record {
+          first = i .first;
+          last = omega (arith, i .last);
+          met = i .met;
+          larger = λ c l h. skipped r (suc n) c e h (i .larger c l);
+        })
 
 pub weight-is-largest : (r : Float) → IsLargest r 128 (ratioWeight r)
 weight-is-largest r = largest-is r 127
@@ -95,15 +106,17 @@ peaks m e n f = Measured (Peaks (fin false m e) (fin false n f))
 
 -- ratios 1, 0.5 and 2⁻²⁰; peaks 3 and 1.5, 3 and 1, and the least float twice
 pub weights : map weightOf
-    (ratio 1 (pos 0) ∷ ratio 1 (negsuc 0) ∷ ratio 1 (negsuc 19) ∷ peaks 3 (pos 0) 3 (negsuc 0) ∷ peaks 3 (pos 0) 1 (pos 0)
+    (ratio 1 (pos 0) ∷ ratio 1 (negsuc 0) ∷ ratio 1 (negsuc 19) ∷ peaks 3 (pos 0) 3
+    (negsuc 0) ∷ peaks 3 (pos 0) 1 (pos 0)
     ∷ peaks 1 (negsuc 148) 1 (negsuc 148) ∷ [])
     ≡ (128 ∷ 85 ∷ 1 ∷ 85 ∷ 64 ∷ 128 ∷ [])
 unfolding largestTo meets Ieee.le Ieee.mul Ieee.div Ieee.ofInt
 weights = refl
 
--- where the roundings tell: peaks 97 and 31, 155 and 101, of which the quotient not rounded gives 62 and 101, and the float nearest to 2/254,
--- of which the product not rounded gives 1
-pub weights-rounded : map weightOf (peaks 97 (pos 0) 31 (pos 0) ∷ peaks 155 (pos 0) 101 (pos 0) ∷ ratio 2113665 (negsuc 27) ∷ [])
+-- where the roundings tell: peaks 97 and 31, 155 and 101, of which the quotient not rounded gives
+-- 62 and 101, and the float nearest to 2/254, of which the product not rounded gives 1
+pub weights-rounded : map weightOf
+    (peaks 97 (pos 0) 31 (pos 0) ∷ peaks 155 (pos 0) 101 (pos 0) ∷ ratio 2113665 (negsuc 27) ∷ [])
     ≡ (61 ∷ 100 ∷ 2 ∷ [])
 unfolding largestTo meets Ieee.le Ieee.mul Ieee.div Ieee.ofInt
 weights-rounded = refl

@@ -1,4 +1,5 @@
--- A call with its rows in an order: its answer is that of the forward call; a refusal stays, and an accepted job has its rows in the order.
+-- A call with its rows in an order: its answer is that of the forward call; a refusal stays, and an
+-- accepted job has its rows in the order.
 use mathlib.Core.Path.{_≡_, refl}
 use mathlib.Core.Bool.{Bool, true, false}
 use mathlib.Core.List.{List}

@@ -14,12 +14,15 @@ use Rattle.whole.proofs.Tests.{leb-yes, left, and, T-true, T-false, true-T}
 use Rattle.model.specs.declared.Axis.{Axis}
 use Rattle.model.specs.declared.Windows.{Windows}
 use Rattle.model.specs.planning.Motion.{reachable}
-use Rattle.model.specs.planning.Windows.{inWindows, refused13, WindowsWrong, empty, tooMany, longDwell, wrongWindow, WindowsRight}
+use Rattle.model.specs.planning.Windows.{inWindows, refused13, WindowsWrong, empty, tooMany, longDwell}
+use Rattle.model.specs.planning.Windows.{wrongWindow, WindowsRight}
 use Rattle.model.specs.planning.Job.{Job, JobAxis, maskWhere}
 use Rattle.model.specs.planning.Refusals.{lastTick, limitsRefused, dampingRefused, blendRefused, swayRefused}
 use Rattle.model.specs.planning.Refusals.{valuesRefused, accelerationRefused, flyingRefused, Passed, AllPassed}
-use Rattle.model.specs.planning.Outcome.{Outcome, refuse, accept, allReach, leastFrom, arrives, cellsNeeded, reachesNone}
-use Rattle.model.specs.planning.Admission.{firstAxis, Tests, axisRefusals, Admission, refusedAt, admitted, windowed, tested}
+use Rattle.model.specs.planning.Outcome.{Outcome, refuse, accept, allReach, leastFrom, arrives, cellsNeeded}
+use Rattle.model.specs.planning.Outcome.{reachesNone}
+use Rattle.model.specs.planning.Admission.{firstAxis, Tests, axisRefusals, Admission, refusedAt, admitted}
+use Rattle.model.specs.planning.Admission.{windowed, tested}
 use Rattle.model.specs.planning.Outcome.{filled, arrived, outcomeAfter, jobOutcome}
 use Rattle.model.specs.theorems.Verdict.{Arrives, Passing, OutsideWindows, EightOutside, NineNowhere}
 use Rattle.model.proofs.jobs.WindowsInWords.{in-windows, windows-in, windows-wrong}
@@ -31,7 +34,8 @@ not-below h k = omega arith
 
 -- ---- what every earlier refusal lets pass goes on to 8 and 9
 
-first-none : (f : Axis → Bool) → ((x : Axis) → Passed x → f x ≡ false) → (l : List JobAxis) → AllPassed l → firstAxis f l ≡ none
+first-none : (f : Axis → Bool) → ((x : Axis) → Passed x → f x ≡ false) → (l : List JobAxis)
+    → AllPassed l → firstAxis f l ≡ none
 first-none f h [] p = refl
 first-none f h (y ∷ l) p = go (f (y .axis)) (h (y .axis) (p .0)) (first-none f h l (p .1))
   where
@@ -61,7 +65,8 @@ module _ (j : Job) (lent : List ℤ) (p : Passing j) where
   tests-clear : (ts : Tests) → Clear ts (j .axes) → tested ts j ≡ windowed j
   tests-clear [] c = refl
   tests-clear (t ∷ ts) (e, c) =
-      ap (λ (o : Option ℕ). elim o as (λ _. Admission) [ some i ↦ refusedAt (t .0) i | none ↦ tested ts j ]) e ∙ tests-clear ts c
+      ap (λ (o : Option ℕ). elim o as (λ _. Admission) [ some i ↦ refusedAt (t .0) i | none ↦ tested ts j ]) e
+      ∙ tests-clear ts c
 
   -- of each test that no axis that passed meets
   clear : (f : Axis → Bool) → ((x : Axis) → Passed x → f x ≡ false) → firstAxis f (j .axes) ≡ none
@@ -71,8 +76,12 @@ module _ (j : Job) (lent : List ℤ) (p : Passing j) where
   all-clear =
       let last : Clear ((16, accelerationRefused) ∷ (17, flyingRefused) ∷ []) (j .axes) =
       (clear accelerationRefused (λ x q. q .acceleration), (clear flyingRefused (λ x q. q .resting), tt)) in
-      let blends : Clear ((5, blendRefused) ∷ (15, swayRefused) ∷ (6, valuesRefused) ∷ (16, accelerationRefused) ∷ (17, flyingRefused) ∷ []) (j .axes) =
-      (clear blendRefused (λ x q. q .blend), (clear swayRefused (λ x q. q .sway), (clear valuesRefused (λ x q. q .values), last))) in
+      let blends : Clear
+      ((5, blendRefused) ∷ (15, swayRefused) ∷ (6, valuesRefused) ∷ (16, accelerationRefused)
+      ∷ (17, flyingRefused) ∷ []) (j .axes) = (
+        clear blendRefused (λ x q. q .blend),
+        (clear swayRefused (λ x q. q .sway), (clear valuesRefused (λ x q. q .values), last)),
+      ) in
       (clear limitsRefused (λ x q. q .limits), (clear dampingRefused (λ x q. q .damping), blends))
 
   no-thirteen : refused13 (j .windows) ≡ none
@@ -80,12 +89,14 @@ module _ (j : Job) (lent : List ℤ) (p : Passing j) where
     where
       go : (o : Option ℕ) → refused13 (j .windows) ≡ o → o ≡ none
       go none e = refl
-      go (some k) e = let x = windows-wrong (j .windows) k e in absurd (wrong-or-right (j .windows) k (x .1) (p .windows (x .0)))
+      go (some k) e = let x = windows-wrong (j .windows) k e in
+          absurd (wrong-or-right (j .windows) k (x .1) (p .windows (x .0)))
 
   pub goes-on : jobOutcome j lent ≡ arrived j (j .asked) lent
   goes-on =
       ap (outcomeAfter lent)
-      (ap (λ (b : Bool). elim b as (λ _. Admission) [ true ↦ tested axisRefusals j | false ↦ refusedAt 3 1 ]) (leb-yes (p .asked))
+      (ap (λ (b : Bool). elim b as (λ _. Admission) [ true ↦ tested axisRefusals j | false ↦ refusedAt 3 1 ])
+      (leb-yes (p .asked))
       ∙ tests-clear axisRefusals all-clear
       ∙ ap (λ (o : Option ℕ). elim o as (λ _. Admission) [ some k ↦ refusedAt 13 k | none ↦ admitted j ]) no-thirteen)
 
@@ -93,7 +104,8 @@ module _ (j : Job) (lent : List ℤ) (p : Passing j) where
   not-filled : (n k : ℕ) → (k ≡ 10 → ⊥) → (k ≡ 0 → ⊥) → filled j n lent .number ≡ k → ⊥
   not-filled n k a b = go (ltb (length lent) (cellsNeeded (length (j .axes)) n))
     where
-      go : (t : Bool) → (elim t as (λ _. Outcome) [ true ↦ refuse 10 0 0 n lent | false ↦ accept j n lent ]) .number ≡ k → ⊥
+      go : (t : Bool)
+          → (elim t as (λ _. Outcome) [ true ↦ refuse 10 0 0 n lent | false ↦ accept j n lent ]) .number ≡ k → ⊥
       go true e = a (sym e)
       go false e = b (sym e)
 
@@ -110,7 +122,8 @@ none-missed : (l : List JobAxis) (n : ℕ) → missed l n ≡ 0 → T (allReach 
 none-missed [] n e = tt
 none-missed (y ∷ l) n e = go (reachable (y .axis) n) e (none-missed l n)
   where
-    go : (b : Bool) → _≡_ {A = ℕ} (elim (not b) as (λ _. ℕ) [ true ↦ 2 ^ (y .number) + missed l n | false ↦ missed l n ]) 0
+    go : (b : Bool)
+        → _≡_ {A = ℕ} (elim (not b) as (λ _. ℕ) [ true ↦ 2 ^ (y .number) + missed l n | false ↦ missed l n ]) 0
         → (missed l n ≡ 0 → T (allReach l n))
         → T (elim b as (λ _. Bool) [ true ↦ allReach l n | false ↦ false ])
     go true e h = h e
@@ -120,7 +133,8 @@ all-reached : (l : List JobAxis) (n : ℕ) → T (allReach l n) → missed l n �
 all-reached [] n t = refl
 all-reached (y ∷ l) n t = go (reachable (y .axis) n) t (all-reached l n)
   where
-    go : (b : Bool) → T (elim b as (λ _. Bool) [ true ↦ allReach l n | false ↦ false ]) → (T (allReach l n) → missed l n ≡ 0)
+    go : (b : Bool) → T (elim b as (λ _. Bool) [ true ↦ allReach l n | false ↦ false ])
+        → (T (allReach l n) → missed l n ≡ 0)
         → _≡_ {A = ℕ} (elim (not b) as (λ _. ℕ) [ true ↦ 2 ^ (y .number) + missed l n | false ↦ missed l n ]) 0
     go true t h = h t
     go false t h = absurd t
@@ -137,7 +151,8 @@ module _ (j : Job) (lent : List ℤ) (p : Passing j) where
 
   module _ (n : ℕ) where
     no-window : T (allReach (j .axes) n) → arrives j n ≡ false → inWindows (j .windows) n ≡ false
-    no-window t e = T-false (inWindows (j .windows) n) (λ w. clash (arrives j n) e (and (inWindows (j .windows) n) (allReach (j .axes) n) w t))
+    no-window t e = T-false (inWindows (j .windows) n)
+        (λ w. clash (arrives j n) e (and (inWindows (j .windows) n) (allReach (j .axes) n) w t))
 
     to-outside : T (allReach (j .axes) n) → inWindows (j .windows) n ≡ false → OutsideWindows j n
     to-outside t e =
@@ -149,15 +164,18 @@ module _ (j : Job) (lent : List ℤ) (p : Passing j) where
       where
         go : (b : Bool) → j .windows .given ≡ b → j .windows .given ≡ true
         go true g = g
-        go false g = absurd (clash (inWindows (j .windows) n) e (windows-in (j .windows) n (λ h. absurd (false≢true (sym g ∙ h)))))
+        go false g = absurd
+            (clash (inWindows (j .windows) n) e (windows-in (j .windows) n (λ h. absurd (false≢true (sym g ∙ h)))))
 
     of-outside : OutsideWindows j n → arrives j n ≡ false
     of-outside o =
         T-false (arrives j n)
-        (λ t. o .outside (in-windows (j .windows) n (left (inWindows (j .windows) n) (allReach (j .axes) n) t) (o .given)))
+        (λ t. o .outside
+        (in-windows (j .windows) n (left (inWindows (j .windows) n) (allReach (j .axes) n) t) (o .given)))
 
     eight-ends : (b : Bool) → arrives j n ≡ b
-        → Eight (elim b as (λ _. Outcome) [ true ↦ filled j n lent | false ↦ refuse 8 0 (missed (j .axes) n) 0 lent ]) ↔ OutsideWindows j n
+        → Eight (elim b as (λ _. Outcome) [ true ↦ filled j n lent | false ↦ refuse 8 0 (missed (j .axes) n) 0 lent ])
+        ↔ OutsideWindows j n
     eight-ends true e = (
       λ h. absurd (not-filled j lent p n 8 (λ k. omega arith) (λ k. omega arith) (h .0)),
       λ o. absurd (false≢true (sym (of-outside o) ∙ e)),
@@ -175,7 +193,10 @@ module _ (j : Job) (lent : List ℤ) (p : Passing j) where
   Nowhere = (n : ℕ) → 1 ≤ n → n ≤ 4096 → Arrives j n → ⊥
 
   nine-ends : (o : Option ℕ) → leastFrom (arrives j) 1 lastTick ≡ o
-      → ((elim o as (λ _. Outcome) [ some n ↦ filled j n lent | none ↦ refuse 9 0 (maskWhere (λ x. reachesNone x) (j .axes)) 0 lent ]) .number ≡ 9) ↔ Nowhere
+      → ((elim o as (λ _. Outcome) [
+        | some n ↦ filled j n lent
+        | none ↦ refuse 9 0 (maskWhere (λ x. reachesNone x) (j .axes)) 0 lent
+      ]) .number ≡ 9) ↔ Nowhere
   nine-ends (some n) e =
       let l = least-is (arrives j) 1 lastTick n e in (
         λ h. absurd (not-filled j lent p n 9 (λ k. omega arith) (λ k. omega arith) h),
@@ -187,9 +208,11 @@ module _ (j : Job) (lent : List ℤ) (p : Passing j) where
   )
 
 pub eight-outside : EightOutside
-eight-outside j lent p h = subst (λ (o : Outcome). Eight j lent p o ↔ OutsideWindows j (j .asked)) (sym (goes-on j lent p)) (eight-at j lent p (j .asked) h)
+eight-outside j lent p h = subst (λ (o : Outcome). Eight j lent p o ↔ OutsideWindows j (j .asked))
+    (sym (goes-on j lent p)) (eight-at j lent p (j .asked) h)
 
 pub nine-nowhere : NineNowhere
 nine-nowhere j lent p z =
-    subst (λ (o : Outcome). (o .number ≡ 9) ↔ Nowhere j lent p) (sym (goes-on j lent p ∙ ap (λ (n : ℕ). arrived j n lent) z))
+    subst (λ (o : Outcome). (o .number ≡ 9) ↔ Nowhere j lent p)
+    (sym (goes-on j lent p ∙ ap (λ (n : ℕ). arrived j n lent) z))
     (nine-ends j lent p (leastFrom (arrives j) 1 lastTick) refl)

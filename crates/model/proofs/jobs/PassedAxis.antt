@@ -11,8 +11,10 @@ use Rattle.model.specs.declared.SecondSway.{SecondSway}
 use Rattle.model.specs.declared.SecondSway.the-variants.{Absent, HalfPeriod}
 use Rattle.model.specs.declared.Target.{Target}
 use Rattle.model.specs.declared.Target.the-variants.{Fixed, Moving}
-use Rattle.model.specs.planning.Quantities.{speedLimit, accelerationLimit, halfPeriod, secondWeight, swayDelay, secondHalfPeriod, asMoving}
-use Rattle.model.specs.planning.Refusals.{within, lastTick, restAllowed, motionAllowed, targetAllowed, swayAllowed, accelerationRefusedBy, Passed}
+use Rattle.model.specs.planning.Quantities.{speedLimit, accelerationLimit, halfPeriod, secondWeight, swayDelay}
+use Rattle.model.specs.planning.Quantities.{secondHalfPeriod, asMoving}
+use Rattle.model.specs.planning.Refusals.{within, lastTick, restAllowed, motionAllowed, targetAllowed}
+use Rattle.model.specs.planning.Refusals.{swayAllowed, accelerationRefusedBy, Passed}
 use Rattle.model.proofs.motions.Grid.{no-acceleration}
 
 at-least : (a b n : ℕ) → T (within a b n) → a ≤ n
@@ -22,7 +24,8 @@ at-most : (a b n : ℕ) → T (within a b n) → n ≤ b
 at-most a b n t = leb→le n b (both (leb a n) (leb n b) t .1)
 
 -- a target's acceleration and tick, where they are allowed
-acceleration-allowed : (x : Axis) (t : Target) (n : ℕ) → T (targetAllowed x t) → natAbs (asMoving t n .acceleration) ≤ accelerationLimit x
+acceleration-allowed : (x : Axis) (t : Target) (n : ℕ) → T (targetAllowed x t)
+    → natAbs (asMoving t n .acceleration) ≤ accelerationLimit x
 acceleration-allowed x (Fixed r) n h = omega arith
 acceleration-allowed x (Moving m) n h =
     leb→le (natAbs (m .acceleration)) (accelerationLimit x)
@@ -74,9 +77,11 @@ module _ (x : Axis) (p : Passed x) where
   -- where a second half period is given it is 1 to 256, and the target does not accelerate
   pub second-range : (d : ℕ) → x .«second_sway» ≡ HalfPeriod d → (1 ≤ d) × (d ≤ 256)
   second-range d e =
-      let t : T (within 1 256 d) = subst (λ (s : SecondSway). T (swayAllowed s)) e (not-false-T (swayAllowed (x .«second_sway»)) (p .sway)) in
+      let t : T (within 1 256 d) =
+      subst (λ (s : SecondSway). T (swayAllowed s)) e (not-false-T (swayAllowed (x .«second_sway»)) (p .sway)) in
       (at-least 1 256 d t, at-most 1 256 d t)
 
   pub second-still : (d : ℕ) → x .«second_sway» ≡ HalfPeriod d → (n : ℕ) → asMoving (x .target) n .acceleration ≡ pos 0
   second-still d e =
-      no-acceleration (x .target) (subst (λ (s : SecondSway). accelerationRefusedBy s (x .target) ≡ false) e (p .acceleration))
+      no-acceleration (x .target)
+      (subst (λ (s : SecondSway). accelerationRefusedBy s (x .target) ≡ false) e (p .acceleration))

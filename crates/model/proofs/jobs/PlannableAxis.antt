@@ -1,4 +1,5 @@
--- What an axis has that can be planned for an arrival: it passed the refusals of one axis and reaches the arrival.
+-- What an axis has that can be planned for an arrival: it passed the refusals of
+-- one axis and reaches the arrival.
 use Prim.Native.Nat.{ℕ, _^_, _≤_, _<_}
 use mathlib.Core.Path.{sym, subst}
 use native.Mathlib.Omega.{arith}

@@ -1,5 +1,5 @@
--- Rule 5, for every leg that can be made: the list chosen meets rule 4, the cruise is the largest c whose sum does not exceed the
--- required sum, and the remainder is what that sum leaves of it.
+-- Rule 5, for every leg that can be made: the list chosen meets rule 4, the cruise is the largest c
+-- whose sum does not exceed the required sum, and the remainder is what that sum leaves of it.
 use Prim.Native.Nat.{ℕ, suc, _+_, _-_, _^_, _≤_, _<_}
 use mathlib.Core.Path.{_≡_, refl, sym, ap, ap₂, _∙_, subst}
 use mathlib.Core.List.{List, [], _∷_}
@@ -14,7 +14,8 @@ use Rattle.whole.proofs.Differences.{whole, all₁}
 use Rattle.whole.proofs.Laws.{≤ℤ-trans, ≤ℤ-total, <ℤ-weaken, add-sub, sub-nonneg}
 use Rattle.whole.proofs.Ring.{pol, same}
 use Rattle.whole.proofs.Rounding.{twice-half}
-use Rattle.model.specs.planning.Leg.{Leg, Meets, feasible, travelled, sumAt, cruise, IsCruise, required, twiceRequired, raised, remainder, chosen}
+use Rattle.model.specs.planning.Leg.{Leg, Meets, feasible, travelled, sumAt, cruise, IsCruise, required}
+use Rattle.model.specs.planning.Leg.{twiceRequired, raised, remainder, chosen}
 use Rattle.model.proofs.legs.Envelopes.{Joined, highest-sum}
 use Rattle.model.proofs.legs.CruiseIsLargest.{sumAt-mono}
 use Rattle.model.proofs.legs.RaisedList.{along, along-end, along-speed, along-change, along-sum, total, Kept}
@@ -24,7 +25,8 @@ use Rattle.model.proofs.motions.Travel.{travelled-is}
 
 pub chosen-length : (g : Leg) (s : ℤ) → 0 < g .ticks → length (chosen g s) ≡ g .ticks
 chosen-length g s some =
-    length-append middle (g .end ∷ []) ∙ plain (length middle) (g .ticks) (raised-length g (cruise g s) (g .ticks - 1) 1 (remainder g s)) some
+    length-append middle (g .end ∷ [])
+    ∙ plain (length middle) (g .ticks) (raised-length g (cruise g s) (g .ticks - 1) 1 (remainder g s)) some
   where
     middle : List ℤ
     middle = raised g (cruise g s) (g .ticks - 1) 1 (remainder g s)
@@ -49,7 +51,8 @@ module _ (g : Leg) (δ : ℤ) (range : g .speedLimit ≤ 2 ^ 37) (t : T (feasibl
 
 module _ (g : Leg) (δ : ℤ) (some : 0 < g .ticks)
     (hA : 0 < g .accelerationLimit) (range : g .speedLimit ≤ 2 ^ 37) (t : T (feasible g δ)) where
-  -- the required sum, its cruise, what the cruise leaves of the sum, and the number of ticks between the ends
+  -- the required sum, its cruise, what the cruise leaves of the sum, and the
+  -- number of ticks between the ends
   abbrev s : ℤ
   s = required g δ
 
@@ -73,9 +76,11 @@ module _ (g : Leg) (δ : ℤ) (some : 0 < g .ticks)
   unfolding c left
   left-is = remainder-left g δ range t
 
-  -- at c + 1 the sum is enough: c is the largest that does not exceed it, or the speed limit, where the upper envelope's sum is enough
+  -- at c + 1 the sum is enough: c is the largest that does not exceed it, or the speed limit, where
+  -- the upper envelope's sum is enough
   enough : s ≤ℤ sumAt g (c +ℤ pos 1)
-  enough = ⊎-elim (λ (q : (c +ℤ pos 1) ≤ℤ pos (g .speedLimit)). larger q) top (≤ℤ-total (c +ℤ pos 1) (pos (g .speedLimit)))
+  enough =
+      ⊎-elim (λ (q : (c +ℤ pos 1) ≤ℤ pos (g .speedLimit)). larger q) top (≤ℤ-total (c +ℤ pos 1) (pos (g .speedLimit)))
     where
       beyond : (c : ℤ) → (c +ℤ pos 1) ≤ℤ c → ⊥
       beyond = all₁ _ (λ a b. simp whole (omega arith))
@@ -119,8 +124,10 @@ module _ (g : Leg) (δ : ℤ) (some : 0 < g .ticks)
       record {
         starts = refl;
         ends = end-of;
-        speeds = λ k h. along-speed (g .speedLimit) (g .accelerationLimit) (g .start) middle (g .end) kept k (omega (arith, middle-length));
-        changes = λ k h. along-change (g .speedLimit) (g .accelerationLimit) (g .start) middle (g .end) kept k (omega (arith, middle-length));
+        speeds = λ k h. along-speed (g .speedLimit) (g .accelerationLimit) (g .start) middle (g .end) kept k
+            (omega (arith, middle-length));
+        changes = λ k h. along-change (g .speedLimit) (g .accelerationLimit) (g .start) middle (g .end) kept k
+            (omega (arith, middle-length));
         travels = travels-is;
       }
     where

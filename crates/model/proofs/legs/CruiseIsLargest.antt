@@ -1,4 +1,5 @@
--- Rule 5: the cruise found is the largest c from −256L to 256L whose sum does not exceed the required sum.
+-- Rule 5: the cruise found is the largest c from −256L to 256L whose sum does not exceed the
+-- required sum.
 use Prim.Native.Nat.{ℕ, zero, suc, _-_, _*_, _^_, _≤_}
 use mathlib.Core.Path.{_≡_, sym, subst}
 use mathlib.Core.Logic.{⊎-elim}
@@ -12,11 +13,13 @@ use Rattle.whole.proofs.Differences.{whole, all₁, all₂, all₃, le-fails}
 use Rattle.whole.proofs.Laws.{≤ℤ-trans, ≤ℤ-total, <ℤ-next}
 use Rattle.whole.proofs.Order.{clamp-mono}
 use Rattle.whole.proofs.Sums.{sum-mono}
-use Rattle.model.specs.planning.Leg.{Leg, upper, lower, clamped, sumAt, fitsAt, climbByBits, climbSteps, cruise, IsCruise}
+use Rattle.model.specs.planning.Leg.{Leg, upper, lower, clamped, sumAt, fitsAt, climbByBits, climbSteps, cruise}
+use Rattle.model.specs.planning.Leg.{IsCruise}
 use Rattle.model.proofs.legs.Envelopes.{lowest-sum}
 
 pub sumAt-mono : (g : Leg) (c d : ℤ) → c ≤ℤ d → sumAt g c ≤ℤ sumAt g d
-sumAt-mono g c d h = sum-mono (clamped g c) (clamped g d) (g .ticks - 1) (λ k q. clamp-mono (lower g k) (upper g k) c d h)
+sumAt-mono g c d h =
+    sum-mono (clamped g c) (clamped g d) (g .ticks - 1) (λ k q. clamp-mono (lower g k) (upper g k) c d h)
 
 module _ (g : Leg) (s : ℤ) where
   abbrev L : ℤ
@@ -30,7 +33,8 @@ module _ (g : Leg) (s : ℤ) where
     next : (d : ℤ) → d ≤ℤ L → sumAt g d ≤ℤ s → d <ℤ (c +ℤ pos (2 ^ n))
 
   climb-is : (n : ℕ) (c : ℤ) → Climbed n c → IsCruise g s (climbByBits g s n c)
-  climb-is zero c h = record { above = h .above; below = h .below; fits = h .fits; largest = λ d p q. <ℤ-next d c (h .next d p q) }
+  climb-is zero c h =
+      record { above = h .above; below = h .below; fits = h .fits; largest = λ d p q. <ℤ-next d c (h .next d p q) }
   climb-is (suc n) c h =
       by-bool (IsCruise g s) (leZ d L) _ _
       (λ t.

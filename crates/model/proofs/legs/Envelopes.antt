@@ -1,5 +1,6 @@
--- The envelopes of rule 5: a velocity brought between them changes by no more than the acceleration limit from tick to tick, they
--- meet at both ends of the leg, and every list that meets rule 4 lies between them.
+-- The envelopes of rule 5: a velocity brought between them changes by no more than the
+-- acceleration limit from tick to tick, they meet at both ends of the leg, and every list that
+-- meets rule 4 lies between them.
 use Prim.Native.Nat.{ℕ, zero, suc, _+_, _-_, _*_, _≤_, _<_}
 use mathlib.Core.Path.{_≡_, sym, ap, ap₂, _∙_, subst}
 use mathlib.Core.Logic.{_↔_}
@@ -114,14 +115,16 @@ pub record Joined (g : Leg) : Type 0 where
   pub end : natAbs (g .end) ≤ g .speedLimit
   pub apart : natAbs (g .end -ℤ g .start) ≤ g .accelerationLimit * g .ticks
 
--- the envelopes of one tick: the speed limit l, the ends s and e, and what is allowed since the start and until the end
+-- the envelopes of one tick: the speed limit l, the ends s and e, and what is allowed
+-- since the start and until the end
 abbrev pub highest : ℕ → ℕ → ℕ → ℤ → ℤ → ℤ
 highest l a b s e = least (pos l) (least (s +ℤ pos a) (e +ℤ pos b))
 
 abbrev pub lowest : ℕ → ℕ → ℕ → ℤ → ℤ → ℤ
 lowest l a b s e = greatest (negℤ (pos l)) (greatest (s -ℤ pos a) (e -ℤ pos b))
 
-ordered : (l a b : ℕ) (s e : ℤ) → Within l s → Within l e → Within (a + b) (e -ℤ s) → lowest l a b s e ≤ℤ highest l a b s e
+ordered : (l a b : ℕ) (s e : ℤ) → Within l s → Within l e → Within (a + b) (e -ℤ s)
+    → lowest l a b s e ≤ℤ highest l a b s e
 ordered l a b = all₂ _ (λ c d e f. simp whole (omega arith))
 
 highest-start : (l a b : ℕ) (s e : ℤ) → a ≡ 0 → Within l s → Within (a + b) (e -ℤ s) → highest l a b s e ≡ s
@@ -156,7 +159,8 @@ module _ (g : Leg) (hs : natAbs (g .start) ≤ g .speedLimit) (he : natAbs (g .e
   pub clamped-within : (c : ℤ) (k : ℕ) → Within (g .speedLimit) (clamped g c k)
   clamped-within c k =
       clamp-within (g .speedLimit) (lower g k) (least (g .start +ℤ pos (since g k)) (g .end +ℤ pos (until g k))) c
-      (within-limit (g .speedLimit) (since g k) (until g k) (g .start) (g .end) (record { within = hs }) (record { within = he }))
+      (within-limit (g .speedLimit) (since g k) (until g k) (g .start) (g .end)
+      (record { within = hs }) (record { within = he }))
 
 -- at the lowest cruise the velocities are the lower envelope
 pub clamped-lowest : (g : Leg) (k : ℕ) → clamped g (negℤ (pos (g .speedLimit))) k ≡ lower g k
@@ -168,7 +172,8 @@ lowest-sum g = sum-same (clamped g (negℤ (pos (g .speedLimit)))) (lower g) (g 
 
 module _ (g : Leg) (j : Joined g) where
   pub apart-at : (k : ℕ) → k ≤ g .ticks → Within (since g k + until g k) (g .end -ℤ g .start)
-  apart-at k h = record { within = subst (λ (n : ℕ). natAbs (g .end -ℤ g .start) ≤ n) (sym (since-until g k h)) (j .apart) }
+  apart-at k h =
+      record { within = subst (λ (n : ℕ). natAbs (g .end -ℤ g .start) ≤ n) (sym (since-until g k h)) (j .apart) }
 
   start-within : Within (g .speedLimit) (g .start)
   start-within = record { within = j .start }
@@ -177,12 +182,14 @@ module _ (g : Leg) (j : Joined g) where
   end-within = record { within = j .end }
 
   lower-upper : (k : ℕ) → k ≤ g .ticks → lower g k ≤ℤ upper g k
-  lower-upper k h = ordered (g .speedLimit) (since g k) (until g k) (g .start) (g .end) start-within end-within (apart-at k h)
+  lower-upper k h =
+      ordered (g .speedLimit) (since g k) (until g k) (g .start) (g .end) start-within end-within (apart-at k h)
 
   -- at the highest cruise they are the upper envelope
   pub clamped-highest : (k : ℕ) → k ≤ g .ticks → clamped g (pos (g .speedLimit)) k ≡ upper g k
   clamped-highest k h =
-      clamp-highest (g .speedLimit) (lower g k) (least (g .start +ℤ pos (since g k)) (g .end +ℤ pos (until g k))) (lower-upper k h)
+      clamp-highest (g .speedLimit) (lower g k)
+      (least (g .start +ℤ pos (since g k)) (g .end +ℤ pos (until g k))) (lower-upper k h)
 
   pub highest-sum : sumAt g (pos (g .speedLimit)) ≡ sumTo (upper g) (g .ticks - 1)
   highest-sum =
@@ -193,10 +200,12 @@ module _ (g : Leg) (j : Joined g) where
   clamped-start c = ap₂ (λ (x y : ℤ). clamp x y c) low high ∙ pinched (g .start) c
     where
       low : lower g 0 ≡ g .start
-      low = lowest-start (g .speedLimit) (since g 0) (until g 0) (g .start) (g .end) (mul-zero (A g)) start-within (apart-at 0 (omega arith))
+      low = lowest-start (g .speedLimit) (since g 0) (until g 0) (g .start) (g .end)
+          (mul-zero (A g)) start-within (apart-at 0 (omega arith))
 
       high : upper g 0 ≡ g .start
-      high = highest-start (g .speedLimit) (since g 0) (until g 0) (g .start) (g .end) (mul-zero (A g)) start-within (apart-at 0 (omega arith))
+      high = highest-start (g .speedLimit) (since g 0) (until g 0) (g .start) (g .end)
+          (mul-zero (A g)) start-within (apart-at 0 (omega arith))
 
   pub clamped-end : (c : ℤ) → clamped g c (g .ticks) ≡ g .end
   clamped-end c = ap₂ (λ (x y : ℤ). clamp x y c) low high ∙ pinched (g .end) c
@@ -234,11 +243,14 @@ module _ (g : Leg) (δ : ℤ) (w : ℕ → ℤ) (m : Meets g δ w) where
   from-end zero h = rw (sub-zero, m .ends) (near-refl (A g * 0) (g .end))
   from-end (suc j) h = go (g .ticks - suc j) (omega arith) (from-end j (omega arith))
     where
-      go : (i : ℕ) → suc i ≡ g .ticks - j → Near (A g * j) (w (g .ticks - j)) (g .end) → Near (A g * suc j) (w i) (g .end)
-      go i e n = let s : Near (A g) (w i) (w (g .ticks - j)) = rw e at (step i (omega arith)) in rw (mul-suc, add-comm) (near-trans s n)
+      go : (i : ℕ) → suc i ≡ g .ticks - j → Near (A g * j) (w (g .ticks - j)) (g .end)
+          → Near (A g * suc j) (w i) (g .end)
+      go i e n = let s : Near (A g) (w i) (w (g .ticks - j)) = rw e at (step i (omega arith)) in
+          rw (mul-suc, add-comm) (near-trans s n)
 
   to-end : (k : ℕ) → k ≤ g .ticks → Near (until g k) (w k) (g .end)
-  to-end k h = let n : Near (until g k) (w (g .ticks - (g .ticks - k))) (g .end) = from-end (g .ticks - k) (omega arith) in rw e at n
+  to-end k h = let n : Near (until g k) (w (g .ticks - (g .ticks - k))) (g .end) = from-end
+      (g .ticks - k) (omega arith) in rw e at n
     where
       e : g .ticks - (g .ticks - k) ≡ k
       e = omega arith
@@ -248,11 +260,13 @@ module _ (g : Leg) (δ : ℤ) (w : ℕ → ℤ) (m : Meets g δ w) where
 
   pub above-lower : (k : ℕ) → k ≤ g .ticks → lower g k ≤ℤ w k
   above-lower k h =
-      lowest-below (g .speedLimit) (since g k) (until g k) (g .start) (g .end) (w k) (entry-within k h) (from-start k h) (to-end k h)
+      lowest-below (g .speedLimit) (since g k) (until g k) (g .start) (g .end) (w k)
+      (entry-within k h) (from-start k h) (to-end k h)
 
   pub below-upper : (k : ℕ) → k ≤ g .ticks → w k ≤ℤ upper g k
   below-upper k h =
-      highest-above (g .speedLimit) (since g k) (until g k) (g .start) (g .end) (w k) (entry-within k h) (from-start k h) (to-end k h)
+      highest-above (g .speedLimit) (since g k) (until g k) (g .start) (g .end) (w k)
+      (entry-within k h) (from-start k h) (to-end k h)
 
   -- so its ends can be joined
   pub meets-joined : Joined g
@@ -260,5 +274,6 @@ module _ (g : Leg) (δ : ℤ) (w : ℕ → ℤ) (m : Meets g δ w) where
       record {
         start = subst (λ (z : ℤ). natAbs z ≤ g .speedLimit) (m .starts) (m .speeds 0 (omega arith));
         end = subst (λ (z : ℤ). natAbs z ≤ g .speedLimit) (m .ends) (m .speeds (g .ticks) (omega arith));
-        apart = subst (λ (z : ℤ). natAbs (z -ℤ g .start) ≤ A g * g .ticks) (m .ends) (from-start (g .ticks) (omega arith) .apart .within);
+        apart = subst (λ (z : ℤ). natAbs (z -ℤ g .start) ≤ A g * g .ticks) (m .ends)
+            (from-start (g .ticks) (omega arith) .apart .within);
       }

@@ -12,7 +12,8 @@ use Rattle.whole.specs.Integers.{sumTo}
 use Rattle.whole.proofs.Ring.{pol, same}
 use Rattle.whole.proofs.Rounding.{twice-even, half-twice}
 use Rattle.whole.proofs.Sums.{sum-mono}
-use Rattle.model.specs.planning.Leg.{Leg, Meets, Feasible, travelled, upper, lower, twiceRequired, required, chosen, sumIsWhole, tests, feasible}
+use Rattle.model.specs.planning.Leg.{Leg, Meets, Feasible, travelled, upper, lower, twiceRequired, required}
+use Rattle.model.specs.planning.Leg.{chosen, sumIsWhole, tests, feasible}
 use Rattle.model.proofs.legs.Envelopes.{Joined, above-lower, below-upper, meets-joined}
 use Rattle.model.proofs.legs.ChosenMeets.{chosen-meets}
 use Rattle.model.proofs.legs.FeasibleTests.{every}
@@ -64,7 +65,8 @@ module _ (g : Leg) (n : ℕ) (hT : g .ticks ≡ suc n) (δ : ℤ) (w : ℕ → �
 
 -- ---- rule 4 is decided by the tests
 
-pub feasible-is : (g : Leg) (δ : ℤ) → 0 < g .ticks → 0 < g .accelerationLimit → g .speedLimit ≤ 2 ^ 37 → Feasible g δ ↔ T (feasible g δ)
+pub feasible-is : (g : Leg) (δ : ℤ) → 0 < g .ticks → 0 < g .accelerationLimit → g .speedLimit ≤ 2 ^ 37
+    → Feasible g δ ↔ T (feasible g δ)
 feasible-is g δ h hA small = (
   λ p. meets-feasible g (g .ticks - 1) shape δ (p .0) (p .1),
   λ t. ((λ k. getD (g .start ∷ chosen g (required g δ)) k (pos 0)), chosen-meets g δ h hA small t),

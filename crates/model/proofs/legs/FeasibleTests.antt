@@ -1,4 +1,5 @@
--- The tests of `feasible`: taken apart, put together, and what they give before any list is looked at.
+-- The tests of `feasible`: taken apart, put together, and what they give before any list is looked
+-- at.
 use Prim.Native.Nat.{_-_, _*_, _%_, _^_, _≤_}
 use mathlib.Core.Path.{_≡_}
 use mathlib.Core.Bool.{Bool}
@@ -8,7 +9,8 @@ use lib.IntN.{ℤ, natAbs, _-ℤ_}
 use lib.Signed.{_≤ℤ_, leZ-yes}
 use Rattle.whole.specs.Integers.{sumTo}
 use Rattle.whole.proofs.Tests.{both, and}
-use Rattle.model.specs.planning.Leg.{Leg, upper, lower, cruise, IsCruise, required, twiceRequired, allHold, tests, feasible}
+use Rattle.model.specs.planning.Leg.{Leg, upper, lower, cruise, IsCruise, required, twiceRequired, allHold, tests}
+use Rattle.model.specs.planning.Leg.{feasible}
 use Rattle.model.proofs.legs.Envelopes.{Joined}
 use Rattle.model.proofs.legs.CruiseIsLargest.{cruise-is}
 

@@ -17,7 +17,8 @@ use Rattle.whole.proofs.Laws.{≤ℤ-antisym, ≤ℤ-next, +ℤ-mono}
 use Rattle.whole.proofs.Order.{clamp-mono, clamp-next}
 use Rattle.whole.proofs.Sums.{sum-first}
 use Rattle.model.specs.planning.Leg.{Leg, upper, lower, clamped, raised}
-use Rattle.model.proofs.legs.Envelopes.{Near, near-next, near-sym, near-refl, Joined, clamped-near, clamped-within, clamped-start, clamped-end}
+use Rattle.model.proofs.legs.Envelopes.{Near, near-next, near-sym, near-refl, Joined, clamped-near}
+use Rattle.model.proofs.legs.Envelopes.{clamped-within, clamped-start, clamped-end}
 
 -- ---- a list of velocities between two ends, as a function of the tick
 
@@ -37,7 +38,8 @@ pub along-end : (v : ℤ) (xs : List ℤ) (e : ℤ) → along v xs e (suc (lengt
 along-end v [] e = refl
 along-end v (x ∷ xs) e = along-end x xs e
 
-pub along-speed : (s A : ℕ) (v : ℤ) (xs : List ℤ) (e : ℤ) → Kept s A v xs e → (k : ℕ) → k ≤ suc (length xs) → natAbs (along v xs e k) ≤ s
+pub along-speed : (s A : ℕ) (v : ℤ) (xs : List ℤ) (e : ℤ) → Kept s A v xs e → (k : ℕ)
+    → k ≤ suc (length xs) → natAbs (along v xs e k) ≤ s
 along-speed s A v [] e f zero h = f .0 .within
 along-speed s A v [] e f (suc zero) h = f .1 .0 .within
 along-speed s A v [] e f (suc (suc k)) h = absurd (omega arith)
@@ -80,7 +82,8 @@ not-raised r x y t = go (ltb 0 r) (ltZ x y) t (nltb→le 0 r) ltZ-no
     go true false t p q = inr (q tt)
     go false b t p q = inl (let h : r ≤ 0 = p tt in omega arith)
 
--- v and u are the velocities of a tick at c and at c + 1, s and z the sums of the later ones, r is left to raise
+-- v and u are the velocities of a tick at c and at c + 1, s and z the sums of the
+-- later ones, r is left to raise
 one-less : (r : ℕ) (v u s z : ℤ) → 0 < r → u ≤ℤ (v +ℤ pos 1) → (v +ℤ s +ℤ pos r) ≤ℤ (u +ℤ z) → (s +ℤ pos (r - 1)) ≤ℤ z
 one-less r = all₄ _ (λ a b c d e f g h. simp whole (omega arith))
 
@@ -114,7 +117,8 @@ module _ (g : Leg) (c : ℤ) where
   sum-low-high k (suc n) = +ℤ-mono (low-high k) (sum-low-high (suc k) n)
 
   -- where r more does not exceed the sum at c + 1, the list raised has the sum at c and r more
-  total-is : (n k r : ℕ) → (sumFrom low k n +ℤ pos r) ≤ℤ sumFrom high k n → total (raised g c n k r) ≡ sumFrom low k n +ℤ pos r
+  total-is : (n k r : ℕ) → (sumFrom low k n +ℤ pos r) ≤ℤ sumFrom high k n
+      → total (raised g c n k r) ≡ sumFrom low k n +ℤ pos r
   unfolding low high
   total-is zero k r h = none r h
     where
@@ -125,7 +129,8 @@ module _ (g : Leg) (c : ℤ) where
       (λ t.
       let p : 0 < r = ltb→lt 0 r (both (ltb 0 r) (ltZ (low k) (high k)) t .0) in
       one-raised r (low k) (sumFrom low (suc k) n) (total (raised g c n (suc k) (r - 1))) p
-      (total-is n (suc k) (r - 1) (one-less r (low k) (high k) (sumFrom low (suc k) n) (sumFrom high (suc k) n) p (high-low k) h)))
+      (total-is n (suc k) (r - 1)
+      (one-less r (low k) (high k) (sumFrom low (suc k) n) (sumFrom high (suc k) n) p (high-low k) h)))
       (λ t.
       ap (λ (z : ℤ). low k +ℤ z) (total-is n (suc k) r (rest (not-raised r (low k) (high k) t)))
       ∙ sym (+ℤ-assoc (low k) (sumFrom low (suc k) n) (pos r)))
@@ -149,7 +154,8 @@ module _ (g : Leg) (c : ℤ) where
       (λ t. ap suc (raised-length n (suc k) (r - 1)))
       (λ t. ap suc (raised-length n (suc k) r))
 
-  -- what may stand before a list that raises r more: a velocity at c + 1, or one at c where none is left to raise
+  -- what may stand before a list that raises r more: a velocity at c + 1, or
+  -- one at c where none is left to raise
   Before : ℕ → ℕ → ℤ → Type 0
   Before k r v = (v ≡ high k) ⊎ ((r ≡ 0) × (v ≡ low k))
 
@@ -161,7 +167,8 @@ module _ (g : Leg) (c : ℤ) where
 
     to-high : (k r : ℕ) (v : ℤ) → k < g .ticks → 0 < r → Before k r v → Near (g .accelerationLimit) v (high (suc k))
     unfolding low high Before
-    to-high k r v h p (inl e) = rw e (clamped-near g (c +ℤ pos 1) (c +ℤ pos 1) k h (near-refl (g .accelerationLimit) (c +ℤ pos 1)))
+    to-high k r v h p (inl e) =
+        rw e (clamped-near g (c +ℤ pos 1) (c +ℤ pos 1) k h (near-refl (g .accelerationLimit) (c +ℤ pos 1)))
     to-high k r v h p (inr e) = let z : r ≡ 0 = e .0 in absurd (omega arith)
 
     unraised : (k r : ℕ) → (r ≡ 0) ⊎ (high k ≤ℤ low k) → Before k r (low k)
@@ -180,7 +187,8 @@ module _ (g : Leg) (c : ℤ) where
     kept : (n k r : ℕ) (v : ℤ) → suc k + n ≡ g .ticks → Within (g .speedLimit) v → Before k r v
         → Kept (g .speedLimit) (g .accelerationLimit) v (raised g c n (suc k) r) (g .end)
     unfolding low high Before
-    kept zero k r v h w b = (w, (record { within = j .end }, subst (Near (g .accelerationLimit) v) last (to-low k r v (omega arith) b)))
+    kept zero k r v h w b =
+        (w, (record { within = j .end }, subst (Near (g .accelerationLimit) v) last (to-low k r v (omega arith) b)))
       where
         last : low (suc k) ≡ g .end
         last = ap low (plain k (g .ticks) h) ∙ clamped-end g j c
@@ -188,21 +196,26 @@ module _ (g : Leg) (c : ℤ) where
             plain : (k t : ℕ) → suc k + 0 ≡ t → suc k ≡ t
             plain k t e = omega arith
     kept (suc n) k r v h w b =
-        by-bool (λ (l : List ℤ). Kept (g .speedLimit) (g .accelerationLimit) v l (g .end)) (ltb 0 r && ltZ (low (suc k)) (high (suc k))) _ _
+        by-bool (λ (l : List ℤ). Kept (g .speedLimit) (g .accelerationLimit) v l (g .end))
+        (ltb 0 r && ltZ (low (suc k)) (high (suc k))) _ _
         (λ t.
-        let p : T (ltb 0 r) × T (ltZ (low (suc k)) (high (suc k))) = both (ltb 0 r) (ltZ (low (suc k)) (high (suc k))) t in
-        let e : low (suc k) +ℤ pos 1 ≡ high (suc k) = one-above (low (suc k)) (high (suc k)) (ltZ-yes (p .1)) (high-low (suc k)) in (
+        let p : T (ltb 0 r) × T (ltZ (low (suc k)) (high (suc k))) =
+        both (ltb 0 r) (ltZ (low (suc k)) (high (suc k))) t in
+        let e : low (suc k) +ℤ pos 1 ≡ high (suc k) =
+        one-above (low (suc k)) (high (suc k)) (ltZ-yes (p .1)) (high-low (suc k)) in (
           w,
           (
             subst (Near (g .accelerationLimit) v) (sym e) (to-high k r v (omega arith) (ltb→lt 0 r (p .0)) b),
-            kept n (suc k) (r - 1) (low (suc k) +ℤ pos 1) (omega arith) (subst (Within (g .speedLimit)) (sym e) (high-within (suc k))) (inl e),
+            kept n (suc k) (r - 1) (low (suc k) +ℤ pos 1) (omega arith)
+                (subst (Within (g .speedLimit)) (sym e) (high-within (suc k))) (inl e),
           ),
         ))
         (λ t. (
           w,
           (
             to-low k r v (omega arith) b,
-            kept n (suc k) r (low (suc k)) (omega arith) (low-within (suc k)) (unraised (suc k) r (not-raised r (low (suc k)) (high (suc k)) t)),
+            kept n (suc k) r (low (suc k)) (omega arith) (low-within (suc k))
+                (unraised (suc k) r (not-raised r (low (suc k)) (high (suc k)) t)),
           ),
         ))
       where
@@ -210,6 +223,8 @@ module _ (g : Leg) (c : ℤ) where
         one-above = all₂ _ (λ a b c d. simp whole (omega arith))
 
     -- the list raised from tick 1 on, between the ends
-    pub raised-kept : (n r : ℕ) → suc n ≡ g .ticks → Kept (g .speedLimit) (g .accelerationLimit) (g .start) (raised g c n 1 r) (g .end)
+    pub raised-kept : (n r : ℕ) → suc n ≡ g .ticks
+        → Kept (g .speedLimit) (g .accelerationLimit) (g .start) (raised g c n 1 r) (g .end)
     unfolding high Before
-    raised-kept n r h = kept n 0 r (g .start) (omega arith) (record { within = j .start }) (inl (sym (clamped-start g j (c +ℤ pos 1))))
+    raised-kept n r h =
+        kept n 0 r (g .start) (omega arith) (record { within = j .start }) (inl (sym (clamped-start g j (c +ℤ pos 1))))

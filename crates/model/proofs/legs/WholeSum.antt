@@ -1,5 +1,6 @@
--- The required sum is whole for every axis: twice the sum is even, term by term. Only the shift's part of the landing velocity, (Bh + 128h₂)a on the
--- fine grid, needs a reason: a or h is 0, B is 128, or the grid is finer.
+-- The required sum is whole for every axis: twice the sum is even, term by term. Only the
+-- shift's part of the landing velocity, (Bh + 128h₂)a on the fine grid, needs a reason: a or h
+-- is 0, B is 128, or the grid is finer.
 use Prim.Native.Nat.{ℕ, _/_, _%_}
 use mathlib.Core.Path.{_≡_, ap, _∙_}
 use mathlib.Core.List.{[], _∷_}
@@ -10,7 +11,8 @@ use Rattle.whole.proofs.Ring.{same, pol}
 use Rattle.whole.proofs.Rounding.{twice-even}
 use Rattle.model.specs.declared.Axis.{Axis}
 use Rattle.model.specs.declared.State.{State}
-use Rattle.model.specs.planning.Quantities.{halfPeriod, secondWeight, secondHalfPeriod, asMoving, twicePositionAt, velocityAt}
+use Rattle.model.specs.planning.Quantities.{halfPeriod, secondWeight, secondHalfPeriod, asMoving, twicePositionAt}
+use Rattle.model.specs.planning.Quantities.{velocityAt}
 use Rattle.model.specs.planning.Quantities.{swaySteps, finestSteps, finer, onGrid}
 use Rattle.model.specs.planning.Leg.{twiceRequired, sumIsWhole}
 use Rattle.model.specs.planning.Motion.{shift, landingTick, leg, displacement}
@@ -57,20 +59,34 @@ shift-even x n = go (grid x)
     go : Grid x → Even (F *ℤ (shift x *ℤ a))
     go (twoSways d e t) =
         let half = pos (swaySteps / 2) in
-        record { half = half *ℤ (shift x *ℤ a); twice = ap (λ (k : ℕ). pos k *ℤ (shift x *ℤ a)) e ∙ even-grid half (shift x) a }
+        record {
+          half = half *ℤ (shift x *ℤ a);
+          twice = ap (λ (k : ℕ). pos k *ℤ (shift x *ℤ a)) e
+              ∙ even-grid half (shift x) a;
+        }
     go (still e t z) = record { half = pos 0; twice = ap (λ (y : ℤ). F *ℤ (shift x *ℤ y)) (z n) ∙ nothing F (shift x) }
     go (unblended e t z) =
-        record { half = F *ℤ (pos 64 *ℤ s *ℤ a); twice = ap (λ (k : ℕ). F *ℤ ((b *ℤ pos k +ℤ pos 128 *ℤ s) *ℤ a)) z ∙ no-delay F b s a }
+        record {
+          half = F *ℤ (pos 64 *ℤ s *ℤ a);
+          twice = ap (λ (k : ℕ). F *ℤ ((b *ℤ pos k +ℤ pos 128 *ℤ s) *ℤ a)) z ∙ no-delay F b s a;
+        }
     go (undamped e t z) =
-        record { half = F *ℤ (pos 64 *ℤ (h +ℤ s) *ℤ a); twice = ap (λ (k : ℕ). F *ℤ ((pos k *ℤ h +ℤ pos 128 *ℤ s) *ℤ a)) z ∙ equal F h s a }
+        record {
+          half = F *ℤ (pos 64 *ℤ (h +ℤ s) *ℤ a);
+          twice = ap (λ (k : ℕ). F *ℤ ((pos k *ℤ h +ℤ pos 128 *ℤ s) *ℤ a)) z ∙ equal F h s a;
+        }
     go (corrected e t) =
         let half = pos (finestSteps / 2) in
-        record { half = half *ℤ (shift x *ℤ a); twice = ap (λ (k : ℕ). pos k *ℤ (shift x *ℤ a)) e ∙ even-grid half (shift x) a }
+        record {
+          half = half *ℤ (shift x *ℤ a);
+          twice = ap (λ (k : ℕ). pos k *ℤ (shift x *ℤ a)) e
+              ∙ even-grid half (shift x) a;
+        }
 
 -- ---- twice the required sum is even
 
--- f grid steps in a fine step; y is twice the target's position at the landing tick, v its velocity there, s the shift, w the shift's part, c half the
--- correction, p₀ and v₀ are the start's
+-- f grid steps in a fine step; y is twice the target's position at the landing tick, v its velocity
+-- there, s the shift, w the shift's part, c half the correction, p₀ and v₀ are the start's
 abbrev twiceSum : ℤ → ℤ → ℤ → ℤ → ℤ → ℤ → ℤ → ℤ → ℤ
 twiceSum f y v s w c p₀ v₀ =
     (f *ℤ (pos 256 *ℤ y +ℤ pos 2 *ℤ (s *ℤ v)) +ℤ pos 2 *ℤ c -ℤ f *ℤ (pos 512 *ℤ p₀ +ℤ pos 2 *ℤ (s *ℤ v₀)))
@@ -81,11 +97,13 @@ all-even : (f y v s w c p₀ v₀ : ℤ) → Even (f *ℤ w) → Even (twiceSum 
 all-even f y v s w c p₀ v₀ e =
     record {
       half = half f y v s c p₀ v₀ (e .half);
-      twice = apart f y v s w c p₀ v₀ ∙ ap (λ (z : ℤ). twiceSum f y v s (pos 0) c p₀ v₀ -ℤ z) (e .twice) ∙ joined f y v s c p₀ v₀ (e .half);
+      twice = apart f y v s w c p₀ v₀ ∙ ap (λ (z : ℤ). twiceSum f y v s (pos 0) c p₀ v₀ -ℤ z) (e .twice)
+          ∙ joined f y v s c p₀ v₀ (e .half);
     }
   where
     half : ℤ → ℤ → ℤ → ℤ → ℤ → ℤ → ℤ → ℤ → ℤ
-    half f y v s c p₀ v₀ e = f *ℤ (pos 128 *ℤ y +ℤ s *ℤ v -ℤ pos 256 *ℤ p₀ -ℤ s *ℤ v₀ -ℤ pos 128 *ℤ v₀ -ℤ pos 128 *ℤ v) +ℤ c -ℤ e
+    half f y v s c p₀ v₀ e =
+        f *ℤ (pos 128 *ℤ y +ℤ s *ℤ v -ℤ pos 256 *ℤ p₀ -ℤ s *ℤ v₀ -ℤ pos 128 *ℤ v₀ -ℤ pos 128 *ℤ v) +ℤ c -ℤ e
 
     apart : (f y v s w c p₀ v₀ : ℤ) → twiceSum f y v s w c p₀ v₀ ≡ twiceSum f y v s (pos 0) c p₀ v₀ -ℤ f *ℤ w
     apart f y v s w c p₀ v₀ = same (f ∷ y ∷ v ∷ s ∷ w ∷ c ∷ p₀ ∷ v₀ ∷ []) (search pol depth 30 fits 9000) tt

@@ -1,4 +1,5 @@
--- An axis with limits at least as high keeps every arrival that it reaches: the same list meets rule 4. And it passes the refusals of one axis.
+-- An axis with limits at least as high keeps every arrival that it reaches: the same list meets
+-- rule 4. And it passes the refusals of one axis.
 use Prim.Native.Nat.{ℕ, _*_, _≤_, _<_}
 use mathlib.Core.Path.{_≡_, refl}
 use mathlib.Core.Bool.{Bool, true, false, not, _&&_}
@@ -11,11 +12,13 @@ use Rattle.model.specs.declared.Axis.{Axis}
 use Rattle.model.specs.declared.RestPoint.{RestPoint}
 use Rattle.model.specs.declared.Target.{Target}
 use Rattle.model.specs.declared.Target.the-variants.{Fixed, Moving}
-use Rattle.model.specs.planning.Quantities.{fineSteps, speedLimit, accelerationLimit, finer, speedSteps, accelerationSteps}
+use Rattle.model.specs.planning.Quantities.{fineSteps, speedLimit, accelerationLimit, finer, speedSteps}
+use Rattle.model.specs.planning.Quantities.{accelerationSteps}
 use Rattle.model.specs.planning.Leg.{Leg, Feasible}
 use Rattle.model.specs.planning.Motion.{Reachable, reachable, leg, displacement}
 use Rattle.model.specs.calls.Raises.{withLimits}
-use Rattle.model.specs.planning.Refusals.{within, lastTick, positionAllowed, velocityAllowed, restAllowed, motionAllowed, targetAllowed}
+use Rattle.model.specs.planning.Refusals.{within, lastTick, positionAllowed, velocityAllowed, restAllowed}
+use Rattle.model.specs.planning.Refusals.{motionAllowed, targetAllowed}
 use Rattle.model.specs.planning.Refusals.{Passed}
 use Rattle.model.proofs.jobs.PassedAxis.{some-speed, some-acceleration}
 use Rattle.model.proofs.motions.Reaches.{reachable-is}
@@ -24,7 +27,8 @@ use Rattle.model.proofs.motions.Reaches.{reachable-is}
 abbrev limited : Leg → ℕ → ℕ → Leg
 limited g l a = record { ticks = g .ticks; start = g .start; end = g .end; speedLimit = l; accelerationLimit = a }
 
-wider : (g : Leg) (δ : ℤ) (l a : ℕ) → g .speedLimit ≤ l → g .accelerationLimit ≤ a → Feasible g δ → Feasible (limited g l a) δ
+wider : (g : Leg) (δ : ℤ) (l a : ℕ) → g .speedLimit ≤ l → g .accelerationLimit ≤ a
+    → Feasible g δ → Feasible (limited g l a) δ
 wider g δ l a hl ha (w, m) = (
   w,
   record {
@@ -63,7 +67,8 @@ module _ (x : Axis) (l a : ℕ) (faster : speedLimit x ≤ l) (stronger : accele
         after = r .after;
         landed = le-trans (r .landed) speeds;
         arrived = le-trans (r .arrived) speeds;
-        moves = wider (leg x n) (displacement x n) (finer x * (fineSteps * l)) (finer x * (fineSteps * a)) speeds changes (r .moves);
+        moves = wider (leg x n) (displacement x n) (finer x * (fineSteps * l))
+            (finer x * (fineSteps * a)) speeds changes (r .moves);
       }
     where
       speeds : speedSteps x ≤ finer x * (fineSteps * l)
@@ -73,14 +78,17 @@ module _ (x : Axis) (l a : ℕ) (faster : speedLimit x ≤ l) (stronger : accele
       changes = mul-le-mul-left (finer x) (mul-le-mul-left fineSteps stronger)
 
   -- the same of the decision
-  pub wider-decided : (n : ℕ) → 0 < accelerationLimit x → l ≤ 1048576 → T (reachable x n) → T (reachable (withLimits l a x) n)
-  wider-decided n some range t = reachable-is y n (omega arith) range .0 (wider-reaches n (reachable-is x n some (omega arith) .1 t))
+  pub wider-decided : (n : ℕ) → 0 < accelerationLimit x → l ≤ 1048576 → T (reachable x n)
+      → T (reachable (withLimits l a x) n)
+  wider-decided n some range t =
+      reachable-is y n (omega arith) range .0 (wider-reaches n (reachable-is x n some (omega arith) .1 t))
 
   -- ---- refusals
 
   rest-follows : (p : RestPoint) → T (restAllowed x p) → T (restAllowed y p)
   rest-follows p =
-      both-follow (positionAllowed (p .position)) (velocityAllowed x (p .velocity)) (positionAllowed (p .position)) (velocityAllowed y (p .velocity))
+      both-follow (positionAllowed (p .position)) (velocityAllowed x (p .velocity)) (positionAllowed (p .position))
+      (velocityAllowed y (p .velocity))
       (λ t. t) (follows (natAbs (p .velocity)) (speedLimit x) l faster)
 
   target-follows : (g : Target) → T (targetAllowed x g) → T (targetAllowed y g)
@@ -106,7 +114,8 @@ module _ (x : Axis) (l a : ℕ) (faster : speedLimit x ≤ l) (stronger : accele
         sway = p .sway;
         values =
             not-refused (restAllowed y (x .start) && targetAllowed y (x .target))
-            (both-follow (restAllowed x (x .start)) (targetAllowed x (x .target)) (restAllowed y (x .start)) (targetAllowed y (x .target))
+            (both-follow (restAllowed x (x .start)) (targetAllowed x (x .target))
+            (restAllowed y (x .start)) (targetAllowed y (x .target))
             (rest-follows (x .start)) (target-follows (x .target))
             (not-false-T (restAllowed x (x .start) && targetAllowed x (x .target)) (p .values)));
         acceleration = p .acceleration;

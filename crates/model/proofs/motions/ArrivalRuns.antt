@@ -1,4 +1,5 @@
--- The arrivals that an axis reaches are one run of ticks, and so are those that all axes of a job reach (docs/METHOD.md, 3.7).
+-- The arrivals that an axis reaches are one run of ticks, and so are those that all axes of a
+-- job reach (docs/METHOD.md, 3.7).
 use Prim.Native.Nat.{ℕ, _≤_}
 use mathlib.Core.Path.{_≡_}
 use mathlib.Core.Bool.{true}
@@ -28,10 +29,13 @@ together : (xs : List JobAxis) → AllPassed xs → OneRun 0 (AllReachable xs)
 together xs p i n k f a b r s x m = goes-on (x .axis) (passed-among xs p x m) .reached i n k f a b (r x m) (s x m)
 
 pub arrivals-are-runs : ArrivalsAreRuns
-arrivals-are-runs j p = record { each = λ x m. goes-on (x .axis) (passed-among (j .axes) p x m); together = together (j .axes) p }
+arrivals-are-runs j p =
+    record { each = λ x m. goes-on (x .axis) (passed-among (j .axes) p x m); together = together (j .axes) p }
 
 -- the same of the decision
-pub all-between : (xs : List JobAxis) → AllPassed xs → (i n k : ℕ) → i ≤ n → n ≤ k → allReach xs i ≡ true → allReach xs k ≡ true → allReach xs n ≡ true
+pub all-between : (xs : List JobAxis) → AllPassed xs → (i n k : ℕ) → i ≤ n → n ≤ k → allReach xs i ≡ true
+    → allReach xs k ≡ true → allReach xs n ≡ true
 all-between xs p i n k a b d e =
     T-true (allReach xs n)
-    (reach-all xs n p (together xs p i n k (omega arith) a b (all-reach xs i p (true-T d)) (all-reach xs k p (true-T e))))
+    (reach-all xs n p
+    (together xs p i n k (omega arith) a b (all-reach xs i p (true-T d)) (all-reach xs k p (true-T e))))

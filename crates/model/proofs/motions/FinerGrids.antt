@@ -1,5 +1,5 @@
--- Finer motors gain no time: the arrivals that an axis reaches with velocities on a grid f times finer are those of its own grid, and so for all
--- axes together, with and without windows.
+-- Finer motors gain no time: the arrivals that an axis reaches with velocities on a grid f times
+-- finer are those of its own grid, and so for all axes together, with and without windows.
 use Prim.Native.Nat.{ℕ, _≤_, _<_}
 use mathlib.Core.Path.{_≡_}
 use mathlib.Core.Bool.{true}
@@ -15,7 +15,8 @@ use Rattle.model.specs.planning.Job.{Job, JobAxis}
 use Rattle.model.specs.planning.Refusals.{lastTick, Passed, AllPassed}
 use Rattle.model.specs.planning.Outcome.{arrives}
 use Rattle.model.specs.theorems.Verdict.{Among, AllReachable, Arrives}
-use Rattle.model.specs.theorems.Finer.{finerLeg, ReachableOn, AllReachableOn, ArrivesOn, IsLeast, SameArrivals, FinerGainsNothing}
+use Rattle.model.specs.theorems.Finer.{finerLeg, ReachableOn, AllReachableOn, ArrivesOn, IsLeast, SameArrivals}
+use Rattle.model.specs.theorems.Finer.{FinerGainsNothing}
 use Rattle.model.proofs.motions.Grid.{speed-range, acceleration-some}
 use Rattle.model.proofs.jobs.PassedAxis.{speed-limit, some-acceleration}
 use Rattle.model.proofs.legs.WholeSum.{sum-is-whole}
@@ -43,9 +44,11 @@ finer-reaches f x n hf p = (
       },
 )
   where
-    moves : delay x < n → Feasible (finerLeg f (leg x n)) (pos f *ℤ displacement x n) ↔ Feasible (leg x n) (displacement x n)
+    moves : delay x < n → Feasible (finerLeg f (leg x n)) (pos f *ℤ displacement x n)
+        ↔ Feasible (leg x n) (displacement x n)
     moves h =
-        finer-feasible f (leg x n) (displacement x n) hf (omega arith) (acceleration-some x (some-acceleration x p)) (speed-range x (speed-limit x p))
+        finer-feasible f (leg x n) (displacement x n) hf (omega arith) (acceleration-some x (some-acceleration x p))
+        (speed-range x (speed-limit x p))
         (true-T (sum-is-whole x n))
 
 -- ---- the least of the same arrivals

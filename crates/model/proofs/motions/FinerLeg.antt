@@ -1,6 +1,7 @@
--- A leg whose required sum is whole can be made on a grid f times finer exactly where it can be made on its own: a list of the coarse grid,
--- times f, is one of the finer; and where a finer list exists, the required sum lies between the sums of the finer envelopes, which are f
--- times the coarse ones.
+-- A leg whose required sum is whole can be made on a grid f times finer exactly where it
+-- can be made on its own: a list of the coarse grid, times f, is one of the finer; and
+-- where a finer list exists, the required sum lies between the sums of the finer envelopes,
+-- which are f times the coarse ones.
 use Prim.Native.Nat.{ℕ, zero, suc, _-_, _*_, _%_, _^_, _≤_, _<_}
 use mathlib.Core.Path.{_≡_, sym, ap, ap₂, _∙_, subst, subst₂}
 use mathlib.Core.Bool.{Bool, true, false, cond}
@@ -18,7 +19,8 @@ use Rattle.whole.proofs.Bounds.{mul-holds}
 use Rattle.whole.proofs.Ring.{pol, same}
 use Rattle.whole.proofs.Rounding.{half-twice, twice-half}
 use Rattle.whole.proofs.Sums.{sum-mono, sum-times}
-use Rattle.model.specs.planning.Leg.{Leg, Meets, Feasible, travelled, upper, lower, twiceRequired, required, sumIsWhole, tests, feasible}
+use Rattle.model.specs.planning.Leg.{Leg, Meets, Feasible, travelled, upper, lower, twiceRequired, required}
+use Rattle.model.specs.planning.Leg.{sumIsWhole, tests, feasible}
 use Rattle.model.specs.theorems.Finer.{finerLeg}
 use Rattle.model.proofs.legs.Envelopes.{Joined}
 use Rattle.model.proofs.legs.FeasibleTests.{every, feasible-joined, feasible-above, feasible-below}
@@ -42,7 +44,8 @@ size-times f l z hf = (
   λ h. mul-holds (pos f) z f l (le-refl f) h,
 )
 
-coarse-meets : (f : ℕ) (g : Leg) (δ : ℤ) (w : ℕ → ℤ) → 1 ≤ f → Meets g δ w → Meets (finerLeg f g) (pos f *ℤ δ) (λ k. pos f *ℤ w k)
+coarse-meets : (f : ℕ) (g : Leg) (δ : ℤ) (w : ℕ → ℤ) → 1 ≤ f → Meets g δ w
+    → Meets (finerLeg f g) (pos f *ℤ δ) (λ k. pos f *ℤ w k)
 coarse-meets f g δ w hf m =
     record {
       starts = ap (λ (z : ℤ). pos f *ℤ z) (m .starts);
@@ -84,14 +87,17 @@ greatest-right = all₂ _ (λ a b c d. simp whole (omega arith))
 
 -- the least of two, times f, is at least the least of both times f
 least-times : (f x y : ℤ) → least (f *ℤ x) (f *ℤ y) ≤ℤ (f *ℤ least x y)
-least-times f x y = below-least f (least (f *ℤ x) (f *ℤ y)) x y (least-left (f *ℤ x) (f *ℤ y)) (least-right (f *ℤ x) (f *ℤ y))
+least-times f x y =
+    below-least f (least (f *ℤ x) (f *ℤ y)) x y (least-left (f *ℤ x) (f *ℤ y)) (least-right (f *ℤ x) (f *ℤ y))
 
 greatest-times : (f x y : ℤ) → (f *ℤ greatest x y) ≤ℤ greatest (f *ℤ x) (f *ℤ y)
-greatest-times f x y = above-greatest f (greatest (f *ℤ x) (f *ℤ y)) x y (greatest-left (f *ℤ x) (f *ℤ y)) (greatest-right (f *ℤ x) (f *ℤ y))
+greatest-times f x y = above-greatest f (greatest (f *ℤ x) (f *ℤ y)) x y (greatest-left (f *ℤ x) (f *ℤ y))
+    (greatest-right (f *ℤ x) (f *ℤ y))
 
 least-times-3 : (f x y z : ℤ) → least (f *ℤ x) (least (f *ℤ y) (f *ℤ z)) ≤ℤ (f *ℤ least x (least y z))
 least-times-3 f x y z =
-    below-least f (least (f *ℤ x) u) x (least y z) (least-left (f *ℤ x) u) (≤ℤ-trans (least-right (f *ℤ x) u) (least-times f y z))
+    below-least f (least (f *ℤ x) u) x (least y z) (least-left (f *ℤ x) u)
+    (≤ℤ-trans (least-right (f *ℤ x) u) (least-times f y z))
   where
     u : ℤ
     u = least (f *ℤ y) (f *ℤ z)
@@ -112,25 +118,32 @@ module _ (f : ℕ) (g : Leg) where
   F = pos f
 
   -- what an end z allows k ticks away
-  plus-times : (z : ℤ) (k : ℕ) → F *ℤ z +ℤ pos (f * g .accelerationLimit * k) ≡ F *ℤ (z +ℤ pos (g .accelerationLimit * k))
+  plus-times : (z : ℤ) (k : ℕ)
+      → F *ℤ z +ℤ pos (f * g .accelerationLimit * k) ≡ F *ℤ (z +ℤ pos (g .accelerationLimit * k))
   plus-times z k =
-      ap (λ (n : ℕ). F *ℤ z +ℤ pos n) (mul-assoc f (g .accelerationLimit) k) ∙ sym (*ℤ-+ℤ F z (pos (g .accelerationLimit * k)))
+      ap (λ (n : ℕ). F *ℤ z +ℤ pos n) (mul-assoc f (g .accelerationLimit) k)
+      ∙ sym (*ℤ-+ℤ F z (pos (g .accelerationLimit * k)))
 
-  minus-times : (z : ℤ) (k : ℕ) → F *ℤ z -ℤ pos (f * g .accelerationLimit * k) ≡ F *ℤ (z -ℤ pos (g .accelerationLimit * k))
+  minus-times : (z : ℤ) (k : ℕ)
+      → F *ℤ z -ℤ pos (f * g .accelerationLimit * k) ≡ F *ℤ (z -ℤ pos (g .accelerationLimit * k))
   minus-times z k =
-      ap (λ (n : ℕ). F *ℤ z -ℤ pos n) (mul-assoc f (g .accelerationLimit) k) ∙ sym (apart-times F z (pos (g .accelerationLimit * k)))
+      ap (λ (n : ℕ). F *ℤ z -ℤ pos n) (mul-assoc f (g .accelerationLimit) k)
+      ∙ sym (apart-times F z (pos (g .accelerationLimit * k)))
 
   upper-times : (k : ℕ) → upper (finerLeg f g) k ≤ℤ (F *ℤ upper g k)
   upper-times k =
       subst (λ (z : ℤ). z ≤ℤ (F *ℤ upper g k))
-      (sym (ap₂ (λ (y z : ℤ). least (pos (f * g .speedLimit)) (least y z)) (plus-times (g .start) k) (plus-times (g .end) (g .ticks - k))))
-      (least-times-3 F (pos (g .speedLimit)) (g .start +ℤ pos (g .accelerationLimit * k)) (g .end +ℤ pos (g .accelerationLimit * (g .ticks - k))))
+      (sym (ap₂ (λ (y z : ℤ). least (pos (f * g .speedLimit)) (least y z)) (plus-times (g .start) k)
+      (plus-times (g .end) (g .ticks - k))))
+      (least-times-3 F (pos (g .speedLimit)) (g .start +ℤ pos (g .accelerationLimit * k))
+      (g .end +ℤ pos (g .accelerationLimit * (g .ticks - k))))
 
   lower-times : (k : ℕ) → (F *ℤ lower g k) ≤ℤ lower (finerLeg f g) k
   lower-times k =
       subst (λ (z : ℤ). (F *ℤ lower g k) ≤ℤ z)
       (sym
-      (ap₂ (λ (y z : ℤ). greatest (negℤ (pos (f * g .speedLimit))) (greatest y z)) (minus-times (g .start) k) (minus-times (g .end) (g .ticks - k))
+      (ap₂ (λ (y z : ℤ). greatest (negℤ (pos (f * g .speedLimit))) (greatest y z)) (minus-times (g .start) k)
+      (minus-times (g .end) (g .ticks - k))
       ∙ ap (λ (x : ℤ). greatest x (greatest (F *ℤ from) (F *ℤ to))) (neg-times f (g .speedLimit))))
       (greatest-times-3 F (negℤ (pos (g .speedLimit))) from to)
     where
@@ -142,7 +155,8 @@ module _ (f : ℕ) (g : Leg) where
 
 -- ---- so where the finer leg can be made, the coarse one can
 
-module _ (f : ℕ) (hf : 1 ≤ f) (g : Leg) (δ : ℤ) (even : T (sumIsWhole g δ)) (t : T (feasible (finerLeg f g) (pos f *ℤ δ))) where
+module _ (f : ℕ) (hf : 1 ≤ f) (g : Leg) (δ : ℤ) (even : T (sumIsWhole g δ))
+    (t : T (feasible (finerLeg f g) (pos f *ℤ δ))) where
   abbrev fine : Leg
   fine = finerLeg f g
 
@@ -151,7 +165,8 @@ module _ (f : ℕ) (hf : 1 ≤ f) (g : Leg) (δ : ℤ) (even : T (sumIsWhole g �
   required-times =
       ap (λ (z : ℤ). shrZ z 2)
       (spread (pos f) δ (g .start) (g .end)
-      ∙ ap (λ (z : ℤ). pos f *ℤ z) (sym (twice-half (twiceRequired g δ) (eqb→eq (natAbs (twiceRequired g δ) % 2) 0 even)))
+      ∙ ap (λ (z : ℤ). pos f *ℤ z)
+      (sym (twice-half (twiceRequired g δ) (eqb→eq (natAbs (twiceRequired g δ) % 2) 0 even)))
       ∙ across (pos f) (required g δ))
       ∙ half-twice (pos f *ℤ required g δ)
     where
@@ -182,7 +197,8 @@ module _ (f : ℕ) (hf : 1 ≤ f) (g : Leg) (δ : ℤ) (even : T (sumIsWhole g �
         start = size-times f (g .speedLimit) (g .start) hf .0 (j .start);
         end = size-times f (g .speedLimit) (g .end) hf .0 (j .end);
         apart = size-times f (g .accelerationLimit * g .ticks) (g .end -ℤ g .start) hf .0
-            (subst₂ (λ (z : ℤ) (n : ℕ). natAbs z ≤ n) (sym (apart-times (pos f) (g .end) (g .start))) (mul-assoc f (g .accelerationLimit) (g .ticks))
+            (subst₂ (λ (z : ℤ) (n : ℕ). natAbs z ≤ n) (sym (apart-times (pos f) (g .end) (g .start)))
+            (mul-assoc f (g .accelerationLimit) (g .ticks))
             (j .apart));
       }
 
@@ -200,10 +216,12 @@ module _ (f : ℕ) (hf : 1 ≤ f) (g : Leg) (δ : ℤ) (even : T (sumIsWhole g �
       )
 
 -- no bound on f
-pub finer-feasible : (f : ℕ) (g : Leg) (δ : ℤ) → 1 ≤ f → 0 < g .ticks → 0 < g .accelerationLimit → g .speedLimit ≤ 2 ^ 37 → T (sumIsWhole g δ)
+pub finer-feasible : (f : ℕ) (g : Leg) (δ : ℤ) → 1 ≤ f → 0 < g .ticks → 0 < g .accelerationLimit
+    → g .speedLimit ≤ 2 ^ 37 → T (sumIsWhole g δ)
     → Feasible (finerLeg f g) (pos f *ℤ δ) ↔ Feasible g δ
 finer-feasible f g δ hf h hA small even = (
-  λ p. feasible-is g δ h hA small .1 (coarse-feasible f hf g δ even (meets-feasible (finerLeg f g) (g .ticks - 1) shape (pos f *ℤ δ) (p .0) (p .1))),
+  λ p. feasible-is g δ h hA small .1
+      (coarse-feasible f hf g δ even (meets-feasible (finerLeg f g) (g .ticks - 1) shape (pos f *ℤ δ) (p .0) (p .1))),
   λ p. ((λ k. pos f *ℤ p .0 k), coarse-meets f g δ (p .0) hf (p .1)),
 )
   where

@@ -1,4 +1,5 @@
--- The grid of an axis: how many grid steps are in a fine step, in each case with what else holds of the axis, and the ranges on it.
+-- The grid of an axis: how many grid steps are in a fine step, in each case with what else holds of
+-- the axis, and the ranges on it.
 use Prim.Native.Nat.{ℕ, _*_, _^_, _≤_, _<_}
 use mathlib.Core.Path.{_≡_, refl}
 use mathlib.Core.Bool.{Bool, true, false, not, _&&_}
@@ -13,8 +14,10 @@ use Rattle.model.specs.declared.SecondSway.{SecondSway}
 use Rattle.model.specs.declared.SecondSway.the-variants.{Absent, HalfPeriod}
 use Rattle.model.specs.declared.Target.{Target}
 use Rattle.model.specs.declared.Target.the-variants.{Fixed, Moving}
-use Rattle.model.specs.planning.Quantities.{fineSteps, speedLimit, accelerationLimit, halfPeriod, secondWeight, asMoving}
-use Rattle.model.specs.planning.Quantities.{accelerates, swaySteps, finestSteps, finer, finerBy, speedSteps, accelerationSteps}
+use Rattle.model.specs.planning.Quantities.{fineSteps, speedLimit, accelerationLimit, halfPeriod, secondWeight}
+use Rattle.model.specs.planning.Quantities.{asMoving}
+use Rattle.model.specs.planning.Quantities.{accelerates, swaySteps, finestSteps, finer, finerBy, speedSteps}
+use Rattle.model.specs.planning.Quantities.{accelerationSteps}
 
 pub data Grid (x : Axis) : Type 0 where
   twoSways : (d : ℕ) → finer x ≡ swaySteps → x .«second_sway» ≡ HalfPeriod d → Grid x
@@ -26,17 +29,21 @@ pub data Grid (x : Axis) : Type 0 where
 
 pub no-acceleration : (t : Target) → accelerates t ≡ false → (n : ℕ) → asMoving t n .acceleration ≡ pos 0
 no-acceleration (Fixed r) e n = refl
-no-acceleration (Moving m) e n = natAbs-zero (m .acceleration) (eqb→eq (natAbs (m .acceleration)) 0 (not-false-T (eqb (natAbs (m .acceleration)) 0) e))
+no-acceleration (Moving m) e n = natAbs-zero (m .acceleration)
+    (eqb→eq (natAbs (m .acceleration)) 0 (not-false-T (eqb (natAbs (m .acceleration)) 0) e))
 
 module _ (x : Axis) where
   pub grid : Grid x
   unfolding finer
   grid =
-      go (x .«second_sway») (accelerates (x .target)) (eqb (halfPeriod x) 0) (eqb (secondWeight x) 128) (no-acceleration (x .target))
+      go (x .«second_sway») (accelerates (x .target)) (eqb (halfPeriod x) 0)
+      (eqb (secondWeight x) 128) (no-acceleration (x .target))
       (eqb→eq (halfPeriod x) 0) (eqb→eq (secondWeight x) 128) refl refl refl
     where
-      go : (s : SecondSway) (moves h0 b128 : Bool) → (accelerates (x .target) ≡ false → (n : ℕ) → asMoving (x .target) n .acceleration ≡ pos 0)
-          → (T h0 → halfPeriod x ≡ 0) → (T b128 → secondWeight x ≡ 128) → x .«second_sway» ≡ s → accelerates (x .target) ≡ moves
+      go : (s : SecondSway) (moves h0 b128 : Bool)
+          → (accelerates (x .target) ≡ false → (n : ℕ) → asMoving (x .target) n .acceleration ≡ pos 0)
+          → (T h0 → halfPeriod x ≡ 0) → (T b128 → secondWeight x ≡ 128) → x .«second_sway» ≡ s
+          → accelerates (x .target) ≡ moves
           → finer x ≡ finerBy s (moves && (not h0 && not b128)) → Grid x
       go (HalfPeriod d) moves h0 b128 f g h s e r = twoSways d r s
       go Absent false h0 b128 f g h s e r = still r s (f e)
@@ -69,4 +76,5 @@ module _ (x : Axis) where
       le-trans (mul-le-mul (finer-range .1) l) (omega arith)
 
   pub acceleration-some : 0 < accelerationLimit x → 0 < accelerationSteps x
-  acceleration-some h = let l : 1 ≤ fineSteps * accelerationLimit x = omega arith in le-trans (omega arith) (mul-le-mul (finer-range .0) l)
+  acceleration-some h = let l : 1 ≤ fineSteps * accelerationLimit x = omega arith in
+      le-trans (omega arith) (mul-le-mul (finer-range .0) l)

@@ -1,4 +1,5 @@
--- Rule 1 over a list of accelerations: each tick follows from the one before, and where a list of velocities ends.
+-- Rule 1 over a list of accelerations: each tick follows from the one before, and
+-- where a list of velocities ends.
 use Prim.Native.Nat.{ℕ, zero, suc, _+_, _<_}
 use mathlib.Core.Path.{_≡_, refl, sym, ap, ap₂, _∙_}
 use mathlib.Core.List.{List, [], _∷_, _++_}
@@ -48,7 +49,8 @@ pub run-over : (q v : ℤ) (ws αs : List ℤ) (d : Tick) (j : ℕ)
 run-over q v [] αs d j = ap₂ (λ (x : ℤ) (i : ℕ). getD (run x v αs) i d) (sym (+ℤ-idr q)) (zero-add j)
 run-over q v (w ∷ ws) αs d j =
     ap (λ (i : ℕ). getD (run q v (changesFrom v (w ∷ ws) ++ αs)) i d) (suc-add (length ws) j)
-    ∙ ap (λ (x : ℤ). getD (run (q +ℤ pos 2 *ℤ v +ℤ (w -ℤ v)) x (changesFrom w ws ++ αs)) (length ws + j) d) (add-sub v w)
+    ∙ ap (λ (x : ℤ). getD (run (q +ℤ pos 2 *ℤ v +ℤ (w -ℤ v)) x (changesFrom w ws ++ αs)) (length ws + j) d)
+    (add-sub v w)
     ∙ run-over (q +ℤ pos 2 *ℤ v +ℤ (w -ℤ v)) w ws αs d j
     ∙ ap (λ (x : ℤ). getD (run x (final w ws) αs) j d) further
   where
@@ -78,7 +80,8 @@ steadyTick q v α j =
 
 pub run-steady : (q v α : ℤ) (n j : ℕ) (d : Tick) → j < n → getD (run q v (replicate n α)) j d ≡ steadyTick q v α j
 run-steady q v α zero j d h = absurd (omega arith)
-run-steady q v α (suc n) zero d h = ap₂ (λ (x y : ℤ). record { position = x; velocity = y; acceleration = α }) place speed
+run-steady q v α (suc n) zero d h =
+    ap₂ (λ (x y : ℤ). record { position = x; velocity = y; acceleration = α }) place speed
   where
     place : q ≡ q +ℤ pos 2 *ℤ (pos 0 *ℤ v) +ℤ α *ℤ (pos 0 *ℤ pos 0)
     place = same (q ∷ v ∷ α ∷ []) (search pol depth 20 fits 9000) tt

@@ -1,4 +1,5 @@
--- Rule 4 of an axis: the decision `reachable` is true exactly where a list exists (`reachable-is`), and what it gives of its parts.
+-- Rule 4 of an axis: the decision `reachable` is true exactly where a list exists (`reachable-is`),
+-- and what it gives of its parts.
 use Prim.Native.Nat.{ℕ, _≤_, _<_}
 use mathlib.Core.Bool.{Bool, _&&_}
 use mathlib.Core.Logic.{_↔_}
@@ -43,9 +44,11 @@ module _ (x : Axis) (n : ℕ) where
   reach-arrives = simp (and-iff, leb-iff) (omega arith)
 
   pub reach-feasible : T (reachable x n) → T (feasible (leg x n) (displacement x n))
-  reach-feasible t = both arrives moves (both lands (arrives && moves) (both late (lands && (arrives && moves)) t .1) .1) .1
+  reach-feasible t =
+      both arrives moves (both lands (arrives && moves) (both late (lands && (arrives && moves)) t .1) .1) .1
 
-  decides : 0 < accelerationLimit x → speedLimit x ≤ 1048576 → delay x < n → Feasible (leg x n) (displacement x n) ↔ T moves
+  decides : 0 < accelerationLimit x → speedLimit x ≤ 1048576 → delay x < n
+      → Feasible (leg x n) (displacement x n) ↔ T moves
   decides hA hL h = feasible-is (leg x n) (displacement x n) (omega arith) (acceleration-some x hA) (speed-range x hL)
 
   pub reachable-is : 0 < accelerationLimit x → speedLimit x ≤ 1048576 → Reachable x n ↔ T (reachable x n)
@@ -53,7 +56,8 @@ module _ (x : Axis) (n : ℕ) where
     λ r.
         and late (lands && (arrives && moves)) (lt→ltb (delay x) n (r .after))
         (and lands (arrives && moves) (le→leb (natAbs (landingVelocity x n)) (speedSteps x) (r .landed))
-        (and arrives moves (le→leb (natAbs (arrivalVelocity x n)) (speedSteps x) (r .arrived)) (decides hA hL (r .after) .0 (r .moves)))),
+        (and arrives moves (le→leb (natAbs (arrivalVelocity x n)) (speedSteps x) (r .arrived))
+        (decides hA hL (r .after) .0 (r .moves)))),
     λ t.
         record {
           after = reach-after t;

@@ -1,5 +1,6 @@
--- Reach is a threshold: an axis that reaches an arrival reaches every later one at which the target is not too fast (`reach-goes-on`, `reach-is-a-threshold`),
--- and the ticks at which it is not are one run (`slow-between`).
+-- Reach is a threshold: an axis that reaches an arrival reaches every later one at which the
+-- target is not too fast (`reach-goes-on`, `reach-is-a-threshold`), and the ticks at which it
+-- is not are one run (`slow-between`).
 use Prim.Native.Nat.{ℕ, zero, suc, _+_, _-_, _*_, _≤_, _<_}
 use mathlib.Core.Path.{_≡_, refl, sym, ap, subst, _∙_}
 use mathlib.Core.Bool.{true, false}
@@ -19,10 +20,12 @@ use Rattle.model.specs.declared.RestPoint.{RestPoint}
 use Rattle.model.specs.declared.State.{State}
 use Rattle.model.specs.declared.Target.{Target}
 use Rattle.model.specs.declared.Target.the-variants.{Fixed, Moving}
-use Rattle.model.specs.planning.Quantities.{fineSteps, accelerationLimit, halfPeriod, secondWeight, delay, asMoving}
+use Rattle.model.specs.planning.Quantities.{fineSteps, accelerationLimit, halfPeriod, secondWeight, delay}
+use Rattle.model.specs.planning.Quantities.{asMoving}
 use Rattle.model.specs.planning.Quantities.{finer, speedSteps, accelerationSteps}
 use Rattle.model.specs.planning.Leg.{Leg, Meets, Feasible, travelled}
-use Rattle.model.specs.planning.Motion.{shift, startPosition, startVelocity, landingPosition, landingVelocity, landingAcceleration}
+use Rattle.model.specs.planning.Motion.{shift, startPosition, startVelocity, landingPosition, landingVelocity}
+use Rattle.model.specs.planning.Motion.{landingAcceleration}
 use Rattle.model.specs.planning.Motion.{arrivalVelocity, leg, displacement, Reachable, reachable}
 use Rattle.model.specs.planning.Refusals.{flies, Passed}
 use Rattle.model.specs.theorems.Threshold.{Slow}
@@ -64,7 +67,8 @@ oneMore g α =
 more-after : (e α : ℤ) → (e +ℤ α) -ℤ e ≡ α
 more-after e α = same (e ∷ α ∷ []) (search pol depth 20 fits 9000) tt
 
-module _ (g : Leg) (d α : ℤ) (w : ℕ → ℤ) (m : Meets g d w) (slow : natAbs (g .end +ℤ α) ≤ g .speedLimit) (small : natAbs α ≤ g .accelerationLimit) where
+module _ (g : Leg) (d α : ℤ) (w : ℕ → ℤ) (m : Meets g d w) (slow : natAbs (g .end +ℤ α) ≤ g .speedLimit)
+    (small : natAbs α ≤ g .accelerationLimit) where
   abbrev u : ℕ → ℤ
   u = further w (g .ticks) (g .end +ℤ α)
 
@@ -81,7 +85,14 @@ module _ (g : Leg) (d α : ℤ) (w : ℕ → ℤ) (m : Meets g d w) (slow : natA
   last-change = (λ i. last i -ℤ ended i) ∙ more-after (g .end) α
 
   one-more : Meets (oneMore g α) (d +ℤ (pos 2 *ℤ g .end +ℤ α)) u
-  one-more = record { starts = was 0 (omega arith) ∙ m .starts; ends = last; speeds = speeds; changes = changes; travels = travels }
+  one-more =
+      record {
+        starts = was 0 (omega arith) ∙ m .starts;
+        ends = last;
+        speeds = speeds;
+        changes = changes;
+        travels = travels;
+      }
     where
       speeds : (k : ℕ) → k ≤ suc (g .ticks) → natAbs (u k) ≤ g .speedLimit
       speeds k h = go (lt-or-le (g .ticks) k)
@@ -89,7 +100,8 @@ module _ (g : Leg) (d α : ℤ) (w : ℕ → ℤ) (m : Meets g d w) (slow : natA
           go : (g .ticks < k) ⊎ (k ≤ g .ticks) → natAbs (u k) ≤ g .speedLimit
           go (inl l) =
               let e : suc (g .ticks) ≡ k = omega arith in
-              subst (λ (j : ℕ). natAbs (u j) ≤ g .speedLimit) e (subst (λ (z : ℤ). natAbs z ≤ g .speedLimit) (sym last) slow)
+              subst (λ (j : ℕ). natAbs (u j) ≤ g .speedLimit) e
+              (subst (λ (z : ℤ). natAbs z ≤ g .speedLimit) (sym last) slow)
           go (inr l) = subst (λ (z : ℤ). natAbs z ≤ g .speedLimit) (sym (was k l)) (m .speeds k l)
 
       changes : (k : ℕ) → k < suc (g .ticks) → natAbs (u (suc k) -ℤ u k) ≤ g .accelerationLimit
@@ -106,14 +118,16 @@ module _ (g : Leg) (d α : ℤ) (w : ℕ → ℤ) (m : Meets g d w) (slow : natA
               (subst (λ (z : ℤ). natAbs z ≤ g .accelerationLimit) (sym last-change) small)
 
       travels : travelled u (suc (g .ticks)) ≡ d +ℤ (pos 2 *ℤ g .end +ℤ α)
-      travels = let t = travelled-same u w (g .ticks) was ∙ m .travels in λ i. t i +ℤ (pos 2 *ℤ ended i +ℤ last-change i)
+      travels = let t = travelled-same u w (g .ticks) was ∙ m .travels in
+          λ i. t i +ℤ (pos 2 *ℤ ended i +ℤ last-change i)
 
 feasible-on : (g : Leg) (d α : ℤ) → natAbs (g .end +ℤ α) ≤ g .speedLimit → natAbs α ≤ g .accelerationLimit
     → Feasible g d → Feasible (oneMore g α) (d +ℤ (pos 2 *ℤ g .end +ℤ α))
 feasible-on g d α slow small p = (u g d α (p .0) (p .1) slow small, one-more g d α (p .0) (p .1) slow small)
 
--- ---- the landings of all arrivals lie on one uniformly accelerated motion: f grid steps in a fine step, the shift s, the correction c, and a target at p with
--- velocity v and acceleration a, d ticks after its own
+-- ---- the landings of all arrivals lie on one uniformly accelerated motion: f grid steps
+-- in a fine step, the shift s, the correction c, and a target at p with velocity v and
+-- acceleration a, d ticks after its own
 
 abbrev landsAt : ℤ → ℤ → ℤ → ℤ → ℤ → ℤ → ℤ → ℤ
 landsAt f s c p v a d =
@@ -133,7 +147,8 @@ fixed-velocity : (f s v d e : ℤ) → landsWith f s v (pos 0) e ≡ landsWith f
 fixed-velocity f s v d e = same (f ∷ s ∷ v ∷ d ∷ e ∷ []) (search pol depth 30 fits 9000) tt
 
 resting-position : (f s c p d e : ℤ)
-    → landsAt f s c p (pos 0) (pos 0) e ≡ landsAt f s c p (pos 0) (pos 0) d +ℤ (pos 2 *ℤ landsWith f s (pos 0) (pos 0) d +ℤ f *ℤ (pos 256 *ℤ pos 0))
+    → landsAt f s c p (pos 0) (pos 0) e
+    ≡ landsAt f s c p (pos 0) (pos 0) d +ℤ (pos 2 *ℤ landsWith f s (pos 0) (pos 0) d +ℤ f *ℤ (pos 256 *ℤ pos 0))
 resting-position f s c p d e = same (f ∷ s ∷ c ∷ p ∷ d ∷ e ∷ []) (search pol depth 30 fits 9000) tt
 
 tick-on : (n h : ℕ) (t : ℤ) → h ≤ n → pos (suc n - h) -ℤ t ≡ (pos (n - h) -ℤ t) +ℤ pos 1
@@ -158,7 +173,8 @@ module _ (x : Axis) where
   abbrev positionOf : Target → ℕ → ℤ
   positionOf t n =
       let m : State = asMoving t n in
-      landsAt F (shift x) (correctionOf (m .acceleration)) (m .position) (m .velocity) (m .acceleration) (pos (n - delay x) -ℤ m .tick)
+      landsAt F (shift x) (correctionOf (m .acceleration)) (m .position) (m .velocity) (m .acceleration)
+      (pos (n - delay x) -ℤ m .tick)
 
   abbrev velocityOf : Target → ℕ → ℤ
   velocityOf t n =
@@ -181,11 +197,14 @@ module _ (x : Axis) where
       let d : ℤ = pos (n - delay x) -ℤ pos n in
       let l : ℤ = pos (suc n - delay x) -ℤ pos (suc n) in
       subst (λ (v : ℤ). landsAt F (shift x) (correctionOf (pos 0)) (r .position) v (pos 0) l
-      ≡ landsAt F (shift x) (correctionOf (pos 0)) (r .position) v (pos 0) d +ℤ (pos 2 *ℤ landsWith F (shift x) v (pos 0) d +ℤ F *ℤ (pos 256 *ℤ pos 0)))
+      ≡ landsAt F (shift x) (correctionOf (pos 0)) (r .position) v (pos 0) d
+      +ℤ (pos 2 *ℤ landsWith F (shift x) v (pos 0) d +ℤ F *ℤ (pos 256 *ℤ pos 0)))
       (sym (rests r e)) (resting-position F (shift x) (correctionOf (pos 0)) (r .position) d l)
   position-on (Moving m) e n h =
-      ap (landsAt F (shift x) (correctionOf (m .acceleration)) (m .position) (m .velocity) (m .acceleration)) (tick-on n (delay x) (m .tick) h)
-      ∙ moving-position F (shift x) (correctionOf (m .acceleration)) (m .position) (m .velocity) (m .acceleration) (pos (n - delay x) -ℤ m .tick)
+      ap (landsAt F (shift x) (correctionOf (m .acceleration)) (m .position) (m .velocity) (m .acceleration))
+      (tick-on n (delay x) (m .tick) h)
+      ∙ moving-position F (shift x) (correctionOf (m .acceleration)) (m .position) (m .velocity) (m .acceleration)
+      (pos (n - delay x) -ℤ m .tick)
 
   same-acceleration : (t : Target) (n k : ℕ) → accelerationOf t n ≡ accelerationOf t k
   same-acceleration (Fixed r) n k = refl
@@ -193,13 +212,16 @@ module _ (x : Axis) where
 
 -- ---- what is within a limit at both ends of a uniform change is within it between them
 
-line-up : (l a i k : ℕ) (u : ℤ) → i * a ≤ k * a → natAbs u ≤ l → natAbs (u +ℤ pos (k * a)) ≤ l → natAbs (u +ℤ pos (i * a)) ≤ l
+line-up : (l a i k : ℕ) (u : ℤ) → i * a ≤ k * a → natAbs u ≤ l → natAbs (u +ℤ pos (k * a)) ≤ l
+    → natAbs (u +ℤ pos (i * a)) ≤ l
 line-up l a i k = all₁ _ (λ b c. simp whole (omega arith))
 
-line-down : (l a i k : ℕ) (u : ℤ) → i * a ≤ k * a → natAbs u ≤ l → natAbs (u -ℤ pos (k * a)) ≤ l → natAbs (u -ℤ pos (i * a)) ≤ l
+line-down : (l a i k : ℕ) (u : ℤ) → i * a ≤ k * a → natAbs u ≤ l → natAbs (u -ℤ pos (k * a)) ≤ l
+    → natAbs (u -ℤ pos (i * a)) ≤ l
 line-down l a i k = all₁ _ (λ b c. simp whole (omega arith))
 
-line-between : (l i k : ℕ) (u α : ℤ) → i ≤ k → natAbs u ≤ l → natAbs (u +ℤ pos k *ℤ α) ≤ l → natAbs (u +ℤ pos i *ℤ α) ≤ l
+line-between : (l i k : ℕ) (u α : ℤ) → i ≤ k → natAbs u ≤ l → natAbs (u +ℤ pos k *ℤ α) ≤ l
+    → natAbs (u +ℤ pos i *ℤ α) ≤ l
 line-between l i k u (pos a) h p q = line-up l a i k u (mul-le-mul h (omega arith)) p q
 line-between l i k u (negsuc a) h p q = line-down l (suc a) i k u (mul-le-mul h (omega arith)) p q
 
@@ -259,7 +281,8 @@ module _ (x : Axis) (passed : Passed x) where
 
   -- ---- the ticks at which the target is not too fast are one run
 
-  pub landing-later : (n i : ℕ) → delay x ≤ n → landingVelocity x (n + i) ≡ landingVelocity x n +ℤ pos i *ℤ landingAcceleration x n
+  pub landing-later : (n i : ℕ) → delay x ≤ n
+      → landingVelocity x (n + i) ≡ landingVelocity x n +ℤ pos i *ℤ landingAcceleration x n
   landing-later n zero h =
       let e : n + 0 ≡ n = omega arith in
       ap (landingVelocity x) e ∙ none (landingVelocity x n) (landingAcceleration x n)
@@ -278,7 +301,8 @@ module _ (x : Axis) (passed : Passed x) where
       more : (v i a : ℤ) → (v +ℤ i *ℤ a) +ℤ a ≡ v +ℤ (i +ℤ pos 1) *ℤ a
       more v i a = same (v ∷ i ∷ a ∷ []) (search pol depth 20 fits 9000) tt
 
-  pub arrival-later : (n i : ℕ) → delay x ≤ n → arrivalVelocity x (n + i) ≡ arrivalVelocity x n +ℤ pos i *ℤ landingAcceleration x n
+  pub arrival-later : (n i : ℕ) → delay x ≤ n
+      → arrivalVelocity x (n + i) ≡ arrivalVelocity x n +ℤ pos i *ℤ landingAcceleration x n
   arrival-later n i h =
       (λ j. landing-later n i h j +ℤ pos (delay x) *ℤ acceleration-same (n + i) n j)
       ∙ swap (landingVelocity x n) (pos i *ℤ landingAcceleration x n) (pos (delay x) *ℤ landingAcceleration x n)
@@ -302,10 +326,16 @@ module _ (x : Axis) (passed : Passed x) where
           (line-between (speedSteps x) (j - n) (k - n) (f n) (landingAcceleration x n) (omega arith) a
           (subst (λ (z : ℤ). natAbs z ≤ speedSteps x) (sym (ap f k-is) ∙ e (k - n)) b))
 
-  -- where the target was not too fast to land, and is not too fast at a later arrival, it is not too fast to land then either
-  pub slow-ahead : (n k : ℕ) → delay x ≤ n → n ≤ k → natAbs (landingVelocity x n) ≤ speedSteps x → natAbs (arrivalVelocity x k) ≤ speedSteps x → Slow x k
+  -- where the target was not too fast to land, and is not too fast at a later arrival, it is
+  -- not too fast to land then either
+  pub slow-ahead : (n k : ℕ) → delay x ≤ n → n ≤ k → natAbs (landingVelocity x n) ≤ speedSteps x
+      → natAbs (arrivalVelocity x k) ≤ speedSteps x → Slow x k
   slow-ahead n k h p a b =
-      record { landed = subst (λ (z : ℤ). natAbs z ≤ speedSteps x) (sym at-k) (line-between (speedSteps x) i (i + delay x) v α (omega arith) a far); arrived = b }
+      record {
+        landed = subst (λ (z : ℤ). natAbs z ≤ speedSteps x) (sym at-k)
+            (line-between (speedSteps x) i (i + delay x) v α (omega arith) a far);
+        arrived = b;
+      }
     where
       i : ℕ
       i = k - n
@@ -340,7 +370,8 @@ module _ (x : Axis) (passed : Passed x) where
   reach-on n (suc i) s r =
       let e : suc (n + i) ≡ n + suc i = omega arith in
       subst (Reachable x) e
-      (reach-goes-on (n + i) (s (suc (n + i)) (omega arith) (omega arith)) (reach-on n i (λ j p q. s j p (omega arith)) r))
+      (reach-goes-on (n + i) (s (suc (n + i)) (omega arith) (omega arith))
+      (reach-on n i (λ j p q. s j p (omega arith)) r))
 
   pub reach-is-a-threshold : (n j k : ℕ) → n ≤ j → j ≤ k → Slow x k → Reachable x n → Reachable x j
   reach-is-a-threshold n j k p q s r =
@@ -362,7 +393,8 @@ module _ (x : Axis) (passed : Passed x) where
 
   -- what is not reached was not reached before
   pub missed-before : (n j k : ℕ) → n ≤ j → j ≤ k → reachable x k ≡ true → reachable x j ≡ false → reachable x n ≡ false
-  missed-before n j k p q r e = T-false (reachable x n) (λ t. clash (reached-later n j k p q (reached-slow k r) (T-true (reachable x n) t)))
+  missed-before n j k p q r e =
+      T-false (reachable x n) (λ t. clash (reached-later n j k p q (reached-slow k r) (T-true (reachable x n) t)))
     where
       clash : reachable x j ≡ true → ⊥
       clash y = subst T (sym y ∙ e) tt

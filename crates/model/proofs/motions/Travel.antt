@@ -15,7 +15,8 @@ travelled-is w (suc n) =
     ∙ same (w 0 ∷ w (suc n) ∷ w (suc (suc n)) ∷ sumTo w n ∷ []) (search pol depth 20 fits 9000) tt
 
 -- the first tick, and the others after it
-pub travelled-first : (w : ℕ → ℤ) (n : ℕ) → travelled w (suc n) ≡ pos 2 *ℤ w 0 +ℤ (w 1 -ℤ w 0) +ℤ travelled (λ k. w (suc k)) n
+pub travelled-first : (w : ℕ → ℤ) (n : ℕ)
+    → travelled w (suc n) ≡ pos 2 *ℤ w 0 +ℤ (w 1 -ℤ w 0) +ℤ travelled (λ k. w (suc k)) n
 travelled-first w zero = +ℤ-idl (pos 2 *ℤ w 0 +ℤ (w 1 -ℤ w 0)) ∙ sym (+ℤ-idr (pos 2 *ℤ w 0 +ℤ (w 1 -ℤ w 0)))
 travelled-first w (suc n) =
     ap (λ (z : ℤ). z +ℤ last) (travelled-first w n)

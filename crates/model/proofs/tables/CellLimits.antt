@@ -14,11 +14,13 @@ use Rattle.whole.proofs.Laws.{add-sub}
 use Rattle.whole.proofs.Bounds.{add-holds, mul-holds}
 use Rattle.whole.proofs.Rounding.{nearest-half, half-size}
 use Rattle.model.specs.declared.Axis.{Axis}
-use Rattle.model.specs.planning.Quantities.{fineSteps, speedLimit, accelerationLimit, halfPeriod, secondWeight, secondHalfPeriod, delay, asMoving}
+use Rattle.model.specs.planning.Quantities.{fineSteps, speedLimit, accelerationLimit, halfPeriod, secondWeight}
+use Rattle.model.specs.planning.Quantities.{secondHalfPeriod, delay, asMoving}
 use Rattle.model.specs.planning.Quantities.{finer, speedSteps, accelerationSteps}
 use Rattle.model.specs.planning.Leg.{Meets, chosen}
 use Rattle.model.specs.planning.Motion.{Tick, run, changesFrom, leg, displacement, requiredSum}
-use Rattle.model.specs.planning.Motion.{earlier, landingTick, startPosition, startVelocity, landingVelocity, landingAcceleration}
+use Rattle.model.specs.planning.Motion.{earlier, landingTick, startPosition, startVelocity, landingVelocity}
+use Rattle.model.specs.planning.Motion.{landingAcceleration}
 use Rattle.model.specs.planning.Rows.{plannedAxis, tickAt, tickBack, blendOnce}
 use Rattle.model.specs.planning.Refusals.{Plannable}
 use Rattle.model.proofs.tables.TwoBlends.{both, bothDivisor, both-some}
@@ -36,11 +38,13 @@ run-velocity q v [] α αs d zero h = refl
 run-velocity q v [] α αs d (suc k) h = absurd (omega arith)
 run-velocity q v (w ∷ ws) α αs d zero h = refl
 run-velocity q v (w ∷ ws) α αs d (suc k) h =
-    ap (λ (u : ℤ). getD (run (q +ℤ pos 2 *ℤ v +ℤ (w -ℤ v)) u (changesFrom w ws ++ (α ∷ αs))) k d .velocity) (add-sub v w)
+    ap (λ (u : ℤ). getD (run (q +ℤ pos 2 *ℤ v +ℤ (w -ℤ v)) u (changesFrom w ws ++ (α ∷ αs))) k d .velocity)
+    (add-sub v w)
     ∙ run-velocity (q +ℤ pos 2 *ℤ v +ℤ (w -ℤ v)) w ws α αs d k (omega arith)
 
 run-change : (q v : ℤ) (ws αs : List ℤ) (d : Tick) (k : ℕ) → k < length ws
-    → getD (run q v (changesFrom v ws ++ αs)) k d .acceleration ≡ getD (v ∷ ws) (suc k) (pos 0) -ℤ getD (v ∷ ws) k (pos 0)
+    → getD (run q v (changesFrom v ws ++ αs)) k d .acceleration
+    ≡ getD (v ∷ ws) (suc k) (pos 0) -ℤ getD (v ∷ ws) k (pos 0)
 run-change q v [] αs d k h = absurd (omega arith)
 run-change q v (w ∷ ws) αs d zero h = refl
 run-change q v (w ∷ ws) αs d (suc k) h =
@@ -66,7 +70,8 @@ between v (negsuc b) j h c q = down v (j * suc b) (h * suc b) c (N.mul-le-mul-ri
         sizes : (v : ℤ) → natAbs v ≤ c → natAbs (v +ℤ negℤ (pos y)) ≤ c → natAbs (v +ℤ negℤ (pos x)) ≤ c
         sizes = all₁ _ (λ a b. simp whole (omega arith))
 
-blend-within : (b : ℕ) (u w : ℤ) (c : ℕ) → b ≤ 256 → natAbs u ≤ c → natAbs w ≤ c → natAbs (pos (256 - b) *ℤ u +ℤ pos b *ℤ w) ≤ 256 * c
+blend-within : (b : ℕ) (u w : ℤ) (c : ℕ) → b ≤ 256 → natAbs u ≤ c → natAbs w ≤ c
+    → natAbs (pos (256 - b) *ℤ u +ℤ pos b *ℤ w) ≤ 256 * c
 blend-within b u w c l h k =
     subst (λ (m : ℕ). natAbs (pos (256 - b) *ℤ u +ℤ pos b *ℤ w) ≤ m) weights
     (add-holds (pos (256 - b) *ℤ u) (pos b *ℤ w) ((256 - b) * c) (b * c)
@@ -101,7 +106,8 @@ module _ (x : Axis) (n : ℕ) (r : Plannable x n) where
 
   landing-acceleration : natAbs (landingAcceleration x n) ≤ accelerationSteps x
   landing-acceleration =
-      mul-holds (pos (finer x)) (pos fineSteps *ℤ asMoving (x .target) n .acceleration) (finer x) (fineSteps * accelerationLimit x) (omega arith)
+      mul-holds (pos (finer x)) (pos fineSteps *ℤ asMoving (x .target) n .acceleration) (finer x)
+      (fineSteps * accelerationLimit x) (omega arith)
       (mul-holds (pos fineSteps) (asMoving (x .target) n .acceleration) fineSteps (accelerationLimit x) (omega arith)
       (target-acceleration x (r .passed) n))
 
@@ -124,35 +130,45 @@ module _ (x : Axis) (n : ℕ) (r : Plannable x n) where
   -- before the landing
   pub planned-change : (k : ℕ) → k < landingTick x n
       → tickAt (plannedAxis n x) k .acceleration
-      ≡ getD (startVelocity x ∷ chosen (leg x n) (requiredSum x n)) (suc k) (pos 0) -ℤ getD (startVelocity x ∷ chosen (leg x n) (requiredSum x n)) k (pos 0)
+      ≡ getD (startVelocity x ∷ chosen (leg x n) (requiredSum x n)) (suc k) (pos 0)
+      -ℤ getD (startVelocity x ∷ chosen (leg x n) (requiredSum x n)) k (pos 0)
   planned-change k h =
-      run-change (startPosition x) (startVelocity x) (chosen (leg x n) (requiredSum x n)) (replicate (suc (delay x)) (landingAcceleration x n)) (earlier x 0)
+      run-change (startPosition x) (startVelocity x) (chosen (leg x n) (requiredSum x n))
+      (replicate (suc (delay x)) (landingAcceleration x n)) (earlier x 0)
       k (omega (arith, long))
 
   pub now-acceleration : (k : ℕ) → k ≤ n → natAbs (tickAt (plannedAxis n x) k .acceleration) ≤ accelerationSteps x
   unfolding W
   now-acceleration k h =
-      by-landing (λ k. k ≤ n → natAbs (tickAt (plannedAxis n x) k .acceleration) ≤ accelerationSteps x) (landingTick x n) k
+      by-landing (λ k. k ≤ n → natAbs (tickAt (plannedAxis n x) k .acceleration) ≤ accelerationSteps x)
+      (landingTick x n) k
       (λ q l.
       subst (λ (v : ℤ). natAbs v ≤ accelerationSteps x) (sym (planned-change k q)) (meets .changes k q))
-      (λ j e l. subst (λ (t : Tick). natAbs (t .acceleration) ≤ accelerationSteps x) (sym (late j (omega arith))) landing-acceleration)
+      (λ j e l. subst (λ (t : Tick). natAbs (t .acceleration) ≤ accelerationSteps x)
+      (sym (late j (omega arith))) landing-acceleration)
       h
 
   -- a cell of what is at most c fine steps in size before tick 0 and at every tick
-  cell : (f : Tick → ℤ) (c : ℕ) → ((j : ℕ) → natAbs (f (earlier x j)) ≤ finer x * c) → ((k : ℕ) → k ≤ n → natAbs (f (tickAt (plannedAxis n x) k)) ≤ finer x * c)
+  cell : (f : Tick → ℤ) (c : ℕ) → ((j : ℕ) → natAbs (f (earlier x j)) ≤ finer x * c)
+      → ((k : ℕ) → k ≤ n → natAbs (f (tickAt (plannedAxis n x) k)) ≤ finer x * c)
       → (k : ℕ) → k ≤ n → natAbs (nearestQuotient (both (plannedAxis n x) k f) (bothDivisor x)) ≤ c
-  cell f c a b k h = half-size c (both-some x) total (nearest-half (both (plannedAxis n x) k f) (bothDivisor x) (both-some x))
+  cell f c a b k h =
+      half-size c (both-some x) total (nearest-half (both (plannedAxis n x) k f) (bothDivisor x) (both-some x))
     where
       back : (d : ℕ) → natAbs (f (tickBack (plannedAxis n x) k d)) ≤ finer x * c
       back d = go (ltb k d)
         where
-          go : (t : Bool) → natAbs (f (elim t as (λ y. Tick) [ true ↦ earlier x (d - k) | false ↦ tickAt (plannedAxis n x) (k - d) ])) ≤ finer x * c
+          go : (t : Bool)
+              → natAbs
+              (f (elim t as (λ y. Tick) [ true ↦ earlier x (d - k) | false ↦ tickAt (plannedAxis n x) (k - d) ]))
+              ≤ finer x * c
           go true = a (d - k)
           go false = b (k - d) (omega arith)
 
       once : (d : ℕ) → natAbs (blendOnce (plannedAxis n x) k d f) ≤ 256 * (finer x * c)
       once d =
-          blend-within (secondWeight x) (f (tickBack (plannedAxis n x) k d)) (f (tickBack (plannedAxis n x) k (d + halfPeriod x))) (finer x * c)
+          blend-within (secondWeight x) (f (tickBack (plannedAxis n x) k d))
+          (f (tickBack (plannedAxis n x) k (d + halfPeriod x))) (finer x * c)
           (R.weight-range x n r) (back d) (back (d + halfPeriod x))
 
       sized : (f c : ℕ) → 256 * (f * c) + 256 * (f * c) ≡ 512 * f * c
@@ -161,15 +177,18 @@ module _ (x : Axis) (n : ℕ) (r : Plannable x n) where
       total : natAbs (both (plannedAxis n x) k f) ≤ bothDivisor x * c
       total =
           subst (λ (m : ℕ). natAbs (both (plannedAxis n x) k f) ≤ m) (sized (finer x) c)
-          (add-holds (blendOnce (plannedAxis n x) k 0 f) (blendOnce (plannedAxis n x) k (secondHalfPeriod x) f) (256 * (finer x * c)) (256 * (finer x * c)) (once 0)
+          (add-holds (blendOnce (plannedAxis n x) k 0 f) (blendOnce (plannedAxis n x) k (secondHalfPeriod x) f)
+          (256 * (finer x * c)) (256 * (finer x * c)) (once 0)
           (once (secondHalfPeriod x)))
 
   start-speed : natAbs (startVelocity x) ≤ speedSteps x
   unfolding W
   start-speed = meets .speeds 0 (omega arith)
 
-  pub velocity-cell : (k : ℕ) → k ≤ n → natAbs (nearestQuotient (both (plannedAxis n x) k (λ s. s .velocity)) (bothDivisor x)) ≤ 256 * speedLimit x
+  pub velocity-cell : (k : ℕ) → k ≤ n
+      → natAbs (nearestQuotient (both (plannedAxis n x) k (λ s. s .velocity)) (bothDivisor x)) ≤ 256 * speedLimit x
   velocity-cell = cell (λ s. s .velocity) (256 * speedLimit x) (λ j. start-speed) now-velocity
 
-  pub acceleration-cell : (k : ℕ) → k ≤ n → natAbs (nearestQuotient (both (plannedAxis n x) k (λ s. s .acceleration)) (bothDivisor x)) ≤ 256 * accelerationLimit x
+  pub acceleration-cell : (k : ℕ) → k ≤ n → natAbs
+      (nearestQuotient (both (plannedAxis n x) k (λ s. s .acceleration)) (bothDivisor x)) ≤ 256 * accelerationLimit x
   acceleration-cell = cell (λ s. s .acceleration) (256 * accelerationLimit x) (λ j. omega arith) now-acceleration

@@ -114,7 +114,8 @@ module _ (o : Order) (xs : List Axis) (n : ℕ) where
   unfolding ts rowFrom
   table-at i j k x d e hj hk =
       ap (λ (z : ℕ). getD (table o xs n) z d) (place (rowAt o n k))
-      ∙ rows-at (3 * length xs) rowFrom row-from-length 0 (suc n) (rowAt o n k) (3 * i + j) d (within (row-place o n k hk)) (omega (arith, at-below xs i x e))
+      ∙ rows-at (3 * length xs) rowFrom row-from-length 0 (suc n) (rowAt o n k) (3 * i + j) d
+      (within (row-place o n k hk)) (omega (arith, at-below xs i x e))
       ∙ ap (λ (z : ℕ). getD (row ts (rowAt o n z)) (3 * i + j) d) (zero-add (rowAt o n k))
       ∙ ap (λ (z : ℕ). getD (row ts z) (3 * i + j) d) (row-back o n k hk)
       ∙ blocks-at 3 (cells k) (λ t. refl) ts i j d (plannedAxis n x) (map-at (plannedAxis n) xs i x e) hj

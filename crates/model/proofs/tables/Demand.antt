@@ -1,6 +1,8 @@
--- Demand 3, the limits on cells, the exact start and what is left of a sway that fits only nearly hold of every accepted call, in either order of its
--- rows: `demand3`, `cell-limits`, `exact-start`, `sway-left`. Each row of a backward call is the forward call's row for that tick: `same-rows`.
--- Each position cell is the sum taken from the landing end, rounded once: `cells-from-landing`.
+-- Demand 3, the limits on cells, the exact start and what is left of a sway that fits only
+-- nearly hold of every accepted call, in either order of its rows: `demand3`,
+-- `cell-limits`, `exact-start`, `sway-left`. Each row of a backward call is the forward
+-- call's row for that tick: `same-rows`. Each position cell is the sum taken from the
+-- landing end, rounded once: `cells-from-landing`.
 use Prim.Native.Nat.{ℕ, zero, suc, _+_, _-_, _*_, _≤_, _<_}
 use mathlib.Core.Path.{_≡_, refl, sym, ap, ap₂, _∙_, subst}
 use mathlib.Core.List.{List, [], _∷_, _++_, map}
@@ -18,8 +20,10 @@ use Rattle.whole.specs.Integers.{nearestQuotient}
 use Rattle.model.specs.planning.Rows.{plannedAxis, blend, divisor, cells, rowAt, table, fromLanding}
 use Rattle.model.specs.planning.Job.{Job, JobAxis, axesOf}
 use Rattle.model.specs.planning.Motion.{reachable}
-use Rattle.model.specs.planning.Demand.{tableIn, cellAt, positionCell, velocityCell, accelerationCell, Lands, Carries, SwayCancelled}
-use Rattle.model.specs.planning.Demand.{sway, Demand3, Demand3Holds, CellLimits, CellLimitsHold, ExactStart, ExactStartHolds, SameRows, CellsFromLanding}
+use Rattle.model.specs.planning.Demand.{tableIn, cellAt, positionCell, velocityCell, accelerationCell, Lands}
+use Rattle.model.specs.planning.Demand.{Carries, SwayCancelled}
+use Rattle.model.specs.planning.Demand.{sway, Demand3, Demand3Holds, CellLimits, CellLimitsHold, ExactStart}
+use Rattle.model.specs.planning.Demand.{ExactStartHolds, SameRows, CellsFromLanding}
 use Rattle.model.specs.theorems.Misfit.{plannedVariation, roundingLeft, SwayLeft, SwayLeftHolds}
 use Rattle.model.specs.planning.Outcome.{Outcome, Input, call, callIn, inputAxes, cellsNeeded}
 use Rattle.whole.proofs.Tests.{T-true}
@@ -27,7 +31,8 @@ use Rattle.whole.proofs.Elements.{at-below, element}
 use Rattle.model.proofs.tables.CellPlaces.{row-place, table-length, table-at}
 use Rattle.model.specs.planning.Refusals.{Plannable, AllPassed}
 use Rattle.model.specs.theorems.Verdict.{Among, IsArrival, Refuses, Verdict, CallVerdict}
-use Rattle.model.specs.theorems.Verdict.{accepted, refused3, refused4, refused12, refused5, refused15, refused6, refused16, refused17}
+use Rattle.model.specs.theorems.Verdict.{accepted, refused3, refused4, refused12, refused5, refused15, refused6}
+use Rattle.model.specs.theorems.Verdict.{refused16, refused17}
 use Rattle.model.specs.theorems.Verdict.{refused13, refused8, refused9, refused10}
 use Rattle.model.specs.planning.Quantities.{speedLimit, accelerationLimit}
 use Rattle.model.proofs.tables.CellLimits as L
@@ -49,12 +54,20 @@ module _ (o : Order) (xs : List Axis) (n : ℕ) (lent rest : List ℤ) (is : len
   abbrev placeOf : ℕ → ℕ → ℕ → ℕ
   placeOf i j r = 3 * (length xs * r + i) + j
 
-  place-inside : (i j r : ℕ) (x : Axis) → getElem? xs i ≡ some x → j < 3 → r ≤ n → placeOf i j r < cellsNeeded (length xs) n
+  place-inside : (i j r : ℕ) (x : Axis) → getElem? xs i ≡ some x → j < 3 → r ≤ n
+      → placeOf i j r < cellsNeeded (length xs) n
   place-inside i j r x e hj h =
-      omega (arith, at-below xs i x e, N.mul-assoc 3 (length xs) (suc n), N.mul-suc (length xs) n, N.mul-le-mul-left (length xs) h)
+      omega (
+        arith,
+        at-below xs i x e,
+        N.mul-assoc 3 (length xs) (suc n),
+        N.mul-suc (length xs) n,
+        N.mul-le-mul-left (length xs) h,
+      )
 
   -- a cell of the row of tick k
-  cell-is : (i j k : ℕ) (x : Axis) → getElem? xs i ≡ some x → j < 3 → k ≤ n → cellAt (tableIn o xs n lent) i j k ≡ getD (cells k (plannedAxis n x)) j (pos 0)
+  cell-is : (i j k : ℕ) (x : Axis) → getElem? xs i ≡ some x → j < 3 → k ≤ n
+      → cellAt (tableIn o xs n lent) i j k ≡ getD (cells k (plannedAxis n x)) j (pos 0)
   cell-is i j k x e hj hk =
       let at : ℕ = placeOf i j (rowAt o n k) in
       let inside : at < cellsNeeded (length xs) n = place-inside i j (rowAt o n k) x e hj (row-place o n k hk) in
@@ -120,12 +133,14 @@ module _ (o : Order) (xs : List Axis) (n : ℕ) (lent rest : List ℤ) (is : len
         record {
           position = subst (λ (z : ℤ). natAbs z ≤ 3)
               (ap₂ (λ (y z : ℤ). y -ℤ pos 2 *ℤ z)
-              (ap₂ (λ (y z : ℤ). y +ℤ z) (ap₂ (λ (y z : ℤ). pos 2 *ℤ y +ℤ pos 2 *ℤ z) (p-is k (omega arith)) (v-is k (omega arith)))
+              (ap₂ (λ (y z : ℤ). y +ℤ z)
+              (ap₂ (λ (y z : ℤ). pos 2 *ℤ y +ℤ pos 2 *ℤ z) (p-is k (omega arith)) (v-is k (omega arith)))
               (a-is k (omega arith)))
               (p-is (suc k) h))
               (miss-p k h);
           velocity = subst (λ (z : ℤ). natAbs (pos 2 *ℤ z) ≤ 3)
-              (ap₂ (λ (y z : ℤ). y -ℤ z) (ap₂ (λ (y z : ℤ). y +ℤ z) (v-is k (omega arith)) (a-is k (omega arith))) (v-is (suc k) h))
+              (ap₂ (λ (y z : ℤ). y -ℤ z)
+              (ap₂ (λ (y z : ℤ). y +ℤ z) (v-is k (omega arith)) (a-is k (omega arith))) (v-is (suc k) h))
               (miss-v k h);
         }
 
@@ -158,7 +173,8 @@ module _ (o : Order) (xs : List Axis) (n : ℕ) (lent rest : List ℤ) (is : len
       record {
         whole = whole;
         lands = lands;
-        carries = λ i k h q. let y : (x : Axis) × (getElem? xs i ≡ some x) = element xs i h in carries i (y .0) (y .1) k q;
+        carries = λ i k h q. let y : (x : Axis) × (getElem? xs i ≡ some x) = element xs i h in
+            carries i (y .0) (y .1) k q;
         sway = stills;
       }
 
@@ -167,9 +183,11 @@ module _ (o : Order) (xs : List Axis) (n : ℕ) (lent rest : List ℤ) (is : len
   limited =
       record {
         velocities = λ i k x e h.
-            subst (λ (z : ℤ). natAbs z ≤ 256 * speedLimit x) (sym (velocity-is i x e k h)) (L.velocity-cell x n (plannable i x e) k h);
+            subst (λ (z : ℤ). natAbs z ≤ 256 * speedLimit x) (sym (velocity-is i x e k h))
+            (L.velocity-cell x n (plannable i x e) k h);
         accelerations = λ i k x e h.
-            subst (λ (z : ℤ). natAbs z ≤ 256 * accelerationLimit x) (sym (acceleration-is i x e k h)) (L.acceleration-cell x n (plannable i x e) k h);
+            subst (λ (z : ℤ). natAbs z ≤ 256 * accelerationLimit x) (sym (acceleration-is i x e k h))
+            (L.acceleration-cell x n (plannable i x e) k h);
       }
 
   started : ExactStart o xs n lent
@@ -181,13 +199,15 @@ module _ (o : Order) (xs : List Axis) (n : ℕ) (lent rest : List ℤ) (is : len
       }
 
 -- an axis of a job without its number
-unnumbered : (l : List JobAxis) (i : ℕ) (x : Axis) → getElem? (map (λ y. y .axis) l) i ≡ some x → (y : JobAxis) × (Among l y × (y .axis ≡ x))
+unnumbered : (l : List JobAxis) (i : ℕ) (x : Axis) → getElem? (map (λ y. y .axis) l) i ≡ some x
+    → (y : JobAxis) × (Among l y × (y .axis ≡ x))
 unnumbered [] i x e = absurd (let z : _≡_ {A = ℕ} 0 1 = cc in omega arith)
 unnumbered (y ∷ l) zero x e = (y, ((zero, refl), cc))
 unnumbered (y ∷ l) (suc i) x e = let r = unnumbered l i x e in (r .0, ((suc (r .1 .0 .0), r .1 .0 .1), r .1 .1))
 
 -- an accepted job's axes can all be planned
-pub all-plannable : (j : Job) (n : ℕ) → AllPassed (j .axes) → IsArrival j n → (i : ℕ) (x : Axis) → getElem? (axesOf j) i ≡ some x → Plannable x n
+pub all-plannable : (j : Job) (n : ℕ) → AllPassed (j .axes) → IsArrival j n → (i : ℕ) (x : Axis)
+    → getElem? (axesOf j) i ≡ some x → Plannable x n
 all-plannable j n p a i x q =
     let y = unnumbered (j .axes) i x q in
     let g = passed-among (j .axes) p (y .0) (y .1 .0) in
@@ -198,12 +218,14 @@ all-plannable j n p a i x q =
       reach = T-true (reachable (y .0 .axis) n) (reach-is (y .0 .axis) n g .0 (a .arrives .reached (y .0) (y .1 .0)));
     })
 
--- what holds of the forward table of every job that can be planned holds of every accepted forward call
+-- what holds of the forward table of every job that can be planned holds of every accepted forward
+-- call
 module _ (Claim : List Axis → ℕ → List ℤ → Type 0)
     (holds : (xs : List Axis) (n : ℕ) (lent rest : List ℤ) → lent ≡ table Forwards xs n ++ rest
     → ((i : ℕ) (x : Axis) → getElem? xs i ≡ some x → Plannable x n) → Claim xs n lent) where
   -- only an accepted job has number 0
-  by-verdict : (j : Job) (lent : List ℤ) (o : Outcome) → Verdict Forwards j lent o → o .number ≡ 0 → Claim (axesOf j) (o .arrival) (o .cells)
+  by-verdict : (j : Job) (lent : List ℤ) (o : Outcome) → Verdict Forwards j lent o → o .number ≡ 0
+      → Claim (axesOf j) (o .arrival) (o .cells)
   by-verdict j lent o (accepted n p w a room e) z =
       subst (λ (m : ℕ). Claim (axesOf j) m (o .cells)) (sym (e .arrival))
       (holds (axesOf j) n (o .cells) (drop (cellsNeeded (length (axesOf j)) n) lent) (e .cells) (all-plannable j n p a))
@@ -220,13 +242,16 @@ module _ (Claim : List Axis → ℕ → List ℤ → Type 0)
   by-verdict j lent o (refused9 m a b w c d e) z = absurd (let n = e .number in omega arith)
   by-verdict j lent o (refused10 n a w b c e) z = absurd (let n = e .number in omega arith)
 
-  by-call : (q : Input) (lent : List ℤ) (o : Outcome) → CallVerdict Forwards lent o q → o .number ≡ 0 → Claim (inputAxes q) (o .arrival) (o .cells)
+  by-call : (q : Input) (lent : List ℤ) (o : Outcome) → CallVerdict Forwards lent o q → o .number ≡ 0
+      → Claim (inputAxes q) (o .arrival) (o .cells)
   by-call q lent o v z =
-      either-said (λ n p. Refuses o n p 0 0 lent) (λ j. Verdict Forwards j lent o) (Claim (inputAxes q) (o .arrival) (o .cells)) q
+      either-said (λ n p. Refuses o n p 0 0 lent) (λ j. Verdict Forwards j lent o)
+      (Claim (inputAxes q) (o .arrival) (o .cells)) q
       (λ n p w r. absurd (w .not-0 (sym (r .number) ∙ z)))
       (λ j e w. subst (λ (i : Job). Claim (axesOf i) (o .arrival) (o .cells)) (sym e) (by-verdict j lent o w z)) v
 
-  of-forward-calls : (q : Input) (lent : List ℤ) → call q lent .number ≡ 0 → Claim (inputAxes q) (call q lent .arrival) (call q lent .cells)
+  of-forward-calls : (q : Input) (lent : List ℤ) → call q lent .number ≡ 0
+      → Claim (inputAxes q) (call q lent .arrival) (call q lent .cells)
   of-forward-calls q lent z = by-call q lent (call q lent) (call-verdict q lent) z
 
 -- an accepted call's axes can all be planned
@@ -238,7 +263,8 @@ planned-axes = of-forward-calls (λ xs n cells. Planned xs n) (λ xs n lent rest
 
 -- the same in either order
 module _ (Claim : Order → List Axis → ℕ → List ℤ → Type 0)
-    (holds : (o : Order) (xs : List Axis) (n : ℕ) (lent rest : List ℤ) → lent ≡ table o xs n ++ rest → Planned xs n → Claim o xs n lent) where
+    (holds : (o : Order) (xs : List Axis) (n : ℕ) (lent rest : List ℤ) → lent ≡ table o xs n ++ rest
+    → Planned xs n → Claim o xs n lent) where
   of-calls : (o : Order) (q : Input) (lent : List ℤ) → callIn o q lent .number ≡ 0
       → Claim o (inputAxes q) (callIn o q lent .arrival) (callIn o q lent .cells)
   of-calls Forwards q lent z = of-forward-calls (Claim Forwards) (holds Forwards) q lent z
@@ -247,9 +273,11 @@ module _ (Claim : Order → List Axis → ℕ → List ℤ → Type 0)
       let r = call q lent in
       let zero : r .number ≡ 0 = sym (ap (λ (a : Answer). a .number) (answer-stays xs lent r Backwards)) ∙ z in
       subst (λ (s : Outcome). Claim Backwards xs (s .arrival) (s .cells)) (rows-turn xs lent r zero)
-      (holds Backwards xs (r .arrival) _ (drop (cellsNeeded (length xs) (r .arrival)) lent) refl (planned-axes q lent zero))
+      (holds Backwards xs (r .arrival) _ (drop (cellsNeeded (length xs) (r .arrival)) lent) refl
+      (planned-axes q lent zero))
 
-pub plannable-axes : (o : Order) (q : Input) (lent : List ℤ) → callIn o q lent .number ≡ 0 → Planned (inputAxes q) (callIn o q lent .arrival)
+pub plannable-axes : (o : Order) (q : Input) (lent : List ℤ) → callIn o q lent .number ≡ 0
+    → Planned (inputAxes q) (callIn o q lent .arrival)
 plannable-axes = of-calls (λ o xs n lent. Planned xs n) (λ o xs n lent rest is plannable. plannable)
 
 pub demand3 : Demand3Holds
@@ -262,13 +290,16 @@ pub exact-start : ExactStartHolds
 exact-start = of-calls ExactStart started
 
 pub sway-left : SwayLeftHolds plannedVariation
-sway-left = of-calls (λ o xs n lent. (i : ℕ) (x : Axis) → getElem? xs i ≡ some x → SwayLeft plannedVariation x i n (tableIn o xs n lent)) left
+sway-left =
+    of-calls (λ o xs n lent. (i : ℕ) (x : Axis) → getElem? xs i ≡ some x
+    → SwayLeft plannedVariation x i n (tableIn o xs n lent)) left
 
 -- ---- each row is that of its tick, in either order
 
 abbrev CellsByTick : Order → List Axis → ℕ → List ℤ → Type 0
 CellsByTick o xs n lent =
-    (i j k : ℕ) (x : Axis) → getElem? xs i ≡ some x → j < 3 → k ≤ n → cellAt (tableIn o xs n lent) i j k ≡ getD (cells k (plannedAxis n x)) j (pos 0)
+    (i j k : ℕ) (x : Axis) → getElem? xs i ≡ some x → j < 3 → k ≤ n
+    → cellAt (tableIn o xs n lent) i j k ≡ getD (cells k (plannedAxis n x)) j (pos 0)
 
 cells-by-tick : (o : Order) (q : Input) (lent : List ℤ) → callIn o q lent .number ≡ 0
     → CellsByTick o (inputAxes q) (callIn o q lent .arrival) (callIn o q lent .cells)
@@ -280,7 +311,8 @@ same-rows q lent z i j k h hj hk =
     let r = call q lent in
     let answer = answer-stays xs lent r Backwards in
     let y : (x : Axis) × (getElem? xs i ≡ some x) = element xs i h in
-    let back = subst (λ (n : ℕ). CellsByTick Backwards xs n (callIn Backwards q lent .cells)) (ap (λ (a : Answer). a .arrival) answer)
+    let back = subst (λ (n : ℕ). CellsByTick Backwards xs n (callIn Backwards q lent .cells))
+    (ap (λ (a : Answer). a .arrival) answer)
     (cells-by-tick Backwards q lent (ap (λ (a : Answer). a .number) answer ∙ z)) in
     back i j k (y .0) (y .1) hj hk ∙ sym (cells-by-tick Forwards q lent z i j k (y .0) (y .1) hj hk)
 
@@ -288,14 +320,17 @@ same-rows q lent z i j k h hj hk =
 
 abbrev FromLanding : Order → List Axis → ℕ → List ℤ → Type 0
 FromLanding o xs n lent =
-    (i k : ℕ) (x : Axis) → getElem? xs i ≡ some x → k ≤ n → positionCell (tableIn o xs n lent) i k ≡ nearestQuotient (fromLanding x n (n - k)) (2 * divisor x)
+    (i k : ℕ) (x : Axis) → getElem? xs i ≡ some x → k ≤ n
+    → positionCell (tableIn o xs n lent) i k ≡ nearestQuotient (fromLanding x n (n - k)) (2 * divisor x)
 
-from-landing : (o : Order) (xs : List Axis) (n : ℕ) (lent rest : List ℤ) → lent ≡ table o xs n ++ rest → Planned xs n → FromLanding o xs n lent
+from-landing : (o : Order) (xs : List Axis) (n : ℕ) (lent rest : List ℤ) → lent ≡ table o xs n ++ rest
+    → Planned xs n → FromLanding o xs n lent
 from-landing o xs n lent rest is plannable i k x e h =
     let back : n - (n - k) ≡ k = omega (arith, h) in
     cell-is o xs n lent rest is plannable i 0 k x e (omega arith) h
     ∙ ap (λ (z : ℤ). nearestQuotient z (2 * divisor x))
-    (sym (sums-from-landing x n (plannable i x e) (n - k) (omega arith) ∙ ap (λ (j : ℕ). blend (plannedAxis n x) j (λ s. s .position)) back))
+    (sym (sums-from-landing x n (plannable i x e) (n - k) (omega arith)
+    ∙ ap (λ (j : ℕ). blend (plannedAxis n x) j (λ s. s .position)) back))
 
 pub cells-from-landing : CellsFromLanding
 cells-from-landing = of-calls FromLanding from-landing

@@ -1,4 +1,5 @@
--- Row 0 is on the start exactly: the shift of rule 2 is what the blend with the uniform motion before tick 0 takes back.
+-- Row 0 is on the start exactly: the shift of rule 2 is what the blend with the uniform
+-- motion before tick 0 takes back.
 use Prim.Native.Nat.{ℕ, _+_, _-_, _*_, _≤_}
 use mathlib.Core.Path.{_≡_, refl, ap, ap₂, _∙_}
 use mathlib.Core.Bool.{Bool, true, false, not}
@@ -33,7 +34,8 @@ module _ (x : Axis) (n : ℕ) (r : Plannable x n) where
   abbrev earlierPosition : ℕ → ℤ
   earlierPosition d = startPosition x -ℤ pos 2 *ℤ (pos d *ℤ startVelocity x)
 
-  before-start : (d : ℕ) → (tickBack (plannedAxis n x) 0 d .position ≡ earlierPosition d) × (tickBack (plannedAxis n x) 0 d .velocity ≡ startVelocity x)
+  before-start : (d : ℕ) → (tickBack (plannedAxis n x) 0 d .position ≡ earlierPosition d)
+      × (tickBack (plannedAxis n x) 0 d .velocity ≡ startVelocity x)
   before-start d = go (ltb 0 d) (nltb→le 0 d)
     where
       none : (q v : ℤ) → q ≡ q -ℤ pos 2 *ℤ (pos 0 *ℤ v)
@@ -43,8 +45,10 @@ module _ (x : Axis) (n : ℕ) (r : Plannable x n) where
       at-zero z = ap (tickAt (plannedAxis n x)) {x = 0 - d} {y = 0} (omega arith)
 
       go : (t : Bool) → (T (not t) → d ≤ 0)
-          → ((elim t as (λ y. Tick) [ true ↦ earlier x (d - 0) | false ↦ tickAt (plannedAxis n x) (0 - d) ]) .position ≡ earlierPosition d)
-          × ((elim t as (λ y. Tick) [ true ↦ earlier x (d - 0) | false ↦ tickAt (plannedAxis n x) (0 - d) ]) .velocity ≡ startVelocity x)
+          → ((elim t as (λ y. Tick) [ true ↦ earlier x (d - 0) | false ↦ tickAt (plannedAxis n x) (0 - d) ]) .position
+          ≡ earlierPosition d)
+          × ((elim t as (λ y. Tick) [ true ↦ earlier x (d - 0) | false ↦ tickAt (plannedAxis n x) (0 - d) ]) .velocity
+          ≡ startVelocity x)
       go true f = (ap earlierPosition {x = d - 0} {y = d} (omega arith), refl)
       go false f =
           let z : d ≤ 0 = f tt in (
@@ -57,13 +61,16 @@ module _ (x : Axis) (n : ℕ) (r : Plannable x n) where
 
   -- the two blends there, with A written 256 − B
   blended : (f : Tick → ℤ) (u : ℕ → ℤ) → ((d : ℕ) → f (tickBack (plannedAxis n x) 0 d) ≡ u d)
-      → both (plannedAxis n x) 0 f ≡ (pos 256 -ℤ pos b) *ℤ u 0 +ℤ pos b *ℤ u (0 + h) +ℤ ((pos 256 -ℤ pos b) *ℤ u s +ℤ pos b *ℤ u (s + h))
+      → both (plannedAxis n x) 0 f
+      ≡ (pos 256 -ℤ pos b) *ℤ u 0 +ℤ pos b *ℤ u (0 + h) +ℤ ((pos 256 -ℤ pos b) *ℤ u s +ℤ pos b *ℤ u (s + h))
   blended f u p =
       ap₂ (λ (y z : ℤ). y +ℤ z) (ap₂ (λ (y z : ℤ). pos (256 - b) *ℤ y +ℤ pos b *ℤ z) (p 0) (p (0 + h)))
       (ap₂ (λ (y z : ℤ). pos (256 - b) *ℤ y +ℤ pos b *ℤ z) (p s) (p (s + h)))
-      ∙ ap (λ (a : ℤ). a *ℤ u 0 +ℤ pos b *ℤ u (0 + h) +ℤ (a *ℤ u s +ℤ pos b *ℤ u (s + h))) (weights b (R.weight-range x n r))
+      ∙ ap (λ (a : ℤ). a *ℤ u 0 +ℤ pos b *ℤ u (0 + h) +ℤ (a *ℤ u s +ℤ pos b *ℤ u (s + h)))
+      (weights b (R.weight-range x n r))
 
-  pub start-position : nearestQuotient (both (plannedAxis n x) 0 (λ s. s .position)) (2 * bothDivisor x) ≡ pos 256 *ℤ x .start .position
+  pub start-position : nearestQuotient (both (plannedAxis n x) 0 (λ s. s .position)) (2 * bothDivisor x)
+      ≡ pos 256 *ℤ x .start .position
   start-position =
       ap (λ (z : ℤ). nearestQuotient z (2 * bothDivisor x))
       (blended (λ s. s .position) earlierPosition (λ d. before-start d .0)
@@ -71,17 +78,24 @@ module _ (x : Axis) (n : ℕ) (r : Plannable x n) where
       ∙ nearest-whole (2 * bothDivisor x) (pos 256 *ℤ x .start .position) (omega (arith, both-some x))
     where
       taken-back : (f b h s p v : ℤ)
-          → (pos 256 -ℤ b) *ℤ (f *ℤ (pos 512 *ℤ p +ℤ pos 2 *ℤ ((b *ℤ h +ℤ pos 128 *ℤ s) *ℤ v)) -ℤ pos 2 *ℤ (pos 0 *ℤ (f *ℤ (pos 256 *ℤ v))))
-          +ℤ b *ℤ (f *ℤ (pos 512 *ℤ p +ℤ pos 2 *ℤ ((b *ℤ h +ℤ pos 128 *ℤ s) *ℤ v)) -ℤ pos 2 *ℤ ((pos 0 +ℤ h) *ℤ (f *ℤ (pos 256 *ℤ v))))
-          +ℤ ((pos 256 -ℤ b) *ℤ (f *ℤ (pos 512 *ℤ p +ℤ pos 2 *ℤ ((b *ℤ h +ℤ pos 128 *ℤ s) *ℤ v)) -ℤ pos 2 *ℤ (s *ℤ (f *ℤ (pos 256 *ℤ v))))
-          +ℤ b *ℤ (f *ℤ (pos 512 *ℤ p +ℤ pos 2 *ℤ ((b *ℤ h +ℤ pos 128 *ℤ s) *ℤ v)) -ℤ pos 2 *ℤ ((s +ℤ h) *ℤ (f *ℤ (pos 256 *ℤ v)))))
+          → (pos 256 -ℤ b)
+          *ℤ (f *ℤ (pos 512 *ℤ p +ℤ pos 2 *ℤ ((b *ℤ h +ℤ pos 128 *ℤ s) *ℤ v))
+          -ℤ pos 2 *ℤ (pos 0 *ℤ (f *ℤ (pos 256 *ℤ v))))
+          +ℤ b *ℤ (f *ℤ (pos 512 *ℤ p +ℤ pos 2 *ℤ ((b *ℤ h +ℤ pos 128 *ℤ s) *ℤ v))
+          -ℤ pos 2 *ℤ ((pos 0 +ℤ h) *ℤ (f *ℤ (pos 256 *ℤ v))))
+          +ℤ ((pos 256 -ℤ b)
+          *ℤ (f *ℤ (pos 512 *ℤ p +ℤ pos 2 *ℤ ((b *ℤ h +ℤ pos 128 *ℤ s) *ℤ v)) -ℤ pos 2 *ℤ (s *ℤ (f *ℤ (pos 256 *ℤ v))))
+          +ℤ b *ℤ (f *ℤ (pos 512 *ℤ p +ℤ pos 2 *ℤ ((b *ℤ h +ℤ pos 128 *ℤ s) *ℤ v))
+          -ℤ pos 2 *ℤ ((s +ℤ h) *ℤ (f *ℤ (pos 256 *ℤ v)))))
           ≡ pos 2 *ℤ (pos 512 *ℤ f) *ℤ (pos 256 *ℤ p)
       taken-back f b h s p v = same (f ∷ b ∷ h ∷ s ∷ p ∷ v ∷ []) (search pol depth 30 fits 9000) tt
 
-  pub start-velocity : nearestQuotient (both (plannedAxis n x) 0 (λ s. s .velocity)) (bothDivisor x) ≡ pos 256 *ℤ x .start .velocity
+  pub start-velocity : nearestQuotient (both (plannedAxis n x) 0 (λ s. s .velocity)) (bothDivisor x)
+      ≡ pos 256 *ℤ x .start .velocity
   start-velocity =
       ap (λ (z : ℤ). nearestQuotient z (bothDivisor x))
-      (blended (λ s. s .velocity) (λ d. startVelocity x) (λ d. before-start d .1) ∙ as-one (pos (finer x)) (pos b) (x .start .velocity))
+      (blended (λ s. s .velocity) (λ d. startVelocity x) (λ d. before-start d .1)
+      ∙ as-one (pos (finer x)) (pos b) (x .start .velocity))
       ∙ nearest-whole (bothDivisor x) (pos 256 *ℤ x .start .velocity) (both-some x)
     where
       as-one : (f b v : ℤ)

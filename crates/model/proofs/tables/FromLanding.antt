@@ -1,4 +1,5 @@
--- The position sums taken from the landing end are those taken from the start: `sums-from-landing`, by which the rows may begin at either end.
+-- The position sums taken from the landing end are those taken from the start: `sums-from-landing`,
+-- by which the rows may begin at either end.
 use Prim.Native.Nat.{ℕ, zero, suc, _-_, _≤_, _<_}
 use mathlib.Core.Path.{_≡_, sym, ap, ap₂, _∙_}
 use mathlib.Core.List.{[], _∷_}
@@ -25,7 +26,8 @@ module _ (x : Axis) (n : ℕ) (r : Plannable x n) where
   -- one tick goes on by the velocities at its two ends
   once-ends : (d k : ℕ) → k < n
       → blendOnce (plannedAxis n x) (suc k) d (λ s. s .position)
-      ≡ blendOnce (plannedAxis n x) k d (λ s. s .position) +ℤ blendOnce (plannedAxis n x) k d (λ s. s .velocity) +ℤ blendOnce (plannedAxis n x) (suc k) d (λ s. s .velocity)
+      ≡ blendOnce (plannedAxis n x) k d (λ s. s .position) +ℤ blendOnce (plannedAxis n x) k d (λ s. s .velocity)
+      +ℤ blendOnce (plannedAxis n x) (suc k) d (λ s. s .velocity)
   once-ends d k q =
       once-position x n r d k q
       ∙ parted (once (λ s. s .position)) (once (λ s. s .velocity)) (once (λ s. s .acceleration))
@@ -47,11 +49,13 @@ module _ (x : Axis) (n : ℕ) (r : Plannable x n) where
       at j d f = blendOnce (plannedAxis n x) j d f
 
       go : (s : SecondSway) → blendBy s (plannedAxis n x) (suc k) (λ t. t .position)
-          ≡ blendBy s (plannedAxis n x) k (λ t. t .position) +ℤ blendBy s (plannedAxis n x) k (λ t. t .velocity) +ℤ blendBy s (plannedAxis n x) (suc k) (λ t. t .velocity)
+          ≡ blendBy s (plannedAxis n x) k (λ t. t .position) +ℤ blendBy s (plannedAxis n x) k (λ t. t .velocity)
+          +ℤ blendBy s (plannedAxis n x) (suc k) (λ t. t .velocity)
       go Absent = once-ends 0 k q
       go (HalfPeriod d) =
           ap₂ (λ (y z : ℤ). y +ℤ z) (once-ends 0 k q) (once-ends d k q)
-          ∙ sorted (at k 0 (λ t. t .position)) (at k 0 (λ t. t .velocity)) (at (suc k) 0 (λ t. t .velocity)) (at k d (λ t. t .position))
+          ∙ sorted (at k 0 (λ t. t .position)) (at k 0 (λ t. t .velocity))
+          (at (suc k) 0 (λ t. t .velocity)) (at k d (λ t. t .position))
           (at k d (λ t. t .velocity)) (at (suc k) d (λ t. t .velocity))
 
   back : (i : ℕ) → i ≤ n → fromLanding x n i ≡ position (n - i)
@@ -59,7 +63,8 @@ module _ (x : Axis) (n : ℕ) (r : Plannable x n) where
   back (suc i) h =
       let e : n - i ≡ suc (n - suc i) = omega (arith, h) in
       let k = n - suc i in
-      ap (λ (z : ℤ). z -ℤ velocity (n - i) -ℤ velocity k) (back i (omega (arith, h)) ∙ ap position e ∙ ends k (omega (arith, h)))
+      ap (λ (z : ℤ). z -ℤ velocity (n - i) -ℤ velocity k)
+      (back i (omega (arith, h)) ∙ ap position e ∙ ends k (omega (arith, h)))
       ∙ ap (λ (j : ℕ). position k +ℤ velocity k +ℤ velocity (suc k) -ℤ velocity j -ℤ velocity k) e
       ∙ cancels (position k) (velocity k) (velocity (suc k))
     where

@@ -1,4 +1,5 @@
--- Row N is on the target: the cells of an axis there are 256 times the target's position, velocity and acceleration.
+-- Row N is on the target: the cells of an axis there are 256 times the target's
+-- position, velocity and acceleration.
 use Prim.Native.Nat.{ℕ, _+_, _-_, _*_, _≤_}
 use mathlib.Core.Path.{_≡_, ap, ap₂, _∙_}
 use mathlib.Core.List.{[], _∷_}
@@ -10,7 +11,8 @@ use Rattle.whole.proofs.Ring.{pol, same}
 use Rattle.whole.proofs.Rounding.{nearest-whole}
 use Rattle.model.specs.declared.Axis.{Axis}
 use Rattle.model.specs.declared.State.{State}
-use Rattle.model.specs.planning.Quantities.{halfPeriod, secondWeight, swayDelay, secondHalfPeriod, asMoving, twicePositionAt, velocityAt, finestSteps, finer}
+use Rattle.model.specs.planning.Quantities.{halfPeriod, secondWeight, swayDelay, secondHalfPeriod, asMoving}
+use Rattle.model.specs.planning.Quantities.{twicePositionAt, velocityAt, finestSteps, finer}
 use Rattle.model.specs.planning.Motion.{Tick, landingTick}
 use Rattle.model.specs.planning.Rows.{plannedAxis, tickBack, blend, divisor}
 use Rattle.model.specs.planning.Refusals.{Passed, Plannable}
@@ -24,15 +26,17 @@ use Rattle.model.proofs.motions.PlannedTarget.{landed, tick-landed}
 pub weights : (b : ℕ) → b ≤ 256 → pos (256 - b) ≡ pos 256 -ℤ pos b
 weights b h = simp whole (omega arith)
 
--- ---- the two blends of the target l + j ticks on, for j = h + s, s, h and 0, where h + s = N − T: f is the grid steps in a fine step, b the second
--- weight, s the second half period, p, v, a and t the target
+-- ---- the two blends of the target l + j ticks on, for j = h + s, s, h and 0, where h + s
+-- = N − T: f is the grid steps in a fine step, b the second weight, s the second half
+-- period, p, v, a and t the target
 
 -- of the value u j at j ticks after the landing
 abbrev fourfold : ℤ → (ℤ → ℤ) → ℤ → ℤ → ℤ
 fourfold b u h s = (pos 256 -ℤ b) *ℤ u (h +ℤ s) +ℤ b *ℤ u s +ℤ ((pos 256 -ℤ b) *ℤ u h +ℤ b *ℤ u (pos 0))
 
 blended-acceleration : (f b a : ℤ)
-    → (pos 256 -ℤ b) *ℤ (f *ℤ (pos 256 *ℤ a)) +ℤ b *ℤ (f *ℤ (pos 256 *ℤ a)) +ℤ ((pos 256 -ℤ b) *ℤ (f *ℤ (pos 256 *ℤ a)) +ℤ b *ℤ (f *ℤ (pos 256 *ℤ a)))
+    → (pos 256 -ℤ b) *ℤ (f *ℤ (pos 256 *ℤ a)) +ℤ b *ℤ (f *ℤ (pos 256 *ℤ a))
+    +ℤ ((pos 256 -ℤ b) *ℤ (f *ℤ (pos 256 *ℤ a)) +ℤ b *ℤ (f *ℤ (pos 256 *ℤ a)))
     ≡ pos 512 *ℤ f *ℤ (pos 256 *ℤ a)
 blended-acceleration f b a = same (f ∷ b ∷ a ∷ []) (search pol depth 20 fits 9000) tt
 
@@ -47,7 +51,8 @@ leftover f b h s a =
     -ℤ pos 131072 *ℤ ((h +ℤ s) *ℤ (h +ℤ s))))
 
 module _ (f b h s p v a l t : ℤ) where
-  -- the target's velocity and twice its position at k, the planned velocity and position at the landing and j ticks after it
+  -- the target's velocity and twice its position at k, the planned velocity and position at
+  -- the landing and j ticks after it
   abbrev speed : ℤ → ℤ
   speed k = v +ℤ a *ℤ (k -ℤ t)
 
@@ -59,12 +64,14 @@ module _ (f b h s p v a l t : ℤ) where
 
   abbrev landingPlace : ℤ
   landingPlace =
-      f *ℤ (pos 256 *ℤ place l +ℤ pos 2 *ℤ ((b *ℤ h +ℤ pos 128 *ℤ s) *ℤ speed l)) +ℤ pos 2 *ℤ (b *ℤ (h *ℤ h) *ℤ (b -ℤ pos 128) *ℤ a)
+      f *ℤ (pos 256 *ℤ place l +ℤ pos 2 *ℤ ((b *ℤ h +ℤ pos 128 *ℤ s) *ℤ speed l))
+      +ℤ pos 2 *ℤ (b *ℤ (h *ℤ h) *ℤ (b -ℤ pos 128) *ℤ a)
 
   abbrev steady : ℤ
   steady = f *ℤ (pos 256 *ℤ a)
 
-  blended-velocity : fourfold b (λ j. landingSpeed +ℤ j *ℤ steady) h s ≡ pos 512 *ℤ f *ℤ (pos 256 *ℤ speed (l +ℤ (h +ℤ s)))
+  blended-velocity : fourfold b (λ j. landingSpeed +ℤ j *ℤ steady) h s
+      ≡ pos 512 *ℤ f *ℤ (pos 256 *ℤ speed (l +ℤ (h +ℤ s)))
   blended-velocity = same (f ∷ b ∷ h ∷ s ∷ v ∷ a ∷ l ∷ t ∷ []) (search pol depth 30 fits 9000) tt
 
   blended-position : fourfold b (λ j. landingPlace +ℤ pos 2 *ℤ (j *ℤ landingSpeed) +ℤ steady *ℤ (j *ℤ j)) h s
@@ -72,7 +79,8 @@ module _ (f b h s p v a l t : ℤ) where
   blended-position = same (f ∷ b ∷ h ∷ s ∷ p ∷ v ∷ a ∷ l ∷ t ∷ []) (search pol depth 40 fits 9000) tt
 
 no-leftover : (x : Axis) (n : ℕ) → Passed x
-    → leftover (pos (finer x)) (pos (secondWeight x)) (pos (halfPeriod x)) (pos (secondHalfPeriod x)) (asMoving (x .target) n .acceleration) ≡ pos 0
+    → leftover (pos (finer x)) (pos (secondWeight x)) (pos (halfPeriod x)) (pos (secondHalfPeriod x))
+    (asMoving (x .target) n .acceleration) ≡ pos 0
 no-leftover x n p = go (grid x)
   where
     F : ℤ
@@ -133,15 +141,18 @@ module _ (x : Axis) (n : ℕ) (r : Plannable x n) where
 
   -- the planned tick d before N
   back-N : (d j : ℕ) → d + j ≡ h + s → tickBack (plannedAxis n x) n d ≡ at j
-  back-N d j e = tick-after (plannedAxis n x) n d (landingTick x n + j) (omega (arith, arrival)) ∙ tick-landed x n r j (omega arith)
+  back-N d j e = tick-after (plannedAxis n x) n d (landingTick x n + j) (omega (arith, arrival))
+      ∙ tick-landed x n r j (omega arith)
 
   -- the planned ticks of row N
   row-N : (f : Tick → ℤ)
-      → both (plannedAxis n x) n f ≡ (pos 256 -ℤ B) *ℤ f (at (h + s)) +ℤ B *ℤ f (at s) +ℤ ((pos 256 -ℤ B) *ℤ f (at h) +ℤ B *ℤ f (at 0))
+      → both (plannedAxis n x) n f
+      ≡ (pos 256 -ℤ B) *ℤ f (at (h + s)) +ℤ B *ℤ f (at s) +ℤ ((pos 256 -ℤ B) *ℤ f (at h) +ℤ B *ℤ f (at 0))
   row-N f =
       ap (λ (a : ℤ). a *ℤ f (back 0) +ℤ B *ℤ f (back (0 + h)) +ℤ (a *ℤ f (back s) +ℤ B *ℤ f (back (s + h))))
       (weights (secondWeight x) (R.weight-range x n r))
-      ∙ ap₂ (λ (a b : Tick). (pos 256 -ℤ B) *ℤ f a +ℤ B *ℤ f b +ℤ ((pos 256 -ℤ B) *ℤ f (back s) +ℤ B *ℤ f (back (s + h))))
+      ∙ ap₂ (λ (a b : Tick). (pos 256 -ℤ B) *ℤ f a +ℤ B *ℤ f b
+      +ℤ ((pos 256 -ℤ B) *ℤ f (back s) +ℤ B *ℤ f (back (s + h))))
       (back-N 0 (h + s) (omega arith)) (back-N (0 + h) s (omega arith))
       ∙ ap₂ (λ (a b : Tick). (pos 256 -ℤ B) *ℤ f (at (h + s)) +ℤ B *ℤ f (at s) +ℤ ((pos 256 -ℤ B) *ℤ f a +ℤ B *ℤ f b))
       (back-N s h (omega arith)) (back-N (s + h) 0 (omega arith))
@@ -149,36 +160,48 @@ module _ (x : Axis) (n : ℕ) (r : Plannable x n) where
       back : ℕ → Tick
       back d = tickBack (plannedAxis n x) n d
 
-  pub exact-acceleration : both (plannedAxis n x) n (λ s. s .acceleration) ≡ pos (bothDivisor x) *ℤ (pos 256 *ℤ m .acceleration)
+  pub exact-acceleration : both (plannedAxis n x) n (λ s. s .acceleration)
+      ≡ pos (bothDivisor x) *ℤ (pos 256 *ℤ m .acceleration)
   exact-acceleration = row-N (λ s. s .acceleration) ∙ blended-acceleration F B (m .acceleration)
 
-  pub lands-acceleration : nearestQuotient (both (plannedAxis n x) n (λ s. s .acceleration)) (bothDivisor x) ≡ pos 256 *ℤ m .acceleration
+  pub lands-acceleration : nearestQuotient (both (plannedAxis n x) n (λ s. s .acceleration)) (bothDivisor x)
+      ≡ pos 256 *ℤ m .acceleration
   lands-acceleration =
-      ap (λ (z : ℤ). nearestQuotient z (bothDivisor x)) exact-acceleration ∙ nearest-whole (bothDivisor x) (pos 256 *ℤ m .acceleration) (both-some x)
+      ap (λ (z : ℤ). nearestQuotient z (bothDivisor x)) exact-acceleration
+      ∙ nearest-whole (bothDivisor x) (pos 256 *ℤ m .acceleration) (both-some x)
 
   pos-N : pos (landingTick x n) +ℤ (pos h +ℤ pos s) ≡ pos n
   pos-N = ap pos arrival
 
-  pub lands-velocity : nearestQuotient (both (plannedAxis n x) n (λ s. s .velocity)) (bothDivisor x) ≡ pos 256 *ℤ velocityAt m (pos n)
-  lands-velocity = ap (λ (z : ℤ). nearestQuotient z (bothDivisor x)) exact ∙ nearest-whole (bothDivisor x) (pos 256 *ℤ velocityAt m (pos n)) (both-some x)
+  pub lands-velocity : nearestQuotient (both (plannedAxis n x) n (λ s. s .velocity)) (bothDivisor x)
+      ≡ pos 256 *ℤ velocityAt m (pos n)
+  lands-velocity = ap (λ (z : ℤ). nearestQuotient z (bothDivisor x)) exact
+      ∙ nearest-whole (bothDivisor x) (pos 256 *ℤ velocityAt m (pos n)) (both-some x)
     where
       exact : both (plannedAxis n x) n (λ s. s .velocity) ≡ pos (bothDivisor x) *ℤ (pos 256 *ℤ velocityAt m (pos n))
       exact =
           row-N (λ s. s .velocity)
-          ∙ blended-velocity F B (pos h) (pos s) (m .position) (m .velocity) (m .acceleration) (pos (landingTick x n)) (m .tick)
+          ∙ blended-velocity F B (pos h) (pos s) (m .position) (m .velocity) (m .acceleration)
+          (pos (landingTick x n)) (m .tick)
           ∙ ap (λ (z : ℤ). pos (bothDivisor x) *ℤ (pos 256 *ℤ velocityAt m z)) pos-N
 
-  exact-position : both (plannedAxis n x) n (λ s. s .position) ≡ pos (2 * bothDivisor x) *ℤ (pos 128 *ℤ twicePositionAt m (pos n))
+  exact-position : both (plannedAxis n x) n (λ s. s .position)
+      ≡ pos (2 * bothDivisor x) *ℤ (pos 128 *ℤ twicePositionAt m (pos n))
   exact-position =
       row-N (λ s. s .position)
-      ∙ blended-position F B (pos h) (pos s) (m .position) (m .velocity) (m .acceleration) (pos (landingTick x n)) (m .tick)
-      ∙ ap₂ (λ (k z : ℤ). pos (2 * bothDivisor x) *ℤ (pos 128 *ℤ twicePositionAt m k) +ℤ z) pos-N (no-leftover x n (r .passed))
+      ∙ blended-position F B (pos h) (pos s) (m .position) (m .velocity) (m .acceleration)
+      (pos (landingTick x n)) (m .tick)
+      ∙ ap₂ (λ (k z : ℤ). pos (2 * bothDivisor x) *ℤ (pos 128 *ℤ twicePositionAt m k) +ℤ z) pos-N
+      (no-leftover x n (r .passed))
       ∙ +ℤ-idr (pos (2 * bothDivisor x) *ℤ (pos 128 *ℤ twicePositionAt m (pos n)))
 
-  pub exact-blend : blend (plannedAxis n x) n (λ s. s .position) ≡ pos (2 * divisor x) *ℤ (pos 128 *ℤ twicePositionAt m (pos n))
-  exact-blend = blend-of-both (plannedAxis n x) n (λ s. s .position) (pos 128 *ℤ twicePositionAt m (pos n)) exact-position
+  pub exact-blend : blend (plannedAxis n x) n (λ s. s .position)
+      ≡ pos (2 * divisor x) *ℤ (pos 128 *ℤ twicePositionAt m (pos n))
+  exact-blend =
+      blend-of-both (plannedAxis n x) n (λ s. s .position) (pos 128 *ℤ twicePositionAt m (pos n)) exact-position
 
-  pub lands-position : nearestQuotient (both (plannedAxis n x) n (λ s. s .position)) (2 * bothDivisor x) ≡ pos 128 *ℤ twicePositionAt m (pos n)
+  pub lands-position : nearestQuotient (both (plannedAxis n x) n (λ s. s .position)) (2 * bothDivisor x)
+      ≡ pos 128 *ℤ twicePositionAt m (pos n)
   lands-position =
       ap (λ (z : ℤ). nearestQuotient z (2 * bothDivisor x)) exact-position
       ∙ nearest-whole (2 * bothDivisor x) (pos 128 *ℤ twicePositionAt m (pos n)) (omega (arith, both-some x))

@@ -1,4 +1,5 @@
--- The misfit of a list that fits a pole whose weight and half periods are not quite those of the axis.
+-- The misfit of a list that fits a pole whose weight and half periods are not quite those of the
+-- axis.
 use Prim.Native.Nat.{ℕ, zero, suc, _+_, _-_, _*_, _≤_, _<_}
 use mathlib.Core.Path.{_≡_, sym, ap, _∙_, subst}
 use mathlib.Core.List.{[], _∷_}
@@ -18,8 +19,10 @@ use Rattle.model.specs.planning.Quantities.{halfPeriod, secondWeight, sw
 use Rattle.model.specs.planning.Rows.{plannedAxis, blend, divisor}
 use Rattle.model.specs.planning.Demand.{CellTable, accelerationCell, sway}
 use Rattle.model.proofs.tables.SwayExact.{sway-weighted}
-use Rattle.model.specs.theorems.Misfit.{misfitOnce, misfitBy, misfit, Misfits, Entries, apart, Gentle, TruePole, weights, SwayOf, weighted}
-use Rattle.model.specs.theorems.Misfit.{byTick, measuredMisfit, firstMisfitBy, firstMisfit, secondMisfit, MeasuredMisfits, roundingLeft, SwayLeft, PoleLeft, MeasuredLeft}
+use Rattle.model.specs.theorems.Misfit.{misfitOnce, misfitBy, misfit, Misfits, Entries, apart, Gentle, TruePole}
+use Rattle.model.specs.theorems.Misfit.{weights, SwayOf, weighted}
+use Rattle.model.specs.theorems.Misfit.{byTick, measuredMisfit, firstMisfitBy, firstMisfit, secondMisfit}
+use Rattle.model.specs.theorems.Misfit.{MeasuredMisfits, roundingLeft, SwayLeft, PoleLeft, MeasuredLeft}
 
 -- ---- entries k apart
 
@@ -33,7 +36,8 @@ module _ (w : ℕ → ℤ) (m D : ℕ) (gentle : Gentle m D w) where
       let e : suc (i + k) ≡ i + suc k = omega arith in
       subst (λ (z : ℤ). natAbs z ≤ suc k * D) (steps (w (suc (i + k))) (w (i + k)) (w i) ∙ ap (λ (n : ℕ). w n -ℤ w i) e)
       (le-trans
-      (add-holds (w (suc (i + k)) -ℤ w (i + k)) (w (i + k) -ℤ w i) D (k * D) (gentle (i + k) (omega arith)) (further i k (omega arith)))
+      (add-holds (w (suc (i + k)) -ℤ w (i + k)) (w (i + k) -ℤ w i) D (k * D)
+      (gentle (i + k) (omega arith)) (further i k (omega arith)))
       (omega arith))
     where
       steps : (x y z : ℤ) → x -ℤ y +ℤ (y -ℤ z) ≡ x -ℤ z
@@ -85,14 +89,17 @@ module _ (t : TruePole) (m G D : ℕ) (u : ℕ → ℤ) (is : SwayOf t m G D u) 
   inside : (i : ℕ) → i ≤ m → t .entries * i + t .turn ≤ t .entries * m + t .turn
   inside i q = let l : t .entries * i ≤ t .entries * m = mul-le-mul-left (t .entries) q in omega arith
 
-  one-blend : (A B h j : ℕ) → j + h ≤ m → natAbs (pos A *ℤ weighted t u (j + h) +ℤ pos B *ℤ weighted t u j) ≤ measuredMisfit A B h t G D
+  one-blend : (A B h j : ℕ) → j + h ≤ m
+      → natAbs (pos A *ℤ weighted t u (j + h) +ℤ pos B *ℤ weighted t u j) ≤ measuredMisfit A B h t G D
   one-blend A B h j q =
       subst (λ (k : ℤ). natAbs k ≤ measuredMisfit A B h t G D) (sym split)
       (le-trans
-      (add-holds (pos (c * A) *ℤ (y -ℤ z)) (off *ℤ (z -ℤ v)) (c * A * (apart (t .turn) (t .entries * h) * D)) (size-of-off * (G + G))
+      (add-holds (pos (c * A) *ℤ (y -ℤ z)) (off *ℤ (z -ℤ v))
+      (c * A * (apart (t .turn) (t .entries * h) * D)) (size-of-off * (G + G))
       (mul-holds (pos (c * A)) (y -ℤ z) (c * A) (apart (t .turn) (t .entries * h) * D) (omega arith) near)
       (mul-holds off (z -ℤ v) size-of-off (G + G) (size ((A + B) * t .after) (c * B))
-      (add-holds z (negℤ v) G G (is .small (at + t .turn) (inside j (omega arith))) (neg-holds v G (is .small at (omega (arith, inside j (omega arith))))))))
+      (add-holds z (negℤ v) G G (is .small (at + t .turn) (inside j (omega arith)))
+      (neg-holds v G (is .small at (omega (arith, inside j (omega arith))))))))
       (omega (arith, sorted c A (apart (t .turn) (t .entries * h) * D) size-of-off G)))
     where
       c : ℕ
@@ -126,7 +133,8 @@ module _ (t : TruePole) (m G D : ℕ) (u : ℕ → ℤ) (is : SwayOf t m G D u) 
       near =
           let later : at + t .entries * h ≡ t .entries * (j + h) = sym (mul-add (t .entries) j h) in
           subst (λ (k : ℕ). natAbs (u k -ℤ z) ≤ apart (t .turn) (t .entries * h) * D) later
-          (between u (t .entries * m + t .turn) D (is .gentle) at (t .turn) (t .entries * h) (inside j (omega arith)) (omega (arith, later, inside (j + h) q)))
+          (between u (t .entries * m + t .turn) D (is .gentle) at (t .turn) (t .entries * h) (inside j (omega arith))
+          (omega (arith, later, inside (j + h) q)))
 
       parts : (A B a b y z v : ℤ) → A *ℤ ((a +ℤ b) *ℤ y) +ℤ B *ℤ ((a +ℤ b) *ℤ v)
           ≡ (a +ℤ b) *ℤ A *ℤ (y -ℤ z) +ℤ ((A +ℤ B) *ℤ b -ℤ (a +ℤ b) *ℤ B) *ℤ (z -ℤ v) +ℤ (A +ℤ B) *ℤ (a *ℤ z +ℤ b *ℤ v)
@@ -138,7 +146,8 @@ module _ (t : TruePole) (m G D : ℕ) (u : ℕ → ℤ) (is : SwayOf t m G D u) 
       split : pos A *ℤ weighted t u (j + h) +ℤ pos B *ℤ weighted t u j ≡ pos (c * A) *ℤ (y -ℤ z) +ℤ off *ℤ (z -ℤ v)
       split =
           parts (pos A) (pos B) (pos (t .before)) (pos (t .after)) y z v
-          ∙ ap (λ (k : ℤ). pos (c * A) *ℤ (y -ℤ z) +ℤ off *ℤ (z -ℤ v) +ℤ pos (A + B) *ℤ k) (is .fits at (inside j (omega arith)))
+          ∙ ap (λ (k : ℤ). pos (c * A) *ℤ (y -ℤ z) +ℤ off *ℤ (z -ℤ v) +ℤ pos (A + B) *ℤ k)
+          (is .fits at (inside j (omega arith)))
           ∙ none (pos (c * A) *ℤ (y -ℤ z) +ℤ off *ℤ (z -ℤ v)) (pos (A + B))
 
 module _ (x : Axis) (weight : secondWeight x ≤ 256) where
@@ -156,12 +165,15 @@ module _ (x : Axis) (weight : secondWeight x ≤ 256) where
       go Absent l = once i (omega arith) (omega arith)
       go (HalfPeriod d) l =
           le-trans
-          (add-holds (misfitOnce x w (i + d)) (misfitOnce x w i) E E (once (i + d) (omega arith) (omega arith)) (once i (omega arith) (omega arith)))
+          (add-holds (misfitOnce x w (i + d)) (misfitOnce x w i) E E (once (i + d) (omega arith) (omega arith))
+          (once i (omega arith) (omega arith)))
           (twice E)
 
-  near-first : (t : TruePole) (n m G D : ℕ) (u : ℕ → ℤ) → SwayOf t m G D u → Misfits x n m (firstMisfit x t G D) (weighted t u)
+  near-first : (t : TruePole) (n m G D : ℕ) (u : ℕ → ℤ) → SwayOf t m G D u
+      → Misfits x n m (firstMisfit x t G D) (weighted t u)
   near-first t n m G D u is i l q =
-      both-blends (weighted t u) i m _ (λ j a p. one-blend t m G D u is (256 - secondWeight x) (secondWeight x) (h x) j p) q
+      both-blends (weighted t u) i m _
+      (λ j a p. one-blend t m G D u is (256 - secondWeight x) (secondWeight x) (h x) j p) q
 
   -- ---- the second rate
 
@@ -169,19 +181,22 @@ module _ (x : Axis) (weight : secondWeight x ≤ 256) where
   mixed : (y z : ℤ) (e : ℕ) → natAbs y ≤ e → natAbs z ≤ e → natAbs (A x *ℤ y +ℤ B x *ℤ z) ≤ 256 * e
   mixed y z e p q =
       le-trans
-      (add-holds (A x *ℤ y) (B x *ℤ z) ((256 - secondWeight x) * e) (secondWeight x * e) (mul-holds (A x) y (256 - secondWeight x) e (omega arith) p)
+      (add-holds (A x *ℤ y) (B x *ℤ z) ((256 - secondWeight x) * e) (secondWeight x * e)
+      (mul-holds (A x) y (256 - secondWeight x) e (omega arith) p)
       (mul-holds (B x) z (secondWeight x) e (omega arith) q))
       (sum (secondWeight x) e weight)
     where
       sum : (b c : ℕ) → b ≤ 256 → (256 - b) * c + b * c ≤ 256 * c
-      sum b c l = let u : 256 - b + b ≤ 256 = omega arith in le-trans (omega (arith, add-mul (256 - b) b c)) (mul-le-mul-right c u)
+      sum b c l = let u : 256 - b + b ≤ 256 = omega arith in
+          le-trans (omega (arith, add-mul (256 - b) b c)) (mul-le-mul-right c u)
 
   near-second : (d : ℕ) (t : TruePole) (n m G D : ℕ) (u : ℕ → ℤ) → x .«second_sway» ≡ HalfPeriod d → SwayOf t m G D u
       → Misfits x n m (secondMisfit d t G D) (weighted t u)
   near-second d t n m G D u e is i l q =
       let last : secondHalfPeriod x ≡ d = ap swayDelay e in
       subst (λ (z : ℤ). natAbs z ≤ secondMisfit d t G D) (sym (second-misfit x d (weighted t u) i e))
-      (mixed (pair (i + h x)) (pair i) (measuredMisfit 1 1 d t G D) (one-blend t m G D u is 1 1 d (i + h x) (omega arith))
+      (mixed (pair (i + h x)) (pair i) (measuredMisfit 1 1 d t G D)
+      (one-blend t m G D u is 1 1 d (i + h x) (omega arith))
       (one-blend t m G D u is 1 1 d i (omega arith)))
     where
       pair : ℕ → ℤ
@@ -191,32 +206,40 @@ module _ (x : Axis) (weight : secondWeight x ≤ 256) where
 
   near-any : (n m G : ℕ) (w : ℕ → ℤ) → Entries n m G w → Misfits x n m (firstMisfitBy (x .«second_sway») (256 * G)) w
   near-any n m G w small i l q =
-      both-blends w i m (256 * G) (λ j a p. mixed (w (j + h x)) (w j) G (small (j + h x) (omega arith) p) (small j (omega arith) (omega arith))) q
+      both-blends w i m (256 * G)
+      (λ j a p. mixed (w (j + h x)) (w j) G (small (j + h x) (omega arith) p) (small j (omega arith) (omega arith))) q
 
   pub measured-misfits : MeasuredMisfits x
   measured-misfits = record { first = near-first; second = near-second; any = near-any }
 
 -- ---- what is left of such a sway
 
-module _ (most : Axis → ℕ → ℕ) (x : Axis) (weight : secondWeight x ≤ 256) (k n : ℕ) (g : CellTable) (left : SwayLeft most x k n g) where
-  by-misfits : (t : TruePole) (m G D E : ℕ) (u : ℕ → ℤ) → n ≤ m → SwayOf t m G D u → Misfits x n m E (weighted t u) → PoleLeft x k n g t m G (most x n * E) u
+module _ (most : Axis → ℕ → ℕ) (x : Axis) (weight : secondWeight x ≤ 256) (k n : ℕ) (g : CellTable)
+    (left : SwayLeft most x k n g) where
+  by-misfits : (t : TruePole) (m G D E : ℕ) (u : ℕ → ℤ) → n ≤ m → SwayOf t m G D u → Misfits x n m E (weighted t u)
+      → PoleLeft x k n g t m G (most x n * E) u
   by-misfits t m G D E u q is f =
       record {
-        exact = subst (λ (z : ℕ). z ≤ most x n * E) (times (λ k. blend (plannedAxis n x) k (λ s. s .acceleration))) (left .exact m E (weighted t u) q f);
-        rounded = subst (λ (z : ℕ). divisor x * z ≤ most x n * E + divisor x * roundingLeft n (weights t * G)) (times (accelerationCell g k))
+        exact = subst (λ (z : ℕ). z ≤ most x n * E) (times (λ k. blend (plannedAxis n x) k (λ s. s .acceleration)))
+            (left .exact m E (weighted t u) q f);
+        rounded = subst (λ (z : ℕ). divisor x * z ≤ most x n * E + divisor x * roundingLeft n (weights t * G))
+            (times (accelerationCell g k))
             (left .rounded m E (weights t * G) (weighted t u) q f entries);
       }
     where
       times : (a : ℕ → ℤ) → natAbs (sway a (weighted t u) m n) ≡ weights t * natAbs (sway a (byTick t u) m n)
-      times a = ap natAbs (sway-weighted (pos (weights t)) a (byTick t u) m n) ∙ natAbs-* (pos (weights t)) (sway a (byTick t u) m n)
+      times a = ap natAbs (sway-weighted (pos (weights t)) a (byTick t u) m n)
+          ∙ natAbs-* (pos (weights t)) (sway a (byTick t u) m n)
 
       entries : Entries n m (weights t * G) (weighted t u)
       entries i l p =
-          mul-holds (pos (weights t)) (byTick t u i) (weights t) G (omega arith) (is .small (t .entries * i) (omega (arith, inside t m G D u is i p)))
+          mul-holds (pos (weights t)) (byTick t u i) (weights t) G (omega arith)
+          (is .small (t .entries * i) (omega (arith, inside t m G D u is i p)))
 
   pub measured-left : MeasuredLeft most x k n g
   measured-left =
       record {
         first = λ t m G D u q is. by-misfits t m G D (firstMisfit x t G D) u q is (near-first x weight t n m G D u is);
-        second = λ d t m G D u q e is. by-misfits t m G D (secondMisfit d t G D) u q is (near-second x weight d t n m G D u e is);
+        second = λ d t m G D u q e is. by-misfits t m G D (secondMisfit d t G D) u q is
+            (near-second x weight d t n m G D u e is);
       }

@@ -40,7 +40,8 @@ earlier-negated : (x : Axis) (j : ℕ) → earlier (negatedAxis x) j ≡ negated
 earlier-negated x j =
     ap (λ (f : ℕ). started (pos f)) (finer-negated x)
     ∙ ap₂ (λ (q v : ℤ). record { position = q; velocity = v; acceleration = pos 0 })
-    (place (pos (finer x)) (shift x) (x .start .position) (x .start .velocity) (pos j)) (speed (pos (finer x)) (x .start .velocity))
+    (place (pos (finer x)) (shift x) (x .start .position) (x .start .velocity) (pos j))
+    (speed (pos (finer x)) (x .start .velocity))
   where
     started : ℤ → Tick
     started f =
@@ -51,7 +52,8 @@ earlier-negated x j =
           acceleration = pos 0;
         }
 
-    place : (f s p v i : ℤ) → f *ℤ (pos 512 *ℤ negℤ p +ℤ pos 2 *ℤ (s *ℤ negℤ v)) -ℤ pos 2 *ℤ (i *ℤ (f *ℤ (pos 256 *ℤ negℤ v)))
+    place : (f s p v i : ℤ)
+        → f *ℤ (pos 512 *ℤ negℤ p +ℤ pos 2 *ℤ (s *ℤ negℤ v)) -ℤ pos 2 *ℤ (i *ℤ (f *ℤ (pos 256 *ℤ negℤ v)))
         ≡ negℤ (f *ℤ (pos 512 *ℤ p +ℤ pos 2 *ℤ (s *ℤ v)) -ℤ pos 2 *ℤ (i *ℤ (f *ℤ (pos 256 *ℤ v))))
     place f s p v i = same (f ∷ s ∷ p ∷ v ∷ i ∷ []) (search pol depth 20 fits 9000) tt
 
@@ -61,12 +63,15 @@ earlier-negated x j =
 module _ (t : PlannedAxis) where
   now-negated : (k : ℕ) → tickAt (negatedPlan t) k ≡ negatedTick (tickAt t k)
   now-negated k =
-      ap (λ (d : Tick). getD (map negatedTick (t .ticks)) k d) (earlier-negated (t .axis) 0) ∙ map-getD (t .ticks) k (earlier (t .axis) 0)
+      ap (λ (d : Tick). getD (map negatedTick (t .ticks)) k d) (earlier-negated (t .axis) 0)
+      ∙ map-getD (t .ticks) k (earlier (t .axis) 0)
 
   back-negated : (k h : ℕ) → tickBack (negatedPlan t) k h ≡ negatedTick (tickBack t k h)
   back-negated k h = go (ltb k h)
     where
-      go : (b : Bool) → (elim b as (λ _. Tick) [ true ↦ earlier (negatedAxis (t .axis)) (h - k) | false ↦ tickAt (negatedPlan t) (k - h) ])
+      go : (b : Bool)
+          → (elim b as
+          (λ _. Tick) [ true ↦ earlier (negatedAxis (t .axis)) (h - k) | false ↦ tickAt (negatedPlan t) (k - h) ])
           ≡ negatedTick (elim b as (λ _. Tick) [ true ↦ earlier (t .axis) (h - k) | false ↦ tickAt t (k - h) ])
       go true = earlier-negated (t .axis) (h - k)
       go false = now-negated (k - h)
@@ -74,8 +79,10 @@ module _ (t : PlannedAxis) where
   module _ (k : ℕ) (f : Tick → ℤ) (odd : (s : Tick) → f (negatedTick s) ≡ negℤ (f s)) where
     once-negated : (d : ℕ) → blendOnce (negatedPlan t) k d f ≡ negℤ (blendOnce t k d f)
     once-negated d =
-        ap₂ (λ (y z : ℤ). pos (256 - secondWeight (t .axis)) *ℤ y +ℤ pos (secondWeight (t .axis)) *ℤ z) (at d) (at (d + halfPeriod (t .axis)))
-        ∙ turned (pos (256 - secondWeight (t .axis))) (pos (secondWeight (t .axis))) (f (tickBack t k d)) (f (tickBack t k (d + halfPeriod (t .axis))))
+        ap₂ (λ (y z : ℤ). pos (256 - secondWeight (t .axis)) *ℤ y +ℤ pos (secondWeight (t .axis)) *ℤ z) (at d)
+        (at (d + halfPeriod (t .axis)))
+        ∙ turned (pos (256 - secondWeight (t .axis))) (pos (secondWeight (t .axis))) (f (tickBack t k d))
+        (f (tickBack t k (d + halfPeriod (t .axis))))
       where
         at : (d : ℕ) → f (tickBack (negatedPlan t) k d) ≡ negℤ (f (tickBack t k d))
         at d = ap f (back-negated k d) ∙ odd (tickBack t k d)
@@ -88,20 +95,26 @@ module _ (t : PlannedAxis) where
       where
         go : (s : SecondSway) → blendBy s (negatedPlan t) k f ≡ negℤ (blendBy s t k f)
         go Absent = once-negated 0
-        go (HalfPeriod d) = ap₂ (λ (y z : ℤ). y +ℤ z) (once-negated 0) (once-negated d) ∙ sym (negℤ-+ℤ (blendOnce t k 0 f) (blendOnce t k d f))
+        go (HalfPeriod d) = ap₂ (λ (y z : ℤ). y +ℤ z) (once-negated 0) (once-negated d)
+            ∙ sym (negℤ-+ℤ (blendOnce t k 0 f) (blendOnce t k d f))
 
-    cell-negated : (d : ℕ) → 0 < d → nearestQuotient (blend (negatedPlan t) k f) d ≡ negℤ (nearestQuotient (blend t k f) d)
+    cell-negated : (d : ℕ) → 0 < d
+        → nearestQuotient (blend (negatedPlan t) k f) d ≡ negℤ (nearestQuotient (blend t k f) d)
     cell-negated d h = ap (λ (z : ℤ). nearestQuotient z d) blend-negated ∙ nearest-neg (blend t k f) d h
 
 pub mirrored : Mirrored
 mirrored t k =
-    λ i. cell t (λ s. s .position) (λ s. refl) (λ f. 2 * (weightsBy (t .axis .«second_sway») * f)) (omega (arith, divisor-some (t .axis))) i
+    λ i. cell t (λ s. s .position) (λ s. refl) (λ f. 2 * (weightsBy (t .axis .«second_sway») * f))
+    (omega (arith, divisor-some (t .axis))) i
     ∷ cell t (λ s. s .velocity) (λ s. refl) (λ f. weightsBy (t .axis .«second_sway») * f) (divisor-some (t .axis)) i
     ∷ cell t (λ s. s .acceleration) (λ s. refl) (λ f. weightsBy (t .axis .«second_sway») * f) (divisor-some (t .axis)) i
     ∷ []
   where
     -- the divisor is one of the grid
-    cell : (t : PlannedAxis) (f : Tick → ℤ) → ((s : Tick) → f (negatedTick s) ≡ negℤ (f s)) → (d : ℕ → ℕ) → 0 < d (finer (t .axis))
-        → nearestQuotient (blend (negatedPlan t) k f) (d (finer (negatedAxis (t .axis)))) ≡ negℤ (nearestQuotient (blend t k f) (d (finer (t .axis))))
+    cell : (t : PlannedAxis) (f : Tick → ℤ) → ((s : Tick) → f (negatedTick s) ≡ negℤ (f s))
+        → (d : ℕ → ℕ) → 0 < d (finer (t .axis))
+        → nearestQuotient (blend (negatedPlan t) k f) (d (finer (negatedAxis (t .axis))))
+        ≡ negℤ (nearestQuotient (blend t k f) (d (finer (t .axis))))
     cell t f odd d h =
-        ap (λ (g : ℕ). nearestQuotient (blend (negatedPlan t) k f) (d g)) (finer-negated (t .axis)) ∙ cell-negated t k f odd (d (finer (t .axis))) h
+        ap (λ (g : ℕ). nearestQuotient (blend (negatedPlan t) k f) (d g)) (finer-negated (t .axis))
+        ∙ cell-negated t k f odd (d (finer (t .axis))) h

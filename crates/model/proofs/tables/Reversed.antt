@@ -14,12 +14,14 @@ pub tabulate-more : (f : ℕ → List ℤ) (k n : ℕ) → tabulate f k (suc n) 
 tabulate-more f k zero = ap (λ (j : ℕ). f j ∷ []) (sym (add-zero k))
 tabulate-more f k (suc n) =
     let e : suc k + n ≡ k + suc n = omega arith in
-    ap (λ (l : List (List ℤ)). f k ∷ l) (tabulate-more f (suc k) n ∙ ap (λ (j : ℕ). tabulate f (suc k) n ++ (f j ∷ [])) e)
+    ap (λ (l : List (List ℤ)). f k ∷ l)
+    (tabulate-more f (suc k) n ∙ ap (λ (j : ℕ). tabulate f (suc k) n ++ (f j ∷ [])) e)
 
 pub tabulate-same : (f g : ℕ → List ℤ) (k n : ℕ) → ((j : ℕ) → j < k + n → f j ≡ g j) → tabulate f k n ≡ tabulate g k n
 tabulate-same f g k zero h = refl
 tabulate-same f g k (suc n) h =
-    ap₂ (λ (x : List ℤ) (l : List (List ℤ)). x ∷ l) (h k (omega arith)) (tabulate-same f g (suc k) n (λ j q. h j (omega arith)))
+    ap₂ (λ (x : List ℤ) (l : List (List ℤ)). x ∷ l) (h k (omega arith))
+    (tabulate-same f g (suc k) n (λ j q. h j (omega arith)))
 
 tabulate-later : (f : ℕ → List ℤ) (k n : ℕ) → tabulate (λ j. f (suc j)) k n ≡ tabulate f (suc k) n
 tabulate-later f k zero = refl
@@ -41,5 +43,6 @@ reversed f (suc n) =
         tabulate-same (λ j. f (n - j)) (λ j. f (suc n - suc j)) 0 (suc n) (λ j q. ap f (one j))
         ∙ tabulate-later (λ j. f (suc n - j)) 0 (suc n)
 
-pub rows-reversed : (xs : List Axis) (n : ℕ) → table Backwards xs n ≡ flatten (reverse (tabulate (row (map (plannedAxis n) xs)) 0 (suc n)))
+pub rows-reversed : (xs : List Axis) (n : ℕ)
+    → table Backwards xs n ≡ flatten (reverse (tabulate (row (map (plannedAxis n) xs)) 0 (suc n)))
 rows-reversed xs n = ap flatten (sym (reversed (row (map (plannedAxis n) xs)) n))

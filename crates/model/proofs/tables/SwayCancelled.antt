@@ -1,5 +1,6 @@
--- The sway left of an axis: in a list with no misfit above E at most variation × E before rounding, and as rounded N × G more. A swing list of either
--- rate has no misfit, so that of its sway 0 is left before rounding, and at most N × G as rounded.
+-- The sway left of an axis: in a list with no misfit above E at most variation × E before rounding,
+-- and as rounded N × G more. A swing list of either rate has no misfit, so that of its sway 0 is
+-- left before rounding, and at most N × G as rounded.
 use Prim.Native.Nat.{ℕ, zero, suc, _+_, _-_, _*_, _≤_, _<_}
 use mathlib.Core.Path.{_≡_, refl, sym, ap, ap₂, _∙_, subst}
 use mathlib.Core.Bool.{Bool, true, false}
@@ -16,17 +17,21 @@ use Rattle.whole.proofs.Rounding.{nearest-half}
 use Rattle.model.specs.declared.Axis.{Axis}
 use Rattle.model.specs.declared.SecondSway.{SecondSway}
 use Rattle.model.specs.declared.SecondSway.the-variants.{Absent, HalfPeriod}
-use Rattle.model.specs.planning.Quantities.{halfPeriod, secondWeight, swayDelay, secondHalfPeriod, asMoving, finer}
+use Rattle.model.specs.planning.Quantities.{halfPeriod, secondWeight, swayDelay, secondHalfPeriod, asMoving}
+use Rattle.model.specs.planning.Quantities.{finer}
 use Rattle.model.specs.planning.Motion.{Tick, earlier, landingTick, landingAcceleration}
 use Rattle.model.specs.planning.Rows.{plannedAxis, tickAt, tickBack, blend, divisor}
 use Rattle.model.specs.planning.Refusals.{Plannable}
-use Rattle.model.proofs.tables.TwoBlends.{both, bothDivisor, both-some, both-is, timesBy, times, times-some, weights-times, divisor-some}
+use Rattle.model.proofs.tables.TwoBlends.{both, bothDivisor, both-some, both-is, timesBy, times, times-some}
+use Rattle.model.proofs.tables.TwoBlends.{weights-times, divisor-some}
 use Rattle.model.proofs.jobs.PlannableAxis as R
 use Rattle.model.specs.planning.Demand.{Swing, first, second, Bounded, sway}
-use Rattle.model.specs.theorems.Misfit.{misfitOnce, misfitBy, misfit, Misfits, Entries, variation, plannedVariation, roundingLeft}
+use Rattle.model.specs.theorems.Misfit.{misfitOnce, misfitBy, misfit, Misfits, Entries, variation}
+use Rattle.model.specs.theorems.Misfit.{plannedVariation, roundingLeft}
 use Rattle.model.proofs.tables.Landing.{exact-acceleration, lands-acceleration}
 use Rattle.model.proofs.motions.PlannedTarget.{tick-landed}
-use Rattle.model.proofs.tables.SwayExact.{sway-same, sway-times, back, back-none, filtered, filtered-twice, filtered-steady, paired, smoothed, sway-exact, sway-small}
+use Rattle.model.proofs.tables.SwayExact.{sway-same, sway-times, back, back-none, filtered, filtered-twice}
+use Rattle.model.proofs.tables.SwayExact.{filtered-steady, paired, smoothed, sway-exact, sway-small}
 use Rattle.model.proofs.tables.SwayRounded.{sway-rounded}
 use Rattle.model.proofs.tables.MeasuredMisfit.{second-misfit}
 
@@ -58,7 +63,9 @@ module _ (x : Axis) (n : ℕ) (r : Plannable x n) where
   unfolding α
   back-acceleration d k = go (ltb k d)
     where
-      go : (b : Bool) → (elim b as (λ y. Tick) [ true ↦ earlier x (d - k) | false ↦ tickAt (plannedAxis n x) (k - d) ]) .acceleration
+      go : (b : Bool)
+          → (elim b as
+          (λ y. Tick) [ true ↦ earlier x (d - k) | false ↦ tickAt (plannedAxis n x) (k - d) ]) .acceleration
           ≡ (elim b as (λ y. ℤ) [ true ↦ pos 0 | false ↦ tickAt (plannedAxis n x) (k - d) .acceleration ])
       go true = refl
       go false = refl
@@ -90,7 +97,8 @@ module _ (x : Axis) (n : ℕ) (r : Plannable x n) where
       (ap₂ (λ (y z : ℤ). A *ℤ y +ℤ B *ℤ z) (back-acceleration s k) (back-acceleration (s + h) k))
 
   first-last : (k : ℕ) → exact k ≡ filtered A B (filtered (pos 1) (pos 1) α s) h k
-  first-last k = written k ∙ paired A B (α k) (back α h k) (back α s k) (back α (s + h) k) ∙ sym (filtered-twice A B (pos 1) (pos 1) α s h k)
+  first-last k = written k ∙ paired A B (α k) (back α h k) (back α s k) (back α (s + h) k)
+      ∙ sym (filtered-twice A B (pos 1) (pos 1) α s h k)
 
   -- ---- the sway of the rows is that of the planned accelerations in the list of the misfits
 
@@ -104,7 +112,8 @@ module _ (x : Axis) (n : ℕ) (r : Plannable x n) where
       sway-same exact (filtered A B once h) w m n (λ k l. first-last k)
       ∙ ap (sway (filtered A B once h) w m) last
       ∙ sway-exact A B once w h m (T + s)
-      (λ k p q. filtered-steady (pos 1) (pos 1) α s T n (λ k a b. α-steady k a (omega (arith, arrival))) k p (omega (arith, arrival)))
+      (λ k p q. filtered-steady (pos 1) (pos 1) α s T n
+      (λ k a b. α-steady k a (omega (arith, arrival))) k p (omega (arith, arrival)))
       ∙ sway-exact (pos 1) (pos 1) α (smoothed A B w h) s m T (λ k p q. α-steady k p (omega arith))
     where
       once : ℕ → ℤ
@@ -129,14 +138,16 @@ module _ (x : Axis) (n : ℕ) (r : Plannable x n) where
       go : (u : SecondSway) → i ≡ j + (h + swayDelay u)
           → smoothed (pos 1) (pos 1) (smoothed A B w h) (swayDelay u) i ≡ pos (timesBy u) *ℤ misfitBy u x w j
       go Absent e =
-          ap₂ (λ (y z : ℤ). pos 1 *ℤ y +ℤ pos 1 *ℤ z) (one i j (omega arith)) (one (i - 0) j (omega arith)) ∙ twice (misfitOnce x w j)
+          ap₂ (λ (y z : ℤ). pos 1 *ℤ y +ℤ pos 1 *ℤ z) (one i j (omega arith)) (one (i - 0) j (omega arith))
+          ∙ twice (misfitOnce x w j)
       go (HalfPeriod d) e =
           ap₂ (λ (y z : ℤ). pos 1 *ℤ y +ℤ pos 1 *ℤ z) (one i (j + d) (omega arith)) (one (i - d) j (omega arith))
           ∙ each (misfitOnce x w (j + d)) (misfitOnce x w j)
 
   -- ---- before rounding
 
-  both-left : (m E : ℕ) (w : ℕ → ℤ) → n ≤ m → Misfits x n m E w → natAbs (sway exact w m n) ≤ times x * (plannedVariation x n * E)
+  both-left : (m E : ℕ) (w : ℕ → ℤ) → n ≤ m → Misfits x n m E w
+      → natAbs (sway exact w m n) ≤ times x * (plannedVariation x n * E)
   unfolding α
   both-left m E w q f =
       subst (λ (z : ℤ). natAbs z ≤ times x * (plannedVariation x n * E)) (sym (planned-sway m w))
@@ -148,18 +159,22 @@ module _ (x : Axis) (n : ℕ) (r : Plannable x n) where
       small : (i : ℕ) → m ≤ i + T → i ≤ m → natAbs (misfits w i) ≤ times x * E
       small i a b =
           subst (λ (z : ℤ). natAbs z ≤ times x * E) (sym (misfits-are w i (i - (h + s)) (omega (arith, arrival))))
-          (mul-holds (pos (times x)) (misfit x w (i - (h + s))) (times x) E (omega arith) (f (i - (h + s)) (omega (arith, arrival)) (omega (arith, arrival))))
+          (mul-holds (pos (times x)) (misfit x w (i - (h + s))) (times x) E (omega arith)
+          (f (i - (h + s)) (omega (arith, arrival)) (omega (arith, arrival))))
 
   -- the blend is a part of the two
   pub left-exact : (m E : ℕ) (w : ℕ → ℤ) → n ≤ m → Misfits x n m E w
       → natAbs (sway (λ k. blend (plannedAxis n x) k (λ s. s .acceleration)) w m n) ≤ plannedVariation x n * E
   left-exact m E w q f =
-      le-of-mul-le-mul-left {k = times x} (subst (λ (k : ℕ). k ≤ times x * (plannedVariation x n * E)) part (both-left m E w q f)) (times-some x)
+      le-of-mul-le-mul-left {k = times x}
+      (subst (λ (k : ℕ). k ≤ times x * (plannedVariation x n * E)) part (both-left m E w q f)) (times-some x)
     where
-      part : natAbs (sway exact w m n) ≡ times x * natAbs (sway (λ k. blend (plannedAxis n x) k (λ s. s .acceleration)) w m n)
+      part : natAbs (sway exact w m n)
+          ≡ times x * natAbs (sway (λ k. blend (plannedAxis n x) k (λ s. s .acceleration)) w m n)
       part =
           ap natAbs
-          (sway-same exact (λ k. pos (times x) *ℤ blend (plannedAxis n x) k (λ s. s .acceleration)) w m n (λ k l. both-is (plannedAxis n x) k (λ s. s .acceleration))
+          (sway-same exact (λ k. pos (times x) *ℤ blend (plannedAxis n x) k (λ s. s .acceleration)) w m n
+          (λ k l. both-is (plannedAxis n x) k (λ s. s .acceleration))
           ∙ sway-times (pos (times x)) (λ k. blend (plannedAxis n x) k (λ s. s .acceleration)) w m n)
           ∙ natAbs-* (pos (times x)) (sway (λ k. blend (plannedAxis n x) k (λ s. s .acceleration)) w m n)
 
@@ -171,20 +186,23 @@ module _ (x : Axis) (n : ℕ) (r : Plannable x n) where
   -- ---- as rounded
 
   pub left-rounded : (m E G : ℕ) (w : ℕ → ℤ) → n ≤ m → Misfits x n m E w → Entries n m G w
-      → divisor x * natAbs (sway (λ k. nearestQuotient (exact k) (bothDivisor x)) w m n) ≤ plannedVariation x n * E + divisor x * roundingLeft n G
+      → divisor x * natAbs (sway (λ k. nearestQuotient (exact k) (bothDivisor x)) w m n)
+      ≤ plannedVariation x n * E + divisor x * roundingLeft n G
   left-rounded m E G w q f b =
       omega (
         arith,
         le-of-mul-le-mul-left {k = times x}
             (shared (times x) (divisor x) (bothDivisor x) (natAbs (sway cell w m n)) (plannedVariation x n * E) (n * G)
-            (weights-times (x .«second_sway») (finer x)) (go n (omega arith) (omega (arith, R.after x n r)) (both-left m E w q f) last-whole))
+            (weights-times (x .«second_sway») (finer x))
+            (go n (omega arith) (omega (arith, R.after x n r)) (both-left m E w q f) last-whole))
             (times-some x),
       )
     where
       cell : ℕ → ℤ
       cell k = nearestQuotient (exact k) (bothDivisor x)
 
-      go : (i : ℕ) → i ≤ n → 0 < i → natAbs (sway exact w m i) ≤ times x * (plannedVariation x n * E) → pos (bothDivisor x) *ℤ cell i -ℤ exact i ≡ pos 0
+      go : (i : ℕ) → i ≤ n → 0 < i → natAbs (sway exact w m i) ≤ times x * (plannedVariation x n * E)
+          → pos (bothDivisor x) *ℤ cell i -ℤ exact i ≡ pos 0
           → bothDivisor x * natAbs (sway cell w m i) ≤ times x * (plannedVariation x n * E) + bothDivisor x * (i * G)
       go zero l z e f = absurd (omega arith)
       go (suc i) l z e f =
@@ -192,14 +210,16 @@ module _ (x : Axis) (n : ℕ) (r : Plannable x n) where
           (λ k. nearest-half (exact k) (bothDivisor x) (both-some x)) b i l f (times x * (plannedVariation x n * E)) e
 
       shared : (t d b c u v : ℕ) → t * d ≡ b → b * c ≤ t * u + b * v → t * (d * c) ≤ t * (u + d * v)
-      shared t d b c u v e q = let p : t * d * c ≤ t * u + t * d * v = subst (λ (k : ℕ). k * c ≤ t * u + k * v) (sym e) q in omega arith
+      shared t d b c u v e q =
+          let p : t * d * c ≤ t * u + t * d * v = subst (λ (k : ℕ). k * c ≤ t * u + k * v) (sym e) q in omega arith
 
   -- ---- a swing list has no misfit
 
   none-left : (m : ℕ) (w : ℕ → ℤ) → Swing x m w → Misfits x n m 0 w
   none-left m w g i l q = let e : misfit x w i ≡ pos 0 = go g in omega (arith, ap natAbs e)
     where
-      by-first : (u : SecondSway) → i + (h + swayDelay u) ≤ m → ((j : ℕ) → j + h ≤ m → misfitOnce x w j ≡ pos 0) → misfitBy u x w i ≡ pos 0
+      by-first : (u : SecondSway) → i + (h + swayDelay u) ≤ m
+          → ((j : ℕ) → j + h ≤ m → misfitOnce x w j ≡ pos 0) → misfitBy u x w i ≡ pos 0
       by-first Absent q fits = fits i (omega arith)
       by-first (HalfPeriod d) q fits = ap₂ (λ (y z : ℤ). y +ℤ z) (fits (i + d) (omega arith)) (fits i (omega arith))
 
@@ -214,7 +234,8 @@ module _ (x : Axis) (n : ℕ) (r : Plannable x n) where
           ∙ ap₂ (λ (y z : ℤ). A *ℤ y +ℤ B *ℤ z) (fits (i + h) (omega arith)) (fits i (omega arith))
           ∙ none A B
 
-  pub cancelled-exact : (m : ℕ) (w : ℕ → ℤ) → n ≤ m → Swing x m w → sway (λ k. blend (plannedAxis n x) k (λ s. s .acceleration)) w m n ≡ pos 0
+  pub cancelled-exact : (m : ℕ) (w : ℕ → ℤ) → n ≤ m → Swing x m w
+      → sway (λ k. blend (plannedAxis n x) k (λ s. s .acceleration)) w m n ≡ pos 0
   cancelled-exact m w q g =
       natAbs-zero (sway (λ k. blend (plannedAxis n x) k (λ s. s .acceleration)) w m n)
       (le-antisymm (le-trans (left-exact m 0 w q (none-left m w g)) (omega arith)) (omega arith))
@@ -222,4 +243,5 @@ module _ (x : Axis) (n : ℕ) (r : Plannable x n) where
   pub cancelled-rounded : (m G : ℕ) (w : ℕ → ℤ) → n ≤ m → Swing x m w → Bounded m G w
       → natAbs (sway (λ k. nearestQuotient (exact k) (bothDivisor x)) w m n) ≤ n * G
   cancelled-rounded m G w q g b =
-      le-of-mul-le-mul-left {k = divisor x} (le-trans (left-rounded m 0 G w q (none-left m w g) (λ i l p. b i p)) (omega arith)) (divisor-some x)
+      le-of-mul-le-mul-left {k = divisor x}
+      (le-trans (left-rounded m 0 G w q (none-left m w g) (λ i l p. b i p)) (omega arith)) (divisor-some x)

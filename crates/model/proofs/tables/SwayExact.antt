@@ -1,6 +1,7 @@
--- The sway of filtered accelerations in a list is that of the accelerations in the filtered list: each row blends the accelerations with those h ticks
--- back, and from tick t on they do not change. So a sum over rows 0 to t + h becomes one over ticks 0 to t, which is at most what the accelerations
--- change in all times the largest entry of the filtered list.
+-- The sway of filtered accelerations in a list is that of the accelerations in the filtered list:
+-- each row blends the accelerations with those h ticks back, and from tick t on they do not change.
+-- So a sum over rows 0 to t + h becomes one over ticks 0 to t, which is at most what the
+-- accelerations change in all times the largest entry of the filtered list.
 use Prim.Native.Nat.{ℕ, zero, suc, _+_, _-_, _*_, _≤_, _<_}
 use mathlib.Core.Path.{_≡_, refl, sym, ap, ap₂, _∙_, subst}
 use mathlib.Core.Bool.{Bool, true, false}
@@ -70,25 +71,31 @@ module _ (A B : ℤ) (α w : ℕ → ℤ) (h m : ℕ) where
 
   change-before : (k : ℕ) → k < h → accelerationChange exact k ≡ A *ℤ accelerationChange α k
   change-before zero q =
-      ap (λ (z : ℤ). A *ℤ α 0 +ℤ B *ℤ z) (back-before α h 0 q) ∙ same (A ∷ B ∷ α 0 ∷ []) (search pol depth 20 fits 9000) tt
+      ap (λ (z : ℤ). A *ℤ α 0 +ℤ B *ℤ z) (back-before α h 0 q)
+      ∙ same (A ∷ B ∷ α 0 ∷ []) (search pol depth 20 fits 9000) tt
   change-before (suc k) q =
-      ap₂ (λ (y z : ℤ). A *ℤ α (suc k) +ℤ B *ℤ y -ℤ (A *ℤ α k +ℤ B *ℤ z)) (back-before α h (suc k) q) (back-before α h k (omega arith))
+      ap₂ (λ (y z : ℤ). A *ℤ α (suc k) +ℤ B *ℤ y -ℤ (A *ℤ α k +ℤ B *ℤ z)) (back-before α h (suc k) q)
+      (back-before α h k (omega arith))
       ∙ same (A ∷ B ∷ α (suc k) ∷ α k ∷ []) (search pol depth 20 fits 9000) tt
 
-  change-after : (k j : ℕ) → k ≡ h + j → accelerationChange exact k ≡ A *ℤ accelerationChange α k +ℤ B *ℤ accelerationChange α j
+  change-after : (k j : ℕ) → k ≡ h + j
+      → accelerationChange exact k ≡ A *ℤ accelerationChange α k +ℤ B *ℤ accelerationChange α j
   change-after zero zero e = ap (λ (z : ℤ). A *ℤ α 0 +ℤ B *ℤ z) (back-after α h 0 0 e)
   change-after zero (suc j) e = absurd (omega arith)
   change-after (suc k) zero e =
-      ap₂ (λ (y z : ℤ). A *ℤ α (suc k) +ℤ B *ℤ y -ℤ (A *ℤ α k +ℤ B *ℤ z)) (back-after α h (suc k) 0 e) (back-before α h k (omega arith))
+      ap₂ (λ (y z : ℤ). A *ℤ α (suc k) +ℤ B *ℤ y -ℤ (A *ℤ α k +ℤ B *ℤ z)) (back-after α h (suc k) 0 e)
+      (back-before α h k (omega arith))
       ∙ same (A ∷ B ∷ α (suc k) ∷ α k ∷ α 0 ∷ []) (search pol depth 20 fits 9000) tt
   change-after (suc k) (suc j) e =
-      ap₂ (λ (y z : ℤ). A *ℤ α (suc k) +ℤ B *ℤ y -ℤ (A *ℤ α k +ℤ B *ℤ z)) (back-after α h (suc k) (suc j) e) (back-after α h k j (omega arith))
+      ap₂ (λ (y z : ℤ). A *ℤ α (suc k) +ℤ B *ℤ y -ℤ (A *ℤ α k +ℤ B *ℤ z)) (back-after α h (suc k) (suc j) e)
+      (back-after α h k j (omega arith))
       ∙ same (A ∷ B ∷ α (suc k) ∷ α k ∷ α (suc j) ∷ α j ∷ []) (search pol depth 20 fits 9000) tt
 
   -- ---- the sway of the blend in its two halves
 
   before : (n : ℕ) → n < h → sway exact w m n ≡ now n
-  before zero q = ap (λ (z : ℤ). z *ℤ w m) (change-before 0 q) ∙ same (A ∷ α 0 ∷ w m ∷ []) (search pol depth 20 fits 9000) tt
+  before zero q = ap (λ (z : ℤ). z *ℤ w m) (change-before 0 q)
+      ∙ same (A ∷ α 0 ∷ w m ∷ []) (search pol depth 20 fits 9000) tt
   before (suc n) q =
       ap₂ (λ (y z : ℤ). y +ℤ z *ℤ w (m - suc n)) (before n (omega arith)) (change-before (suc n) q)
       ∙ factored (sway α w m n) (accelerationChange α (suc n)) (w (m - suc n))
@@ -114,10 +121,12 @@ module _ (A B : ℤ) (α w : ℕ → ℤ) (h m : ℕ) where
       factored s a b x = same (A ∷ B ∷ s ∷ a ∷ b ∷ x ∷ []) (search pol depth 20 fits 9000) tt
   after (suc n) (suc j) e =
       ap₂ (λ (y z : ℤ). y +ℤ z *ℤ w (m - suc n)) (after n j (omega arith)) (change-after (suc n) (suc j) e)
-      ∙ factored (sway α w m n) (sway α w (m - h) j) (accelerationChange α (suc n)) (accelerationChange α (suc j)) (w (m - suc n))
+      ∙ factored (sway α w m n) (sway α w (m - h) j) (accelerationChange α (suc n))
+      (accelerationChange α (suc j)) (w (m - suc n))
       ∙ ap (λ (i : ℕ). now (suc n) +ℤ B *ℤ (sway α w (m - h) j +ℤ accelerationChange α (suc j) *ℤ w i)) (omega arith)
     where
-      factored : (s u a b x : ℤ) → A *ℤ s +ℤ B *ℤ u +ℤ (A *ℤ a +ℤ B *ℤ b) *ℤ x ≡ A *ℤ (s +ℤ a *ℤ x) +ℤ B *ℤ (u +ℤ b *ℤ x)
+      factored : (s u a b x : ℤ)
+          → A *ℤ s +ℤ B *ℤ u +ℤ (A *ℤ a +ℤ B *ℤ b) *ℤ x ≡ A *ℤ (s +ℤ a *ℤ x) +ℤ B *ℤ (u +ℤ b *ℤ x)
       factored s u a b x = same (A ∷ B ∷ s ∷ u ∷ a ∷ b ∷ x ∷ []) (search pol depth 20 fits 9000) tt
 
   -- ---- the two halves together, row by row
@@ -126,7 +135,8 @@ module _ (A B : ℤ) (α w : ℕ → ℤ) (h m : ℕ) where
   together zero = same (A ∷ B ∷ α 0 ∷ w m ∷ w (m - h) ∷ []) (search pol depth 20 fits 9000) tt
   together (suc j) =
       grouped (sway α w m j) (sway α w (m - h) j) (accelerationChange α (suc j)) (w (m - suc j)) (w (m - h - suc j))
-      ∙ ap₂ (λ (y : ℤ) (i : ℕ). y +ℤ accelerationChange α (suc j) *ℤ (A *ℤ w (m - suc j) +ℤ B *ℤ w i)) (together j) (omega arith)
+      ∙ ap₂ (λ (y : ℤ) (i : ℕ). y +ℤ accelerationChange α (suc j) *ℤ (A *ℤ w (m - suc j) +ℤ B *ℤ w i))
+      (together j) (omega arith)
     where
       grouped : (s u a x y : ℤ) → A *ℤ (s +ℤ a *ℤ x) +ℤ B *ℤ (u +ℤ a *ℤ y) ≡ A *ℤ s +ℤ B *ℤ u +ℤ a *ℤ (A *ℤ x +ℤ B *ℤ y)
       grouped s u a x y = same (A ∷ B ∷ s ∷ u ∷ a ∷ x ∷ y ∷ []) (search pol depth 20 fits 9000) tt
@@ -136,7 +146,8 @@ module _ (A B : ℤ) (α w : ℕ → ℤ) (h m : ℕ) where
   module _ (t : ℕ) (steady : (k : ℕ) → t ≤ k → k < t + h → α (suc k) ≡ α k) where
     unchanged : (k : ℕ) → t ≤ k → k < t + h → now (suc k) ≡ now k
     unchanged k a b =
-        ap (λ (z : ℤ). A *ℤ (sway α w m k +ℤ (z -ℤ α k) *ℤ w (m - suc k))) (steady k a b) ∙ none (sway α w m k) (α k) (w (m - suc k))
+        ap (λ (z : ℤ). A *ℤ (sway α w m k +ℤ (z -ℤ α k) *ℤ w (m - suc k))) (steady k a b)
+        ∙ none (sway α w m k) (α k) (w (m - suc k))
       where
         none : (s a x : ℤ) → A *ℤ (s +ℤ (a -ℤ a) *ℤ x) ≡ A *ℤ s
         none s a x = same (A ∷ s ∷ a ∷ x ∷ []) (search pol depth 20 fits 9000) tt
@@ -155,12 +166,15 @@ module _ (A B : ℤ) (α w : ℕ → ℤ) (h m : ℕ) where
     sway-exact = after (t + h) t (omega arith) ∙ ap (λ (z : ℤ). z +ℤ late t) (flat h (omega arith)) ∙ together t
 
 -- ---- how large a sway is: no entry m − n to m above E in size
-pub sway-small : (a w : ℕ → ℤ) (m n E : ℕ) → ((i : ℕ) → m ≤ i + n → i ≤ m → natAbs (w i) ≤ E) → natAbs (sway a w m n) ≤ variation a n * E
+pub sway-small : (a w : ℕ → ℤ) (m n E : ℕ) → ((i : ℕ) → m ≤ i + n → i ≤ m → natAbs (w i) ≤ E)
+    → natAbs (sway a w m n) ≤ variation a n * E
 sway-small a w m zero E small =
     mul-holds (accelerationChange a 0) (w m) (variation a 0) E (omega arith) (small m (omega arith) (omega arith))
 sway-small a w m (suc n) E small =
-    subst (λ (b : ℕ). natAbs (sway a w m (suc n)) ≤ b) (sym (add-mul (variation a n) (natAbs (accelerationChange a (suc n))) E))
-    (add-holds (sway a w m n) (accelerationChange a (suc n) *ℤ w (m - suc n)) _ _ (sway-small a w m n E (λ i p q. small i (omega arith) q))
+    subst (λ (b : ℕ). natAbs (sway a w m (suc n)) ≤ b)
+    (sym (add-mul (variation a n) (natAbs (accelerationChange a (suc n))) E))
+    (add-holds (sway a w m n) (accelerationChange a (suc n) *ℤ w (m - suc n)) _ _
+    (sway-small a w m n E (λ i p q. small i (omega arith) q))
     (mul-holds (accelerationChange a (suc n)) (w (m - suc n)) (natAbs (accelerationChange a (suc n))) E (omega arith)
     (small (m - suc n) (omega arith) (omega arith))))
 
@@ -176,7 +190,8 @@ back-back f g h k = ⊎-elim before (λ q. ⊎-elim (between q) (within q) (lt-o
     before q = back-before (back f g) h k q ∙ sym (back-before f (g + h) k (omega arith))
 
     between : h ≤ k → k - h < g → back (back f g) h k ≡ back f (g + h) k
-    between q p = back-after (back f g) h k (k - h) (omega arith) ∙ back-before f g (k - h) p ∙ sym (back-before f (g + h) k (omega arith))
+    between q p = back-after (back f g) h k (k - h) (omega arith) ∙ back-before f g (k - h) p
+        ∙ sym (back-before f (g + h) k (omega arith))
 
     within : h ≤ k → g ≤ k - h → back (back f g) h k ≡ back f (g + h) k
     within q p =
@@ -191,18 +206,22 @@ back-sum a b f g h k = go (ltb k h)
     none a b = same (a ∷ b ∷ []) (search pol depth 20 fits 9000) tt
 
     go : (t : Bool) → (elim t as (λ _. ℤ) [ true ↦ pos 0 | false ↦ a *ℤ f (k - h) +ℤ b *ℤ g (k - h) ])
-        ≡ a *ℤ (elim t as (λ _. ℤ) [ true ↦ pos 0 | false ↦ f (k - h) ]) +ℤ b *ℤ (elim t as (λ _. ℤ) [ true ↦ pos 0 | false ↦ g (k - h) ])
+        ≡ a *ℤ (elim t as (λ _. ℤ) [ true ↦ pos 0 | false ↦ f (k - h) ])
+        +ℤ b *ℤ (elim t as (λ _. ℤ) [ true ↦ pos 0 | false ↦ g (k - h) ])
     go true = none a b
     go false = refl
 
 -- one filter after another, written out
 pub filtered-twice : (a b c e : ℤ) (f : ℕ → ℤ) (g h k : ℕ)
-    → filtered a b (filtered c e f g) h k ≡ a *ℤ (c *ℤ f k +ℤ e *ℤ back f g k) +ℤ b *ℤ (c *ℤ back f h k +ℤ e *ℤ back f (g + h) k)
+    → filtered a b (filtered c e f g) h k
+    ≡ a *ℤ (c *ℤ f k +ℤ e *ℤ back f g k) +ℤ b *ℤ (c *ℤ back f h k +ℤ e *ℤ back f (g + h) k)
 filtered-twice a b c e f g h k =
-    ap (λ (z : ℤ). a *ℤ filtered c e f g k +ℤ b *ℤ z) (back-sum c e f (back f g) h k ∙ ap (λ (z : ℤ). c *ℤ back f h k +ℤ e *ℤ z) (back-back f g h k))
+    ap (λ (z : ℤ). a *ℤ filtered c e f g k +ℤ b *ℤ z)
+    (back-sum c e f (back f g) h k ∙ ap (λ (z : ℤ). c *ℤ back f h k +ℤ e *ℤ z) (back-back f g h k))
 
 -- two weighted sums with the same weights
-pub paired : (A B y z u v : ℤ) → A *ℤ y +ℤ B *ℤ z +ℤ (A *ℤ u +ℤ B *ℤ v) ≡ A *ℤ (pos 1 *ℤ y +ℤ pos 1 *ℤ u) +ℤ B *ℤ (pos 1 *ℤ z +ℤ pos 1 *ℤ v)
+pub paired : (A B y z u v : ℤ)
+    → A *ℤ y +ℤ B *ℤ z +ℤ (A *ℤ u +ℤ B *ℤ v) ≡ A *ℤ (pos 1 *ℤ y +ℤ pos 1 *ℤ u) +ℤ B *ℤ (pos 1 *ℤ z +ℤ pos 1 *ℤ v)
 paired A B y z u v = same (A ∷ B ∷ y ∷ z ∷ u ∷ v ∷ []) (search pol depth 20 fits 9000) tt
 
 -- where f does not change from tick t on, its filter does not change from tick t + h on
@@ -210,4 +229,5 @@ pub filtered-steady : (a b : ℤ) (f : ℕ → ℤ) (h t l : ℕ) → ((k : ℕ)
     → (k : ℕ) → t + h ≤ k → k < l → filtered a b f h (suc k) ≡ filtered a b f h k
 filtered-steady a b f h t l steady k p q =
     ap₂ (λ (y z : ℤ). a *ℤ y +ℤ b *ℤ z) (steady k (omega arith) q)
-    (back-after f h (suc k) (suc (k - h)) (omega arith) ∙ steady (k - h) (omega arith) (omega arith) ∙ sym (back-after f h k (k - h) (omega arith)))
+    (back-after f h (suc k) (suc (k - h)) (omega arith) ∙ steady (k - h) (omega arith) (omega arith)
+    ∙ sym (back-after f h k (k - h) (omega arith)))

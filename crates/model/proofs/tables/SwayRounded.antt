@@ -1,5 +1,6 @@
--- The sway left as rounded is at most N × G more than before rounding: a cell c is its exact value x / d within a half, whichever way halves go, so the
--- sway of the cells differs from the exact sway by at most a half a row at each change.
+-- The sway left as rounded is at most N × G more than before rounding: a cell c is its exact value
+-- x / d within a half, whichever way halves go, so the sway of the cells differs from the exact
+-- sway by at most a half a row at each change.
 use Prim.Native.Nat.{ℕ, zero, suc, _+_, _-_, _*_, _≤_}
 use mathlib.Core.Path.{_≡_, sym, ap, _∙_, subst}
 use mathlib.Core.List.{[], _∷_}
@@ -27,7 +28,8 @@ module _ (d e : ℕ) (even : d ≡ 2 * e) (x c w : ℕ → ℤ) (l m G : ℕ) (n
       go = all₂ _ (λ a b f g. simp (whole, half-iff) (omega arith))
 
   change-small : (k : ℕ) → natAbs (accelerationChange error (suc k)) ≤ e + e
-  change-small k = add-holds (error (suc k)) (negℤ (error k)) e e (error-small (suc k)) (neg-holds (error k) e (error-small k))
+  change-small k =
+      add-holds (error (suc k)) (negℤ (error k)) e e (error-small (suc k)) (neg-holds (error k) e (error-small k))
 
   -- the sway is linear in the accelerations
   in-two : (n : ℕ) → pos d *ℤ sway c w m n ≡ sway x w m n +ℤ sway error w m n
@@ -45,11 +47,14 @@ module _ (d e : ℕ) (even : d ≡ 2 * e) (x c w : ℕ → ℤ) (l m G : ℕ) (n
       gathered d s u a b y z g = same (d ∷ s ∷ u ∷ a ∷ b ∷ y ∷ z ∷ g ∷ []) (search pol depth 20 fits 9000) tt
 
   grows : (n : ℕ) → n ≤ l → natAbs (sway error w m n) ≤ e * G + 2 * (e * G) * n
-  grows zero h = le-trans (mul-holds (error 0) (w m) e G (error-small 0) (small m (omega arith) (omega arith))) (omega arith)
+  grows zero h =
+      le-trans (mul-holds (error 0) (w m) e G (error-small 0) (small m (omega arith) (omega arith))) (omega arith)
   grows (suc n) h =
       le-trans
-      (add-holds (sway error w m n) (accelerationChange error (suc n) *ℤ w (m - suc n)) (e * G + 2 * (e * G) * n) ((e + e) * G) (grows n (omega arith))
-      (mul-holds (accelerationChange error (suc n)) (w (m - suc n)) (e + e) G (change-small n) (small (m - suc n) (omega arith) (omega arith))))
+      (add-holds (sway error w m n) (accelerationChange error (suc n) *ℤ w (m - suc n)) (e * G + 2 * (e * G) * n)
+      ((e + e) * G) (grows n (omega arith))
+      (mul-holds (accelerationChange error (suc n)) (w (m - suc n)) (e + e) G (change-small n)
+      (small (m - suc n) (omega arith) (omega arith))))
       (omega (arith, mul-suc (2 * (e * G)) n, add-mul e e G))
 
   -- the last row is exact
@@ -62,8 +67,10 @@ module _ (d e : ℕ) (even : d ≡ 2 * e) (x c w : ℕ → ℤ) (l m G : ℕ) (n
     total : natAbs (sway error w m (suc n)) ≤ d * (suc n * G)
     total =
         le-trans
-        (add-holds (sway error w m n) (accelerationChange error (suc n) *ℤ w (m - suc n)) (e * G + 2 * (e * G) * n) (e * G) (grows n (omega arith))
-        (mul-holds (accelerationChange error (suc n)) (w (m - suc n)) e G last-small (small (m - suc n) (omega arith) (omega arith))))
+        (add-holds (sway error w m n) (accelerationChange error (suc n) *ℤ w (m - suc n)) (e * G + 2 * (e * G) * n)
+        (e * G) (grows n (omega arith))
+        (mul-holds (accelerationChange error (suc n)) (w (m - suc n)) e G last-small
+        (small (m - suc n) (omega arith) (omega arith))))
         (subst (λ (k : ℕ). e * G + 2 * (e * G) * n + e * G ≤ k * (suc n * G)) (sym even) (same-size e G n))
       where
         same-size : (e G n : ℕ) → e * G + 2 * (e * G) * n + e * G ≤ 2 * e * (suc n * G)
@@ -71,5 +78,6 @@ module _ (d e : ℕ) (even : d ≡ 2 * e) (x c w : ℕ → ℤ) (l m G : ℕ) (n
 
     pub sway-rounded : (X : ℕ) → natAbs (sway x w m (suc n)) ≤ X → d * natAbs (sway c w m (suc n)) ≤ X + d * (suc n * G)
     sway-rounded X left =
-        subst (λ (k : ℕ). k ≤ X + d * (suc n * G)) (ap natAbs (sym (in-two (suc n))) ∙ natAbs-* (pos d) (sway c w m (suc n)))
+        subst (λ (k : ℕ). k ≤ X + d * (suc n * G))
+        (ap natAbs (sym (in-two (suc n))) ∙ natAbs-* (pos d) (sway c w m (suc n)))
         (add-holds (sway x w m (suc n)) (sway error w m (suc n)) X (d * (suc n * G)) left total)

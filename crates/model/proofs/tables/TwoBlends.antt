@@ -1,5 +1,6 @@
--- The blend with and without a second sway in one form: the sum of the blends at the delays 0 and h₂, over 512. Where there is no second sway h₂ is 0,
--- and this is twice the blend over twice its divisor.
+-- The blend with and without a second sway in one form: the sum of the blends at the
+-- delays 0 and h₂, over 512. Where there is no second sway h₂ is 0, and this is twice
+-- the blend over twice its divisor.
 use Prim.Native.Nat.{ℕ, _*_, _<_}
 use mathlib.Core.Path.{_≡_, sym, ap, ap₂, _∙_}
 use mathlib.Core.List.{[], _∷_}
@@ -67,16 +68,21 @@ divisor-some x = go (x .«second_sway»)
 
 -- a cell in the one form
 module _ (t : PlannedAxis) (k : ℕ) (f : Tick → ℤ) where
-  pub cell-both : nearestQuotient (blend t k f) (divisor (t .axis)) ≡ nearestQuotient (both t k f) (bothDivisor (t .axis))
+  pub cell-both : nearestQuotient (blend t k f) (divisor (t .axis))
+      ≡ nearestQuotient (both t k f) (bothDivisor (t .axis))
   cell-both =
-      sym (nearest-times (times (t .axis)) (blend t k f) (divisor (t .axis)) (times-some (t .axis)) (divisor-some (t .axis)))
+      sym (nearest-times (times (t .axis)) (blend t k f) (divisor (t .axis))
+      (times-some (t .axis)) (divisor-some (t .axis)))
       ∙ ap₂ nearestQuotient (sym (both-is t k f)) (weights-times (t .axis .«second_sway») (finer (t .axis)))
 
-  pub position-both : nearestQuotient (blend t k f) (2 * divisor (t .axis)) ≡ nearestQuotient (both t k f) (2 * bothDivisor (t .axis))
+  pub position-both : nearestQuotient (blend t k f) (2 * divisor (t .axis))
+      ≡ nearestQuotient (both t k f) (2 * bothDivisor (t .axis))
   position-both =
-      sym (nearest-times (times (t .axis)) (blend t k f) (2 * divisor (t .axis)) (times-some (t .axis)) (omega (arith, divisor-some (t .axis))))
+      sym (nearest-times (times (t .axis)) (blend t k f) (2 * divisor (t .axis)) (times-some (t .axis))
+      (omega (arith, divisor-some (t .axis))))
       ∙ ap₂ nearestQuotient (sym (both-is t k f))
-      (doubled (times (t .axis)) (divisor (t .axis)) ∙ ap (λ (d : ℕ). 2 * d) (weights-times (t .axis .«second_sway») (finer (t .axis))))
+      (doubled (times (t .axis)) (divisor (t .axis))
+      ∙ ap (λ (d : ℕ). 2 * d) (weights-times (t .axis .«second_sway») (finer (t .axis))))
     where
       doubled : (c d : ℕ) → c * (2 * d) ≡ 2 * (c * d)
       doubled c d = omega arith
@@ -95,8 +101,10 @@ blend-of-both t k f w e = go (t .axis .«second_sway») (blend t k f) (finer (t 
     once : (z : ℤ) → z ≡ pos 1 *ℤ z
     once z = same (z ∷ []) (search pol depth 20 fits 9000) tt
 
-    go : (s : SecondSway) (z : ℤ) (g : ℕ) → pos (timesBy s) *ℤ z ≡ pos (2 * (512 * g)) *ℤ w → z ≡ pos (2 * (weightsBy s * g)) *ℤ w
+    go : (s : SecondSway) (z : ℤ) (g : ℕ) → pos (timesBy s) *ℤ z ≡ pos (2 * (512 * g)) *ℤ w
+        → z ≡ pos (2 * (weightsBy s * g)) *ℤ w
     go Absent z g e =
         halves z (pos (2 * (256 * g)) *ℤ w)
-        (e ∙ ap (λ (d : ℕ). pos d *ℤ w) {x = 2 * (512 * g)} {y = 2 * (2 * (256 * g))} (omega arith) ∙ doubled (pos (2 * (256 * g))) w)
+        (e ∙ ap (λ (d : ℕ). pos d *ℤ w) {x = 2 * (512 * g)} {y = 2 * (2 * (256 * g))} (omega arith)
+        ∙ doubled (pos (2 * (256 * g))) w)
     go (HalfPeriod d) z g e = once z ∙ e

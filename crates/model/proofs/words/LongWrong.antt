@@ -1,4 +1,5 @@
--- What refusal 14 names is the first word of kind 14 that is wrong, in the method's words: `first-long-wrong`.
+-- What refusal 14 names is the first word of kind 14 that is wrong, in the
+-- method's words: `first-long-wrong`.
 use Prim.Native.Nat.{ℕ, zero, suc, _+_, _<_}
 use native.Mathlib.Omega.{arith}
 use mathlib.Core.Path.{_≡_, refl, sym, ap, subst, _∙_}
@@ -10,7 +11,8 @@ use lib.Dec.{eqb}
 use lib.IntN.{pos, negsuc}
 use lib.ListN.{getElem?}
 use borrow.Author.Tests.{eq-eqb, eqb-true}
-use Rattle.model.specs.planning.Words.{kind, payload, twos, longPosition, between, fitsWord, longAllowed, firstBadLong}
+use Rattle.model.specs.planning.Words.{kind, payload, twos, longPosition, between, fitsWord, longAllowed}
+use Rattle.model.specs.planning.Words.{firstBadLong}
 use Rattle.model.specs.theorems.Verdict.{LongWrong, FirstLongWrong, NoneLongWrong}
 
 -- the test of refusal 14
@@ -34,7 +36,8 @@ module _ (w u : ℕ) where
       go false b c k s t e = absurd (true≢false (sym e))
 
   wrong-bad : LongWrong w u → bad w u ≡ true
-  wrong-bad h = ap (λ (a : Bool). a && not (longAllowed (payload w) (payload u))) (eq-eqb (kind w) 14 (h .long)) ∙ by (h .wrong)
+  wrong-bad h =
+      ap (λ (a : Bool). a && not (longAllowed (payload w) (payload u))) (eq-eqb (kind w) 14 (h .long)) ∙ by (h .wrong)
     where
       by : (small ≡ false) ⊎ (single ≡ true) → not (small && not single) ≡ true
       by (inl s) = ap (λ (b : Bool). not (b && not single)) s
@@ -50,7 +53,8 @@ first-past i p [] e = absurd (let z : _≡_ {A = ℕ} 0 1 = cc in omega arith)
 first-past i p (w ∷ []) e = absurd (let z : _≡_ {A = ℕ} 0 1 = cc in omega arith)
 first-past i p (w ∷ u ∷ ws) e = go (bad w u) refl e (first-past (suc i) p (u ∷ ws))
   where
-    later : bad w u ≡ false → (q : ℕ) × ((p ≡ suc i + q) × FirstLongWrong (u ∷ ws) q) → (q : ℕ) × ((p ≡ i + q) × FirstLongWrong (w ∷ u ∷ ws) q)
+    later : bad w u ≡ false → (q : ℕ) × ((p ≡ suc i + q) × FirstLongWrong (u ∷ ws) q)
+        → (q : ℕ) × ((p ≡ i + q) × FirstLongWrong (w ∷ u ∷ ws) q)
     later t (q, (is, f)) = (
       suc q,
       (
@@ -66,14 +70,16 @@ first-past i p (w ∷ u ∷ ws) e = go (bad w u) refl e (first-past (suc i) p (u
       ),
     )
       where
-        earlier : (k v y : ℕ) → k < suc q → getElem? (w ∷ u ∷ ws) k ≡ some v → getElem? (w ∷ u ∷ ws) (suc k) ≡ some y → LongWrong v y → ⊥
+        earlier : (k v y : ℕ) → k < suc q → getElem? (w ∷ u ∷ ws) k ≡ some v
+            → getElem? (w ∷ u ∷ ws) (suc k) ≡ some y → LongWrong v y → ⊥
         earlier zero v y h a b l =
             let first : v ≡ w = cc in
             let second : y ≡ u = cc in
             true≢false (sym (wrong-bad v y l) ∙ (λ j. bad (first j) (second j)) ∙ t)
         earlier (suc k) v y h a b l = f .before k v y (omega arith) a b l
 
-    go : (b : Bool) → bad w u ≡ b → _≡_ {A = Option ℕ} (elim b as (λ _. Option ℕ) [ true ↦ some i | false ↦ firstBadLong (suc i) (u ∷ ws) ]) (some p)
+    go : (b : Bool) → bad w u ≡ b → _≡_ {A = Option ℕ}
+        (elim b as (λ _. Option ℕ) [ true ↦ some i | false ↦ firstBadLong (suc i) (u ∷ ws) ]) (some p)
         → (firstBadLong (suc i) (u ∷ ws) ≡ some p → (q : ℕ) × ((p ≡ suc i + q) × FirstLongWrong (u ∷ ws) q))
         → (q : ℕ) × ((p ≡ i + q) × FirstLongWrong (w ∷ u ∷ ws) q)
     go true t e h =
@@ -106,7 +112,8 @@ none-long-wrong i (v ∷ []) e zero w u a b h = absurd (let z : _≡_ {A = ℕ} 
 none-long-wrong i (v ∷ []) e (suc k) w u a b h = absurd (let z : _≡_ {A = ℕ} 0 1 = cc in omega arith)
 none-long-wrong i (v ∷ t ∷ ws) e k w u a b h = go (bad v t) refl e (none-long-wrong (suc i) (t ∷ ws)) k a b
   where
-    go : (c : Bool) → bad v t ≡ c → _≡_ {A = Option ℕ} (elim c as (λ _. Option ℕ) [ true ↦ some i | false ↦ firstBadLong (suc i) (t ∷ ws) ]) none
+    go : (c : Bool) → bad v t ≡ c
+        → _≡_ {A = Option ℕ} (elim c as (λ _. Option ℕ) [ true ↦ some i | false ↦ firstBadLong (suc i) (t ∷ ws) ]) none
         → (firstBadLong (suc i) (t ∷ ws) ≡ none → NoneLongWrong (t ∷ ws))
         → (k : ℕ) → getElem? (v ∷ t ∷ ws) k ≡ some w → getElem? (v ∷ t ∷ ws) (suc k) ≡ some u → ⊥
     go true c e more k a b = let z : _≡_ {A = ℕ} 0 1 = cc in omega arith

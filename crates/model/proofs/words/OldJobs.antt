@@ -11,7 +11,8 @@ use Rattle.model.specs.declared.SecondSway.the-variants.{Absent}
 use Rattle.model.specs.planning.Job.{Job, setBits}
 use Rattle.model.specs.planning.Words.{kind, payload, Reading, got, wrong, Reader, _>>=_, give}
 use Rattle.model.specs.planning.Words.{field, signed, next, positionBy, position, swayBy, secondSway, target}
-use Rattle.model.specs.planning.Words.{axisBy, axesBy, ending, afterMaskBy, goodMask, longAllowed, firstBadLong, Decoded, noMask, badWord, job, spelled, decided}
+use Rattle.model.specs.planning.Words.{axisBy, axesBy, ending, afterMaskBy, goodMask, longAllowed, firstBadLong}
+use Rattle.model.specs.planning.Words.{Decoded, noMask, badWord, job, spelled, decided}
 use Rattle.model.specs.theorems.Spelling.{OldKinds, OldJobsKept}
 
 -- what is left to read has no such word either
@@ -41,7 +42,8 @@ module _ {A B : Type 0} (f g : A → Reader B) (k : (a : A) → Alike (f a) (g a
 
 -- by a test
 either : {A : Type 0} (b : Bool) (r s : Reading A) → Left r → Left s
-    → (_≡_ {A = Reading A} (elim b as (λ _. Reading A) [ true ↦ r | false ↦ s ]) (elim b as (λ _. Reading A) [ true ↦ r | false ↦ s ]))
+    → (_≡_ {A = Reading A} (elim b as (λ _. Reading A) [ true ↦ r | false ↦ s ])
+    (elim b as (λ _. Reading A) [ true ↦ r | false ↦ s ]))
     × Left {A = A} (elim b as (λ _. Reading A) [ true ↦ r | false ↦ s ])
 either true r s h k = (refl, h)
 either false r s h k = (refl, k)
@@ -62,7 +64,8 @@ next-alike k i (w ∷ ws) c = (refl, c)
 
 target-alike : (b : Bool) (p v : ℤ) → Alike (target b p v) (target b p v)
 target-alike true p v =
-    then _ _ (λ a. then _ _ (λ t. give-alike _) (signed 12) (signed 12) (signed-alike 12)) (signed 11) (signed 11) (signed-alike 11)
+    then _ _ (λ a. then _ _ (λ t. give-alike _) (signed 12) (signed 12) (signed-alike 12))
+    (signed 11) (signed 11) (signed-alike 11)
 target-alike false p v = give-alike _
 
 ending-alike : (j : Job) → Alike (ending j) (ending j)
@@ -83,7 +86,10 @@ sway-alike i (w ∷ ws) c = (ap (λ (b : Bool). swayBy b i (w ∷ ws)) (ne-eqb (
 
 axis-alike : Alike (axisBy position secondSway) (axisBy signed (give Absent))
 axis-alike =
-    then _ _ (λ p₀. then _ _ (λ v₀. then _ _ (λ l. then _ _ (λ m. then _ _ (λ h. then _ _ (λ b. then _ _ (λ s. then _ _ (λ p. then _ _ (λ v. then _ _ (λ moving.
+    then _ _
+    (λ p₀. then _ _
+    (λ v₀. then _ _
+    (λ l. then _ _ (λ m. then _ _ (λ h. then _ _ (λ b. then _ _ (λ s. then _ _ (λ p. then _ _ (λ v. then _ _ (λ moving.
     then _ _ (λ g. give-alike _)
     (target moving p v) (target moving p v) (target-alike moving p v))
     (next 11) (next 11) (next-alike 11))
@@ -100,12 +106,16 @@ axis-alike =
 axes-alike : (ns : List ℕ) → Alike (axesBy position secondSway ns) (axesBy signed (give Absent) ns)
 axes-alike [] = give-alike []
 axes-alike (n ∷ ns) =
-    then _ _ (λ x. then _ _ (λ xs. give-alike _) (axesBy position secondSway ns) (axesBy signed (give Absent) ns) (axes-alike ns))
+    then _ _
+    (λ x. then _ _ (λ xs. give-alike _) (axesBy position secondSway ns)
+    (axesBy signed (give Absent) ns) (axes-alike ns))
     (axisBy position secondSway) (axisBy signed (give Absent)) axis-alike
 
 job-alike : (m : ℕ) → Alike (afterMaskBy position secondSway m) (afterMaskBy signed (give Absent) m)
 job-alike m =
-    then _ _ (λ a. then _ _ (λ xs. ending-alike _) (axesBy position secondSway (setBits m)) (axesBy signed (give Absent) (setBits m)) (axes-alike (setBits m)))
+    then _ _
+    (λ a. then _ _ (λ xs. ending-alike _) (axesBy position secondSway (setBits m))
+    (axesBy signed (give Absent) (setBits m)) (axes-alike (setBits m)))
     (field 2) (field 2) (field-alike 2)
 
 none-named : (i : ℕ) (ws : List ℕ) → OldKinds ws → firstBadLong i ws ≡ none
@@ -113,7 +123,8 @@ none-named i [] c = refl
 none-named i (w ∷ []) c = refl
 none-named i (w ∷ u ∷ ws) c =
     ap (λ (b : Bool).
-    elim (b && not (longAllowed (payload w) (payload u))) as (λ _. Option ℕ) [ true ↦ some i | false ↦ firstBadLong (suc i) (u ∷ ws) ])
+    elim (b && not (longAllowed (payload w) (payload u))) as
+    (λ _. Option ℕ) [ true ↦ some i | false ↦ firstBadLong (suc i) (u ∷ ws) ])
     (ne-eqb (kind w) 14 (c .0))
     ∙ none-named (suc i) (u ∷ ws) (c .1 .1)
 
@@ -126,6 +137,7 @@ old-jobs-kept (w ∷ ws) c =
     by-mask : Decoded → Decoded
     by-mask d = elim (eqb (kind w) 1 && goodMask (payload w)) as (λ _. Decoded) [ true ↦ d | false ↦ noMask ]
 
-    unspelled : (r : Reading Job) → decided (w ∷ ws) r ≡ (elim r as (λ _. Decoded) [ got j i rest ↦ job j | wrong p ↦ badWord p ])
+    unspelled : (r : Reading Job)
+        → decided (w ∷ ws) r ≡ (elim r as (λ _. Decoded) [ got j i rest ↦ job j | wrong p ↦ badWord p ])
     unspelled (got j i rest) = ap (λ (o : Option ℕ). spelled o j) (none-named 0 (w ∷ ws) c)
     unspelled (wrong p) = refl

@@ -11,11 +11,13 @@ use lib.ListN.{length}
 use lib.IntN.{ℤ, pos, negsuc, negℤ, _+ℤ_, _*ℤ_}
 use borrow.Author.Tests.{le-leb, leb-true, eqb-true, lt-ltb, le-ltb, eq-eqb, ne-eqb}
 use Rattle.whole.proofs.Differences.{whole}
-use Rattle.model.specs.planning.Words.{kind, payload, twos, longPosition, between, fitsWord, longAllowed, firstBadLong}
+use Rattle.model.specs.planning.Words.{kind, payload, twos, longPosition, between, fitsWord, longAllowed}
+use Rattle.model.specs.planning.Words.{firstBadLong}
 use Rattle.model.specs.planning.Words.{Reading, got, wrong, _>>=_, give, field, signed, positionBy, position}
 use Rattle.model.specs.planning.Words.{spelled}
 use Rattle.model.specs.planning.Refusals.{positionAllowed}
-use Rattle.model.specs.theorems.Spelling.{word, bits, highPart, lowPart, positionWords, SpellsPosition, PositionSpelling}
+use Rattle.model.specs.theorems.Spelling.{word, bits, highPart, lowPart, positionWords, SpellsPosition}
+use Rattle.model.specs.theorems.Spelling.{PositionSpelling}
 use Rattle.model.proofs.words.LongWrong.{bad}
 use Rattle.model.proofs.words.Readers.{before}
 
@@ -24,7 +26,8 @@ use Rattle.model.proofs.words.Readers.{before}
 pub word-is : (w k : ℕ) → kind w ≡ k → w ≡ word k (payload w)
 word-is w k e = omega arith
 
-neg-bits : (m n : ℕ) → m + n ≡ 2 ^ 28 → 2 ^ 27 ≤ n → n < 2 ^ 28 → (bits (negℤ (pos m)) ≡ n) × (fitsWord (negℤ (pos m)) ≡ true)
+neg-bits : (m n : ℕ) → m + n ≡ 2 ^ 28 → 2 ^ 27 ≤ n → n < 2 ^ 28
+    → (bits (negℤ (pos m)) ≡ n) × (fitsWord (negℤ (pos m)) ≡ true)
 neg-bits zero n e h k = absurd (omega arith)
 neg-bits (suc m) n e h k = (omega arith, ap (λ (b : Bool). b && true) (le-leb m 134217727 (omega arith)))
 
@@ -46,7 +49,8 @@ and-true true = refl
 and-true false = refl
 
 -- a long position is taken apart again
-parts : (z : ℤ) (l : ℕ) → l < 2 ^ 28 → (highPart (pos (2 ^ 28) *ℤ z +ℤ pos l) ≡ z) × (lowPart (pos (2 ^ 28) *ℤ z +ℤ pos l) ≡ l)
+parts : (z : ℤ) (l : ℕ) → l < 2 ^ 28 → (highPart (pos (2 ^ 28) *ℤ z +ℤ pos l) ≡ z)
+    × (lowPart (pos (2 ^ 28) *ℤ z +ℤ pos l) ≡ l)
 parts (pos a) l h = let q : (2 ^ 28 * a + l) / 2 ^ 28 ≡ a = omega arith in (ap pos q, omega arith)
 parts (negsuc a) l h =
     let n : ℕ = 2 ^ 28 * a + (2 ^ 28 - suc l) in
@@ -62,11 +66,13 @@ fits-inside (negsuc n) e =
     ap (λ (b : Bool). b && true) (le-leb n 17179869183 (omega arith))
 
 -- so is a long position
-long-inside : (z : ℤ) (l : ℕ) → l < 2 ^ 28 → between (negsuc 63) (pos 63) z ≡ true → positionAllowed (pos (2 ^ 28) *ℤ z +ℤ pos l) ≡ true
+long-inside : (z : ℤ) (l : ℕ) → l < 2 ^ 28 → between (negsuc 63) (pos 63) z ≡ true
+    → positionAllowed (pos (2 ^ 28) *ℤ z +ℤ pos l) ≡ true
 long-inside (pos a) l h e = let k = leb-true a 63 e in le-leb (2 ^ 28 * a + l) 17179869183 (omega arith)
 long-inside (negsuc a) l h e =
     let k = leb-true a 63 (sym (and-true (leb a 63)) ∙ e) in
-    ap positionAllowed (below a l h) ∙ ap (λ (b : Bool). b && true) (le-leb (2 ^ 28 * a + (2 ^ 28 - suc l)) 17179869183 (omega arith))
+    ap positionAllowed (below a l h)
+    ∙ ap (λ (b : Bool). b && true) (le-leb (2 ^ 28 * a + (2 ^ 28 - suc l)) 17179869183 (omega arith))
 
 -- ---- words that refusal 14 lets pass
 
@@ -80,7 +86,8 @@ clean i [] e = tt
 clean i (w ∷ []) e = tt
 clean i (w ∷ u ∷ ws) e = go (bad w u) refl e (clean (suc i) (u ∷ ws))
   where
-    go : (b : Bool) → bad w u ≡ b → _≡_ {A = Option ℕ} (elim b as (λ _. Option ℕ) [ true ↦ some i | false ↦ firstBadLong (suc i) (u ∷ ws) ]) none
+    go : (b : Bool) → bad w u ≡ b
+        → _≡_ {A = Option ℕ} (elim b as (λ _. Option ℕ) [ true ↦ some i | false ↦ firstBadLong (suc i) (u ∷ ws) ]) none
         → (firstBadLong (suc i) (u ∷ ws) ≡ none → Clean (u ∷ ws)) → Clean (w ∷ u ∷ ws)
     go true t e h = absurd (let z : _≡_ {A = ℕ} 0 1 = cc in omega arith)
     go false t e h = (t, h e)
@@ -90,12 +97,14 @@ pub clean-none : (i : ℕ) (ws : List ℕ) → Clean ws → firstBadLong i ws �
 clean-none i [] c = refl
 clean-none i (w ∷ []) c = refl
 clean-none i (w ∷ u ∷ ws) c =
-    ap (λ (b : Bool). elim b as (λ _. Option ℕ) [ true ↦ some i | false ↦ firstBadLong (suc i) (u ∷ ws) ]) (c .0) ∙ clean-none (suc i) (u ∷ ws) (c .1)
+    ap (λ (b : Bool). elim b as (λ _. Option ℕ) [ true ↦ some i | false ↦ firstBadLong (suc i) (u ∷ ws) ]) (c .0)
+    ∙ clean-none (suc i) (u ∷ ws) (c .1)
 
 -- a word of another kind than 14 in front
 pub clean-cons : (w : ℕ) (ws : List ℕ) → (kind w ≡ 14 → ⊥) → Clean ws → Clean (w ∷ ws)
 clean-cons w [] n c = tt
-clean-cons w (u ∷ ws) n c = (ap (λ (b : Bool). b && not (longAllowed (payload w) (payload u))) (ne-eqb (kind w) 14 n), c)
+clean-cons w (u ∷ ws) n c =
+    (ap (λ (b : Bool). b && not (longAllowed (payload w) (payload u))) (ne-eqb (kind w) 14 n), c)
 
 pub clean-tail : (w : ℕ) (ws : List ℕ) → Clean (w ∷ ws) → Clean ws
 clean-tail w [] c = tt
@@ -116,11 +125,13 @@ pub unread : {A : Type 0} {a : A} {i j : ℕ} {ws : List ℕ} → wrong i ≡ go
 unread e = let z : _≡_ {A = ℕ} 0 1 = cc in omega arith
 
 -- a field, with the size of its payload
-pub field-is : (k i : ℕ) (ws : List ℕ) (n j : ℕ) (vs : List ℕ) → field k i ws ≡ got n j vs → (ws ≡ word k n ∷ vs) × (n < 2 ^ 28)
+pub field-is : (k i : ℕ) (ws : List ℕ) (n j : ℕ) (vs : List ℕ) → field k i ws ≡ got n j vs
+    → (ws ≡ word k n ∷ vs) × (n < 2 ^ 28)
 field-is k i [] n j vs e = absurd (unread e)
 field-is k i (w ∷ ws) n j vs e = go (eqb (kind w) k) refl e
   where
-    go : (b : Bool) → eqb (kind w) k ≡ b → (elim b as (λ _. Reading ℕ) [ true ↦ got (payload w) (suc i) ws | false ↦ wrong i ]) ≡ got n j vs
+    go : (b : Bool) → eqb (kind w) k ≡ b
+        → (elim b as (λ _. Reading ℕ) [ true ↦ got (payload w) (suc i) ws | false ↦ wrong i ]) ≡ got n j vs
         → (w ∷ ws ≡ word k n ∷ vs) × (n < 2 ^ 28)
     go true t e =
         let p : payload w ≡ n = value-of e in
@@ -145,8 +156,10 @@ signed-is k i ws z j vs e =
 
 -- a word of kind 14 that is allowed: its payload, and a position that does not fit a single word
 long-kept : (b : Bool) (w u : ℕ) → b && not (longAllowed (payload w) (payload u)) ≡ false → b ≡ true
-    → (between (negsuc 63) (pos 63) (twos (payload w)) ≡ true) × (fitsWord (longPosition (payload w) (payload u)) ≡ false)
-long-kept true w u e t = go (between (negsuc 63) (pos 63) (twos (payload w))) (fitsWord (longPosition (payload w) (payload u))) e
+    → (between (negsuc 63) (pos 63) (twos (payload w)) ≡ true)
+    × (fitsWord (longPosition (payload w) (payload u)) ≡ false)
+long-kept true w u e t =
+    go (between (negsuc 63) (pos 63) (twos (payload w))) (fitsWord (longPosition (payload w) (payload u))) e
   where
     go : (a f : Bool) → not (a && not f) ≡ false → (a ≡ true) × (f ≡ false)
     go true true e = absurd (true≢false e)
@@ -177,14 +190,16 @@ position-is k i (w ∷ ws) p j vs c e = go (eqb (kind w) 14) refl e
         let f = field-is k (suc i) (u ∷ us) (b .value) (b .index) (b .rest) (b .first) in
         let v : longPosition (payload w) (b .value) ≡ p = value-of (b .then) in
         let d = parts (twos (payload w)) (b .value) (f .1) in
-        let h : payload w ≡ bits (highPart p) = sym (twos-bits (payload w) (omega arith) .0) ∙ ap bits (sym (d .0) ∙ ap highPart v) in
+        let h : payload w ≡ bits (highPart p) =
+        sym (twos-bits (payload w) (omega arith) .0) ∙ ap bits (sym (d .0) ∙ ap highPart v) in
         let l : b .value ≡ lowPart p = sym (d .1) ∙ ap lowPart v in
         let first : u ≡ word k (b .value) = head-of (f .0) in
         let same : payload u ≡ b .value = omega (arith, first, f .1) in
         let kept = long-kept (eqb (kind w) 14) w u (c .0) t in
         let fits : fitsWord p ≡ false =
         ap fitsWord (sym v) ∙ ap (λ (l : ℕ). fitsWord (longPosition (payload w) l)) (sym same) ∙ kept .1 in (
-          (λ q. (word-is w 14 (eqb-true (kind w) 14 t) ∙ ap (word 14) h) q ∷ (f .0 ∙ (λ q. word k (l q) ∷ rest-of (b .then) q)) q)
+          (λ q. (word-is w 14 (eqb-true (kind w) 14 t) ∙ ap (word 14) h) q
+              ∷ (f .0 ∙ (λ q. word k (l q) ∷ rest-of (b .then) q)) q)
               ∙ ap (λ (l : List ℕ). l ++ vs) (words-by k p false fits),
           ap positionAllowed (sym v) ∙ long-inside (twos (payload w)) (b .value) (f .1) (kept .0),
         )
@@ -213,13 +228,17 @@ payload-of k n h = omega arith
 -- a number that fits a single word, from its bits
 pub bits-twos : (z : ℤ) → fitsWord z ≡ true → (twos (bits z) ≡ z) × (bits z < 2 ^ 28)
 bits-twos (pos n) e =
-    let h = leb-true n 134217727 e in
-    (ap (λ (b : Bool). elim b as (λ _. ℤ) [ true ↦ pos n | false ↦ negℤ (pos (2 ^ 28 - n)) ]) (lt-ltb n (2 ^ 27) (omega arith)), omega arith)
+    let h = leb-true n 134217727 e in (
+      ap (λ (b : Bool). elim b as (λ _. ℤ) [ true ↦ pos n | false ↦ negℤ (pos (2 ^ 28 - n)) ])
+          (lt-ltb n (2 ^ 27) (omega arith)),
+      omega arith,
+    )
 bits-twos (negsuc n) e =
     let h = leb-true n 134217727 (sym (and-true (leb n 134217727)) ∙ e) in
     let m : ℕ = 2 ^ 28 - suc n in
     let q : 2 ^ 28 - m ≡ suc n = omega arith in (
-      ap (λ (b : Bool). elim b as (λ _. ℤ) [ true ↦ pos m | false ↦ negℤ (pos (2 ^ 28 - m)) ]) (le-ltb m (2 ^ 27) (omega arith))
+      ap (λ (b : Bool). elim b as (λ _. ℤ) [ true ↦ pos m | false ↦ negℤ (pos (2 ^ 28 - m)) ])
+          (le-ltb m (2 ^ 27) (omega arith))
           ∙ ap (λ (l : ℕ). negℤ (pos l)) q,
       omega arith,
     )
@@ -236,9 +255,11 @@ joined (negsuc n) =
     below (n / 2 ^ 28) (2 ^ 28 - suc (n % 2 ^ 28)) (omega arith) ∙ ap negsuc q
 
 -- the high part of a position of the range
-high-small : (p : ℤ) → positionAllowed p ≡ true → (between (negsuc 63) (pos 63) (highPart p) ≡ true) × (fitsWord (highPart p) ≡ true)
+high-small : (p : ℤ) → positionAllowed p ≡ true
+    → (between (negsuc 63) (pos 63) (highPart p) ≡ true) × (fitsWord (highPart p) ≡ true)
 high-small (pos n) e =
-    let h = leb-true n 17179869183 e in (le-leb (n / 2 ^ 28) 63 (omega arith), le-leb (n / 2 ^ 28) 134217727 (omega arith))
+    let h = leb-true n 17179869183 e in
+    (le-leb (n / 2 ^ 28) 63 (omega arith), le-leb (n / 2 ^ 28) 134217727 (omega arith))
 high-small (negsuc n) e =
     let h = leb-true n 17179869183 (sym (and-true (leb n 17179869183)) ∙ e) in (
       ap (λ (b : Bool). b && true) (le-leb (n / 2 ^ 28) 63 (omega arith)),
@@ -261,7 +282,8 @@ on-long a r = elim r [ got b j vs ↦ got (longPosition a b) j vs | wrong p ↦ 
 on-high : ℕ → Reading ℕ → Reading ℤ
 on-high k r = elim r [ got a j vs ↦ _>>=_ (field k) (λ b. give (longPosition a b)) j vs | wrong p ↦ wrong p ]
 
--- words of a position, wherever they stand: they are read as it, refusal 14 lets them pass, and their first word is of kind k or 14
+-- words of a position, wherever they stand: they are read as it, refusal 14 lets them pass, and
+-- their first word is of kind k or 14
 pub record Stands (k : ℕ) (p : ℤ) (us : List ℕ) : Type 0 where
   pub read : (i : ℕ) (vs : List ℕ) → position k i (us ++ vs) ≡ got p (i + length us) vs
   pub pass : (vs : List ℕ) → Clean vs → Clean (us ++ vs)
@@ -303,7 +325,8 @@ module _ (k : ℕ) (apart : k ≡ 14 → ⊥) (p : ℤ) (inside : positionAllowe
         read =
             λ i vs.
             let next : suc (suc i) ≡ i + 2 = omega arith in
-            ap (λ (t : Bool). positionBy t k i (word 14 n ∷ word k m ∷ vs)) (eq-eqb (kind (word 14 n)) 14 (kind-of 14 n (b .1)))
+            ap (λ (t : Bool). positionBy t k i (word 14 n ∷ word k m ∷ vs))
+            (eq-eqb (kind (word 14 n)) 14 (kind-of 14 n (b .1)))
             ∙ ap (on-high k) (field-yes 14 i n (word k m ∷ vs) (b .1))
             ∙ ap (on-long n) (field-yes k (suc i) m vs (low-small p))
             ∙ (λ q. got (is q) (next q) vs);
@@ -324,7 +347,8 @@ module _ (k : ℕ) (apart : k ≡ 14 → ⊥) (p : ℤ) (inside : positionAllowe
       let us : List ℕ = positionWords k p in
       let nil = append-nil us in
       record {
-        read = ap (position k 0) (sym nil) ∙ stands .read 0 [] ∙ ap (λ (n : ℕ). got p n []) (let z : 0 + length us ≡ length us = omega arith in z);
+        read = ap (position k 0) (sym nil) ∙ stands .read 0 []
+            ∙ ap (λ (n : ℕ). got p n []) (let z : 0 + length us ≡ length us = omega arith in z);
         allowed = clean-none 0 us (subst Clean nil (stands .pass [] tt));
       }
 

@@ -19,7 +19,8 @@ pub before : {A B : Type 0} (m : Reader A) (f : A → Reader B) (i : ℕ) (ws : 
     → _>>=_ m f i ws ≡ got b k vs → Before m f i ws (got b k vs)
 before {A} {B} m f i ws b k vs = go (m i ws) refl
   where
-    go : (r : Reading A) → m i ws ≡ r → (elim r as (λ z. Reading B) [ got a j us ↦ f a j us | wrong p ↦ wrong p ]) ≡ got b k vs
+    go : (r : Reading A) → m i ws ≡ r
+        → (elim r as (λ z. Reading B) [ got a j us ↦ f a j us | wrong p ↦ wrong p ]) ≡ got b k vs
         → Before m f i ws (got b k vs)
     go (got a j us) e q = record { value = a; index = j; rest = us; first = e; then = q }
     go (wrong p) e q = absurd (let z : _≡_ {A = ℕ} 0 1 = cc in omega arith)

@@ -1,5 +1,6 @@
--- Walks over words, which find only whether they are of a form of `Grammar.antt` or which word is the first wrong one: what a walk finds is so
--- (`after-mask-judges`), and there is one first wrong word only (`one-first`).
+-- Walks over words, which find only whether they are of a form of `Grammar.antt` or which word
+-- is the first wrong one: what a walk finds is so (`after-mask-judges`), and there is one first
+-- wrong word only (`one-first`).
 use Prim.Native.Nat.{ℕ, zero, suc, _+_, _≤_, _<_}
 use native.Mathlib.Omega.{arith}
 use mathlib.Core.Path.{_≡_, refl, sym, ap, subst, _∙_}
@@ -13,7 +14,8 @@ use borrow.Author.Tests.{eq-eqb, eqb-true}
 use Rattle.model.specs.planning.Job.{setBits}
 use Rattle.model.specs.planning.Words.{kind, payload}
 use Rattle.model.specs.theorems.Spelling.{word}
-use Rattle.model.specs.theorems.Grammar.{Form, OfKind, Either, PositionForm, SwayForm, MovingForm, AxisForm, AxesForm, EndForm, AfterMask, Begins, FirstWrong}
+use Rattle.model.specs.theorems.Grammar.{Form, OfKind, Either, PositionForm, SwayForm, MovingForm, AxisForm}
+use Rattle.model.specs.theorems.Grammar.{AxesForm, EndForm, AfterMask, Begins, FirstWrong}
 
 -- ---- walks over words: only whether they are of a form, or the index of the first wrong one
 
@@ -56,12 +58,15 @@ module _ (k : ℕ) (c : Walk) (f : Form) (j : Judges c f) where
   of-kind-are : Begins (OfKind k f) []
   of-kind-are = (word k 0 ∷ j .some-are .0, (kind-of k, j .some-are .1))
 
-  later : (i w : ℕ) (ws : List ℕ) → kind w ≡ k → (o : Option ℕ) → Judged f (suc i) ws o → Judged (OfKind k f) i (w ∷ ws) o
+  later : (i w : ℕ) (ws : List ℕ) → kind w ≡ k → (o : Option ℕ) → Judged f (suc i) ws o
+      → Judged (OfKind k f) i (w ∷ ws) o
   later i w ws e none h = (e, h)
-  later i w ws e (some p) (q, (is, h)) = (suc q, (omega (arith, is), record { before = (h .before .0, (e, h .before .1)); here = by (h .here) }))
+  later i w ws e (some p) (q, (is, h)) =
+      (suc q, (omega (arith, is), record { before = (h .before .0, (e, h .before .1)); here = by (h .here) }))
     where
       by : ((q < length ws) × (Begins f (take (suc q) ws) → ⊥)) ⊎ ((q ≡ length ws) × (f ws → ⊥))
-          → ((suc q < suc (length ws)) × (Begins (OfKind k f) (w ∷ take (suc q) ws) → ⊥)) ⊎ ((suc q ≡ suc (length ws)) × (OfKind k f (w ∷ ws) → ⊥))
+          → ((suc q < suc (length ws)) × (Begins (OfKind k f) (w ∷ take (suc q) ws) → ⊥))
+          ⊎ ((suc q ≡ suc (length ws)) × (OfKind k f (w ∷ ws) → ⊥))
       by (inl (l, n)) = inl (omega (arith, l), λ b. n (b .0, b .1 .1))
       by (inr (l, n)) = inr (ap suc l, λ b. n (b .1))
 
@@ -72,8 +77,16 @@ module _ (k : ℕ) (c : Walk) (f : Form) (j : Judges c f) where
       at : (i w : ℕ) (ws : List ℕ) (b : Bool) → eqb (kind w) k ≡ b
           → Judged (OfKind k f) i (w ∷ ws) (elim b as (λ _. Option ℕ) [ true ↦ c (suc i) ws | false ↦ some i ])
       at i w ws true e = later i w ws (eqb-true (kind w) k e) (c (suc i) ws) (j .judged (suc i) ws)
-      at i w ws false e =
-          (0, (omega arith, record { before = of-kind-are; here = inl (omega arith, λ b. true≢false (sym (eq-eqb (kind w) k (b .1 .0)) ∙ e)) }))
+      at i w ws false e = (
+        0,
+        (
+          omega arith,
+          record {
+            before = of-kind-are;
+            here = inl (omega arith, λ b. true≢false (sym (eq-eqb (kind w) k (b .1 .0)) ∙ e));
+          },
+        ),
+      )
 
       go : (i : ℕ) (ws : List ℕ) → Judged (OfKind k f) i ws (ofKind k c i ws)
       go i [] = (0, (omega arith, record { before = of-kind-are; here = inr (refl, λ b. b) }))
@@ -92,12 +105,16 @@ other-either k f g a b w ws e (inr h) = b w ws e h
 
 -- a word of kind k decides between two forms, of which only the first begins with one
 module _ (k : ℕ) (a b : Walk) (f g : Form) (ja : Judges a (OfKind k f)) (jb : Judges b g) (apart : Shuns k g) where
-  first-form : (i w : ℕ) (ws : List ℕ) → kind w ≡ k → (o : Option ℕ) → Judged (OfKind k f) i (w ∷ ws) o → Judged (Either (OfKind k f) g) i (w ∷ ws) o
+  first-form : (i w : ℕ) (ws : List ℕ) → kind w ≡ k → (o : Option ℕ) → Judged (OfKind k f) i (w ∷ ws) o
+      → Judged (Either (OfKind k f) g) i (w ∷ ws) o
   first-form i w ws e none h = inl h
-  first-form i w ws e (some p) (q, (is, h)) = (q, (is, record { before = (h .before .0, inl (h .before .1)); here = by (h .here) }))
+  first-form i w ws e (some p) (q, (is, h)) =
+      (q, (is, record { before = (h .before .0, inl (h .before .1)); here = by (h .here) }))
     where
-      by : ((q < suc (length ws)) × (Begins (OfKind k f) (w ∷ take q ws) → ⊥)) ⊎ ((q ≡ suc (length ws)) × (OfKind k f (w ∷ ws) → ⊥))
-          → ((q < suc (length ws)) × (Begins (Either (OfKind k f) g) (w ∷ take q ws) → ⊥)) ⊎ ((q ≡ suc (length ws)) × (Either (OfKind k f) g (w ∷ ws) → ⊥))
+      by : ((q < suc (length ws)) × (Begins (OfKind k f) (w ∷ take q ws) → ⊥))
+          ⊎ ((q ≡ suc (length ws)) × (OfKind k f (w ∷ ws) → ⊥))
+          → ((q < suc (length ws)) × (Begins (Either (OfKind k f) g) (w ∷ take q ws) → ⊥))
+          ⊎ ((q ≡ suc (length ws)) × (Either (OfKind k f) g (w ∷ ws) → ⊥))
       by (inl (l, n)) = inl (l, λ t. none-of (t .0) (t .1))
         where
           none-of : (vs : List ℕ) → Either (OfKind k f) g (w ∷ (take q ws ++ vs)) → ⊥
@@ -109,12 +126,15 @@ module _ (k : ℕ) (a b : Walk) (f g : Form) (ja : Judges a (OfKind k f)) (jb : 
           none-of (inl t) = n t
           none-of (inr t) = apart w ws e t
 
-  second-form : (i w : ℕ) (ws : List ℕ) → (kind w ≡ k → ⊥) → (o : Option ℕ) → Judged g i (w ∷ ws) o → Judged (Either (OfKind k f) g) i (w ∷ ws) o
+  second-form : (i w : ℕ) (ws : List ℕ) → (kind w ≡ k → ⊥) → (o : Option ℕ) → Judged g i (w ∷ ws) o
+      → Judged (Either (OfKind k f) g) i (w ∷ ws) o
   second-form i w ws e none h = inr h
-  second-form i w ws e (some p) (q, (is, h)) = (q, (is, record { before = (h .before .0, inr (h .before .1)); here = by (h .here) }))
+  second-form i w ws e (some p) (q, (is, h)) =
+      (q, (is, record { before = (h .before .0, inr (h .before .1)); here = by (h .here) }))
     where
       by : ((q < suc (length ws)) × (Begins g (w ∷ take q ws) → ⊥)) ⊎ ((q ≡ suc (length ws)) × (g (w ∷ ws) → ⊥))
-          → ((q < suc (length ws)) × (Begins (Either (OfKind k f) g) (w ∷ take q ws) → ⊥)) ⊎ ((q ≡ suc (length ws)) × (Either (OfKind k f) g (w ∷ ws) → ⊥))
+          → ((q < suc (length ws)) × (Begins (Either (OfKind k f) g) (w ∷ take q ws) → ⊥))
+          ⊎ ((q ≡ suc (length ws)) × (Either (OfKind k f) g (w ∷ ws) → ⊥))
       by (inl (l, n)) = inl (l, λ t. none-of (t .0) (t .1))
         where
           none-of : (vs : List ℕ) → Either (OfKind k f) g (w ∷ (take q ws ++ vs)) → ⊥
@@ -128,7 +148,8 @@ module _ (k : ℕ) (a b : Walk) (f g : Form) (ja : Judges a (OfKind k f)) (jb : 
 
   no-words : (i : ℕ) (o : Option ℕ) → Judged g i [] o → Judged (Either (OfKind k f) g) i [] o
   no-words i none h = inr h
-  no-words i (some p) (q, (is, h)) = (q, (is, record { before = (h .before .0, inr (h .before .1)); here = by (h .here) }))
+  no-words i (some p) (q, (is, h)) =
+      (q, (is, record { before = (h .before .0, inr (h .before .1)); here = by (h .here) }))
     where
       by : ((q < 0) × (Begins g [] → ⊥)) ⊎ ((q ≡ 0) × (g [] → ⊥))
           → ((q < 0) × (Begins (Either (OfKind k f) g) [] → ⊥)) ⊎ ((q ≡ 0) × (Either (OfKind k f) g [] → ⊥))
@@ -144,9 +165,11 @@ module _ (k : ℕ) (a b : Walk) (f g : Form) (ja : Judges a (OfKind k f)) (jb : 
   of-either = record { judged = go; some-are = (jb .some-are .0, inr (jb .some-are .1)) }
     where
       at : (i w : ℕ) (ws : List ℕ) (t : Bool) → eqb (kind w) k ≡ t
-          → Judged (Either (OfKind k f) g) i (w ∷ ws) (elim t as (λ _. Option ℕ) [ true ↦ a i (w ∷ ws) | false ↦ b i (w ∷ ws) ])
+          → Judged (Either (OfKind k f) g) i (w ∷ ws)
+          (elim t as (λ _. Option ℕ) [ true ↦ a i (w ∷ ws) | false ↦ b i (w ∷ ws) ])
       at i w ws true e = first-form i w ws (eqb-true (kind w) k e) (a i (w ∷ ws)) (ja .judged i (w ∷ ws))
-      at i w ws false e = second-form i w ws (λ s. true≢false (sym (eq-eqb (kind w) k s) ∙ e)) (b i (w ∷ ws)) (jb .judged i (w ∷ ws))
+      at i w ws false e =
+          second-form i w ws (λ s. true≢false (sym (eq-eqb (kind w) k s) ∙ e)) (b i (w ∷ ws)) (jb .judged i (w ∷ ws))
 
       go : (i : ℕ) (ws : List ℕ) → Judged (Either (OfKind k f) g) i ws (either k a b i ws)
       go i [] = no-words i (b i []) (jb .judged i [])
@@ -160,7 +183,8 @@ ends-judges = record { judged = go; some-are = are }
     are : Begins EndForm []
     are = (word 15 0 ∷ [], (kind-of 15, (refl, refl)))
 
-    is-end : (w : ℕ) (a b : Bool) → eqb (kind w) 15 ≡ a → eqb (payload w) 0 ≡ b → a && b ≡ true → (kind w ≡ 15) × (payload w ≡ 0)
+    is-end : (w : ℕ) (a b : Bool) → eqb (kind w) 15 ≡ a → eqb (payload w) 0 ≡ b → a && b ≡ true
+        → (kind w ≡ 15) × (payload w ≡ 0)
     is-end w true true s t e = (eqb-true (kind w) 15 s, eqb-true (payload w) 0 t)
     is-end w true false s t e = absurd (true≢false (sym e))
     is-end w false b s t e = absurd (true≢false (sym e))
@@ -172,17 +196,24 @@ ends-judges = record { judged = go; some-are = are }
     one : (i w : ℕ) (t : Bool) → eqb (kind w) 15 && eqb (payload w) 0 ≡ t
         → Judged EndForm i (w ∷ []) (elim t as (λ _. Option ℕ) [ true ↦ none | false ↦ some i ])
     one i w true e = let h = is-end w (eqb (kind w) 15) (eqb (payload w) 0) refl refl e in (h .0, (h .1, refl))
-    one i w false e = (0, (omega arith, record { before = are; here = inl (omega arith, λ b. no-end w e (b .1 .0) (b .1 .1 .0)) }))
+    one i w false e =
+        (0, (omega arith, record { before = are; here = inl (omega arith, λ b. no-end w e (b .1 .0) (b .1 .1 .0)) }))
 
     more : (i w u : ℕ) (ws : List ℕ) (t : Bool) → eqb (kind w) 15 && eqb (payload w) 0 ≡ t
         → Judged EndForm i (w ∷ u ∷ ws) (elim t as (λ _. Option ℕ) [ true ↦ some (suc i) | false ↦ some i ])
     more i w u ws true e =
-        let h = is-end w (eqb (kind w) 15) (eqb (payload w) 0) refl refl e in
-        (1, (omega arith, record { before = ([], (h .0, (h .1, refl))); here = inl (omega arith, λ b. full (b .0) (b .1 .1 .1)) }))
+        let h = is-end w (eqb (kind w) 15) (eqb (payload w) 0) refl refl e in (
+          1,
+          (
+            omega arith,
+            record { before = ([], (h .0, (h .1, refl))); here = inl (omega arith, λ b. full (b .0) (b .1 .1 .1)) },
+          ),
+        )
       where
         full : (vs : List ℕ) → (u ∷ vs) ≡ [] → ⊥
         full vs e = let z : _≡_ {A = ℕ} 0 1 = cc in omega arith
-    more i w u ws false e = (0, (omega arith, record { before = are; here = inl (omega arith, λ b. no-end w e (b .1 .0) (b .1 .1 .0)) }))
+    more i w u ws false e =
+        (0, (omega arith, record { before = are; here = inl (omega arith, λ b. no-end w e (b .1 .0) (b .1 .1 .0)) }))
 
     go : (i : ℕ) (ws : List ℕ) → Judged EndForm i ws (ends i ws)
     go i [] = (0, (omega arith, record { before = are; here = inr (refl, λ b. b) }))
@@ -202,7 +233,8 @@ movingWalk c = either 11 (ofKind 11 (ofKind 12 c)) c
 
 unfoldable pub axisWalk : Walk → Walk
 axisWalk c =
-    positionWalk 3 (ofKind 4 (ofKind 5 (ofKind 6 (ofKind 7 (ofKind 8 (swayWalk (positionWalk 9 (ofKind 10 (movingWalk c)))))))))
+    positionWalk 3
+    (ofKind 4 (ofKind 5 (ofKind 6 (ofKind 7 (ofKind 8 (swayWalk (positionWalk 9 (ofKind 10 (movingWalk c)))))))))
 
 unfoldable pub axesWalk : List ℕ → Walk → Walk
 axesWalk [] c = c
@@ -211,26 +243,30 @@ axesWalk (n ∷ ns) c = axisWalk (axesWalk ns c)
 unfoldable pub afterMaskWalk : ℕ → Walk
 afterMaskWalk m = ofKind 2 (axesWalk (setBits m) ends)
 
-position-judges : (k : ℕ) (c : Walk) (f : Form) → (14 ≡ k → ⊥) → Judges c f → Judges (positionWalk k c) (PositionForm k f)
+position-judges : (k : ℕ) (c : Walk) (f : Form) → (14 ≡ k → ⊥) → Judges c f
+    → Judges (positionWalk k c) (PositionForm k f)
 position-judges k c f n j =
     let one = of-kind k c f j in
     of-either 14 _ _ (OfKind k f) (OfKind k f) (of-kind 14 (ofKind k c) (OfKind k f) one) one (other-kind 14 k f n)
 
 position-shuns : (l k : ℕ) (f : Form) → (l ≡ 14 → ⊥) → (l ≡ k → ⊥) → Shuns l (PositionForm k f)
-position-shuns l k f a b = other-either l (OfKind 14 (OfKind k f)) (OfKind k f) (other-kind l 14 (OfKind k f) a) (other-kind l k f b)
+position-shuns l k f a b =
+    other-either l (OfKind 14 (OfKind k f)) (OfKind k f) (other-kind l 14 (OfKind k f) a) (other-kind l k f b)
 
 sway-judges : (c : Walk) (f : Form) → Shuns 13 f → Judges c f → Judges (swayWalk c) (SwayForm f)
 sway-judges c f n j = of-either 13 (ofKind 13 c) c f f (of-kind 13 c f j) j n
 
 moving-judges : (c : Walk) (f : Form) → Shuns 11 f → Judges c f → Judges (movingWalk c) (MovingForm f)
-moving-judges c f n j = of-either 11 (ofKind 11 (ofKind 12 c)) c (OfKind 12 f) f (of-kind 11 (ofKind 12 c) (OfKind 12 f) (of-kind 12 c f j)) j n
+moving-judges c f n j = of-either 11 (ofKind 11 (ofKind 12 c)) c (OfKind 12 f) f
+    (of-kind 11 (ofKind 12 c) (OfKind 12 f) (of-kind 12 c f j)) j n
 
 axis-judges : (c : Walk) (f : Form) → Shuns 11 f → Judges c f → Judges (axisWalk c) (AxisForm f)
 unfolding axisWalk
 axis-judges c f n j =
     position-judges 3 _ _ (λ e. omega (arith, e))
     (of-kind 4 _ _ (of-kind 5 _ _ (of-kind 6 _ _ (of-kind 7 _ _ (of-kind 8 _ _
-    (sway-judges _ (PositionForm 9 (OfKind 10 (MovingForm f))) (position-shuns 13 9 (OfKind 10 (MovingForm f)) (λ e. omega (arith, e)) (λ e. omega (arith, e)))
+    (sway-judges _ (PositionForm 9 (OfKind 10 (MovingForm f)))
+    (position-shuns 13 9 (OfKind 10 (MovingForm f)) (λ e. omega (arith, e)) (λ e. omega (arith, e)))
     (position-judges 9 _ _ (λ e. omega (arith, e)) (of-kind 10 _ _ (moving-judges c f n j)))))))))
 
 axes-shun : (ns : List ℕ) → Shuns 11 (AxesForm ns EndForm)

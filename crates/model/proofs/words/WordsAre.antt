@@ -1,5 +1,5 @@
--- What words are, in the method's words: the decoder gives the case that they are, and no other (`words-are`). By it each call says what it says of what
--- it was given (`by-input`).
+-- What words are, in the method's words: the decoder gives the case that they are, and no other
+-- (`words-are`). By it each call says what it says of what it was given (`by-input`).
 use Prim.Native.Nat.{ℕ, _≤_, _<_}
 use mathlib.Core.Path.{_≡_, refl, sym, ap, subst, _∙_}
 use mathlib.Core.Bool.{Bool, true, false, not, _&&_}
@@ -15,7 +15,8 @@ use Rattle.model.specs.planning.Words.{Decoded, noMask, badWord, badLong
 use Rattle.model.specs.planning.Admission.{Input, words, typed, jobRead, inputJob}
 use Rattle.model.specs.theorems.Grammar.{WellFormed}
 use Rattle.model.specs.theorems.Spelling.{SpellsJob, OneSpelling}
-use Rattle.model.specs.theorems.Verdict.{MaskOutside, MaskWordWrong, FirstLongWrong, WordsAre, DecodesAre, ByInput, words1, words2, words14, wordsJob, typed1, typedJobs}
+use Rattle.model.specs.theorems.Verdict.{MaskOutside, MaskWordWrong, FirstLongWrong, WordsAre, DecodesAre}
+use Rattle.model.specs.theorems.Verdict.{ByInput, words1, words2, words14, wordsJob, typed1, typedJobs}
 use Rattle.model.proofs.words.LongWrong.{first-long-wrong, none-long-wrong}
 use Rattle.model.proofs.words.Walks.{none-wrong, one-first}
 use Rattle.model.proofs.words.FirstWrongWord.{MaskWord, read-through, first-wrong-word}
@@ -66,7 +67,8 @@ not-wrong w ws m (inr (inr z)) = omega (arith, m .1 .1, z)
 
 -- ---- what words are, by what the decoder gives
 
-by-long : (w : ℕ) (ws : List ℕ) (j : Job) (i : ℕ) (rest : List ℕ) → MaskWord w → afterMask (payload w) 1 ws ≡ got j i rest
+by-long : (w : ℕ) (ws : List ℕ) (j : Job) (i : ℕ) (rest : List ℕ) → MaskWord w
+    → afterMask (payload w) 1 ws ≡ got j i rest
     → (o : Option ℕ) → firstBadLong 0 (w ∷ ws) ≡ o → WordsAre (w ∷ ws) (spelled o j)
 by-long w ws j i rest m e (some p) f = (read-through w ws m j i rest e, first-long-wrong p (w ∷ ws) f)
 by-long w ws j i rest m e none f =
@@ -75,12 +77,14 @@ by-long w ws j i rest m e none f =
       (none-long-wrong 0 (w ∷ ws) f, subst (λ (v : ℕ). SpellsJob (v ∷ ws) j) (sym (word-is w 1 (m .0))) spells),
     )
 
-by-reading : (w : ℕ) (ws : List ℕ) → MaskWord w → (r : Reading Job) → afterMask (payload w) 1 ws ≡ r → WordsAre (w ∷ ws) (decided (w ∷ ws) r)
+by-reading : (w : ℕ) (ws : List ℕ) → MaskWord w → (r : Reading Job) → afterMask (payload w) 1 ws ≡ r
+    → WordsAre (w ∷ ws) (decided (w ∷ ws) r)
 by-reading w ws m (got j i rest) e = by-long w ws j i rest m e (firstBadLong 0 (w ∷ ws)) refl
 by-reading w ws m (wrong p) e = record { mask = not-wrong w ws m; first = first-wrong-word w ws m p e }
 
 by-mask : (w : ℕ) (ws : List ℕ) (b : Bool) → (T b → MaskWord w) → (T (not b) → MaskWordWrong (w ∷ ws))
-    → WordsAre (w ∷ ws) (elim b as (λ _. Decoded) [ true ↦ decided (w ∷ ws) (afterMask (payload w) 1 ws) | false ↦ noMask ])
+    → WordsAre (w ∷ ws)
+    (elim b as (λ _. Decoded) [ true ↦ decided (w ∷ ws) (afterMask (payload w) 1 ws) | false ↦ noMask ])
 by-mask w ws true g f = by-reading w ws (g tt) (afterMask (payload w) 1 ws) refl
 by-mask w ws false g f = f tt
 
@@ -112,10 +116,12 @@ one-case ws (badWord p) (job k) a b = absurd (none-wrong WellFormed ws p (b .0) 
 one-case ws (badLong p) noMask a b = absurd (well-masked ws (a .0) b)
 one-case ws (badLong p) (badWord q) a b = absurd (none-wrong WellFormed ws q (a .0) (b .first))
 one-case ws (badLong p) (badLong q) a b = ap badLong (one-long ws p q (a .1) (b .1))
-one-case ws (badLong p) (job k) a b = absurd (b .1 .0 p (a .1 .high) (a .1 .low) (a .1 .here) (a .1 .next) (a .1 .wrong))
+one-case ws (badLong p) (job k) a b =
+    absurd (b .1 .0 p (a .1 .high) (a .1 .low) (a .1 .here) (a .1 .next) (a .1 .wrong))
 one-case ws (job j) noMask a b = absurd (well-masked ws (a .0) b)
 one-case ws (job j) (badWord q) a b = absurd (none-wrong WellFormed ws q (a .0) (b .first))
-one-case ws (job j) (badLong q) a b = absurd (a .1 .0 q (b .1 .high) (b .1 .low) (b .1 .here) (b .1 .next) (b .1 .wrong))
+one-case ws (job j) (badLong q) a b =
+    absurd (a .1 .0 q (b .1 .high) (b .1 .low) (b .1 .here) (b .1 .next) (b .1 .wrong))
 one-case ws (job j) (job k) a b = sym (spelled-reads ws j (a .1 .1)) ∙ spelled-reads ws k (b .1 .1)
 
 pub words-are : DecodesAre
@@ -157,7 +163,8 @@ module _ (R : ℕ → ℕ → Type 0) (P : Job → Type 0) where
       go (job j) a h = wordsJob ws j a h
   by-input (typed t) h = go (goodMask (t .mask)) (mask-inside (t .mask)) (mask-outside (t .mask)) h
     where
-      go : (b : Bool) → (T b → (1 ≤ t .mask) × (t .mask ≤ 63)) → (T (not b) → MaskOutside (t .mask)) → SaysTyped (jobOf t) b → ByInput R P (typed t)
+      go : (b : Bool) → (T b → (1 ≤ t .mask) × (t .mask ≤ 63)) → (T (not b) → MaskOutside (t .mask))
+          → SaysTyped (jobOf t) b → ByInput R P (typed t)
       go true f g h = typedJobs t (f tt .0) (f tt .1) h
       go false f g h = typed1 t (g tt) h
 
@@ -179,7 +186,8 @@ of-14 : OfWords 14
 of-14 = record { not-0 = λ e. omega (arith, e); not-8 = λ e. omega (arith, e); not-10 = λ e. omega (arith, e) }
 
 module _ (R S : ℕ → ℕ → Type 0) (P Q : Job → Type 0) where
-  pub said-too : (q : Input) → ((n p : ℕ) → OfWords n → R n p → S n p) → ((j : Job) → inputJob q ≡ j → P j → Q j) → ByInput R P q → ByInput S Q q
+  pub said-too : (q : Input) → ((n p : ℕ) → OfWords n → R n p → S n p) → ((j : Job) → inputJob q ≡ j → P j → Q j)
+      → ByInput R P q → ByInput S Q q
   said-too q f g (words1 ws a r) = words1 ws a (f 1 0 of-1 r)
   said-too q f g (words2 ws p a r) = words2 ws p a (f 2 p of-2 r)
   said-too q f g (words14 ws p a r) = words14 ws p a (f 14 p of-14 r)
@@ -188,7 +196,8 @@ module _ (R S : ℕ → ℕ → Type 0) (P Q : Job → Type 0) where
   said-too q f g (typedJobs t a b v) = typedJobs t a b (g (jobOf t) refl v)
 
 module _ (R : ℕ → ℕ → Type 0) (P : Job → Type 0) (A : Type 0) where
-  pub either-said : (q : Input) → ((n p : ℕ) → OfWords n → R n p → A) → ((j : Job) → inputJob q ≡ j → P j → A) → ByInput R P q → A
+  pub either-said : (q : Input) → ((n p : ℕ) → OfWords n → R n p → A)
+      → ((j : Job) → inputJob q ≡ j → P j → A) → ByInput R P q → A
   either-said q f g (words1 ws a r) = f 1 0 of-1 r
   either-said q f g (words2 ws p a r) = f 2 p of-2 r
   either-said q f g (words14 ws p a r) = f 14 p of-14 r

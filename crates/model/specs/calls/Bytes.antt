@@ -1,5 +1,5 @@
--- The job words of a program's input bytes (docs/METHOD.md, section 6): little-endian, and one to three bytes left over are one
--- word of kind 0, which is wrong at every place. Assumes nothing.
+-- The job words of a program's input bytes (docs/METHOD.md, section 6): little-endian, and one to
+-- three bytes left over are one word of kind 0, which is wrong at every place. Assumes nothing.
 use Prim.Native.Nat.{ℕ, _+_, _*_}
 use mathlib.Core.List.{List, [], _∷_}
 

@@ -1,4 +1,5 @@
--- The converter (docs/METHOD.md, 8.3): from the words of an old job, whose fixed targets may fly, to words of a job whose fixed targets are all at rest.
+-- The converter (docs/METHOD.md, 8.3): from the words of an old job, whose fixed targets may fly,
+-- to words of a job whose fixed targets are all at rest.
 use Prim.Native.Nat.{ℕ, zero, suc}
 use mathlib.Core.Path.{_≡_}
 use mathlib.Core.Bool.{Bool, true, false, not, _&&_}
@@ -13,8 +14,10 @@ use Rattle.model.specs.planning.Quantities.{asMoving}
 use Rattle.model.specs.planning.Job.{Job, JobAxis}
 use Rattle.model.specs.planning.Words.{kind, payload}
 use Rattle.model.specs.theorems.Spelling.{word}
-use Rattle.model.specs.planning.Refusals.{limitsRefused, dampingRefused, blendRefused, swayRefused, valuesRefused, accelerationRefused, flies}
-use Rattle.model.specs.planning.Admission.{words, Tests, axisRefusals, Admission, refusedAt, admitted, Rules, jobAdmission, admission}
+use Rattle.model.specs.planning.Refusals.{limitsRefused, dampingRefused, blendRefused, swayRefused, valuesRefused}
+use Rattle.model.specs.planning.Refusals.{accelerationRefused, flies}
+use Rattle.model.specs.planning.Admission.{words, Tests, axisRefusals, Admission, refusedAt, admitted, Rules}
+use Rattle.model.specs.planning.Admission.{jobAdmission, admission}
 use Rattle.model.specs.planning.Outcome.{Outcome, callBy, call}
 use Rattle.model.specs.theorems.Verdict.{ByInput}
 
@@ -22,7 +25,8 @@ use Rattle.model.specs.theorems.Verdict.{ByInput}
 
 abbrev pub oldRefusals : Tests
 oldRefusals =
-    (4, limitsRefused) ∷ (12, dampingRefused) ∷ (5, blendRefused) ∷ (15, swayRefused) ∷ (6, valuesRefused) ∷ (16, accelerationRefused) ∷ []
+    (4, limitsRefused) ∷ (12, dampingRefused) ∷ (5, blendRefused) ∷ (15, swayRefused) ∷ (6, valuesRefused)
+    ∷ (16, accelerationRefused) ∷ []
 
 abbrev pub oldRules : Rules
 oldRules = record { reads = λ j. j; tests = λ asked. oldRefusals }
@@ -41,7 +45,8 @@ begins k (w ∷ ws) = eqb (kind w) k
 abbrev pub flyingWord : ℕ → List ℕ → Bool
 flyingWord w ws = eqb (kind w) 10 && (not (eqb (payload w) 0) && not (begins 11 ws))
 
--- right after such a word come an acceleration of 0 and the asked arrival as tick; all else is copied
+-- right after such a word come an acceleration of 0 and the asked arrival as tick; all else is
+-- copied
 abbrev pub converted : ℕ → List ℕ → List ℕ
 converted asked [] = []
 converted asked (w ∷ ws) =
@@ -50,7 +55,8 @@ converted asked (w ∷ ws) =
       | false ↦ w ∷ converted asked ws
     ]
 
--- ---- what the converter gives: number and place of its answer, and the lent words as it leaves them
+-- ---- what the converter gives: number and place of its answer, and the lent words as it leaves
+-- them
 
 pub record Conversion : Type 0 where
   pub number : ℕ
@@ -61,7 +67,8 @@ pub record Conversion : Type 0 where
 abbrev pub unconverted : ℕ → ℕ → List ℕ → Conversion
 unconverted n p lent = record { number = n; place = p; words = lent }
 
--- too few lent words give 10 with the number needed as place; else number 0 with the number written, and later words stay
+-- too few lent words give 10 with the number needed as place; else number 0 with the
+-- number written, and later words stay
 abbrev pub written : List ℕ → List ℕ → Conversion
 written ws lent =
     elim (ltb (length lent) (length ws)) [
@@ -92,7 +99,8 @@ jobConversion j ws lent = conversionAfter ws lent (jobAdmission conversionRules 
 abbrev pub ConversionVerdict : List ℕ → List ℕ → Conversion → Type 0
 ConversionVerdict ws lent c = ByInput (λ n p. c ≡ unconverted n p lent) (λ j. c ≡ jobConversion j ws lent) (words ws)
 
--- ---- the job that the converted words are: a fixed target that flies is what it is read as for arrival n, a moving one of acceleration 0 at tick n
+-- ---- the job that the converted words are: a fixed target that flies is what it is read as for
+-- arrival n, a moving one of acceleration 0 at tick n
 
 abbrev pub convertedTarget : ℕ → Target → Target
 convertedTarget n (Fixed r) =
@@ -121,7 +129,8 @@ abbrev pub convertedAxes : ℕ → List JobAxis → List JobAxis
 convertedAxes n xs = map (λ x. record { number = x .number; axis = convertedAxis n (x .axis) }) xs
 
 abbrev pub convertedJob : Job → Job
-convertedJob j = record { mask = j .mask; asked = j .asked; axes = convertedAxes (j .asked) (j .axes); windows = j .windows }
+convertedJob j =
+    record { mask = j .mask; asked = j .asked; axes = convertedAxes (j .asked) (j .axes); windows = j .windows }
 
 -- ---- what is proved of every conversion that returns number 0, whatever table is lent for the job
 
@@ -129,10 +138,13 @@ convertedJob j = record { mask = j .mask; asked = j .asked; axes = convertedAxes
 abbrev pub writtenWords : List ℕ → List ℕ → List ℕ
 writtenWords ws lent = take (conversion ws lent .place) (conversion ws lent .words)
 
--- under the old rules they have the outcome of the old words: number, place, mask, arrival and every cell
+-- under the old rules they have the outcome of the old words: number, place, mask, arrival and
+-- every cell
 abbrev pub ConversionKept : Type 0
-ConversionKept = (ws lent : List ℕ) → conversion ws lent .number ≡ 0 → (cells : List ℤ) → oldOutcome (writtenWords ws lent) cells ≡ oldOutcome ws cells
+ConversionKept = (ws lent : List ℕ) → conversion ws lent .number ≡ 0 → (cells : List ℤ)
+    → oldOutcome (writtenWords ws lent) cells ≡ oldOutcome ws cells
 
 -- and planning gives them that outcome too
 abbrev pub ConversionPlans : Type 0
-ConversionPlans = (ws lent : List ℕ) → conversion ws lent .number ≡ 0 → (cells : List ℤ) → call (words (writtenWords ws lent)) cells ≡ oldOutcome ws cells
+ConversionPlans = (ws lent : List ℕ) → conversion ws lent .number ≡ 0 → (cells : List ℤ)
+    → call (words (writtenWords ws lent)) cells ≡ oldOutcome ws cells

@@ -1,5 +1,6 @@
--- Rows in parts (docs/METHOD.md, 4.8): a call for the rows from a first one on, as many whole rows as the lent table holds. The theorem
--- `parts-hold` says that they are rows of the table for which demand 3 holds, and `parts-make-the-table` that the parts put together are that table.
+-- Rows in parts (docs/METHOD.md, 4.8): a call for the rows from a first one on, as many whole rows
+-- as the lent table holds. The theorem `parts-hold` says that they are rows of the table for which
+-- demand 3 holds, and `parts-make-the-table` that the parts put together are that table.
 use Prim.Native.Nat.{ℕ, suc, _+_, _-_, _*_, _/_, _≤_, min}
 use mathlib.Core.Path.{_≡_}
 use mathlib.Core.Bool.{true, false}
@@ -17,13 +18,15 @@ use Rattle.model.specs.planning.Demand.{Demand3}
 abbrev pub partRows : ℕ → ℕ → ℕ → ℕ → ℕ
 partRows axes n k cells = min (cells / (3 * axes)) (suc n - k)
 
--- what a call for the rows from row k on gives: the answer before refusal 10, how many rows it writes, and the lent table as it leaves it
+-- what a call for the rows from row k on gives: the answer before refusal 10, how many rows it
+-- writes, and the lent table as it leaves it
 pub record PartOutcome : Type 0 where
   pub answer : Answer
   pub rows : ℕ
   pub cells : List ℤ
 
--- an accepted job's rows k, k + 1, .. stand in front, as many whole rows as the lent table holds, up to row N
+-- an accepted job's rows k, k + 1, .. stand in front, as many whole rows as the lent table holds,
+-- up to row N
 abbrev pub partAccepted : Answer → List Axis → ℕ → List ℤ → PartOutcome
 partAccepted a xs k lent =
     let c : ℕ = partRows (length xs) (a .arrival) k (length lent) in
@@ -41,12 +44,14 @@ partCall q k lent = partWith (answerOf q) (inputAxes q) k lent
 
 -- ---- the claim: the part is one of the table
 
--- o is what the call for the whole table gives: it is accepted with arrival n and meets demand 3, and c of its rows, from row k on, stand in front of the cells
+-- o is what the call for the whole table gives: it is accepted with arrival n and meets demand 3,
+-- and c of its rows, from row k on, stand in front of the cells
 pub record PartOf (q : Input) (n k c : ℕ) (cells : List ℤ) (o : Outcome) : Type 0 where
   pub number : o .number ≡ 0
   pub arrival : o .arrival ≡ n
   pub demand3 : Demand3 Forwards (inputAxes q) n (o .cells)
-  pub rows : take (3 * length (inputAxes q) * c) cells ≡ take (3 * length (inputAxes q) * c) (drop (3 * length (inputAxes q) * k) (o .cells))
+  pub rows : take (3 * length (inputAxes q) * c) cells
+      ≡ take (3 * length (inputAxes q) * c) (drop (3 * length (inputAxes q) * k) (o .cells))
 
 -- it holds of every call that returns number 0, for any table with room for all rows
 abbrev pub PartsHold : Type 0
@@ -55,7 +60,8 @@ PartsHold =
     → cellsNeeded (length (inputAxes q)) (answerOf q .arrival) ≤ length whole
     → PartOf q (answerOf q .arrival) k (partCall q k lent .rows) (partCall q k lent .cells) (call q whole)
 
--- ---- the parts put together: calls one after the other, each with a table of its own, of any size, and from the row after the last one that was written
+-- ---- the parts put together: calls one after the other, each with a table of its own, of any
+-- size, and from the row after the last one that was written
 
 -- the row after the last one that they write, from row k on
 abbrev pub nextRow : Input → ℕ → List (List ℤ) → ℕ
@@ -69,9 +75,12 @@ partsWritten q k (lent ∷ lents) =
     let p : PartOutcome = partCall q k lent in
     take (3 * length (inputAxes q) * p .rows) (p .cells) ++ partsWritten q (k + p .rows) lents
 
--- however rows 0 to N are cut into parts, the parts are the table that the call for all rows writes, and meet demand 3
+-- however rows 0 to N are cut into parts, the parts are the table that the call for all
+-- rows writes, and meet demand 3
 abbrev pub PartsMakeTheTable : Type 0
 PartsMakeTheTable =
-    (q : Input) (lents : List (List ℤ)) (whole : List ℤ) → answerOf q .number ≡ 0 → nextRow q 0 lents ≡ suc (answerOf q .arrival)
+    (q : Input) (lents : List (List ℤ)) (whole : List ℤ) → answerOf q .number ≡ 0
+    → nextRow q 0 lents ≡ suc (answerOf q .arrival)
     → length whole ≡ cellsNeeded (length (inputAxes q)) (answerOf q .arrival)
-    → (partsWritten q 0 lents ≡ call q whole .cells) × Demand3 Forwards (inputAxes q) (answerOf q .arrival) (partsWritten q 0 lents)
+    → (partsWritten q 0 lents ≡ call q whole .cells)
+    × Demand3 Forwards (inputAxes q) (answerOf q .arrival) (partsWritten q 0 lents)

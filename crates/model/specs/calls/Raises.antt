@@ -1,5 +1,6 @@
--- The smallest change that makes it (docs/METHOD.md, 8.2): the least raise of one limit alone, within its range, for which an axis reaches an
--- arrival; both raises of an axis in order; and the call. The theorem `raises-hold` says what an answer claims, by the existence of a list.
+-- The smallest change that makes it (docs/METHOD.md, 8.2): the least raise of one limit alone,
+-- within its range, for which an axis reaches an arrival; both raises of an axis in order; and the
+-- call. The theorem `raises-hold` says what an answer claims, by the existence of a list.
 use Prim.Native.Nat.{ℕ, _+_, _-_, _≤_, _<_}
 use mathlib.Core.Path.{_≡_}
 use mathlib.Core.Bool.{true, false}
@@ -61,7 +62,8 @@ raiseOf q x n = leastFrom (λ r. reachable (withLimit q (limitOf q x + r) x) n) 
 abbrev pub noRaises : AxisRaises
 noRaises = record { first = NoRaise; second = NoRaise }
 
--- the raise of M and that of L: the smaller first, M's if equal; one that does not exist is left out
+-- the raise of M and that of L: the smaller first, M's if equal; one that does not exist is left
+-- out
 abbrev pub inOrder : Option ℕ → Option ℕ → AxisRaises
 inOrder none none = noRaises
 inOrder (some m) none = record { first = AccelerationBy m; second = NoRaise }
@@ -77,7 +79,8 @@ raisesOf x n = inOrder (raiseOf Acceleration x n) (raiseOf Speed x n)
 
 -- ---- all axes of a job
 
--- those of the axes that do not reach n, lowest first, each put at its number; windows are not asked
+-- those of the axes that do not reach n, lowest first, each put at its number; windows are not
+-- asked
 abbrev pub raisesFrom : ℕ → List JobAxis → List AxisRaises → List AxisRaises
 raisesFrom n [] l = l
 raisesFrom n (x ∷ xs) l =
@@ -91,7 +94,8 @@ noneRaised = replicate 6 noRaises
 
 -- ---- the call
 
--- 8 brings the raises of the axes that do not reach the asked arrival, and no other number brings any
+-- 8 brings the raises of the axes that do not reach the asked arrival, and no other number brings
+-- any
 abbrev pub raisesWith : Answer → Job → RaisesAnswer
 raisesWith a j =
     record {
@@ -105,8 +109,8 @@ raisesCall q = raisesWith (answerOf q) (inputJob q)
 
 -- ---- what an answer says, by the existence of a list
 
--- Of a limit that is now l and may be at most `most`, Q k being that the limit k is enough: the raise is enough and no smaller one is; or no
--- limit of the range is enough.
+-- Of a limit that is now l and may be at most `most`, Q k being that the limit k is enough: the
+-- raise is enough and no smaller one is; or no limit of the range is enough.
 pub data RaiseIs (Q : ℕ → Type 0) (l most : ℕ) : Option ℕ → Type 0 where
   raise : (r : ℕ) → 1 ≤ r → l + r ≤ most → Q (l + r) → ((i : ℕ) → i < r → Q (l + i) → ⊥) → RaiseIs Q l most (some r)
   no-raise : ((i : ℕ) → l + i ≤ most → Q (l + i) → ⊥) → RaiseIs Q l most none
@@ -133,7 +137,8 @@ pub data Ordered : AxisRaises → Type 0 where
 
 -- the raises of an axis that does not reach n
 pub record RaisesSay (x : Axis) (n : ℕ) (r : AxisRaises) : Type 0 where
-  -- of each limit alone: the raise that is reported is enough and one less is not; where none is reported, no limit of the range is
+  -- of each limit alone: the raise that is reported is enough and one less is not; where none is
+  -- reported, no limit of the range is
   pub each : (q : Limit) → RaiseIs (λ k. Reachable (withLimit q k x) n) (limitOf q x) (highest q) (reported q r)
   pub ordered : Ordered r
 
@@ -147,12 +152,14 @@ Named a i = (a .number ≡ 8) × (bit (a .mask) i ≡ true)
 
 -- the answer to a job: each axis that is named has its raises, and no other entry has any
 pub record RaisesHold (j : Job) (r : RaisesAnswer) : Type 0 where
-  pub named : (x : JobAxis) → Among (j .axes) x → Named (r .answer) (x .number) → RaisesSay (x .axis) (j .asked) (raisesAt r (x .number))
+  pub named : (x : JobAxis) → Among (j .axes) x → Named (r .answer) (x .number)
+      → RaisesSay (x .axis) (j .asked) (raisesAt r (x .number))
   pub others : (i : ℕ) → (Named (r .answer) i → ⊥) → raisesAt r i ≡ noRaises
 
 -- ---- what each number says
 
--- The number of a job is that of a call for its table, in its named case and by the existence of a list: a call with no cell lent, 10 being read as number 0.
+-- The number of a job is that of a call for its table, in its named case and by the existence of a
+-- list: a call with no cell lent, 10 being read as number 0.
 pub record RaisesVerdict (j : Job) (r : RaisesAnswer) : Type 0 where
   pub outcome : Outcome
   pub planned : Verdict Forwards j [] outcome

@@ -1,5 +1,6 @@
--- Planning between servo turns (docs/METHOD.md, 8.4): the search for a common arrival from a first candidate on, with a budget of candidates, and its
--- call. What a report says, and what calls that go on from spent come to.
+-- Planning between servo turns (docs/METHOD.md, 8.4): the search for a common arrival from a
+-- first candidate on, with a budget of candidates, and its call. What a report says, and what
+-- calls that go on from spent come to.
 use Prim.Native.Nat.{ℕ, suc, _+_, _-_, _≤_, _<_}
 use mathlib.Core.Path.{_≡_}
 use mathlib.Core.Bool.{Bool, true, false, _&&_}
@@ -16,7 +17,8 @@ use Rattle.model.specs.declared.SearchReport.{SearchReport}
 use Rattle.model.specs.declared.SearchAnswer.{SearchAnswer}
 use Rattle.model.specs.planning.Job.{Job, axesOf}
 use Rattle.model.specs.planning.Refusals.{lastTick}
-use Rattle.model.specs.planning.Admission.{Input, axisRefusals, numbersOf, OneOf, Admission, refusedAt, admitted, Rules, admission}
+use Rattle.model.specs.planning.Admission.{Input, axisRefusals, numbersOf, OneOf, Admission, refusedAt, admitted}
+use Rattle.model.specs.planning.Admission.{Rules, admission}
 use Rattle.model.specs.planning.Outcome.{leastFrom, arrives, refuse, accept, cellsNeeded, jobOutcome}
 use Rattle.model.specs.theorems.Verdict.{Arrives, Passing, ByInput}
 use Rattle.model.specs.planning.Demand.{Demand3}
@@ -31,7 +33,8 @@ candidates first = suc lastTick - first
 abbrev pub withinBudget : ℕ → ℕ → ℕ
 withinBudget budget first = elim (ltb budget (candidates first)) [ true ↦ budget | false ↦ candidates first ]
 
--- Nothing was found. Where a candidate is left the budget is spent, and all of it was tried; else there is none, and all that were left were tried.
+-- Nothing was found. Where a candidate is left the budget is spent, and all of it was tried; else
+-- there is none, and all that were left were tried.
 abbrev pub notFound : ℕ → ℕ → Bool → SearchReport
 notFound first budget true = record { report = Spent (first + budget); tried = budget }
 notFound first budget false = record { report = Nothing; tried = candidates first }
@@ -49,7 +52,8 @@ searchFrom test first budget = reportOf first budget (leastFrom test first (with
 
 -- a refusal: nothing is tried
 abbrev pub refuseSearch : ℕ → ℕ → SearchAnswer
-refuseSearch number place = record { number = number; place = place; mask = 0; arrival = 0; report = Nothing; tried = 0 }
+refuseSearch number place =
+    record { number = number; place = place; mask = 0; arrival = 0; report = Nothing; tried = 0 }
 
 -- the tick found, or 0
 abbrev pub foundTick : Report → ℕ
@@ -61,13 +65,17 @@ abbrev pub searchAnswer : ℕ → SearchReport → SearchAnswer
 searchAnswer mask s =
     record { number = 0; place = 0; mask = mask; arrival = foundTick (s .report); report = s .report; tried = s .tried }
 
--- 18, a first candidate of 0 or above 4,097; or the search for a tick that every axis reaches and that fits a window where the job brings some
+-- 18, a first candidate of 0 or above 4,097; or the search for a tick that every axis reaches and
+-- that fits a window where the job brings some
 abbrev pub firstAllowed : ℕ → Bool
 firstAllowed first = ltb 0 first && leb first (suc lastTick)
 
 abbrev pub firstChecked : Job → ℕ → ℕ → SearchAnswer
 firstChecked j first budget =
-    elim (firstAllowed first) [ true ↦ searchAnswer (j .mask) (searchFrom (arrives j) first budget) | false ↦ refuseSearch 18 0 ]
+    elim (firstAllowed first) [
+      | true ↦ searchAnswer (j .mask) (searchFrom (arrives j) first budget)
+      | false ↦ refuseSearch 18 0
+    ]
 
 -- a job with another asked arrival
 abbrev pub asking : ℕ → Job → Job
@@ -93,25 +101,36 @@ undivided q first = searchCall q first lastTick
 -- an answer after k candidates that were tried before
 abbrev pub after : ℕ → SearchAnswer → SearchAnswer
 after k a =
-    record { number = a .number; place = a .place; mask = a .mask; arrival = a .arrival; report = a .report; tried = k + a .tried }
+    record {
+      number = a .number;
+      place = a .place;
+      mask = a .mask;
+      arrival = a .arrival;
+      report = a .report;
+      tried = k + a .tried;
+    }
 
--- Calls with one budget after the other, each from the next candidate of the one before, as long as they are spent: the last answer, with the sum of what was
--- tried. Past the last budget a call with budget 0, which tries nothing, hands its candidate back.
+-- Calls with one budget after the other, each from the next candidate of the one before, as long as
+-- they are spent: the last answer, with the sum of what was tried. Past the last budget a call with
+-- budget 0, which tries nothing, hands its candidate back.
 unfoldable pub continued : Input → List ℕ → ℕ → SearchAnswer
 continued q [] first = searchCall q first 0
 continued q (b ∷ bs) first =
     let a : SearchAnswer = searchCall q first b in
     elim (a .report) [ Found n ↦ a | Spent next ↦ after (a .tried) (continued q bs next) | Nothing ↦ a ]
 
--- What they come to: the answer of one undivided search; or they are spent, and one undivided search is what they tried and then one from their next candidate.
+-- What they come to: the answer of one undivided search; or they are spent, and one undivided
+-- search is what they tried and then one from their next candidate.
 pub data Continues (q : Input) (first : ℕ) (a : SearchAnswer) : Type 0 where
   ended : a ≡ undivided q first → Continues q first a
-  goesOn : (next : ℕ) → next ≤ 4096 → next ≡ first + a .tried → a .report ≡ Spent next → undivided q first ≡ after (a .tried) (undivided q next)
+  goesOn : (next : ℕ) → next ≤ 4096 → next ≡ first + a .tried → a .report ≡ Spent next
+      → undivided q first ≡ after (a .tried) (undivided q next)
       → Continues q first a
 
 -- whatever the budgets are, of every search that is not refused
 abbrev pub ContinuingIsUndivided : Type 0
-ContinuingIsUndivided = (q : Input) (first : ℕ) (budgets : List ℕ) → undivided q first .number ≡ 0 → Continues q first (continued q budgets first)
+ContinuingIsUndivided = (q : Input) (first : ℕ) (budgets : List ℕ) → undivided q first .number ≡ 0
+    → Continues q first (continued q budgets first)
 
 abbrev pub AtLeast1 : List ℕ → Type 0
 AtLeast1 [] = Unit
@@ -120,7 +139,8 @@ AtLeast1 (b ∷ bs) = (1 ≤ b) × AtLeast1 bs
 -- how many calls that are, the one with budget 0 past the last budget among them
 unfoldable pub callsMade : Input → List ℕ → ℕ → ℕ
 callsMade q [] first = 1
-callsMade q (b ∷ bs) first = elim (searchCall q first b .report) [ Found n ↦ 1 | Spent next ↦ suc (callsMade q bs next) | Nothing ↦ 1 ]
+callsMade q (b ∷ bs) first =
+    elim (searchCall q first b .report) [ Found n ↦ 1 | Spent next ↦ suc (callsMade q bs next) | Nothing ↦ 1 ]
 
 -- they end as one undivided search does, and are at most 4,096
 pub record Within4096 (q : Input) (budgets : List ℕ) (first : ℕ) : Type 0 where
@@ -129,34 +149,45 @@ pub record Within4096 (q : Input) (budgets : List ℕ) (first : ℕ) : Type 0 wh
 
 -- with budgets of at least 1, where there are 4,096 of them or more
 abbrev pub EndsWithin4096 : Type 0
-EndsWithin4096 = (q : Input) (first : ℕ) (budgets : List ℕ) → undivided q first .number ≡ 0 → AtLeast1 budgets → 4096 ≤ length budgets
+EndsWithin4096 = (q : Input) (first : ℕ) (budgets : List ℕ)
+    → undivided q first .number ≡ 0 → AtLeast1 budgets → 4096 ≤ length budgets
     → Within4096 q budgets first
 
 -- ---- what a report says of a job, a first candidate and a budget, by the existence of a list
 
 pub data SearchSays (j : Job) (first budget : ℕ) : Report → ℕ → Type 0 where
-  -- the least tick from the first on, up to 4,096 and within the budget, that every axis reaches and that fits a window where the job brings some
-  found : (n : ℕ) → first ≤ n → n ≤ 4096 → n < first + budget → Arrives j n → ((k : ℕ) → first ≤ k → k < n → Arrives j k → ⊥)
+  -- the least tick from the first on, up to 4,096 and within the budget, that every axis reaches
+  -- and that fits a window where the job brings some
+  found : (n : ℕ) → first ≤ n → n ≤ 4096 → n < first + budget → Arrives j n
+      → ((k : ℕ) → first ≤ k → k < n → Arrives j k → ⊥)
       → SearchSays j first budget (Found n) (n - first + 1)
   -- the budget is used up, there is no such tick, and a candidate up to 4,096 is left
   spent : first + budget ≤ 4096 → ((k : ℕ) → first ≤ k → k < first + budget → Arrives j k → ⊥)
       → SearchSays j first budget (Spent (first + budget)) budget
   -- there is no such tick, and no candidate is left
-  nothing : 4096 < first + budget → ((k : ℕ) → first ≤ k → k ≤ 4096 → Arrives j k → ⊥) → SearchSays j first budget Nothing (4097 - first)
+  nothing : 4096 < first + budget → ((k : ℕ) → first ≤ k → k ≤ 4096 → Arrives j k → ⊥)
+      → SearchSays j first budget Nothing (4097 - first)
 
--- the job with tick n asked for is accepted with any table that has room, and its table meets demand 3
+-- the job with tick n asked for is accepted with any table that has room, and its table meets
+-- demand 3
 pub record Planned (j : Job) (n : ℕ) : Type 0 where
-  pub accepted : (lent : List ℤ) → cellsNeeded (length (axesOf j)) n ≤ length lent → jobOutcome (asking n j) lent ≡ accept j n lent
-  pub demand3 : (lent : List ℤ) → cellsNeeded (length (axesOf j)) n ≤ length lent → Demand3 Forwards (axesOf j) n (jobOutcome (asking n j) lent .cells)
+  pub accepted : (lent : List ℤ) → cellsNeeded (length (axesOf j)) n ≤ length lent
+      → jobOutcome (asking n j) lent ≡ accept j n lent
+  pub demand3 : (lent : List ℤ) → cellsNeeded (length (axesOf j)) n ≤ length lent
+      → Demand3 Forwards (axesOf j) n (jobOutcome (asking n j) lent .cells)
 
 -- ---- what each number says of a job whose mask and words passed
 
 pub data SearchVerdict (j : Job) (first budget : ℕ) (a : SearchAnswer) : Type 0 where
-  -- refused by the number of a test of an axis or by 13, as the job that asks for its least arrival is, whatever is lent
-  refusedAs : (n p : ℕ) → OneOf (numbersOf axisRefusals) n → ((lent : List ℤ) → jobOutcome (asking 0 j) lent ≡ refuse n p 0 0 lent) → a ≡ refuseSearch n p
+  -- refused by the number of a test of an axis or by 13, as the job that asks for its
+  -- least arrival is, whatever is lent
+  refusedAs : (n p : ℕ) → OneOf (numbersOf axisRefusals) n
+      → ((lent : List ℤ) → jobOutcome (asking 0 j) lent ≡ refuse n p 0 0 lent) → a ≡ refuseSearch n p
       → SearchVerdict j first budget a
-  refused18 : Passing (asking 0 j) → (first ≡ 0) ⊎ (4097 < first) → a ≡ refuseSearch 18 0 → SearchVerdict j first budget a
-  reports : Passing (asking 0 j) → 1 ≤ first → first ≤ 4097 → a .number ≡ 0 → SearchSays j first budget (a .report) (a .tried)
+  refused18 : Passing (asking 0 j) → (first ≡ 0) ⊎ (4097 < first) → a ≡ refuseSearch 18 0
+      → SearchVerdict j first budget a
+  reports : Passing (asking 0 j) → 1 ≤ first → first ≤ 4097 → a .number ≡ 0
+      → SearchSays j first budget (a .report) (a .tried)
       → ((n : ℕ) → a .report ≡ Found n → Planned j n) → SearchVerdict j first budget a
 
 -- ---- the calls

@@ -1,4 +1,5 @@
--- A tour of stops (docs/METHOD.md, 8.1): the leg to each stop is a typed job, from rest to rest, that seeks its least arrival.
+-- A tour of stops (docs/METHOD.md, 8.1): the leg to each stop is a typed job, from rest to
+-- rest, that seeks its least arrival.
 use Prim.Native.Nat.{ℕ, suc, _+_}
 use mathlib.Core.Bool.{true, false}
 use mathlib.Core.Option.{Option, none, some}
@@ -38,7 +39,8 @@ legAxes (l ∷ ls) [] qs = []
 legAxes (l ∷ ls) (p ∷ ps) [] = []
 legAxes (l ∷ ls) (p ∷ ps) (q ∷ qs) = legAxis l p q ∷ legAxes ls ps qs
 
--- the typed job of the leg between two positions: it asks for its least arrival, and brings no windows
+-- the typed job of the leg between two positions: it asks for its least
+-- arrival, and brings no windows
 abbrev pub legJob : TourSettings → List ℤ → List ℤ → Job
 legJob t here there = record { mask = t .mask; asked = 0; axes = legAxes (t .limits) here there; windows = noWindows }
 
@@ -47,7 +49,8 @@ legAnswer t here there = answerOf (typed (legJob t here there))
 
 -- ---- all legs
 
--- Number 0 with the arrivals and the total; or the first refused leg's own number, mask and arrival, with the stop as place.
+-- Number 0 with the arrivals and the total; or the first refused leg's own number, mask and
+-- arrival, with the stop as place.
 pub record Legs : Type 0 where
   pub number : ℕ
   pub place : ℕ
@@ -61,9 +64,11 @@ abbrev pub allLegs : TourSettings → ℕ → List ℕ → Legs
 allLegs t total l = record { number = 0; place = 0; mask = t .mask; arrival = 0; total = total; arrivals = l }
 
 abbrev pub refusedLeg : Answer → ℕ → Legs
-refusedLeg a stop = record { number = a .number; place = stop; mask = a .mask; arrival = a .arrival; total = 0; arrivals = [] }
+refusedLeg a stop =
+    record { number = a .number; place = stop; mask = a .mask; arrival = a .arrival; total = 0; arrivals = [] }
 
--- The legs to the stops that are left. The head rests at `here` and leaves at tick n; l is the list of arrivals so far.
+-- The legs to the stops that are left. The head rests at `here` and leaves at tick n; l
+-- is the list of arrivals so far.
 abbrev pub legsFrom : TourSettings → List Stop → ℕ → List ℤ → List ℕ → Legs
 legsFrom t [] n here l = allLegs t n l
 legsFrom t (s ∷ ss) n here l =
@@ -86,7 +91,15 @@ pub record TourOutcome : Type 0 where
 
 -- an answer, and the lent list as the call leaves it
 abbrev pub tourOutcomeOf : TourAnswer → List ℕ → TourOutcome
-tourOutcomeOf r l = record { number = r .number; place = r .place; mask = r .mask; arrival = r .arrival; total = r .total; arrivals = l }
+tourOutcomeOf r l =
+    record {
+      number = r .number;
+      place = r .place;
+      mask = r .mask;
+      arrival = r .arrival;
+      total = r .total;
+      arrivals = l;
+    }
 
 -- a refused tour writes nothing
 abbrev pub refuseTour : ℕ → ℕ → ℕ → ℕ → List ℕ → TourOutcome
@@ -98,7 +111,14 @@ abbrev pub arrivalsOver : ℕ → Legs → List ℕ → TourOutcome
 arrivalsOver stops g lent =
     elim (ltb (length lent) stops) [
       | true ↦ refuseTour 10 stops 0 0 lent
-      | false ↦ record { number = 0; place = 0; mask = g .mask; arrival = 0; total = g .total; arrivals = g .arrivals ++ drop stops lent }
+      | false ↦ record {
+        number = 0;
+        place = 0;
+        mask = g .mask;
+        arrival = 0;
+        total = g .total;
+        arrivals = g .arrivals ++ drop stops lent;
+      }
     ]
 
 abbrev pub afterLegs : ℕ → Legs → List ℕ → TourOutcome
@@ -125,12 +145,14 @@ dwellsChecked t count stops lent =
       | none ↦ afterLegs count (legsFrom t stops 0 (t .start) []) lent
     ]
 
--- a tour of one stop or more: 11 comes before the legs, too many stops before a dwell that is too long
+-- a tour of one stop or more: 11 comes before the legs, too many stops before a dwell that is too
+-- long
 abbrev pub stopsChecked : TourSettings → ℕ → List Stop → List ℕ → TourOutcome
 stopsChecked t count stops lent =
     elim (leb count mostStops) [ true ↦ dwellsChecked t count stops lent | false ↦ refuseTour 11 mostStops 0 0 lent ]
 
--- no stops: total 0, and nothing else is read, so that the mask of the answer is 0 and not the settings' own
+-- no stops: total 0, and nothing else is read, so that the mask of the answer
+-- is 0 and not the settings' own
 abbrev pub noStops : List ℕ → TourOutcome
 noStops lent = record { number = 0; place = 0; mask = 0; arrival = 0; total = 0; arrivals = lent }
 

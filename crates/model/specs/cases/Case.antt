@@ -1,4 +1,5 @@
--- What a case is: the input of a call, how many cells are lent, and what the method says of the outcome; and the axes and words that cases share.
+-- What a case is: the input of a call, how many cells are lent, and what the method says of the
+-- outcome; and the axes and words that cases share.
 use Prim.Native.Nat.{ℕ}
 use mathlib.Core.Bool.{true}
 use mathlib.Core.List.{List, [], _∷_, _++_, map}
@@ -16,7 +17,8 @@ use Rattle.model.specs.planning.Outcome.{Outcome, Input, typed, call}
 
 -- ---- what a case is
 
--- what a case shows of the cells: all, or the positions, velocities or accelerations of a table of one axis
+-- what a case shows of the cells: all, or the positions, velocities or
+-- accelerations of a table of one axis
 pub data View : Type 0 where
   all positions velocities accelerations : View
 
@@ -53,7 +55,13 @@ pub record Case : Type 0 where
 abbrev pub found : Case → Result
 found c =
     let o : Outcome = call (c .input) (replicate (c .lent) (pos 0)) in
-    record { number = o .number; place = o .place; mask = o .mask; arrival = o .arrival; shown = map (seen (o .cells)) (c .views) }
+    record {
+      number = o .number;
+      place = o .place;
+      mask = o .mask;
+      arrival = o .arrival;
+      shown = map (seen (o .cells)) (c .views);
+    }
 
 -- ---- axes, words and answers from which cases are made
 
@@ -77,7 +85,8 @@ fixed p v = Fixed (record { position = pos p; velocity = pos v })
 abbrev pub restTo : ℕ → Axis
 restTo p = axis (pos 0) (pos 0) 10 0 (fixed p 0)
 
--- F's words of an asked arrival: one axis, from 0 at velocity 10, L = 20, M = 1, h = 0, B = 128, to a fixed target at 10 with velocity 10
+-- F's words of an asked arrival: one axis, from 0 at velocity 10, L = 20, M = 1, h = 0, B = 128, to
+-- a fixed target at 10 with velocity 10
 abbrev pub axisF : List ℕ
 axisF = 0x30000000 ∷ 0x4000000A ∷ 0x50000014 ∷ 0x60000001 ∷ 0x70000000 ∷ 0x80000080 ∷ 0x9000000A ∷ 0xA000000A ∷ []
 
@@ -88,7 +97,9 @@ wordsF asked = 0x10000001 ∷ word 2 asked ∷ (axisF ++ (0xF0000000 ∷ []))
 abbrev pub wordsG : ℕ → List ℕ
 wordsG asked =
     0x10000003 ∷ word 2 asked
-    ∷ (axisF ++ (0x30000000 ∷ 0x40000000 ∷ 0x5000000A ∷ 0x60000001 ∷ 0x70000000 ∷ 0x80000080 ∷ 0x90000001 ∷ 0xA0000000 ∷ 0xF0000000 ∷ []))
+    ∷ (axisF
+    ++ (0x30000000 ∷ 0x40000000 ∷ 0x5000000A ∷ 0x60000001 ∷ 0x70000000 ∷ 0x80000080 ∷ 0x90000001
+    ∷ 0xA0000000 ∷ 0xF0000000 ∷ []))
 
 abbrev pub oneAxis : ℕ → Axis → Input
 oneAxis asked x = typed (record { mask = 1; asked = asked; axes = x ∷ []; windows = noWindows })
@@ -97,7 +108,8 @@ abbrev pub twoAxes : ℕ → Axis → Axis → Input
 twoAxes asked x y = typed (record { mask = 3; asked = asked; axes = x ∷ y ∷ []; windows = noWindows })
 
 abbrev pub wordsC : List ℕ
-wordsC = 0x10000001 ∷ 0x20000004 ∷ 0x30000000 ∷ 0x40000000 ∷ 0x5000000A ∷ 0x60000001 ∷ 0x70000000 ∷ 0x80000080 ∷ 0x90000001 ∷ 0xA0000000 ∷ 0xF0000000 ∷ []
+wordsC = 0x10000001 ∷ 0x20000004 ∷ 0x30000000 ∷ 0x40000000 ∷ 0x5000000A ∷ 0x60000001 ∷ 0x70000000 ∷ 0x80000080
+    ∷ 0x90000001 ∷ 0xA0000000 ∷ 0xF0000000 ∷ []
 
 abbrev pub accepted : ℕ → ℕ → List (List ℤ) → Result
 accepted m n l = record { number = 0; place = 0; mask = m; arrival = n; shown = l }
@@ -111,7 +123,12 @@ case i n v r = record { input = i; lent = n; views = v; says = r }
 -- ---- field case B with windows: an asked arrival, a dwell, and windows
 abbrev pub inside : ℕ → ℕ → List Window → Input
 inside asked dwell l =
-    typed (record { mask = 1; asked = asked; axes = restTo 4 ∷ []; windows = record { given = true; dwell = dwell; count = length l; list = l } })
+    typed (record {
+      mask = 1;
+      asked = asked;
+      axes = restTo 4 ∷ [];
+      windows = record { given = true; dwell = dwell; count = length l; list = l };
+    })
 
 abbrev pub window : ℕ → ℕ → Window
 window a b = record { opening = a; closing = b }

@@ -1,5 +1,6 @@
--- Positions past 28 bits, as one table: the words of an axis at rest where it starts, which arrives at tick 1 (docs/METHOD.md, 6.3).
--- The theorem `long-cases` proves them all, by computing the definitions.
+-- Positions past 28 bits, as one table: the words of an axis at rest where it starts,
+-- which arrives at tick 1 (docs/METHOD.md, 6.3). The theorem `long-cases` proves them
+-- all, by computing the definitions.
 use Prim.Native.Nat.{ℕ, _*_, _-_, _^_}
 use mathlib.Core.Path.{_≡_}
 use mathlib.Core.List.{List, [], _∷_, _++_, map}
@@ -31,11 +32,13 @@ negative n = 2 ^ 28 - n
 
 abbrev pub longCases : List Case
 longCases =
-    -- the low payload is unsigned: the first position past a single word, on both sides, and the ends of the range
+    -- the low payload is unsigned: the first position past a single word, on both
+    -- sides, and the ends of the range
     case (stay 0 (2 ^ 27)) 6 (positions ∷ []) (accepted 1 1 ((pos (256 * 134217728) ∷ pos (256 * 134217728) ∷ []) ∷ []))
     ∷ case (stay (negative 1) (2 ^ 27 - 1)) 6 (positions ∷ [])
     (accepted 1 1 ((negsuc (256 * 134217729 - 1) ∷ negsuc (256 * 134217729 - 1) ∷ []) ∷ []))
-    ∷ case (stay 63 (2 ^ 28 - 1)) 6 (positions ∷ []) (accepted 1 1 ((pos (256 * 17179869183) ∷ pos (256 * 17179869183) ∷ []) ∷ []))
+    ∷ case (stay 63 (2 ^ 28 - 1)) 6 (positions ∷ [])
+    (accepted 1 1 ((pos (256 * 17179869183) ∷ pos (256 * 17179869183) ∷ []) ∷ []))
     ∷ case (stay (negative 64) 0) 6 (positions ∷ [])
     (accepted 1 1 ((negsuc (256 * 17179869184 - 1) ∷ negsuc (256 * 17179869184 - 1) ∷ []) ∷ []))
     -- 14: a position that fits a single word, a payload outside −64 to 63

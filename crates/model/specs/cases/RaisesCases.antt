@@ -29,12 +29,18 @@ equalRaises = record { first = AccelerationBy 1; second = SpeedBy 1 }
 
 -- refusal 8 with its mask, and the entries of axes 0 and 1
 abbrev pub eight : ℕ → AxisRaises → AxisRaises → RaisesAnswer
-eight m x y = record { answer = record { number = 8; place = 0; mask = m; arrival = 0 }; axes = x ∷ y ∷ replicate 4 noRaises }
+eight m x y =
+    record { answer = record { number = 8; place = 0; mask = m; arrival = 0 }; axes = x ∷ y ∷ replicate 4 noRaises }
 
 -- one axis, and one window without a dwell
 abbrev pub within : ℕ → Axis → Window → Input
 within asked x w =
-    typed (record { mask = 1; asked = asked; axes = x ∷ []; windows = record { given = true; dwell = 0; count = 1; list = w ∷ [] } })
+    typed (record {
+      mask = 1;
+      asked = asked;
+      axes = x ∷ [];
+      windows = record { given = true; dwell = 0; count = 1; list = w ∷ [] };
+    })
 
 abbrev pub raisesCases : List RaisesCase
 raisesCases =
@@ -52,9 +58,16 @@ raisesCases =
     ∷ record { input = within 6 slow (window 8 9); says = eight 1 equalRaises noRaises }
     ∷ record { input = within 4 (restTo 4) (window 8 9); says = eight 0 noRaises noRaises }
     -- any other answer has none, and 10 never comes
-    ∷ record { input = oneAxis 6 (restTo 4); says = record { answer = record { number = 0; place = 0; mask = 1; arrival = 6 }; axes = noneRaised } }
-    ∷ record { input = oneAxis 4097 slow; says = record { answer = record { number = 3; place = 1; mask = 0; arrival = 0 }; axes = noneRaised } }
+    ∷ record {
+      input = oneAxis 6 (restTo 4);
+      says = record { answer = record { number = 0; place = 0; mask = 1; arrival = 6 }; axes = noneRaised };
+    }
+    ∷ record {
+      input = oneAxis 4097 slow;
+      says = record { answer = record { number = 3; place = 1; mask = 0; arrival = 0 }; axes = noneRaised };
+    }
     ∷ []
 
 abbrev pub RaisesCasesHold : Type 0
-RaisesCasesHold = map (λ (c : RaisesCase). raisesCall (c .input)) raisesCases ≡ map (λ (c : RaisesCase). c .says) raisesCases
+RaisesCasesHold =
+    map (λ (c : RaisesCase). raisesCall (c .input)) raisesCases ≡ map (λ (c : RaisesCase). c .says) raisesCases

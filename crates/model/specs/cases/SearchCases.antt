@@ -1,5 +1,6 @@
--- Searches with a budget (docs/METHOD.md, 8.4) of field case B, whose axis reaches tick 4 and every later one, as one table: what each call is
--- given, and what it gives. The theorem `search-cases` proves them all, by computing the definitions.
+-- Searches with a budget (docs/METHOD.md, 8.4) of field case B, whose axis reaches tick 4 and every
+-- later one, as one table: what each call is given, and what it gives. The theorem `search-cases`
+-- proves them all, by computing the definitions.
 use Prim.Native.Nat.{ℕ}
 use mathlib.Core.Path.{_≡_}
 use mathlib.Core.List.{List, [], _∷_, map}
@@ -52,4 +53,5 @@ searchCases =
 
 abbrev pub SearchCasesHold : Type 0
 SearchCasesHold =
-    map (λ (c : SearchCase). searchCall (c .input) (c .first) (c .budget)) searchCases ≡ map (λ (c : SearchCase). c .says) searchCases
+    map (λ (c : SearchCase). searchCall (c .input) (c .first) (c .budget)) searchCases
+    ≡ map (λ (c : SearchCase). c .says) searchCases

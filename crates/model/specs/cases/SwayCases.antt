@@ -10,7 +10,8 @@ use Rattle.model.specs.declared.Target.{Target}
 use Rattle.model.specs.declared.Target.the-variants.{Moving}
 use Rattle.model.specs.declared.Weight.the-variants.{Given}
 use Rattle.model.specs.planning.Outcome.{words}
-use Rattle.model.specs.cases.Case.{positions, velocities, accelerations, Case, found, fixed, oneAxis, twoAxes, accepted, refused, case}
+use Rattle.model.specs.cases.Case.{positions, velocities, accelerations, Case, found, fixed, oneAxis, twoAxes}
+use Rattle.model.specs.cases.Case.{accepted, refused, case}
 
 -- ---- a second sway (docs/METHOD.md, 2.5), on one axis from rest at 0 with L = 10, M = 1
 
@@ -54,7 +55,8 @@ swayCases =
     case (oneAxis 5 (pole 0 128 (HalfPeriod 1) (fixed 1 0))) 18 (positions ∷ [])
     (accepted 1 5 ((pos 0 ∷ pos 21 ∷ pos 86 ∷ pos 171 ∷ pos 235 ∷ pos 256 ∷ []) ∷ []))
     -- both blends, from typed values and from words
-    ∷ case (oneAxis 0 (pole 1 100 (HalfPeriod 2) (fixed 1 0))) 18 (positions ∷ velocities ∷ accelerations ∷ []) (accepted 1 5 tablePole)
+    ∷ case (oneAxis 0 (pole 1 100 (HalfPeriod 2) (fixed 1 0))) 18
+    (positions ∷ velocities ∷ accelerations ∷ []) (accepted 1 5 tablePole)
     ∷ case (words (wordsPole 2)) 18 (positions ∷ velocities ∷ accelerations ∷ []) (accepted 1 5 tablePole)
     -- the arrival exceeds h + h₂
     ∷ case (oneAxis 3 (pole 1 100 (HalfPeriod 2) (fixed 0 0))) 18 [] (refused 8 0 1 0)
@@ -66,7 +68,8 @@ swayCases =
     ∷ case (twoAxes 0 (pole 1 100 (HalfPeriod 0) (fixed 1 0)) (pole 257 100 Absent (fixed 1 0))) 36 [] (refused 5 1 0 0)
     -- 16: an accelerating target, also where h is 0; after 6
     ∷ case (oneAxis 0 (pole 0 128 (HalfPeriod 1) (departing 1))) 18 [] (refused 16 0 0 0)
-    ∷ case (twoAxes 0 (pole 1 100 (HalfPeriod 1) (departing 1)) (pole 1 100 Absent (fixed 1 11))) 36 [] (refused 6 1 0 0)
+    ∷ case (twoAxes 0 (pole 1 100 (HalfPeriod 1) (departing 1)) (pole 1 100 Absent (fixed 1 11))) 36 []
+    (refused 6 1 0 0)
     ∷ []
   where
     tablePole : List (List ℤ)

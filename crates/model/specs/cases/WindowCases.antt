@@ -1,4 +1,5 @@
--- Cases of windows, and of arrivals that end: reach is no threshold where a target becomes too fast, and windows have gaps.
+-- Cases of windows, and of arrivals that end: reach is no threshold where a target becomes
+-- too fast, and windows have gaps.
 use mathlib.Core.Path.{_≡_}
 use mathlib.Core.List.{List, [], _∷_, map}
 use lib.IntN.{pos, negsuc}
@@ -7,11 +8,14 @@ use Rattle.model.specs.declared.Axis.{Axis}
 use Rattle.model.specs.declared.Target.the-variants.{Moving}
 use Rattle.model.specs.cases.Case.{Case, found, axis, oneAxis, accepted, refused, case, inside, window}
 
--- ---- reach is not a threshold: a target that accelerates can be met in a run of ticks that ends, and windows have gaps
+-- ---- reach is not a threshold: a target that accelerates can be met in a run of ticks
+-- that ends, and windows have gaps
 
--- at rest at 0, L = 10, M = 1, h = 0; the target is met at ticks 9, 10 and 11 only, and after them is too fast
+-- at rest at 0, L = 10, M = 1, h = 0; the target is met at ticks 9, 10 and 11
+-- only, and after them is too fast
 abbrev pub passing : Axis
-passing = axis (pos 0) (pos 0) 10 0 (Moving (record { position = pos 8; velocity = negsuc 0; acceleration = pos 1; tick = pos 0 }))
+passing = axis (pos 0) (pos 0) 10 0
+    (Moving (record { position = pos 8; velocity = negsuc 0; acceleration = pos 1; tick = pos 0 }))
 
 abbrev pub runCases : List Case
 runCases =
@@ -26,7 +30,8 @@ runCases =
 abbrev pub RunCasesHold : Type 0
 RunCasesHold = map found runCases ≡ map (λ (c : Case). c .says) runCases
 
--- ---- laser windows (docs/METHOD.md, 3.8), on field case B, whose axis reaches tick 4 and every later one
+-- ---- laser windows (docs/METHOD.md, 3.8), on field case B, whose axis reaches tick 4 and every
+-- later one
 
 abbrev pub windowCases : List Case
 windowCases =

@@ -1,5 +1,6 @@
--- What every call goes on from (docs/METHOD.md, section 7): the first refusal of a job before its arrival is looked for, or the job. Which job a call is
--- given, the tests of its axes in checking order, refusals 1, 2 and 14 of words, 3 and 13.
+-- What every call goes on from (docs/METHOD.md, section 7): the first refusal of a job before its
+-- arrival is looked for, or the job. Which job a call is given, the tests of its axes in checking
+-- order, refusals 1, 2 and 14 of words, 3 and 13.
 use Prim.Native.Nat.{ℕ}
 use mathlib.Core.Path.{_≡_}
 use mathlib.Core.Bool.{Bool, true, false}
@@ -12,7 +13,8 @@ use Rattle.model.specs.declared.Job as Typed
 use Rattle.model.specs.planning.Windows.{noWindows, refused13}
 use Rattle.model.specs.planning.Job.{Job, JobAxis, axesOf, jobOf}
 use Rattle.model.specs.planning.Words.{Decoded, noMask, badWord, badLong, job, decode, goodMask}
-use Rattle.model.specs.planning.Refusals.{lastTick, limitsRefused, dampingRefused, blendRefused, swayRefused, valuesRefused, accelerationRefused, flyingRefused}
+use Rattle.model.specs.planning.Refusals.{lastTick, limitsRefused, dampingRefused, blendRefused, swayRefused}
+use Rattle.model.specs.planning.Refusals.{valuesRefused, accelerationRefused, flyingRefused}
 
 -- ---- what a call is given
 

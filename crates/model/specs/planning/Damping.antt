@@ -1,5 +1,6 @@
--- The second weight of damping as measured (docs/METHOD.md, 2.4). A float is a value of IEEE 754's single precision; each operation rounds once, to
--- the nearest, and every comparison with what is not a number is false.
+-- The second weight of damping as measured (docs/METHOD.md, 2.4). A float is a value of IEEE
+-- 754's single precision; each operation rounds once, to the nearest, and every comparison with
+-- what is not a number is false.
 use Prim.Native.Nat.{ℕ, zero, suc, _-_, _≤_, _<_}
 use mathlib.Core.Path.{_≡_}
 use mathlib.Core.Bool.{Bool, true, false, _&&_}

@@ -1,4 +1,5 @@
--- Demand 3 (docs/METHOD.md, 5.1): one claim about an accepted job, with all its axes, rows and swing lists.
+-- Demand 3 (docs/METHOD.md, 5.1): one claim about an accepted job, with all its axes, rows and
+-- swing lists.
 use Prim.Native.Nat.{ℕ, zero, suc, _+_, _-_, _*_, _≤_, _<_}
 use mathlib.Core.Path.{_≡_}
 use mathlib.Core.List.{List}
@@ -9,13 +10,15 @@ use Rattle.model.specs.declared.Axis.{Axis}
 use Rattle.model.specs.declared.SecondSway.the-variants.{HalfPeriod}
 use Rattle.model.specs.declared.Order.{Order}
 use Rattle.model.specs.declared.Order.the-variants.{Forwards, Backwards}
-use Rattle.model.specs.planning.Quantities.{speedLimit, accelerationLimit, halfPeriod, secondWeight, asMoving, twicePositionAt, velocityAt}
+use Rattle.model.specs.planning.Quantities.{speedLimit, accelerationLimit, halfPeriod, secondWeight, asMoving}
+use Rattle.model.specs.planning.Quantities.{twicePositionAt, velocityAt}
 use Rattle.whole.specs.Integers.{nearestQuotient}
 use Rattle.model.specs.planning.Rows.{plannedAxis, blend, divisor, rowAt, fromLanding}
 use Rattle.model.specs.planning.Refusals.{Plannable}
 use Rattle.model.specs.planning.Outcome.{Input, call, callIn, inputAxes, cellsNeeded}
 
--- ---- the cells of a table of `axes` axes, with the rows of ticks 0 to `last` in an order: axis i of row k, by tick
+-- ---- the cells of a table of `axes` axes, with the rows of ticks 0 to `last` in an
+-- order: axis i of row k, by tick
 
 pub record CellTable : Type 0 where
   pub order : Order
@@ -35,7 +38,8 @@ velocityCell g i k = cellAt g i 1 k
 abbrev pub accelerationCell : CellTable → ℕ → ℕ → ℤ
 accelerationCell g i k = cellAt g i 2 k
 
--- the first 3 × axes × (N + 1) cells of the lent table, as a table of the axes xs with its rows in the order o
+-- the first 3 × axes × (N + 1) cells of the lent table, as a table of the axes
+-- xs with its rows in the order o
 abbrev pub tableIn : Order → List Axis → ℕ → List ℤ → CellTable
 tableIn o xs n lent = record { order = o; axes = length xs; last = n; cells = take (cellsNeeded (length xs) n) lent }
 
@@ -47,7 +51,8 @@ Swings a b h m w = (i : ℕ) → i + h ≤ m → a *ℤ w (i + h) +ℤ b *ℤ w 
 
 -- a swing list of the first rate, with A = 256 − B, or of the second, which is undamped
 pub data Swing (x : Axis) (m : ℕ) (w : ℕ → ℤ) : Type 0 where
-  first : zero < halfPeriod x → Swings (pos (256 - secondWeight x)) (pos (secondWeight x)) (halfPeriod x) m w → Swing x m w
+  first : zero < halfPeriod x
+      → Swings (pos (256 - secondWeight x)) (pos (secondWeight x)) (halfPeriod x) m w → Swing x m w
   second : (d : ℕ) → x .«second_sway» ≡ HalfPeriod d → Swings (pos 1) (pos 1) d m w → Swing x m w
 
 -- no entry exceeds G in size
@@ -74,15 +79,20 @@ pub record Lands (x : Axis) (i n : ℕ) (g : CellTable) : Type 0 where
 
 -- row k carried on one tick misses row k + 1 by at most 3/2: twice the miss by at most 3
 pub record Carries (i k : ℕ) (g : CellTable) : Type 0 where
-  pub position : natAbs (pos 2 *ℤ positionCell g i k +ℤ pos 2 *ℤ velocityCell g i k +ℤ accelerationCell g i k -ℤ pos 2 *ℤ positionCell g i (suc k)) ≤ 3
+  pub position : natAbs
+      (pos 2 *ℤ positionCell g i k +ℤ pos 2 *ℤ velocityCell g i k +ℤ accelerationCell g i k
+      -ℤ pos 2 *ℤ positionCell g i (suc k)) ≤ 3
   pub velocity : natAbs (pos 2 *ℤ (velocityCell g i k +ℤ accelerationCell g i k -ℤ velocityCell g i (suc k))) ≤ 3
 
--- Each acceleration cell is an exact blend over the divisor, rounded once. The divisor times the sway left before that rounding is 0, and as rounded it is
--- at most N × G.
+-- Each acceleration cell is an exact blend over the divisor, rounded once. The divisor times the
+-- sway left before that rounding is 0, and as rounded it is at most N × G.
 pub record SwayCancelled (x : Axis) (i n : ℕ) (g : CellTable) : Type 0 where
-  pub once : (k : ℕ) → k ≤ n → accelerationCell g i k ≡ nearestQuotient (blend (plannedAxis n x) k (λ s. s .acceleration)) (divisor x)
-  pub exact : (m : ℕ) (w : ℕ → ℤ) → n ≤ m → Swing x m w → sway (λ k. blend (plannedAxis n x) k (λ s. s .acceleration)) w m n ≡ pos 0
-  pub rounded : (m G : ℕ) (w : ℕ → ℤ) → n ≤ m → Swing x m w → Bounded m G w → natAbs (sway (accelerationCell g i) w m n) ≤ n * G
+  pub once : (k : ℕ) → k ≤ n
+      → accelerationCell g i k ≡ nearestQuotient (blend (plannedAxis n x) k (λ s. s .acceleration)) (divisor x)
+  pub exact : (m : ℕ) (w : ℕ → ℤ) → n ≤ m → Swing x m w
+      → sway (λ k. blend (plannedAxis n x) k (λ s. s .acceleration)) w m n ≡ pos 0
+  pub rounded : (m G : ℕ) (w : ℕ → ℤ) → n ≤ m → Swing x m w → Bounded m G w
+      → natAbs (sway (accelerationCell g i) w m n) ≤ n * G
 
 -- ---- the claim
 
@@ -96,42 +106,52 @@ pub record Demand3 (o : Order) (xs : List Axis) (n : ℕ) (lent : List ℤ) : Ty
 -- ---- the limits: no velocity cell exceeds 256L in size and no acceleration cell 256M
 
 pub record CellLimits (o : Order) (xs : List Axis) (n : ℕ) (lent : List ℤ) : Type 0 where
-  pub velocities : (i k : ℕ) (x : Axis) → getElem? xs i ≡ some x → k ≤ n → natAbs (velocityCell (tableIn o xs n lent) i k) ≤ 256 * speedLimit x
+  pub velocities : (i k : ℕ) (x : Axis) → getElem? xs i ≡ some x → k ≤ n
+      → natAbs (velocityCell (tableIn o xs n lent) i k) ≤ 256 * speedLimit x
   pub accelerations : (i k : ℕ) (x : Axis) → getElem? xs i ≡ some x → k ≤ n
       → natAbs (accelerationCell (tableIn o xs n lent) i k) ≤ 256 * accelerationLimit x
 
 -- ---- the start: row 0 is on it exactly, so that the head starts with no jump
 
 pub record ExactStart (o : Order) (xs : List Axis) (n : ℕ) (lent : List ℤ) : Type 0 where
-  pub positions : (i : ℕ) (x : Axis) → getElem? xs i ≡ some x → positionCell (tableIn o xs n lent) i 0 ≡ pos 256 *ℤ x .start .position
-  pub velocities : (i : ℕ) (x : Axis) → getElem? xs i ≡ some x → velocityCell (tableIn o xs n lent) i 0 ≡ pos 256 *ℤ x .start .velocity
+  pub positions : (i : ℕ) (x : Axis) → getElem? xs i ≡ some x
+      → positionCell (tableIn o xs n lent) i 0 ≡ pos 256 *ℤ x .start .position
+  pub velocities : (i : ℕ) (x : Axis) → getElem? xs i ≡ some x
+      → velocityCell (tableIn o xs n lent) i 0 ≡ pos 256 *ℤ x .start .velocity
 
--- ---- all three hold of every call that returns number 0, from words or from typed values, in either order, whatever the lent cells held
+-- ---- all three hold of every call that returns number 0, from words or from typed values, in
+-- either order, whatever the lent cells held
 
 abbrev pub Demand3Holds : Type 0
 Demand3Holds =
-    (o : Order) (q : Input) (lent : List ℤ) → callIn o q lent .number ≡ 0 → Demand3 o (inputAxes q) (callIn o q lent .arrival) (callIn o q lent .cells)
+    (o : Order) (q : Input) (lent : List ℤ) → callIn o q lent .number ≡ 0
+    → Demand3 o (inputAxes q) (callIn o q lent .arrival) (callIn o q lent .cells)
 
 abbrev pub CellLimitsHold : Type 0
 CellLimitsHold =
-    (o : Order) (q : Input) (lent : List ℤ) → callIn o q lent .number ≡ 0 → CellLimits o (inputAxes q) (callIn o q lent .arrival) (callIn o q lent .cells)
+    (o : Order) (q : Input) (lent : List ℤ) → callIn o q lent .number ≡ 0
+    → CellLimits o (inputAxes q) (callIn o q lent .arrival) (callIn o q lent .cells)
 
 abbrev pub ExactStartHolds : Type 0
 ExactStartHolds =
-    (o : Order) (q : Input) (lent : List ℤ) → callIn o q lent .number ≡ 0 → ExactStart o (inputAxes q) (callIn o q lent .arrival) (callIn o q lent .cells)
+    (o : Order) (q : Input) (lent : List ℤ) → callIn o q lent .number ≡ 0
+    → ExactStart o (inputAxes q) (callIn o q lent .arrival) (callIn o q lent .cells)
 
 -- ---- and each row is the forward call's row for that tick
 
 abbrev pub SameRows : Type 0
 SameRows =
-    (q : Input) (lent : List ℤ) → call q lent .number ≡ 0 → (i j k : ℕ) → i < length (inputAxes q) → j < 3 → k ≤ call q lent .arrival
+    (q : Input) (lent : List ℤ) → call q lent .number ≡ 0 → (i j k : ℕ) → i < length (inputAxes q)
+    → j < 3 → k ≤ call q lent .arrival
     → cellAt (tableIn Backwards (inputAxes q) (call q lent .arrival) (callIn Backwards q lent .cells)) i j k
     ≡ cellAt (tableIn Forwards (inputAxes q) (call q lent .arrival) (call q lent .cells)) i j k
 
--- ---- the position sums taken from the landing end are those taken from the start, of every axis that can be planned for arrival n and every row
+-- ---- the position sums taken from the landing end are those taken from the start, of every axis
+-- that can be planned for arrival n and every row
 
 abbrev pub SumsFromLanding : Type 0
-SumsFromLanding = (x : Axis) (n : ℕ) → Plannable x n → (i : ℕ) → i ≤ n → fromLanding x n i ≡ blend (plannedAxis n x) (n - i) (λ s. s .position)
+SumsFromLanding = (x : Axis) (n : ℕ) → Plannable x n → (i : ℕ) → i ≤ n
+    → fromLanding x n i ≡ blend (plannedAxis n x) (n - i) (λ s. s .position)
 
 -- so each position cell, in either order, is the sum from the landing end rounded once
 abbrev pub CellsFromLanding : Type 0

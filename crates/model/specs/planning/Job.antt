@@ -1,5 +1,5 @@
--- A job (docs/METHOD.md, section 6): its mask, its asked arrival (0: the least) and its axes, each with its number, lowest first; and its
--- windows, where it brings some (docs/METHOD.md, 3.8).
+-- A job (docs/METHOD.md, section 6): its mask, its asked arrival (0: the least) and its axes, each
+-- with its number, lowest first; and its windows, where it brings some (docs/METHOD.md, 3.8).
 use Prim.Native.Nat.{ℕ, zero, suc, _+_, _/_, _%_, _^_}
 use mathlib.Core.Bool.{Bool, true, false}
 use mathlib.Core.List.{List, [], _∷_, map}

@@ -1,5 +1,6 @@
--- The planned motion of one axis (docs/METHOD.md, section 3, rules 1 to 5 for an axis and its arrival), on the axis's own grid: `onGrid x` of
--- what the method gives in fine steps or half fine steps.
+-- The planned motion of one axis (docs/METHOD.md, section 3, rules 1 to 5 for an
+-- axis and its arrival), on the axis's own grid: `onGrid x` of what the method
+-- gives in fine steps or half fine steps.
 use Prim.Native.Nat.{ℕ, suc, _+_, _-_, _*_, _≤_, _<_}
 use mathlib.Core.Bool.{Bool, _&&_}
 use mathlib.Core.List.{List, [], _∷_, _++_}
@@ -8,7 +9,8 @@ use lib.Dec.{leb, ltb}
 use lib.ListN.{replicate}
 use Rattle.model.specs.declared.Axis.{Axis}
 use Rattle.model.specs.declared.State.{State}
-use Rattle.model.specs.planning.Quantities.{fineSteps, halfPeriod, secondWeight, secondHalfPeriod, delay, asMoving, twicePositionAt, velocityAt}
+use Rattle.model.specs.planning.Quantities.{fineSteps, halfPeriod, secondWeight, secondHalfPeriod, delay}
+use Rattle.model.specs.planning.Quantities.{asMoving, twicePositionAt, velocityAt}
 use Rattle.model.specs.planning.Quantities.{onGrid, speedSteps, accelerationSteps}
 use Rattle.model.specs.planning.Leg.{Leg, Feasible, feasible, required, chosen}
 
@@ -54,7 +56,8 @@ earlier x j =
 abbrev pub landingTick : Axis → ℕ → ℕ
 landingTick x n = n - delay x
 
--- what the position gains, in half grid steps: 2Bh²(B − 128)a. It is 0 where the grid is the fine one.
+-- what the position gains, in half grid steps: 2Bh²(B − 128)a. It is 0 where the grid is the fine
+-- one.
 abbrev pub correction : Axis → ℕ → ℤ
 correction x n =
     let h : ℤ = pos (halfPeriod x) in
@@ -125,7 +128,8 @@ changesFrom v (w ∷ ws) = (w -ℤ v) ∷ changesFrom w ws
 -- the changes of the list chosen, then 256a at ticks T to N
 abbrev pub accelerations : Axis → ℕ → List ℤ
 accelerations x n =
-    changesFrom (startVelocity x) (chosen (leg x n) (requiredSum x n)) ++ replicate (suc (delay x)) (landingAcceleration x n)
+    changesFrom (startVelocity x) (chosen (leg x n) (requiredSum x n))
+    ++ replicate (suc (delay x)) (landingAcceleration x n)
 
 abbrev pub planned : Axis → ℕ → List Tick
 planned x n = run (startPosition x) (startVelocity x) (accelerations x n)

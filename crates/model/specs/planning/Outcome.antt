@@ -1,5 +1,6 @@
--- What a call for a table gives, from words and from typed values (docs/METHOD.md, section 7, and the common arrival of 3.6): its answer and the lent
--- table as it leaves it, with the rows in either order (4.7); and the answer to a call before refusal 10, which no table is needed for.
+-- What a call for a table gives, from words and from typed values (docs/METHOD.md, section 7, and
+-- the common arrival of 3.6): its answer and the lent table as it leaves it, with the rows in
+-- either order (4.7); and the answer to a call before refusal 10, which no table is needed for.
 use Prim.Native.Nat.{ℕ, zero, suc, _*_}
 use mathlib.Core.Bool.{Bool, true, false, not, _&&_}
 use mathlib.Core.Option.{Option, none, some}
@@ -16,7 +17,8 @@ use Rattle.model.specs.planning.Rows.{part}
 use Rattle.model.specs.planning.Windows.{inWindows}
 use Rattle.model.specs.planning.Job.{Job, JobAxis, axesOf, maskWhere}
 use Rattle.model.specs.planning.Refusals.{lastTick}
-use Rattle.model.specs.planning.Admission.{Admission, refusedAt, admitted, Rules, planningRules, jobAdmission, admission}
+use Rattle.model.specs.planning.Admission.{Admission, refusedAt, admitted, Rules, planningRules, jobAdmission}
+use Rattle.model.specs.planning.Admission.{admission}
 -- what a call is given
 pub use Rattle.model.specs.planning.Admission.{Input, words, typed, inputJob, inputAxes}
 
@@ -64,7 +66,8 @@ reachesNone x = elim (leastArrival (record { number = 0; axis = x } ∷ [])) [ s
 abbrev pub cellsNeeded : ℕ → ℕ → ℕ
 cellsNeeded axes n = 3 * axes * suc n
 
--- the lent table with the c rows of the axes from place j on in front; cells after the last row stay as they were
+-- the lent table with the c rows of the axes from place j on in front; cells after
+-- the last row stay as they were
 abbrev pub partOver : Order → List Axis → ℕ → ℕ → ℕ → List ℤ → List ℤ
 partOver o xs n j c lent = part o xs n j c ++ drop (3 * length xs * c) lent
 
@@ -73,11 +76,15 @@ abbrev pub tableOver : Order → List Axis → ℕ → List ℤ → List ℤ
 tableOver o xs n lent = partOver o xs n 0 (suc n) lent
 
 abbrev pub accept : Job → ℕ → List ℤ → Outcome
-accept j n lent = record { number = 0; place = 0; mask = j .mask; arrival = n; cells = tableOver Forwards (axesOf j) n lent }
+accept j n lent =
+    record { number = 0; place = 0; mask = j .mask; arrival = n; cells = tableOver Forwards (axesOf j) n lent }
 
 abbrev pub filled : Job → ℕ → List ℤ → Outcome
 filled j n lent =
-    elim (ltb (length lent) (cellsNeeded (length (j .axes)) n)) [ true ↦ refuse 10 0 0 n lent | false ↦ accept j n lent ]
+    elim (ltb (length lent) (cellsNeeded (length (j .axes)) n)) [
+      | true ↦ refuse 10 0 0 n lent
+      | false ↦ accept j n lent
+    ]
 
 -- a tick that every axis reaches and that fits a window where the job brings some
 abbrev pub arrives : Job → ℕ → Bool
@@ -119,7 +126,8 @@ jobOutcome = jobOutcomeBy planningRules
 
 -- ---- the same call with its rows in an order (docs/METHOD.md, 4.7)
 
--- an outcome of a call that was lent the cells `lent`: the answer and the refusals stay, and an accepted job's rows stand in the order o
+-- an outcome of a call that was lent the cells `lent`: the answer and the refusals stay, and an
+-- accepted job's rows stand in the order o
 abbrev pub ordered : Order → List Axis → List ℤ → Outcome → Outcome
 ordered Forwards xs lent r = r
 ordered Backwards xs lent r =
@@ -141,7 +149,8 @@ beforeTen m o =
       | false ↦ record { number = o .number; place = o .place; mask = o .mask; arrival = o .arrival }
     ]
 
--- What a call answers whatever table is lent, so long as it has room. 10 is checked last: with no cell lent every other refusal comes as it
--- would, and 10 comes with the arrival where the job would be accepted.
+-- What a call answers whatever table is lent, so long as it has room. 10 is checked last:
+-- with no cell lent every other refusal comes as it would, and 10 comes with the arrival
+-- where the job would be accepted.
 unfoldable pub answerOf : Input → Answer
 answerOf q = beforeTen (inputJob q .mask) (call q [])

@@ -72,8 +72,8 @@ swaySteps = 2
 abbrev pub finestSteps : ℕ
 finestSteps = 256
 
--- grid steps in a fine step: the grid is 1/512 unit where the pole has a second sway, 1/65,536 unit where the target accelerates and the pole is
--- damped, and else 1/256 unit
+-- grid steps in a fine step: the grid is 1/512 unit where the pole has a second sway, 1/65,536 unit
+-- where the target accelerates and the pole is damped, and else 1/256 unit
 abbrev pub finerBy : SecondSway → Bool → ℕ
 finerBy (HalfPeriod d) b = swaySteps
 finerBy Absent true = finestSteps

@@ -1,5 +1,5 @@
--- The refusals that one axis meets by itself (docs/METHOD.md, section 7, numbers 4 to 6, and 12, 15, 16 and 17), in checking order, and
--- what an axis has that none of them refuses.
+-- The refusals that one axis meets by itself (docs/METHOD.md, section 7, numbers 4 to 6, and 12,
+-- 15, 16 and 17), in checking order, and what an axis has that none of them refuses.
 use Prim.Native.Nat.{ℕ, _≤_}
 use mathlib.Core.Path.{_≡_}
 use mathlib.Core.Bool.{Bool, true, false, not, _&&_}
@@ -32,7 +32,8 @@ lastTick = 4096
 abbrev pub limitsRefused : Axis → Bool
 limitsRefused x = not (within 1 1048576 (speedLimit x) && within 1 65536 (accelerationLimit x))
 
--- ---- 12: a first peak that is not above zero, or a ratio that is not a number above 0 and at most 1; also when h is 0
+-- ---- 12: a first peak that is not above zero, or a ratio that is not a number above 0
+-- and at most 1; also when h is 0
 
 abbrev pub dampingRefused : Axis → Bool
 dampingRefused x = not (weightAllowed (x .«second_weight»))
@@ -51,8 +52,9 @@ swayAllowed (HalfPeriod d) = within 1 256 d
 abbrev pub swayRefused : Axis → Bool
 swayRefused x = not (swayAllowed (x .«second_sway»))
 
--- ---- 6: start or target velocity exceeds L in size, target acceleration exceeds M in size, target tick exceeds 4,096 in size, or a
--- position is outside −17,179,869,184 to 17,179,869,183, which two words hold (docs/METHOD.md, 6.3)
+-- ---- 6: start or target velocity exceeds L in size, target acceleration exceeds M in size, target
+-- tick exceeds 4,096 in size, or a position is outside −17,179,869,184 to 17,179,869,183, which two
+-- words hold (docs/METHOD.md, 6.3)
 
 abbrev pub positionAllowed : ℤ → Bool
 positionAllowed p = leZ (negsuc 17179869183) p && leZ p (pos 17179869183)
@@ -69,7 +71,8 @@ motionAllowed x m = leb (natAbs (m .acceleration)) (accelerationLimit x) && leb 
 
 abbrev pub targetAllowed : Axis → Target → Bool
 targetAllowed x (Fixed r) = restAllowed x r
-targetAllowed x (Moving m) = restAllowed x (record { position = m .position; velocity = m .velocity }) && motionAllowed x m
+targetAllowed x (Moving m) =
+    restAllowed x (record { position = m .position; velocity = m .velocity }) && motionAllowed x m
 
 abbrev pub valuesRefused : Axis → Bool
 valuesRefused x = not (restAllowed x (x .start) && targetAllowed x (x .target))

@@ -35,7 +35,8 @@ blendOnce t k d f =
     let b : ℕ = secondWeight (t .axis) in
     pos (256 - b) *ℤ f (tickBack t k d) +ℤ pos b *ℤ f (tickBack t k (d + halfPeriod (t .axis)))
 
--- the blend, applied once more with equal weights and the delay h₂ where the pole has a second sway; and what its weights add up to
+-- the blend, applied once more with equal weights and the delay h₂ where the pole has a second
+-- sway; and what its weights add up to
 abbrev pub blendBy : SecondSway → PlannedAxis → ℕ → (Tick → ℤ) → ℤ
 blendBy Absent t k f = blendOnce t k 0 f
 blendBy (HalfPeriod d) t k f = blendOnce t k 0 f +ℤ blendOnce t k d f
@@ -68,8 +69,8 @@ tabulate f k (suc n) = f k ∷ tabulate f (suc k) n
 abbrev pub row : List PlannedAxis → ℕ → List ℤ
 row ts k = flatten (map (cells k) ts)
 
--- the tick of the row that stands at place j, of rows 0 to n: row 0 first and row n last, or row n first and row 0 last (docs/METHOD.md, 4.7).
--- It is also the place of the row of tick j
+-- the tick of the row that stands at place j, of rows 0 to n: row 0 first and row n last, or row n
+-- first and row 0 last (docs/METHOD.md, 4.7). It is also the place of the row of tick j
 abbrev pub rowAt : Order → ℕ → ℕ → ℕ
 rowAt Forwards n j = j
 rowAt Backwards n j = n - j
@@ -84,11 +85,15 @@ part o xs n j c =
 abbrev pub table : Order → List Axis → ℕ → List ℤ
 table o xs n = part o xs n 0 (suc n)
 
--- ---- the position sums taken from the landing end (docs/METHOD.md, 4.7), for the rows that begin there
+-- ---- the position sums taken from the landing end (docs/METHOD.md, 4.7), for the rows that begin
+-- there
 
--- The exact position of row n − i, times 2 × divisor as in `cells`: at the arrival it is the target's, 256 times which is 128 times twice it; each tick back
--- takes off the velocities at the tick's two ends. The theorem `sums-from-landing` says that these are the positions that are summed from the start.
+-- The exact position of row n − i, times 2 × divisor as in `cells`: at the arrival it is
+-- the target's, 256 times which is 128 times twice it; each tick back takes off the
+-- velocities at the tick's two ends. The theorem `sums-from-landing` says that these are
+-- the positions that are summed from the start.
 abbrev pub fromLanding : Axis → ℕ → ℕ → ℤ
 fromLanding x n zero = pos (2 * divisor x) *ℤ (pos 128 *ℤ twicePositionAt (asMoving (x .target) n) (pos n))
 fromLanding x n (suc i) =
-    fromLanding x n i -ℤ blend (plannedAxis n x) (n - i) (λ s. s .velocity) -ℤ blend (plannedAxis n x) (n - suc i) (λ s. s .velocity)
+    fromLanding x n i -ℤ blend (plannedAxis n x) (n - i) (λ s. s .velocity)
+    -ℤ blend (plannedAxis n x) (n - suc i) (λ s. s .velocity)

@@ -42,18 +42,21 @@ fitsWord p = between (negsuc 134217727) (pos 134217727) p
 abbrev pub longAllowed : ℕ → ℕ → Bool
 longAllowed high low = between (negsuc 63) (pos 63) (twos high) && not (fitsWord (longPosition high low))
 
--- Of words from index i on, the index of the first of kind 14 that is not allowed with the word after it. Where no word is of a wrong kind,
--- that is a word of kind 3 or 9.
+-- Of words from index i on, the index of the first of kind 14 that is not allowed with the word
+-- after it. Where no word is of a wrong kind, that is a word of kind 3 or 9.
 abbrev pub firstBadLong : ℕ → List ℕ → Option ℕ
 firstBadLong i [] = none
 firstBadLong i (w ∷ []) = none
 firstBadLong i (w ∷ u ∷ ws) =
-    elim (eqb (kind w) 14 && not (longAllowed (payload w) (payload u))) [ true ↦ some i | false ↦ firstBadLong (suc i) (u ∷ ws) ]
+    elim (eqb (kind w) 14 && not (longAllowed (payload w) (payload u))) [
+      | true ↦ some i
+      | false ↦ firstBadLong (suc i) (u ∷ ws)
+    ]
 
 -- ---- reading
 
--- What reading from word i on finds: a value, the index of the next word and the words from there; or the index of the first wrong word.
--- Where words are lacking that index is the word count.
+-- What reading from word i on finds: a value, the index of the next word and the words from there;
+-- or the index of the first wrong word. Where words are lacking that index is the word count.
 pub data Reading (A : Type 0) : Type 0 where
   got : A → ℕ → List ℕ → Reading A
   wrong : ℕ → Reading A
@@ -182,7 +185,8 @@ pub data Decoded : Type 0 where
 abbrev pub goodMask : ℕ → Bool
 goodMask m = ltb 0 m && leb m 63
 
--- refusal 14 comes directly after all of refusal 2: once every word is of a kind allowed at its place
+-- refusal 14 comes directly after all of refusal 2: once every word is of a kind allowed at its
+-- place
 abbrev pub spelled : Option ℕ → Job → Decoded
 spelled (some p) j = badLong p
 spelled none j = job j

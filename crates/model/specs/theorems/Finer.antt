@@ -1,5 +1,6 @@
--- Planned velocities on a grid f times finer than the axis's own, with the limits unchanged (docs/METHOD.md, 5.4). The theorem
--- `finer-gains-nothing` says that the same arrivals can be reached on it.
+-- Planned velocities on a grid f times finer than the axis's own, with the limits
+-- unchanged (docs/METHOD.md, 5.4). The theorem `finer-gains-nothing` says that the same
+-- arrivals can be reached on it.
 use Prim.Native.Nat.{ℕ, _*_, _≤_, _<_}
 use mathlib.Core.Path.{_≡_}
 use mathlib.Core.Bool.{true}
@@ -58,8 +59,9 @@ pub record SameArrivals (P Q : ℕ → Type 0) : Type 0 where
   pub same : (n : ℕ) → P n ↔ Q n
   pub least : (n : ℕ) → IsLeast P n ↔ IsLeast Q n
 
--- the arrivals of the finer grid are those of the axes' own grids: for each axis, for all together, and in the windows of the job; the arrival that
--- planning finds is the least of the finer grid too, and where planning finds none to 4,096 the finer grid has none
+-- the arrivals of the finer grid are those of the axes' own grids: for each axis, for all together,
+-- and in the windows of the job; the arrival that planning finds is the least of the finer grid
+-- too, and where planning finds none to 4,096 the finer grid has none
 pub record GainsNothing (f : ℕ) (j : Job) : Type 0 where
   pub each : (x : JobAxis) → Among (j .axes) x → SameArrivals (ReachableOn f (x .axis)) (Reachable (x .axis))
   pub together : SameArrivals (AllReachableOn f (j .axes)) (AllReachable (j .axes))

@@ -1,5 +1,6 @@
--- Damping as measured gives what the same job with each B entered by hand gives (docs/METHOD.md, 2.4), unless 12 refuses it: in every call from typed
--- values. That it does is the theorem `measured-is-given`.
+-- Damping as measured gives what the same job with each B entered by hand gives
+-- (docs/METHOD.md, 2.4), unless 12 refuses it: in every call from typed values. That it does is
+-- the theorem `measured-is-given`.
 use Prim.Native.Nat.{ℕ}
 use mathlib.Core.Path.{_≡_}
 use mathlib.Core.List.{List, map}
@@ -40,7 +41,8 @@ pub record MeasuredIsGiven : Type 0 where
   -- the rows from row k on
   pub parts : (t : Typed.Job) (k : ℕ) (lent : List ℤ) → (partCall (typed t) k lent .answer .number ≡ 12 → ⊥)
       → partCall (typed (typedWithWeight t)) k lent ≡ partCall (typed t) k lent
-  pub raises : (t : Typed.Job) → (raisesCall (typed t) .answer .number ≡ 12 → ⊥) → raisesCall (typed (typedWithWeight t)) ≡ raisesCall (typed t)
+  pub raises : (t : Typed.Job) → (raisesCall (typed t) .answer .number ≡ 12 → ⊥)
+      → raisesCall (typed (typedWithWeight t)) ≡ raisesCall (typed t)
   pub searches : (t : Typed.Job) (first budget : ℕ) → (searchCall (typed t) first budget .number ≡ 12 → ⊥)
       → searchCall (typed (typedWithWeight t)) first budget ≡ searchCall (typed t) first budget
   pub tours : (t : TourSettings) (stops : List Stop) (lent : List ℕ) → (tourOutcome t stops lent .number ≡ 12 → ⊥)

@@ -1,5 +1,7 @@
--- Which words may follow one another in a job (docs/METHOD.md, sections 6, 6.3 and 2.5), said without a reader of words; and refusal 2 by it: the first word
--- that is not of a kind allowed next. Only kinds count, the mask and the payload of the end word: the values of the others are other refusals' business.
+-- Which words may follow one another in a job (docs/METHOD.md, sections 6, 6.3 and 2.5),
+-- said without a reader of words; and refusal 2 by it: the first word that is not of a kind
+-- allowed next. Only kinds count, the mask and the payload of the end word: the values of
+-- the others are other refusals' business.
 use Prim.Native.Nat.{ℕ, suc, _≤_, _<_}
 use mathlib.Core.Path.{_≡_}
 use mathlib.Core.List.{List, [], _∷_, _++_}
@@ -36,7 +38,8 @@ MovingForm rest = Either (OfKind 11 (OfKind 12 rest)) rest
 -- the words of an axis
 abbrev pub AxisForm : Form → Form
 AxisForm rest =
-    PositionForm 3 (OfKind 4 (OfKind 5 (OfKind 6 (OfKind 7 (OfKind 8 (SwayForm (PositionForm 9 (OfKind 10 (MovingForm rest)))))))))
+    PositionForm 3
+    (OfKind 4 (OfKind 5 (OfKind 6 (OfKind 7 (OfKind 8 (SwayForm (PositionForm 9 (OfKind 10 (MovingForm rest)))))))))
 
 -- those of each set mask bit, lowest first
 abbrev pub AxesForm : List ℕ → Form → Form
@@ -61,8 +64,9 @@ WellFormed (w ∷ ws) = (kind w ≡ 1) × (((1 ≤ payload w) × (payload w ≤ 
 abbrev pub Begins : Form → Form
 Begins f us = (vs : List ℕ) × f (us ++ vs)
 
--- The word of index p is the first that is not allowed: those before it begin a list of the form, and with it they begin none. Or the words are
--- lacking: they begin a list of the form and are none, and p is their count.
+-- The word of index p is the first that is not allowed: those before it begin a list of the
+-- form, and with it they begin none. Or the words are lacking: they begin a list of the form
+-- and are none, and p is their count.
 pub record FirstWrong (f : Form) (ws : List ℕ) (p : ℕ) : Type 0 where
   pub before : Begins f (take p ws)
   pub here : ((p < length ws) × (Begins f (take (suc p) ws) → ⊥)) ⊎ ((p ≡ length ws) × (f ws → ⊥))

@@ -1,4 +1,5 @@
--- A planned motion negated, as pan right is to pan left (docs/METHOD.md, 4.5). The theorem `mirrored` says that every cell is then negated.
+-- A planned motion negated, as pan right is to pan left (docs/METHOD.md, 4.5). The theorem
+-- `mirrored` says that every cell is then negated.
 use Prim.Native.Nat.{ℕ}
 use mathlib.Core.Path.{_≡_}
 use mathlib.Core.List.{map}
@@ -11,7 +12,8 @@ use Rattle.model.specs.planning.Motion.{Tick}
 use Rattle.model.specs.planning.Rows.{PlannedAxis, cells}
 
 abbrev pub negatedTick : Tick → Tick
-negatedTick s = record { position = negℤ (s .position); velocity = negℤ (s .velocity); acceleration = negℤ (s .acceleration) }
+negatedTick s =
+    record { position = negℤ (s .position); velocity = negℤ (s .velocity); acceleration = negℤ (s .acceleration) }
 
 abbrev pub negatedRest : RestPoint → RestPoint
 negatedRest r = record { position = negℤ (r .position); velocity = negℤ (r .velocity) }
@@ -19,7 +21,12 @@ negatedRest r = record { position = negℤ (r .position); velocity = negℤ (r .
 abbrev pub negatedTarget : Target → Target
 negatedTarget (Fixed r) = Fixed (negatedRest r)
 negatedTarget (Moving m) =
-    Moving (record { position = negℤ (m .position); velocity = negℤ (m .velocity); acceleration = negℤ (m .acceleration); tick = m .tick })
+    Moving (record {
+      position = negℤ (m .position);
+      velocity = negℤ (m .velocity);
+      acceleration = negℤ (m .acceleration);
+      tick = m .tick;
+    })
 
 -- start and target negated; the limits and the pole stay
 abbrev pub negatedAxis : Axis → Axis

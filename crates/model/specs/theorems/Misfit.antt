@@ -1,4 +1,5 @@
--- What is left of a sway that the pole's numbers fit only nearly (docs/METHOD.md, 5.5). Demand 3 is of swing lists that fit them exactly.
+-- What is left of a sway that the pole's numbers fit only nearly (docs/METHOD.md, 5.5). Demand 3 is
+-- of swing lists that fit them exactly.
 use Prim.Native.Nat.{ℕ, zero, suc, _+_, _-_, _*_, _≤_}
 use mathlib.Core.Path.{_≡_}
 use mathlib.Core.List.{List}
@@ -13,9 +14,11 @@ use Rattle.model.specs.planning.Quantities.{halfPeriod, secondWeight, de
 use Rattle.model.specs.planning.Motion.{landingTick}
 use Rattle.model.specs.planning.Rows.{plannedAxis, tickAt, blend, divisor}
 use Rattle.model.specs.planning.Outcome.{Input, callIn, inputAxes}
-use Rattle.model.specs.planning.Demand.{CellTable, tableIn, accelerationCell, Swings, Bounded, accelerationChange, sway}
+use Rattle.model.specs.planning.Demand.{CellTable, tableIn, accelerationCell, Swings, Bounded, accelerationChange}
+use Rattle.model.specs.planning.Demand.{sway}
 
--- ---- the misfit of a list w at i: the blend of its entries i to i + h + h₂. It is 0 where the list fits either rate
+-- ---- the misfit of a list w at i: the blend of its entries i to i + h + h₂. It is 0
+-- where the list fits either rate
 
 abbrev pub misfitOnce : Axis → (ℕ → ℤ) → ℕ → ℤ
 misfitOnce x w i = pos (256 - secondWeight x) *ℤ w (i + halfPeriod x) +ℤ pos (secondWeight x) *ℤ w i
@@ -45,8 +48,9 @@ apart a b = a - b + (b - a)
 abbrev pub Gentle : ℕ → ℕ → (ℕ → ℤ) → Type 0
 Gentle m D w = (i : ℕ) → suc i ≤ m → natAbs (w (suc i) -ℤ w i) ≤ D
 
--- A pole as it swings in truth. Its sway is a list of `entries` entries to a tick, in which it swings over within `turn` entries, and each swing is
--- after / before of the one before: half period and swing ratio are any fractions.
+-- A pole as it swings in truth. Its sway is a list of `entries` entries to a tick, in which it
+-- swings over within `turn` entries, and each swing is after / before of the one before: half
+-- period and swing ratio are any fractions.
 pub record TruePole : Type 0 where
   pub entries : ℕ
   pub turn : ℕ
@@ -57,7 +61,8 @@ pub record TruePole : Type 0 where
 abbrev pub weights : TruePole → ℕ
 weights t = t .before + t .after
 
--- a sway of the pole, looked at up to tick m and half a period more: no entry above G in size, no two neighbours more than D apart
+-- a sway of the pole, looked at up to tick m and half a period more: no entry above G in size, no
+-- two neighbours more than D apart
 pub record SwayOf (t : TruePole) (m G D : ℕ) (u : ℕ → ℤ) : Type 0 where
   pub fits : Swings (pos (t .before)) (pos (t .after)) (t .turn) (t .entries * m + t .turn) u
   pub small : Bounded (t .entries * m + t .turn) G u
@@ -71,10 +76,12 @@ byTick t u i = u (t .entries * i)
 abbrev pub weighted : TruePole → (ℕ → ℤ) → ℕ → ℤ
 weighted t u i = pos (weights t) *ℤ byTick t u i
 
--- One blend with the weights A and B and the delay h. With p the pole's half period in ticks, and b its second weight as a part of A + B, a sway of
--- the pole has misfits up to 2|b − B|G + A|p − h| × entries × D. This is that times the pole's weights.
+-- One blend with the weights A and B and the delay h. With p the pole's half period in ticks, and b
+-- its second weight as a part of A + B, a sway of the pole has misfits up to 2|b − B|G + A|p − h| ×
+-- entries × D. This is that times the pole's weights.
 abbrev pub measuredMisfit : ℕ → ℕ → ℕ → TruePole → ℕ → ℕ → ℕ
-measuredMisfit A B h t G D = 2 * (apart ((A + B) * t .after) (weights t * B) * G) + weights t * (A * (apart (t .turn) (t .entries * h) * D))
+measuredMisfit A B h t G D =
+    2 * (apart ((A + B) * t .after) (weights t * B) * G) + weights t * (A * (apart (t .turn) (t .entries * h) * D))
 
 -- a pole in place of the first rate, and twice that with a second sway
 abbrev pub firstMisfitBy : SecondSway → ℕ → ℕ
@@ -82,14 +89,16 @@ firstMisfitBy Absent e = e
 firstMisfitBy (HalfPeriod d) e = 2 * e
 
 abbrev pub firstMisfit : Axis → TruePole → ℕ → ℕ → ℕ
-firstMisfit x t G D = firstMisfitBy (x .«second_sway») (measuredMisfit (256 - secondWeight x) (secondWeight x) (halfPeriod x) t G D)
+firstMisfit x t G D =
+    firstMisfitBy (x .«second_sway») (measuredMisfit (256 - secondWeight x) (secondWeight x) (halfPeriod x) t G D)
 
 -- a pole in place of the second, whose half period is d
 abbrev pub secondMisfit : ℕ → TruePole → ℕ → ℕ → ℕ
 secondMisfit d t G D = 256 * measuredMisfit 1 1 d t G D
 
 pub record MeasuredMisfits (x : Axis) : Type 0 where
-  pub first : (t : TruePole) (n m G D : ℕ) (u : ℕ → ℤ) → SwayOf t m G D u → Misfits x n m (firstMisfit x t G D) (weighted t u)
+  pub first : (t : TruePole) (n m G D : ℕ) (u : ℕ → ℤ) → SwayOf t m G D u
+      → Misfits x n m (firstMisfit x t G D) (weighted t u)
   pub second : (d : ℕ) (t : TruePole) (n m G D : ℕ) (u : ℕ → ℤ) → x .«second_sway» ≡ HalfPeriod d → SwayOf t m G D u
       → Misfits x n m (secondMisfit d t G D) (weighted t u)
   -- whatever the list fits
@@ -106,13 +115,15 @@ variation a (suc n) = variation a n + natAbs (accelerationChange a (suc n))
 abbrev pub plannedVariation : Axis → ℕ → ℕ
 plannedVariation x n = variation (λ k. tickAt (plannedAxis n x) k .acceleration) (landingTick x n)
 
--- ---- the claim, of one axis whose planned accelerations change by at most `most` in all: x is axis i of the table g, and N the arrival
+-- ---- the claim, of one axis whose planned accelerations change by at most `most` in all: x is
+-- axis i of the table g, and N the arrival
 
 -- what the rounding of the cells of rows 0 to n adds at most, of entries up to G
 abbrev pub roundingLeft : ℕ → ℕ → ℕ
 roundingLeft n G = n * G
 
--- the divisor times the sway left is at most `most` × E before rounding, and as rounded at most divisor × N × G more
+-- the divisor times the sway left is at most `most` × E before rounding, and as
+-- rounded at most divisor × N × G more
 pub record SwayLeft (most : Axis → ℕ → ℕ) (x : Axis) (i n : ℕ) (g : CellTable) : Type 0 where
   pub exact : (m E : ℕ) (w : ℕ → ℤ) → n ≤ m → Misfits x n m E w
       → natAbs (sway (λ k. blend (plannedAxis n x) k (λ s. s .acceleration)) w m n) ≤ most x n * E
@@ -124,18 +135,23 @@ pub record SwayLeft (most : Axis → ℕ → ℕ) (x : Axis) (i n : ℕ) (g : Ce
 -- the weights of the pole, times the divisor, times the sway left
 pub record PoleLeft (x : Axis) (i n : ℕ) (g : CellTable) (t : TruePole) (m G most : ℕ) (u : ℕ → ℤ) : Type 0 where
   pub exact : weights t * natAbs (sway (λ k. blend (plannedAxis n x) k (λ s. s .acceleration)) (byTick t u) m n) ≤ most
-  pub rounded : divisor x * (weights t * natAbs (sway (accelerationCell g i) (byTick t u) m n)) ≤ most + divisor x * roundingLeft n (weights t * G)
+  pub rounded : divisor x * (weights t * natAbs (sway (accelerationCell g i) (byTick t u) m n))
+      ≤ most + divisor x * roundingLeft n (weights t * G)
 
 pub record MeasuredLeft (most : Axis → ℕ → ℕ) (x : Axis) (i n : ℕ) (g : CellTable) : Type 0 where
-  pub first : (t : TruePole) (m G D : ℕ) (u : ℕ → ℤ) → n ≤ m → SwayOf t m G D u → PoleLeft x i n g t m G (most x n * firstMisfit x t G D) u
-  pub second : (d : ℕ) (t : TruePole) (m G D : ℕ) (u : ℕ → ℤ) → n ≤ m → x .«second_sway» ≡ HalfPeriod d → SwayOf t m G D u
+  pub first : (t : TruePole) (m G D : ℕ) (u : ℕ → ℤ) → n ≤ m → SwayOf t m G D u
+      → PoleLeft x i n g t m G (most x n * firstMisfit x t G D) u
+  pub second : (d : ℕ) (t : TruePole) (m G D : ℕ) (u : ℕ → ℤ) → n ≤ m
+      → x .«second_sway» ≡ HalfPeriod d → SwayOf t m G D u
       → PoleLeft x i n g t m G (most x n * secondMisfit d t G D) u
 
--- ---- both claims, of every axis of every call that returns number 0, from words or from typed values, in either order
+-- ---- both claims, of every axis of every call that returns number 0, from words or
+-- from typed values, in either order
 
 abbrev pub OfCalls : (Axis → ℕ → ℕ → CellTable → Type 0) → Type 0
 OfCalls Claim =
-    (o : Order) (q : Input) (lent : List ℤ) → callIn o q lent .number ≡ 0 → (i : ℕ) (x : Axis) → getElem? (inputAxes q) i ≡ some x
+    (o : Order) (q : Input) (lent : List ℤ) → callIn o q lent .number ≡ 0 → (i : ℕ) (x : Axis)
+    → getElem? (inputAxes q) i ≡ some x
     → Claim x i (callIn o q lent .arrival) (tableIn o (inputAxes q) (callIn o q lent .arrival) (callIn o q lent .cells))
 
 abbrev pub SwayLeftHolds : (Axis → ℕ → ℕ) → Type 0

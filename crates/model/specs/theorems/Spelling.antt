@@ -1,4 +1,5 @@
--- The words of a job, and which job words spell, for "a position has one spelling only" and "old jobs keep their meaning" (docs/METHOD.md, 6.3).
+-- The words of a job, and which job words spell, for "a position has one spelling only" and "old
+-- jobs keep their meaning" (docs/METHOD.md, 6.3).
 use Prim.Native.Nat.{ℕ, suc, _-_, _+_, _*_, _/_, _%_, _^_, _≤_, _<_}
 use mathlib.Core.Path.{_≡_}
 use mathlib.Core.Bool.{true, false, _&&_}
@@ -50,7 +51,8 @@ pub record SpellsPosition (k : ℕ) (p : ℤ) (ws : List ℕ) : Type 0 where
   pub read : position k 0 ws ≡ got p (length ws) []
   pub allowed : firstBadLong 0 ws ≡ none
 
--- each position of the range has a spelling, no other words spell it, and no position outside the range has one
+-- each position of the range has a spelling, no other words spell it, and no
+-- position outside the range has one
 pub record OnePositionSpelling (k : ℕ) (p : ℤ) : Type 0 where
   pub spelled : positionAllowed p ≡ true → SpellsPosition k p (positionWords k p)
   pub only : (ws : List ℕ) → SpellsPosition k p ws → ws ≡ positionWords k p
@@ -90,7 +92,8 @@ jobWords j = word 1 (j .mask) ∷ word 2 (j .asked) ∷ (axesWords (j .axes) ++ 
 
 -- ---- which job words spell, said without a reader of words
 
--- each number of a job has room in its payload: 28 bits unsigned, 28 bits of two's complement, and a position in two words
+-- each number of a job has room in its payload: 28 bits unsigned, 28 bits of two's
+-- complement, and a position in two words
 abbrev pub SwayInWords : SecondSway → Type 0
 SwayInWords Absent = Unit
 SwayInWords (HalfPeriod d) = d < 2 ^ 28
@@ -136,13 +139,15 @@ pub record SpellsJob (ws : List ℕ) (j : Job) : Type 0 where
   pub inside : JobInWords j
   pub words : ws ≡ jobWords j
 
--- words are read as a job exactly where they spell it: the words of every job are read as that job, and no others are, so that no job has two spellings
+-- words are read as a job exactly where they spell it: the words of every job are read as that job,
+-- and no others are, so that no job has two spellings
 abbrev pub OneSpelling : Type 0
 OneSpelling = (ws : List ℕ) (j : Job) → (decode ws ≡ job j) ↔ SpellsJob ws j
 
 -- ---- old jobs keep their meaning
 
--- the reading of docs/METHOD.md, 6.1 and 6.2, without kinds 13 and 14: each position is one word, no axis has a second sway, and 1 and 2 are the only refusals
+-- the reading of docs/METHOD.md, 6.1 and 6.2, without kinds 13 and 14: each position is one word,
+-- no axis has a second sway, and 1 and 2 are the only refusals
 abbrev pub oldDecode : List ℕ → Decoded
 oldDecode [] = noMask
 oldDecode (w ∷ ws) =

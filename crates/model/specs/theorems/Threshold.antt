@@ -1,5 +1,6 @@
--- Reach goes on (docs/METHOD.md, 3.7): what holds of the arrivals that an axis reaches, and of those that all axes of a job reach, by the existence of
--- a list (rule 4) and not by the decision. The theorem `arrivals-are-runs` says it of every job whose axes pass the refusals of one axis.
+-- Reach goes on (docs/METHOD.md, 3.7): what holds of the arrivals that an axis reaches, and of
+-- those that all axes of a job reach, by the existence of a list (rule 4) and not by the decision.
+-- The theorem `arrivals-are-runs` says it of every job whose axes pass the refusals of one axis.
 use Prim.Native.Nat.{ℕ, suc, _≤_}
 use lib.IntN.{natAbs}
 use Rattle.model.specs.declared.Axis.{Axis}
@@ -9,12 +10,14 @@ use Rattle.model.specs.planning.Job.{Job, JobAxis}
 use Rattle.model.specs.planning.Refusals.{AllPassed}
 use Rattle.model.specs.theorems.Verdict.{Among, AllReachable}
 
--- the target is slow enough for arrival n: what rule 4 asks of the planned velocities at the landing and at the arrival
+-- the target is slow enough for arrival n: what rule 4 asks of the planned velocities at
+-- the landing and at the arrival
 pub record Slow (x : Axis) (n : ℕ) : Type 0 where
   pub landed : natAbs (landingVelocity x n) ≤ speedSteps x
   pub arrived : natAbs (arrivalVelocity x n) ≤ speedSteps x
 
--- from a first tick on, Q holds of one run of ticks: where it holds of two, it holds of all between them
+-- from a first tick on, Q holds of one run of ticks: where it holds of two, it holds of all between
+-- them
 abbrev pub OneRun : ℕ → (ℕ → Type 0) → Type 0
 OneRun first Q = (i n k : ℕ) → first ≤ i → i ≤ n → n ≤ k → Q i → Q k → Q n
 

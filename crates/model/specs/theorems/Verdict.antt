@@ -1,5 +1,7 @@
--- What each number of a call for a table says, with its rows in either order w, in the words of docs/METHOD.md, section 7: its named case, the first in checking order, by the existence of
--- a list (rule 4) and not by the decision. The theorem `verdict` says it of every job from refusal 3 on, `call-verdict` of every call, `verdict-in` of both orders.
+-- What each number of a call for a table says, with its rows in either order w, in the words of
+-- docs/METHOD.md, section 7: its named case, the first in checking order, by the existence of a
+-- list (rule 4) and not by the decision. The theorem `verdict` says it of every job from refusal 3
+-- on, `call-verdict` of every call, `verdict-in` of both orders.
 use Prim.Native.Nat.{ℕ, suc, _≤_, _<_}
 use mathlib.Core.Path.{_≡_}
 use mathlib.Core.Bool.{Bool, true, false}
@@ -15,10 +17,12 @@ use Rattle.model.specs.planning.Motion.{Reachable}
 use Rattle.model.specs.planning.Windows.{brought, FitsOne, WindowsWrong, WindowsRight}
 use Rattle.model.specs.planning.Rows.{table}
 use Rattle.model.specs.planning.Job.{Job, JobAxis, axesOf, jobOf, bit}
-use Rattle.model.specs.planning.Words.{kind, payload, twos, longPosition, between, fitsWord, Decoded, noMask, badWord, badLong, job, decode}
+use Rattle.model.specs.planning.Words.{kind, payload, twos, longPosition, between, fitsWord, Decoded, noMask}
+use Rattle.model.specs.planning.Words.{badWord, badLong, job, decode}
 use Rattle.model.specs.theorems.Grammar.{WellFormed, FirstWrong}
 use Rattle.model.specs.theorems.Spelling.{SpellsJob}
-use Rattle.model.specs.planning.Refusals.{limitsRefused, dampingRefused, blendRefused, swayRefused, valuesRefused, accelerationRefused, flyingRefused, AllPassed}
+use Rattle.model.specs.planning.Refusals.{limitsRefused, dampingRefused, blendRefused, swayRefused, valuesRefused}
+use Rattle.model.specs.planning.Refusals.{accelerationRefused, flyingRefused, AllPassed}
 use Rattle.model.specs.planning.Outcome.{Outcome, Input, words, typed, cellsNeeded, jobOutcome}
 
 -- ---- the two kinds of answer
@@ -31,7 +35,8 @@ pub record Refuses (o : Outcome) (n p m a : ℕ) (lent : List ℤ) : Type 0 wher
   pub arrival : o .arrival ≡ a
   pub cells : o .cells ≡ lent
 
--- an accepted job: its own mask and its arrival, the rows in the table's first cells, and the cells after the last row as they were
+-- an accepted job: its own mask and its arrival, the rows in the table's first cells, and the cells
+-- after the last row as they were
 pub record Accepts (w : Order) (o : Outcome) (j : Job) (n : ℕ) (lent : List ℤ) : Type 0 where
   pub number : o .number ≡ 0
   pub place : o .place ≡ 0
@@ -92,13 +97,15 @@ WindowsPass j = j .windows .given ≡ true → WindowsRight (j .windows)
 
 pub data Verdict (w : Order) (j : Job) (lent : List ℤ) (o : Outcome) : Type 0 where
   refused3 : 4096 < j .asked → Refuses o 3 1 0 0 lent → Verdict w j lent o
-  refused4 : (i : ℕ) → j .asked ≤ 4096 → FirstRefused limitsRefused (j .axes) i → Refuses o 4 i 0 0 lent → Verdict w j lent o
+  refused4 : (i : ℕ) → j .asked ≤ 4096 → FirstRefused limitsRefused (j .axes) i
+      → Refuses o 4 i 0 0 lent → Verdict w j lent o
   refused12 : (i : ℕ) → j .asked ≤ 4096 → NoneRefused limitsRefused (j .axes) → FirstRefused dampingRefused (j .axes) i
       → Refuses o 12 i 0 0 lent → Verdict w j lent o
   refused5 : (i : ℕ) → j .asked ≤ 4096 → NoneRefused limitsRefused (j .axes) → NoneRefused dampingRefused (j .axes)
       → FirstRefused blendRefused (j .axes) i → Refuses o 5 i 0 0 lent → Verdict w j lent o
   refused15 : (i : ℕ) → j .asked ≤ 4096 → NoneRefused limitsRefused (j .axes) → NoneRefused dampingRefused (j .axes)
-      → NoneRefused blendRefused (j .axes) → FirstRefused swayRefused (j .axes) i → Refuses o 15 i 0 0 lent → Verdict w j lent o
+      → NoneRefused blendRefused (j .axes) → FirstRefused swayRefused (j .axes) i
+      → Refuses o 15 i 0 0 lent → Verdict w j lent o
   refused6 : (i : ℕ) → j .asked ≤ 4096 → NoneRefused limitsRefused (j .axes) → NoneRefused dampingRefused (j .axes)
       → NoneRefused blendRefused (j .axes) → NoneRefused swayRefused (j .axes) → FirstRefused valuesRefused (j .axes) i
       → Refuses o 6 i 0 0 lent → Verdict w j lent o
@@ -107,21 +114,26 @@ pub data Verdict (w : Order) (j : Job) (lent : List ℤ) (o : Outcome) : Type 0 
       → FirstRefused accelerationRefused (j .axes) i → Refuses o 16 i 0 0 lent → Verdict w j lent o
   refused17 : (i : ℕ) → j .asked ≤ 4096 → NoneRefused limitsRefused (j .axes) → NoneRefused dampingRefused (j .axes)
       → NoneRefused blendRefused (j .axes) → NoneRefused swayRefused (j .axes) → NoneRefused valuesRefused (j .axes)
-      → NoneRefused accelerationRefused (j .axes) → FirstRefused flyingRefused (j .axes) i → Refuses o 17 i 0 0 lent → Verdict w j lent o
+      → NoneRefused accelerationRefused (j .axes) → FirstRefused flyingRefused (j .axes) i
+      → Refuses o 17 i 0 0 lent → Verdict w j lent o
   -- windows are brought, and they are not right
   refused13 : (p : ℕ) → j .asked ≤ 4096 → AllPassed (j .axes) → j .windows .given ≡ true → WindowsWrong (j .windows) p
       → Refuses o 13 p 0 0 lent → Verdict w j lent o
-  -- an arrival is asked for that an axis does not reach or that fits no window, and the mask names exactly the axes that do not reach it
+  -- an arrival is asked for that an axis does not reach or that fits no window, and the mask names
+  -- exactly the axes that do not reach it
   refused8 : (m : ℕ) → 1 ≤ j .asked → j .asked ≤ 4096 → AllPassed (j .axes) → WindowsPass j
       → (Arrives j (j .asked) → ⊥) → Names (λ x. Reachable x (j .asked) → ⊥) (j .axes) m
       → Refuses o 8 0 m 0 lent → Verdict w j lent o
-  -- none is asked for, none exists, and the mask names exactly the axes that alone reach none, whatever the windows
+  -- none is asked for, none exists, and the mask names exactly the axes that alone
+  -- reach none, whatever the windows
   refused9 : (m : ℕ) → j .asked ≡ 0 → AllPassed (j .axes) → WindowsPass j
       → ((n : ℕ) → 1 ≤ n → n ≤ 4096 → Arrives j n → ⊥) → Names ReachesNone (j .axes) m
       → Refuses o 9 0 m 0 lent → Verdict w j lent o
-  refused10 : (n : ℕ) → AllPassed (j .axes) → WindowsPass j → IsArrival j n → length lent < cellsNeeded (length (j .axes)) n
+  refused10 : (n : ℕ) → AllPassed (j .axes) → WindowsPass j → IsArrival j n
+      → length lent < cellsNeeded (length (j .axes)) n
       → Refuses o 10 0 0 n lent → Verdict w j lent o
-  accepted : (n : ℕ) → AllPassed (j .axes) → WindowsPass j → IsArrival j n → cellsNeeded (length (j .axes)) n ≤ length lent
+  accepted : (n : ℕ) → AllPassed (j .axes) → WindowsPass j → IsArrival j n
+      → cellsNeeded (length (j .axes)) n ≤ length lent
       → Accepts w o j n lent → Verdict w j lent o
 
 -- ---- 8 and 9 of a job that every refusal before them lets pass
@@ -158,16 +170,19 @@ abbrev pub MaskWordWrong : List ℕ → Type 0
 MaskWordWrong [] = Unit
 MaskWordWrong (w ∷ ws) = (kind w ≡ 1 → ⊥) ⊎ MaskOutside (payload w)
 
--- The mask word is right, and the word of index p is the first that is not of a kind allowed next, or an end word whose payload is not 0, or one too
--- many; or words are lacking and p is their count.
+-- The mask word is right, and the word of index p is the first that is not of a
+-- kind allowed next, or an end word whose payload is not 0, or one too many; or
+-- words are lacking and p is their count.
 pub record WordWrong (ws : List ℕ) (p : ℕ) : Type 0 where
   pub mask : MaskWordWrong ws → ⊥
   pub first : FirstWrong WellFormed ws p
 
--- a word of kind 14, before the word u, whose payload is outside −64 to 63 or whose position fits a single word
+-- a word of kind 14, before the word u, whose payload is outside −64 to 63 or
+-- whose position fits a single word
 pub record LongWrong (w u : ℕ) : Type 0 where
   pub long : kind w ≡ 14
-  pub wrong : (between (negsuc 63) (pos 63) (twos (payload w)) ≡ false) ⊎ (fitsWord (longPosition (payload w) (payload u)) ≡ true)
+  pub wrong : (between (negsuc 63) (pos 63) (twos (payload w)) ≡ false)
+      ⊎ (fitsWord (longPosition (payload w) (payload u)) ≡ true)
 
 -- the word of index p is the first such
 pub record FirstLongWrong (ws : List ℕ) (p : ℕ) : Type 0 where
@@ -184,7 +199,8 @@ NoneLongWrong ws = (k w u : ℕ) → getElem? ws k ≡ some w → getElem? ws (s
 
 -- ---- what words are, said without a reader of words: four cases that exclude one another
 
--- the mask word is wrong; another word is; all are allowed but one of kind 14 is wrong; or none is, and they spell a job
+-- the mask word is wrong; another word is; all are allowed but one of kind 14 is wrong;
+-- or none is, and they spell a job
 abbrev pub WordsAre : List ℕ → Decoded → Type 0
 WordsAre ws noMask = MaskWordWrong ws
 WordsAre ws (badWord p) = WordWrong ws p
@@ -195,7 +211,8 @@ WordsAre ws (job j) = WellFormed ws × (NoneLongWrong ws × SpellsJob ws j)
 abbrev pub DecodesAre : Type 0
 DecodesAre = (ws : List ℕ) (d : Decoded) → (decode ws ≡ d) ↔ WordsAre ws d
 
--- ---- what a call says of what it was given, whatever it is for: R n p is that it refuses with number n and place p, P j what it says of the job j
+-- ---- what a call says of what it was given, whatever it is for: R n p is that it refuses with
+-- number n and place p, P j what it says of the job j
 
 pub data ByInput (R : ℕ → ℕ → Type 0) (P : Job → Type 0) : Input → Type 0 where
   words1 : (ws : List ℕ) → WordsAre ws noMask → R 1 0 → ByInput R P (words ws)

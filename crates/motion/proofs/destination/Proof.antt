@@ -14,7 +14,8 @@ as-moving-requires c κs = search needs
 
 -- the target's ranges
 target : (c : tie.After-as-moving) → StateRanges (c .as-moving .result)
-target c = subst StateRanges (sym (c .as-moving .ensures)) (ranges-of (c .before .pre .0) .target (c .before .args .n) (c .before .pre .1))
+target c = subst StateRanges (sym (c .as-moving .ensures))
+    (ranges-of (c .before .pre .0) .target (c .before .args .n) (c .before .pre .1))
 
 twice-position-at-requires : tie.Need-twice-position-at-requires
 twice-position-at-requires c κs = (target c, c .before .pre .1)
@@ -22,7 +23,8 @@ twice-position-at-requires c κs = (target c, c .before .pre .1)
 returns : tie.Need-returns
 returns c =
     let n = c .before .before .args .n in
-    then-is (is-of (search computed depth 9) tt) (ap (λ (m : State). twicePositionAt m (pos n)) (c .before .as-moving .ensures))
+    then-is (is-of (search computed depth 9) tt)
+    (ap (λ (m : State). twicePositionAt m (pos n)) (c .before .as-moving .ensures))
 
 pub destination-spec : {M : Type 1} → statement M
 destination-spec = tie.close (tie.spec as-moving-requires twice-position-at-requires returns)

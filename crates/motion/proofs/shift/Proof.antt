@@ -17,7 +17,8 @@ first-small c =
     (mul-le-mul (c .before .pre .«second_weight») (c .before .pre .«half_period»))
 
 second-small : (c : tie.After-second-half-period) → c .second-half-period .result ≤ 256
-second-small c = subst (λ (d : ℕ). d ≤ 256) (sym (c .second-half-period .ensures)) (c .before .before .before .pre .«second_half_period»)
+second-small c = subst (λ (d : ℕ). d ≤ 256) (sym (c .second-half-period .ensures))
+    (c .before .before .before .pre .«second_half_period»)
 
 second-weight-requires : tie.Need-second-weight-requires
 second-weight-requires c κs = search needs
@@ -43,7 +44,8 @@ returns c =
     let x = w .before .args .x in
     let h = first-small w in
     let k = second-small c in
-    let e = ap₂ (λ (b d : ℕ). b * halfPeriod x + 128 * d) (w .second-weight .ensures) (c .second-half-period .ensures) in
+    let e = ap₂ (λ (b d : ℕ). b * halfPeriod x + 128 * d) (w .second-weight .ensures)
+    (c .second-half-period .ensures) in
     record { is = toZ-pos w64 _ (omega arith) ∙ (λ i. pos (e i)); within = omega arith }
 
 pub shift-spec : {M : Type 1} → statement M

@@ -14,24 +14,31 @@ mul-result : tie.Need-mul-result
 mul-result c = search needs
 
 mul-result-2 : tie.Need-mul-result-2
-mul-result-2 c = let h = ranges-of (c .before .before .before .before .before .pre) in sfits (search computed depth 20 fits 9000) tt
+mul-result-2 c = let h = ranges-of (c .before .before .before .before .before .pre) in
+    sfits (search computed depth 20 fits 9000) tt
 
 mul-result-3 : tie.Need-mul-result-3
-mul-result-3 c = let h = ranges-of (c .before .before .before .before .before .pre) in sfits (search computed depth 20 fits 9000) tt
+mul-result-3 c = let h = ranges-of (c .before .before .before .before .before .pre) in
+    sfits (search computed depth 20 fits 9000) tt
 
 mul-result-4 : tie.Need-mul-result-4
-mul-result-4 c = let h = ranges-of (c .before .before .before .before .before .pre) in sfits (search computed depth 20 fits 9000) tt
+mul-result-4 c = let h = ranges-of (c .before .before .before .before .before .pre) in
+    sfits (search computed depth 20 fits 9000) tt
 
 add-result : tie.Need-add-result
-add-result c = let h = ranges-of (c .before .before .before .before .before .pre) in sfits (search computed depth 20 fits 9000) tt
+add-result c = let h = ranges-of (c .before .before .before .before .before .pre) in
+    sfits (search computed depth 20 fits 9000) tt
 
 mul-result-5 : tie.Need-mul-result-5
-mul-result-5 c = let h = ranges-of (c .before .before .before .before .before .pre) in sfits (search computed depth 20 fits 9000) tt
+mul-result-5 c = let h = ranges-of (c .before .before .before .before .before .pre) in
+    sfits (search computed depth 20 fits 9000) tt
 
 returns : tie.Need-returns
-returns c = let h = ranges-of (c .before .before .before .before .before .pre) in is-of (search computed depth 30 fits 9000) tt
+returns c = let h = ranges-of (c .before .before .before .before .before .pre) in
+    is-of (search computed depth 30 fits 9000) tt
 
 pub start-position-spec : {M : Type 1} → statement M
 start-position-spec =
     tie.close
-    (tie.spec shift-requires grid-steps-requires mul-result mul-result-2 mul-result-3 mul-result-4 add-result mul-result-5 returns)
+    (tie.spec shift-requires grid-steps-requires mul-result mul-result-2 mul-result-3 mul-result-4
+    add-result mul-result-5 returns)

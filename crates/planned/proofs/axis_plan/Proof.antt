@@ -23,7 +23,8 @@ profile-of-requires c κs =
     (r .passed, (r .tick, (plannable-after r, (c .landing-at .ensures, plannable-landed r))))
 
 displacement-requires : tie.Need-displacement-requires
-displacement-requires c κs = let l = c .before .landing-at .ensures in (c .before .before .pre .passed, within (search exact depth 9) tt)
+displacement-requires c κs = let l = c .before .landing-at .ensures in
+    (c .before .before .pre .passed, within (search exact depth 9) tt)
 
 -- the displacement, as the number that it is
 abbrev Way : tie.After-displacement → Type 0
@@ -35,7 +36,8 @@ way : (d : tie.After-displacement) → Way d
 way d =
     let x = d .before .before .before .args .x in
     let l = d .before .before .landing-at in
-    let e : toZ w64 (ofZ w64 (d .displacement .result)) ≡ l .result .position -ℤ startPosition x = exactly (search exact depth 9) tt in
+    let e : toZ w64 (ofZ w64 (d .displacement .result)) ≡ l .result .position -ℤ startPosition x =
+    exactly (search exact depth 9) tt in
     e ∙ ap (λ (z : ℤ). z -ℤ startPosition x) (l .ensures .position .is)
 
 chosen-requires : tie.Need-chosen-requires
@@ -47,7 +49,11 @@ chosen-requires c κs =
         f .ensures .acceleration,
         (
           f .ensures .some,
-          (within (search exact depth 9) tt, plan-feasible (a .args .x) (a .args .n) (f .result) _ (f .ensures .is) (way c) (a .pre)),
+          (
+            within (search exact depth 9) tt,
+            plan-feasible (a .args .x) (a .args .n) (f .result) _
+                (f .ensures .is) (way c) (a .pre),
+          ),
         ),
       ),
     )

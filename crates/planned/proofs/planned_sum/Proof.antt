@@ -22,7 +22,8 @@ returns c =
     let a = b .before .before in
     let p = a .args .p in
     let k = a .args .k in
-    let e : toZ w64 (ofZ w64 (c .sum-to .result)) ≡ sumTo (velocityIn (p .regions)) k = exactly (search exact depth 9) tt in
+    let e : toZ w64 (ofZ w64 (c .sum-to .result)) ≡ sumTo (velocityIn (p .regions)) k =
+    exactly (search exact depth 9) tt in
     planned-sum-is p (a .pre .0) k (a .pre .1) _ (e ∙ sum-before p k (b .if1 .taken))
 
 sub-sum-to : tie.Need-sub-sum-to

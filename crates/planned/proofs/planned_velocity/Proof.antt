@@ -20,15 +20,19 @@ returns : tie.Need-returns
 returns c =
     let b = c .before in
     let a = b .before .before in
-    let e : toZ w64 (ofZ w64 (c .velocity-in .result)) ≡ velocityIn (a .args .p .regions) (a .args .k) = exactly (search exact depth 9) tt in
-    planned-is (a .args .p) (a .pre .0) (a .args .k) _ (omega arith) (e ∙ planned-before (a .args .p) (a .args .k) (b .if1 .taken))
+    let e : toZ w64 (ofZ w64 (c .velocity-in .result)) ≡ velocityIn (a .args .p .regions) (a .args .k) =
+    exactly (search exact depth 9) tt in
+    planned-is (a .args .p) (a .pre .0) (a .args .k) _ (omega arith)
+    (e ∙ planned-before (a .args .p) (a .args .k) (b .if1 .taken))
 
 cast-result : tie.Need-cast-result
 cast-result c = search needs
 
 -- the ticks since the landing
-since : (a : tie.Start) → Is 513 (toZ w64 (a .args .k - a .args .p .regions .ticks)) (pos (a .args .k - a .args .p .regions .ticks))
-since a = cast-small 513 (a .args .k - a .args .p .regions .ticks) (omega (arith, a .pre .0 .«half_period», a .pre .0 .«second_sway»)) tt
+since : (a : tie.Start)
+    → Is 513 (toZ w64 (a .args .k - a .args .p .regions .ticks)) (pos (a .args .k - a .args .p .regions .ticks))
+since a = cast-small 513 (a .args .k - a .args .p .regions .ticks)
+    (omega (arith, a .pre .0 .«half_period», a .pre .0 .«second_sway»)) tt
 
 mul-result : tie.Need-mul-result
 mul-result c = let s = since (c .before .before .before .before) in sfits (search exact depth 9) tt

@@ -29,7 +29,8 @@ returns c =
     let p = a .args .p in
     let k = ticks-are a in
     back-sum-is p (a .pre .0) (a .args .k) (a .pre .1 .1) (a .args .d) _
-    (exactly (search exact depth 20) tt ∙ back-sum-early p (a .args .d) (a .args .k) (a .pre .0 .some) (omega (arith, c .if1 .taken)))
+    (exactly (search exact depth 20) tt
+    ∙ back-sum-early p (a .args .d) (a .args .k) (a .pre .0 .some) (omega (arith, c .if1 .taken)))
 
 cast-result-2 : tie.Need-cast-result-2
 cast-result-2 c = search needs
@@ -49,7 +50,8 @@ returns-2 c =
     let p = a .args .p in
     let d = delay-is a in
     back-sum-is p (a .pre .0) (a .args .k) (a .pre .1 .1) (a .args .d) _
-    (exactly (search exact depth 20) tt ∙ back-sum-late p (a .args .d) (a .args .k) (a .pre .0 .some) (c .before .if1 .left))
+    (exactly (search exact depth 20) tt
+    ∙ back-sum-late p (a .args .d) (a .args .k) (a .pre .0 .some) (c .before .if1 .left))
 
 pub sum-back-spec : {M : Type 1} → statement M
 sum-back-spec =

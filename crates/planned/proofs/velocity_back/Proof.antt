@@ -25,8 +25,10 @@ returns-2 : tie.Need-returns-2
 returns-2 c =
     let b = c .before in
     let a = b .before in
-    let e : toZ w64 (ofZ w64 (c .planned-velocity .result)) ≡ plannedAt (a .args .p) (a .args .k - a .args .d) = exactly (search exact depth 9) tt in
-    behind-is (a .args .p) (a .pre .0) (a .args .d) (a .args .k) _ (omega arith) (e ∙ back-late (a .args .p) (a .args .d) (a .args .k) (b .if1 .left))
+    let e : toZ w64 (ofZ w64 (c .planned-velocity .result)) ≡ plannedAt (a .args .p) (a .args .k - a .args .d) =
+    exactly (search exact depth 9) tt in
+    behind-is (a .args .p) (a .pre .0) (a .args .d) (a .args .k) _ (omega arith)
+    (e ∙ back-late (a .args .p) (a .args .d) (a .args .k) (b .if1 .left))
 
 pub velocity-back-spec : {M : Type 1} → statement M
 velocity-back-spec = tie.close (tie.spec returns planned-velocity-requires returns-2)

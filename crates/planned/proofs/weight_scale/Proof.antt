@@ -14,7 +14,8 @@ finer-requires : tie.Need-finer-requires
 finer-requires c κs = search needs
 
 div-result : tie.Need-div-result
-div-result c = let x = c .before .before .args .x in omega (arith, c .before .blends .ensures, blends-some (x .«second_sway»))
+div-result c = let x = c .before .before .args .x in
+    omega (arith, c .before .blends .ensures, blends-some (x .«second_sway»))
 
 div-result-2 : tie.Need-div-result-2
 div-result-2 c = omega (arith, c .finer .ensures, finer-range (c .before .before .args .x) .0)

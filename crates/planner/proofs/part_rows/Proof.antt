@@ -34,13 +34,15 @@ cast-result c = search needs
 returns-2 : tie.Need-returns-2
 returns-2 c =
     let a = c .before .before .before .args in
-    held-rows (a .cells / (3 * c .before .axis-count .result)) (a .n) (a .first) (c .before .before .if1 .left) (c .if2 .taken)
+    held-rows (a .cells / (3 * c .before .axis-count .result)) (a .n) (a .first)
+    (c .before .before .if1 .left) (c .if2 .taken)
     ∙ ap (λ (m : ℕ). partRows m (a .n) (a .first) (a .cells)) (c .before .axis-count .ensures)
 
 returns-3 : tie.Need-returns-3
 returns-3 c =
     let a = c .before .before .before .args in
-    left-rows (a .cells / (3 * c .before .axis-count .result)) (a .n) (a .first) (c .before .before .if1 .left) (c .if2 .left)
+    left-rows (a .cells / (3 * c .before .axis-count .result)) (a .n) (a .first)
+    (c .before .before .if1 .left) (c .if2 .left)
     ∙ ap (λ (m : ℕ). partRows m (a .n) (a .first) (a .cells)) (c .before .axis-count .ensures)
 
 pub part-rows-spec : {M : Type 1} → statement M

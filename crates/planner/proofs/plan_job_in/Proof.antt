@@ -33,7 +33,8 @@ returns c =
     let r = c .refused in
     let q = refused planningRules planning-numbered (typed t) (k .result) (k .ensures) (v .0 .0) (v .0 .1 .0) (v .1) in
     promise-in (a .wanted) (typed t) lent (r .result) lent
-    (refuses (t .mask) _ lent (a .wanted) (r .result) (v .0 .0) (v .0 .1 .0) 0 _ (r .ensures) (q .not-0) (q .not-10) (sym (ap (outcomeAfter lent) (q .is))))
+    (refuses (t .mask) _ lent (a .wanted) (r .result) (v .0 .0) (v .0 .1 .0) 0 _ (r .ensures) (q .not-0) (q .not-10)
+    (sym (ap (outcomeAfter lent) (q .is))))
 
 enum-told : tie.Need-enum-told
 enum-told c = search needs
@@ -45,7 +46,8 @@ with-weight-requires : tie.Need-with-weight-requires
 with-weight-requires c κs = search needs
 
 -- worked out, or given already
-with-weight : (c : tie.Joined1) → let t = c .before .before .before .before .before .before .before .args .job in c .if1 .given ≡ namedWithWeight (t .mask) (t .axes)
+with-weight : (c : tie.Joined1) → let t = c .before .before .before .before .before .before .before .args .job in
+    c .if1 .given ≡ namedWithWeight (t .mask) (t .axes)
 with-weight c =
     let t = c .before .before .before .before .before .before .before .args .job in
     ⊎-elim
@@ -61,7 +63,8 @@ plan-checked-requires c κs =
     let t = e .before .before .before .before .before .args .job in
     let q = passed planningRules planning-numbered (typed t) (k .result) (k .ensures) (e .enum-told .given .1) in
     let mask = good-mask planningRules t _ (q .is) in
-    let given = given-passed (t .mask) (t .axes) (g .if1 .given) (with-weight g) (clear-passed (setAxes 0 (t .mask) (t .axes)) (q .clear)) in
+    let given = given-passed (t .mask) (t .axes) (g .if1 .given) (with-weight g)
+    (clear-passed (setAxes 0 (t .mask) (t .axes)) (q .clear)) in
     (mask .0, (mask .1, (q .asked, (given, q .windows))))
 
 same-length : tie.Need-same-length
@@ -80,7 +83,8 @@ returns-2 c =
     let q = passed planningRules planning-numbered (typed t) (k .result) (k .ensures) (e .enum-told .given .1) in
     promise-in (a .wanted) (typed t) lent (w .result) exit
     (onward (t .mask) _ lent (a .wanted) _ _ (w .result) exit (sym (ap (outcomeAfter lent) (q .is)))
-    (given-arrives (t .mask) (t .asked) (t .axes) (g .if1 .given) (t .windows) (with-weight g) lent (w .result) exit (a .wanted) (w .ensures)))
+    (given-arrives (t .mask) (t .asked) (t .axes) (g .if1 .given) (t .windows) (with-weight g) lent
+    (w .result) exit (a .wanted) (w .ensures)))
 
 pub plan-job-in-spec : {M : Type 1} → statement M
 plan-job-in-spec =

@@ -23,7 +23,8 @@ returns c =
     let lent = a .table .now in
     let w = of-words ws (d .result) (d .ensures) no in
     promise-in (a .wanted) (words ws) lent (r .result) lent
-    (refuses (inputJob (words ws) .mask) _ lent (a .wanted) (r .result) (d .result .number) (d .result .place) 0 _ (r .ensures) no (w .not-10)
+    (refuses (inputJob (words ws) .mask) _ lent (a .wanted) (r .result) (d .result .number)
+    (d .result .place) 0 _ (r .ensures) no (w .not-10)
     (sym (ap (outcomeAfter lent) (w .is))))
 
 plan-job-in-requires : tie.Need-plan-job-in-requires

@@ -31,7 +31,12 @@ returns c =
     let e = c .before .before in
     let a = e .before .before .args in
     let o = e .wanted .given .0 .0 in
-    (λ i. record { fits = leb (c .cells-needed .ensures i) (a .cells); order = o; first = 0; rows = add-one (a .tick) i })
+    (λ i. record {
+      fits = leb (c .cells-needed .ensures i) (a .cells);
+      order = o;
+      first = 0;
+      rows = add-one (a .tick) i;
+    })
     ∙ sym (ap (λ (w : Wanted). choiceFor w (length (setBits (a .mask))) (a .tick) (a .cells)) (e .wanted .given .1))
 
 returns-2 : tie.Need-returns-2

@@ -19,7 +19,8 @@ returns c =
     let s = c .before .before .before .before in
     let a = s .args in
     let w = c .before .before .before .rows-wanted in
-    too-short (a .mask) (a .tick) (a .axes) (s .good .1 .0 .1 .0 .1) (a .table .now) (a .wanted) (w .result) (w .ensures)
+    too-short (a .mask) (a .tick) (a .axes) (s .good .1 .0 .1 .0 .1) (a .table .now)
+    (a .wanted) (w .result) (w .ensures)
     (not-true _ (c .before .if1 .taken)) (c .answered .result) (c .answered .ensures)
 
 answered-requires-2 : tie.Need-answered-requires-2
@@ -34,8 +35,11 @@ returns-2 c =
     let xs = axesOf (typedJob (a .mask) (a .tick) (a .axes)) in
     wrote (a .mask) (a .tick) (a .axes) (s .good .1 .0 .1 .0 .1) (a .table .now) (a .wanted) (w .result) (w .ensures)
     (not-false _ (c .before .before .if1 .left)) (c .answered2 .result) (a .table .now)
-    (c .answered2 .ensures ∙ ap (λ (n : ℕ). record { answer = record { number = 0; place = 0; mask = a .mask; arrival = a .tick }; rows = n }) (sym none))
-    (none-written (w .result .order) xs (a .tick) (w .result .first) (w .result .rows) (a .table .now) none) (s .pre .1 .0) (s .pre .1 .1 .1 .0) refl
+    (c .answered2 .ensures
+    ∙ ap (λ (n : ℕ). record { answer = record { number = 0; place = 0; mask = a .mask; arrival = a .tick }; rows = n })
+    (sym none))
+    (none-written (w .result .order) xs (a .tick) (w .result .first) (w .result .rows) (a .table .now) none)
+    (s .pre .1 .0) (s .pre .1 .1 .1 .0) refl
 
 fill-part-requires : tie.Need-fill-part-requires
 fill-part-requires c κs =
@@ -45,7 +49,8 @@ fill-part-requires c κs =
     let w = c .before .before .before .before .rows-wanted in
     let six = s .good .1 .0 .1 .0 .1 in
     let fits = not-false _ (c .before .before .if1 .left) in
-    let inside = rows-inside (a .mask) (a .tick) (a .axes) six (a .table .now) (a .wanted) (w .result) (w .ensures) fits (c .before .if2 .left) in
+    let inside = rows-inside (a .mask) (a .tick) (a .axes) six (a .table .now) (a .wanted) (w .result)
+    (w .ensures) fits (c .before .if2 .left) in
     let room = rows-fit (a .mask) (a .tick) (a .axes) six (a .table .now) (a .wanted) (w .result) (w .ensures) fits in
     (p .0, (p .1 .0, (p .1 .1, (inside, room))))
 

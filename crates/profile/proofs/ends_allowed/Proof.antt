@@ -40,20 +40,23 @@ profile₂ c = profile₁ (c .before .before)
 abbrev profile₃ : tie.After-size-at-most3 → Profile
 profile₃ c = profile₂ (c .before .before .before)
 
-start-slow : (c : tie.After-size-at-most) → c .size-at-most .result ≡ leb (natAbs (profile₁ c .start)) (profile₁ c .«speed_limit»)
+start-slow : (c : tie.After-size-at-most)
+    → c .size-at-most .result ≡ leb (natAbs (profile₁ c .start)) (profile₁ c .«speed_limit»)
 start-slow c =
     let p = profile₁ c in
     let x : toZ w64 (ofZ w64 (p .start)) ≡ p .start = exactly (search computed depth 9) tt in
     c .size-at-most .ensures ∙ ap (λ (z : ℤ). leb (natAbs z) (p .«speed_limit»)) x
 
-end-slow : (c : tie.After-size-at-most2) → c .size-at-most2 .result ≡ leb (natAbs (profile₂ c .end)) (profile₂ c .«speed_limit»)
+end-slow : (c : tie.After-size-at-most2)
+    → c .size-at-most2 .result ≡ leb (natAbs (profile₂ c .end)) (profile₂ c .«speed_limit»)
 end-slow c =
     let p = profile₂ c in
     let x : toZ w64 (ofZ w64 (p .end)) ≡ p .end = exactly (search computed depth 9) tt in
     c .size-at-most2 .ensures ∙ ap (λ (z : ℤ). leb (natAbs z) (p .«speed_limit»)) x
 
 ends-near : (c : tie.After-size-at-most3)
-    → c .size-at-most3 .result ≡ leb (natAbs (profile₃ c .end -ℤ profile₃ c .start)) (profile₃ c .«acceleration_limit» * profile₃ c .ticks)
+    → c .size-at-most3 .result
+    ≡ leb (natAbs (profile₃ c .end -ℤ profile₃ c .start)) (profile₃ c .«acceleration_limit» * profile₃ c .ticks)
 ends-near c =
     let p = profile₃ c in
     let x : toZ w64 (ofZ w64 (toZ w64 (ofZ w64 (p .end)) -ℤ toZ w64 (ofZ w64 (p .start)))) ≡ p .end -ℤ p .start =

@@ -20,7 +20,8 @@ rem-odd c = (lit< tt, sfits (search computed depth 9) tt)
 
 -- twice the sum, as the definition has it
 twice : (c : tie.After-twice-required)
-    → toZ w64 (ofZ w64 (c .twice-required .result)) ≡ twiceRequired (legOf (c .before .args .p)) (c .before .args .displacement)
+    → toZ w64 (ofZ w64 (c .twice-required .result))
+    ≡ twiceRequired (legOf (c .before .args .p)) (c .before .args .displacement)
 twice c =
     let a = c .before .args in
     let d : toZ w64 (ofZ w64 (a .displacement)) ≡ a .displacement = exactly (search exact depth 9) tt in
@@ -29,7 +30,8 @@ twice c =
 returns : tie.Need-returns
 returns c =
     let a = c .before .args in
-    ap (λ (z : ℤ). eqb (ofZ w64 (remZ z (pos 2))) 0) (twice c) ∙ even-is (twiceRequired (legOf (a .p)) (a .displacement))
+    ap (λ (z : ℤ). eqb (ofZ w64 (remZ z (pos 2))) 0) (twice c)
+    ∙ even-is (twiceRequired (legOf (a .p)) (a .displacement))
 
 pub sum-is-whole-spec : {M : Type 1} → statement M
 sum-is-whole-spec = tie.close (tie.spec twice-required-requires rem-odd returns)

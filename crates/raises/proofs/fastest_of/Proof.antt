@@ -32,7 +32,8 @@ returns c =
     let s : toZ w64 (ofZ w64 (a .start)) ≡ a .start = exactly (search computed depth 9) tt in
     let v : toZ w64 (ofZ w64 (a .landing .velocity)) ≡ a .landing .velocity = exactly (search computed depth 9) tt in
     let r = c .before .before .before .before .before .arrival-velocity .result in
-    let w : toZ w64 (ofZ w64 r) ≡ a .landing .velocity +ℤ pos (a .delay) *ℤ a .landing .acceleration = exactly (search computed depth 9) tt in
+    let w : toZ w64 (ofZ w64 r) ≡ a .landing .velocity +ℤ pos (a .delay) *ℤ a .landing .acceleration =
+    exactly (search computed depth 9) tt in
     let start = c .before .before .before .before .size .ensures ∙ ap natAbs s in
     let end = c .before .before .before .size2 .ensures ∙ ap natAbs v in
     let arrived = c .before .before .size3 .ensures ∙ ap natAbs w in

@@ -34,7 +34,8 @@ pair-requires-4 c κs = search needs
 returns-4 : tie.Need-returns-4
 returns-4 c =
     let a = c .before .before .before .before .args in
-    c .pair4 .ensures ∙ acceleration-first (a .m) (a .l) (c .before .before .before .if1 .left) (c .before .before .if3 .left) (c .before .if4 .taken)
+    c .pair4 .ensures ∙ acceleration-first (a .m) (a .l) (c .before .before .before .if1 .left)
+    (c .before .before .if3 .left) (c .before .if4 .taken)
 
 pair-requires-5 : tie.Need-pair-requires-5
 pair-requires-5 c κs = search needs
@@ -42,7 +43,8 @@ pair-requires-5 c κs = search needs
 returns-5 : tie.Need-returns-5
 returns-5 c =
     let a = c .before .before .before .before .args in
-    c .pair5 .ensures ∙ speed-first (a .m) (a .l) (c .before .before .before .if1 .left) (c .before .before .if3 .left) (c .before .if4 .left)
+    c .pair5 .ensures ∙ speed-first (a .m) (a .l) (c .before .before .before .if1 .left)
+    (c .before .before .if3 .left) (c .before .if4 .left)
 
 pub in-order-spec : {M : Type 1} → statement M
 in-order-spec =

@@ -19,22 +19,31 @@ highest-requires c κs = search needs
 
 least-limit-requires : tie.Need-least-limit-requires
 least-limit-requires c κs =
-    let a = c .before .before in
-    (a .pre, (omega (arith, c .highest .ensures, limit-range (a .args .t) (a .args .limit) (a .pre)), omega (arith, c .highest .ensures)))
+    let a = c .before .before in (
+      a .pre,
+      (
+        omega (arith, c .highest .ensures, limit-range (a .args .t) (a .args .limit) (a .pre)),
+        omega
+            (arith, c .highest .ensures),
+      ),
+    )
 
 -- what the search gave, to the highest of the range
 least : (c : tie.After-least-limit)
     → let a = c .before .before .before .args in
-    Next (enoughWith (a .limit) (a .t)) (suc (limitIn (a .limit) (a .t))) (model.highest (a .limit)) (c .least-limit .result)
+    Next (enoughWith (a .limit) (a .t)) (suc (limitIn (a .limit) (a .t)))
+    (model.highest (a .limit)) (c .least-limit .result)
 least c =
     let a = c .before .before .before .args in
-    subst (λ (m : ℕ). Next (enoughWith (a .limit) (a .t)) (suc (limitIn (a .limit) (a .t))) m (c .least-limit .result)) (c .before .highest .ensures)
+    subst (λ (m : ℕ). Next (enoughWith (a .limit) (a .t)) (suc (limitIn (a .limit) (a .t))) m (c .least-limit .result))
+    (c .before .highest .ensures)
     (c .least-limit .ensures)
 
 returns : tie.Need-returns
 returns c =
     let a = c .before .before .before .before in
-    not-found (a .args .limit) (a .args .t) (c .before .least-limit .result) (least (c .before)) (limit-range (a .args .t) (a .args .limit) (a .pre))
+    not-found (a .args .limit) (a .args .t) (c .before .least-limit .result) (least (c .before))
+    (limit-range (a .args .t) (a .args .limit) (a .pre))
     (omega (arith, c .before .before .highest .ensures, c .if1 .taken))
 
 sub-result : tie.Need-sub-result
@@ -42,7 +51,12 @@ sub-result c = omega (arith, c .before .before .before .limit-in .ensures, least
 
 cast-result : tie.Need-cast-result
 cast-result c =
-    omega (arith, highest-small (c .before .before .before .before .args .limit), c .before .before .highest .ensures, c .if1 .left)
+    omega (
+      arith,
+      highest-small (c .before .before .before .before .args .limit),
+      c .before .before .highest .ensures,
+      c .if1 .left,
+    )
 
 returns-2 : tie.Need-returns-2
 returns-2 c =

@@ -59,7 +59,8 @@ raises-of-requires : tie.Need-raises-of-requires Inv-loop μ-loop
 raises-of-requires c κs =
     let l = c .before .before .before .before .loop in
     let b = c .before .before .before .before .before .before in
-    let m = missed-is (l .bits) (axisAt (b .args .t3) (l .number)) (b .args .asked) (sym (c .before .misses .ensures) ∙ c .if1 .taken) in
+    let m = missed-is (l .bits) (axisAt (b .args .t3) (l .number)) (b .args .asked)
+    (sym (c .before .misses .ensures) ∙ c .if1 .taken) in
     (passed-from (l .number) (l .bits) (b .args .t3) (omega arith) (l .inv .passed) .here (m .0), b .pre .1)
 
 mul-raises : tie.Need-mul-raises Inv-loop μ-loop
@@ -93,13 +94,15 @@ turned c =
     record {
       long = ap (λ (r : List AxisRaises). length r) e ∙ length-set (l .raises) (l .number) (raisesOf x (a .asked));
       is =
-          missed (a .asked) (l .number) (l .bits) (a .t3) (l .raises) (omega (arith, l .inv .six)) (sym (c .before .misses .ensures) ∙ w .0 .taken)
+          missed (a .asked) (l .number) (l .bits) (a .t3) (l .raises) (omega (arith, l .inv .six))
+          (sym (c .before .misses .ensures) ∙ w .0 .taken)
           ∙ sym (ap more e);
     })
     (λ w. record {
       long = ap (λ (r : List AxisRaises). length r) (w .1);
       is =
-          not-missed (a .asked) (l .number) (l .bits) (a .t3) (l .raises) (omega (arith, l .inv .six)) (sym (c .before .misses .ensures) ∙ w .0 .left)
+          not-missed (a .asked) (l .number) (l .bits) (a .t3) (l .raises) (omega (arith, l .inv .six))
+          (sym (c .before .misses .ensures) ∙ w .0 .left)
           ∙ sym (ap more (w .1));
     })
     (c .if1 .came)

@@ -27,8 +27,10 @@ passed : (c : tie.After-with-weight) → Passed (c .with-weight .result)
 passed c = given-passed (c .before .args .x) (c .with-weight .result) (c .with-weight .ensures) (c .before .pre .0)
 
 -- its raises are those of the axis
-given-raise : (c : tie.After-with-weight) (q : Limit) → raiseOf q (c .with-weight .result) (c .before .args .n) ≡ raiseOf q (c .before .args .x) (c .before .args .n)
-given-raise c q = ap (λ (g : Axis). raiseOf q g (c .before .args .n)) (c .with-weight .ensures) ∙ raise-with-weight q (c .before .args .x) (c .before .args .n)
+given-raise : (c : tie.After-with-weight) (q : Limit)
+    → raiseOf q (c .with-weight .result) (c .before .args .n) ≡ raiseOf q (c .before .args .x) (c .before .args .n)
+given-raise c q = ap (λ (g : Axis). raiseOf q g (c .before .args .n)) (c .with-weight .ensures)
+    ∙ raise-with-weight q (c .before .args .x) (c .before .args .n)
 
 with-weight-requires : tie.Need-with-weight-requires
 with-weight-requires c κs = search needs
@@ -42,14 +44,16 @@ pair-requires c κs = search needs
 returns : tie.Need-returns
 returns c =
     let g = c .before .before .before in
-    let early : g .before .args .n ≤ delay (g .with-weight .result) = omega (arith, c .before .before .delay-of .ensures, c .before .if1 .taken) in
+    let early : g .before .args .n ≤ delay (g .with-weight .result) =
+    omega (arith, c .before .before .delay-of .ensures, c .before .if1 .taken) in
     let missing : (q : Limit) → none ≡ raiseOf q (g .before .args .x) (g .before .args .n) =
     λ q. sym (too-early q (g .with-weight .result) (g .before .args .n) (passed g) early) ∙ given-raise g q in
     c .pair .ensures ∙ (λ i. inOrder (missing Acceleration i) (missing Speed i))
 
 task-of-requires : tie.Need-task-of-requires
 task-of-requires c κs =
-    let g = c .before .before in (passed g, (g .before .pre .1, omega (arith, c .before .delay-of .ensures, c .if1 .left)))
+    let g = c .before .before in
+    (passed g, (g .before .pre .1, omega (arith, c .before .delay-of .ensures, c .if1 .left)))
 
 least-raise-requires : tie.Need-least-raise-requires
 least-raise-requires c κs = c .task-of .ensures .ranged
@@ -65,7 +69,8 @@ returns-2 c =
     let k = c .before .before .before in
     let g = k .before .before .before in
     let raise : (q : Limit) → _ ≡ raiseOf q (g .before .args .x) (g .before .args .n) =
-    λ q. of-task q (g .with-weight .result) (g .before .args .n) (passed g) (k .task-of .result) (k .task-of .ensures) ∙ given-raise g q in
+    λ q. of-task q (g .with-weight .result) (g .before .args .n) (passed g) (k .task-of .result) (k .task-of .ensures)
+    ∙ given-raise g q in
     let m = c .before .before .least-raise .ensures ∙ raise Acceleration in
     let l = c .before .least-raise2 .ensures ∙ raise Speed in
     c .in-order .ensures ∙ (λ i. inOrder (m i) (l i))

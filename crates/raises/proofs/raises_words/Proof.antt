@@ -27,7 +27,8 @@ returns-2 : tie.Need-returns-2
 returns-2 c =
     let a = c .before .before .before .before .before .before .args in
     let d = c .before .before .before .before .decode in
-    words-promise (a .words .now) (d .result) (d .ensures) (c .raises-job .result) (c .before .before .if1 .left) (c .raises-job .ensures)
+    words-promise (a .words .now) (d .result) (d .ensures) (c .raises-job .result)
+    (c .before .before .if1 .left) (c .raises-job .ensures)
 
 pub raises-words-spec : {M : Type 1} → statement M
 raises-words-spec =

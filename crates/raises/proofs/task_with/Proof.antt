@@ -35,7 +35,8 @@ returns c =
     let a = c .before .before .before .args in
     let s : toZ w64 (ofZ w64 (a .start)) ≡ a .start = exactly (search computed depth 9) tt in
     let e : toZ w64 (ofZ w64 (a .end)) ≡ a .end = exactly (search computed depth 9) tt in
-    let sum : toZ w64 (ofZ w64 (shrZ (toZ w64 (ofZ w64 (toZ w64 (ofZ w64 (toZ w64 (ofZ w64 (a .travel)) -ℤ toZ w64 (ofZ w64 (a .start))))
+    let sum : toZ w64
+    (ofZ w64 (shrZ (toZ w64 (ofZ w64 (toZ w64 (ofZ w64 (toZ w64 (ofZ w64 (a .travel)) -ℤ toZ w64 (ofZ w64 (a .start))))
     -ℤ toZ w64 (ofZ w64 (a .end))))) 2)) ≡ shrZ (a .travel -ℤ a .start -ℤ a .end) 2 =
     exactly (search computed depth 30) tt in
     λ i.

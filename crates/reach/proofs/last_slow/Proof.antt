@@ -31,8 +31,14 @@ limit-on-grid-requires c κs = search needs
 arrival-velocity-requires : tie.Need-arrival-velocity-requires
 arrival-velocity-requires c κs =
     let d = c .before .before in
-    let h = ranges-of (d .before .pre .0) in
-    (within (search computed depth 9) tt, (within (search computed depth 9) tt, omega (arith, d .delay-of .ensures, h .«half_period», h .«second_half_period»)))
+    let h = ranges-of (d .before .pre .0) in (
+      within (search computed depth 9) tt,
+      (
+        within (search computed depth 9) tt,
+        omega
+            (arith, d .delay-of .ensures, h .«half_period», h .«second_half_period»),
+      ),
+    )
 
 sub-ticks-within : tie.Need-sub-ticks-within
 sub-ticks-within c = search needs
@@ -41,8 +47,10 @@ ticks-within-requires : tie.Need-ticks-within-requires
 ticks-within-requires c κs =
     let l = c .before .before in
     let a = l .before .before .before in
-    let x = a .args .x in
-    (subst (λ (n : ℕ). n ≤ 2 ^ 37) (sym (l .limit-on-grid .ensures)) (speed-range x (speed-limit x (a .pre .0))), within (search computed depth 9) tt)
+    let x = a .args .x in (
+      subst (λ (n : ℕ). n ≤ 2 ^ 37) (sym (l .limit-on-grid .ensures)) (speed-range x (speed-limit x (a .pre .0))),
+      within (search computed depth 9) tt,
+    )
 
 add-result : tie.Need-add-result
 add-result c = search needs
@@ -56,11 +64,14 @@ returns c =
     let a = l .before .before .before in
     let x = a .args .x in
     let n = a .args .n in
-    let w : toZ w64 (ofZ w64 (v .arrival-velocity .result)) ≡ arriving (e .result) (d .result) = exactly (search computed depth 9) tt in
+    let w : toZ w64 (ofZ w64 (v .arrival-velocity .result)) ≡ arriving (e .result) (d .result) =
+    exactly (search computed depth 9) tt in
     let u : arriving (e .result) (d .result) ≡ arrivalVelocity x n =
     (λ i. e .ensures .velocity .is i +ℤ pos (d .ensures i) *ℤ e .ensures .acceleration .is i) in
-    let α : toZ w64 (ofZ w64 (e .result .acceleration)) ≡ landingAcceleration x n = exactly (search computed depth 9) tt in
-    last-passing-of x (a .pre .0) _ _ _ n (a .args .last) (c .ticks-within .result) (l .limit-on-grid .ensures) (w ∙ u) α (a .pre .1 .0) (a .pre .1 .1 .0)
+    let α : toZ w64 (ofZ w64 (e .result .acceleration)) ≡ landingAcceleration x n =
+    exactly (search computed depth 9) tt in
+    last-passing-of x (a .pre .0) _ _ _ n (a .args .last) (c .ticks-within .result) (l .limit-on-grid .ensures)
+    (w ∙ u) α (a .pre .1 .0) (a .pre .1 .1 .0)
     (c .ticks-within .ensures)
 
 pub last-slow-spec : {M : Type 1} → statement M

@@ -31,7 +31,8 @@ returns-2 c =
       lost = λ e. absurd (false≢true e);
       kept =
           λ e i h r.
-          reached-later x (a .pre .0) i n n h (omega arith) (always-slow x (a .pre .0) (sym (c .before .accelerates .ensures) ∙ c .if1 .left) n) r;
+          reached-later x (a .pre .0) i n n h (omega arith)
+          (always-slow x (a .pre .0) (sym (c .before .accelerates .ensures) ∙ c .if1 .left) n) r;
     }
 
 pub loses-spec : {M : Type 1} → statement M

@@ -26,13 +26,15 @@ add-result c = search needs
 abbrev start : tie.After-first-after → tie.Start
 start c = c .before .before
 
-first-is : (c : tie.After-first-after) → c .first-after .result ≡ max (start c .args .n) (suc (delay (start c .args .x)))
+first-is : (c : tie.After-first-after)
+    → c .first-after .result ≡ max (start c .args .n) (suc (delay (start c .args .x)))
 first-is c = c .first-after .ensures ∙ ap (λ (d : ℕ). max (start c .args .n) (suc d)) (c .before .delay-of .ensures)
 
 returns : tie.Need-returns
 returns c =
     let a = start (c .before) in
-    none-after (a .args .x) (a .args .n) (a .args .last) (a .pre .1 .1 .0) (omega (arith, first-is (c .before), c .if1 .taken))
+    none-after (a .args .x) (a .args .n) (a .args .last) (a .pre .1 .1 .0)
+    (omega (arith, first-is (c .before), c .if1 .taken))
 
 approach-of-requires : tie.Need-approach-of-requires
 approach-of-requires c κs =
@@ -44,7 +46,8 @@ next-later-requires c κs =
     let f = c .before .before in
     let a = start f in
     let n = f .first-after .result in
-    nearer (c .approach-of .result) (lastTick - n) (a .args .last - n) (omega (arith, a .pre .1 .1 .1)) (c .approach-of .ensures .approaches)
+    nearer (c .approach-of .result) (lastTick - n) (a .args .last - n) (omega (arith, a .pre .1 .1 .1))
+    (c .approach-of .ensures .approaches)
 
 add-result-2 : tie.Need-add-result-2
 add-result-2 c =
@@ -56,7 +59,8 @@ returns-2 c =
     let p = c .before in
     let f = p .before .before in
     let a = start f in
-    next-from (a .args .x) (a .args .n) (a .args .last) (f .first-after .result) _ (c .next-later .result) (first-is f) (p .before .if1 .left)
+    next-from (a .args .x) (a .args .n) (a .args .last) (f .first-after .result) _ (c .next-later .result)
+    (first-is f) (p .before .if1 .left)
     (p .approach-of .ensures .same) (c .next-later .ensures)
 
 pub next-by-halving-spec : {M : Type 1} → statement M

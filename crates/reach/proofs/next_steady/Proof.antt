@@ -39,7 +39,8 @@ returns : tie.Need-returns
 returns c =
     let d = c .before .before in
     let a = d .before in
-    none-after (a .args .x) (a .args .n) (a .args .last) (a .pre .1 .1 .0) (omega (arith, d .delay-of .ensures, c .before .first-after .ensures, c .if1 .taken))
+    none-after (a .args .x) (a .args .n) (a .args .last) (a .pre .1 .1 .0)
+    (omega (arith, d .delay-of .ensures, c .before .first-after .ensures, c .if1 .taken))
 
 -- what was known at the start
 abbrev start : tie.Else1 → tie.Start
@@ -73,7 +74,8 @@ profile-of-requires c κs =
     )
 
 displacement-requires : tie.Need-displacement-requires
-displacement-requires c κs = let l = c .before .landing-at .ensures in (start (c .before .before) .pre .0, within (search computed depth 9) tt)
+displacement-requires c κs = let l = c .before .landing-at .ensures in
+    (start (c .before .before) .pre .0, within (search computed depth 9) tt)
 
 required-requires : tie.Need-required-requires
 required-requires c κs = (c .before .profile-of .ensures .ranged, within (search computed depth 9) tt)
@@ -113,12 +115,15 @@ change-is : (c : tie.After-drift) → toZ w64 (ofZ w64 (c .drift .result)) ≡ d
 change-is c = exactly (search computed depth 9) tt
 
 lasting : (c : tie.After-drift)
-    → Lasting (betweenAt (legOf (c .before .before .before .profile-of .result)) (sumThere c) (toZ w64 (ofZ w64 (c .drift .result))))
+    → Lasting
+    (betweenAt (legOf (c .before .before .before .profile-of .result)) (sumThere c)
+    (toZ w64 (ofZ w64 (c .drift .result))))
     (c .before .before .before .profile-of .result .ticks)
 lasting c =
     let a = start (first c) in
     let x = a .args .x in
-    subst (λ (p : Profile). Lasting (betweenAt (legOf p) (sumThere c) (toZ w64 (ofZ w64 (c .drift .result)))) (p .ticks))
+    subst (λ (p : Profile). Lasting
+    (betweenAt (legOf p) (sumThere c) (toZ w64 (ofZ w64 (c .drift .result)))) (p .ticks))
     (sym (c .before .before .before .profile-of .ensures .is))
     (subst₂ (λ (s d : ℤ). Lasting (betweenAt (leg x (at c)) s d) (at c - delay x)) (sym (sum-is c)) (sym (change-is c))
     (lasts x (a .pre .0) (a .pre .1 .0) (at c) (first-after (first c))))
@@ -129,10 +134,12 @@ next-feasible-requires c κs =
     let b = c .before .before .before .before .before in
     let a = start b in
     let x = a .args .x in
-    let slow = subst (λ (p : Profile). (natAbs (p .start) ≤ p .«speed_limit») × (natAbs (p .end) ≤ p .«speed_limit»)) (sym (f .ensures .is))
+    let slow = subst (λ (p : Profile). (natAbs (p .start) ≤ p .«speed_limit») × (natAbs (p .end) ≤ p .«speed_limit»))
+    (sym (f .ensures .is))
     (start-slow x (a .pre .0), landing-slow x (a .pre .0) (a .pre .1 .0) (b .before .first-after .result)) in
     let late = b .before .before .delay-of .ensures in
-    let ticks : f .result .ticks ≡ b .before .first-after .result - delay x = ap (λ (p : Profile). p .ticks) (f .ensures .is) in (
+    let ticks : f .result .ticks ≡ b .before .first-after .result - delay x =
+    ap (λ (p : Profile). p .ticks) (f .ensures .is) in (
       f .ensures .ranged,
       (
         f .ensures .acceleration,
@@ -144,7 +151,10 @@ next-feasible-requires c κs =
               slow .1,
               (
                 within (search computed depth 9) tt,
-                (within (search computed depth 9) tt, (omega (arith, ticks, b .if1 .left, late), (omega (arith, a .pre .1 .1 .1), lasting c))),
+                (
+                  within (search computed depth 9) tt,
+                  (omega (arith, ticks, b .if1 .left, late), (omega (arith, a .pre .1 .1 .1), lasting c)),
+                ),
               ),
             ),
           ),
@@ -153,7 +163,8 @@ next-feasible-requires c κs =
     )
 
 cast-result : tie.Need-cast-result
-cast-result c = omega (arith, c .next-feasible .ensures .high, start (c .before .before .before .before .before .before) .pre .1 .1 .1)
+cast-result c = omega
+    (arith, c .next-feasible .ensures .high, start (c .before .before .before .before .before .before) .pre .1 .1 .1)
 
 add-result-2 : tie.Need-add-result-2
 add-result-2 c =
@@ -174,10 +185,13 @@ returns-2 c =
     subst (λ (d : ℕ). Next (reachable x) (a .args .n) last (t + d)) (sym (late .ensures))
     (next-arrival x (a .pre .0) (a .pre .1 .0) (a .args .n) last n t from
     (b .if1 .left)
-    (subst (λ (p : Profile). Next (betweenAt (legOf p) (requiredSum x n) (drift x)) (p .ticks) (last - delay x) t) (f .ensures .is)
-    (subst (λ (d : ℕ). Next (betweenAt (legOf (f .result)) (requiredSum x n) (drift x)) (f .result .ticks) (last - d) t) (late .ensures)
+    (subst (λ (p : Profile). Next (betweenAt (legOf p) (requiredSum x n) (drift x)) (p .ticks) (last - delay x) t)
+    (f .ensures .is)
+    (subst (λ (d : ℕ). Next (betweenAt (legOf (f .result)) (requiredSum x n) (drift x)) (f .result .ticks) (last - d) t)
+    (late .ensures)
     (subst (λ (g : ℕ → Bool). Next g (f .result .ticks) (last - late .result) t)
-    (λ i. betweenAt (legOf (f .result)) (sum-is (c .before) i) (change-is (c .before) i)) (c .next-feasible .ensures)))))
+    (λ i. betweenAt (legOf (f .result)) (sum-is (c .before) i) (change-is (c .before) i))
+    (c .next-feasible .ensures)))))
 
 pub next-steady-spec : {M : Type 1} → statement M
 next-steady-spec =

@@ -65,8 +65,10 @@ landed c =
 arrival-velocity-requires : tie.Need-arrival-velocity-requires
 arrival-velocity-requires c κs =
     let h = ranges-of (start₁ (c .before) .pre .0) in
-    let d = landing (c .before) .before .before .delay-of .ensures in
-    (within (search computed depth 9) tt, (within (search computed depth 9) tt, omega (arith, d, h .«half_period», h .«second_half_period»)))
+    let d = landing (c .before) .before .before .delay-of .ensures in (
+      within (search computed depth 9) tt,
+      (within (search computed depth 9) tt, omega (arith, d, h .«half_period», h .«second_half_period»)),
+    )
 
 size-at-most-requires-2 : tie.Need-size-at-most-requires-2
 size-at-most-requires-2 c κs = search needs
@@ -82,12 +84,14 @@ start₂ c = start₁ (first c)
 abbrev arriving : Landing → ℕ → ℤ
 arriving e h = e .velocity +ℤ pos h *ℤ e .acceleration
 
-arrived : (c : tie.After-size-at-most2) → c .size-at-most2 .result ≡ arrivesSlowly (start₂ c .args .x) (start₂ c .args .n)
+arrived : (c : tie.After-size-at-most2)
+    → c .size-at-most2 .result ≡ arrivesSlowly (start₂ c .args .x) (start₂ c .args .n)
 arrived c =
     let a = start₂ c .args in
     let e = landing (first c) .landing-at in
     let h = landing (first c) .before .before .delay-of in
-    let w : toZ w64 (ofZ w64 (c .before .arrival-velocity .result)) ≡ arriving (e .result) (h .result) = exactly (search computed depth 9) tt in
+    let w : toZ w64 (ofZ w64 (c .before .arrival-velocity .result)) ≡ arriving (e .result) (h .result) =
+    exactly (search computed depth 9) tt in
     let u : arriving (e .result) (h .result) ≡ arrivalVelocity (a .x) (a .n) =
     (λ i. e .ensures .velocity .is i +ℤ pos (h .ensures i) *ℤ e .ensures .acceleration .is i) in
     c .size-at-most2 .ensures ∙ (λ i. leb (natAbs ((w ∙ u) i)) (first c .before .before .limit-on-grid .ensures i))
@@ -107,13 +111,16 @@ abbrev before₂ : tie.After-displacement → tie.After-size-at-most2
 before₂ c = c .before .before .before
 
 travelled : (c : tie.After-displacement)
-    → toZ w64 (ofZ w64 (c .displacement .result)) ≡ displacement (start₂ (before₂ c) .args .x) (start₂ (before₂ c) .args .n)
+    → toZ w64 (ofZ w64 (c .displacement .result))
+    ≡ displacement (start₂ (before₂ c) .args .x) (start₂ (before₂ c) .args .n)
 travelled c =
     let l = landing (first (before₂ c)) .landing-at in
     let x = start₂ (before₂ c) .args .x in
     let n = start₂ (before₂ c) .args .n in
-    let d : toZ w64 (ofZ w64 (c .displacement .result)) ≡ l .result .position -ℤ startPosition x = exactly (search computed depth 9) tt in
-    let e : l .result .position -ℤ startPosition x ≡ displacement x n = (λ i. l .ensures .position .is i -ℤ startPosition x) in
+    let d : toZ w64 (ofZ w64 (c .displacement .result)) ≡ l .result .position -ℤ startPosition x =
+    exactly (search computed depth 9) tt in
+    let e : l .result .position -ℤ startPosition x ≡ displacement x n =
+    (λ i. l .ensures .position .is i -ℤ startPosition x) in
     d ∙ e
 
 makes-requires : tie.Need-makes-requires
@@ -122,7 +129,8 @@ makes-requires c κs =
     let s = before₂ c in
     let a = start₂ s in
     let x = a .args .x in
-    let slow : natAbs (landingVelocity x (a .args .n)) ≤ speedSteps x = leb→le _ _ (true-T (sym (landed (first s)) ∙ s .before .before .if2 .taken)) in (
+    let slow : natAbs (landingVelocity x (a .args .n)) ≤ speedSteps x =
+    leb→le _ _ (true-T (sym (landed (first s)) ∙ s .before .before .if2 .taken)) in (
       p .ranged,
       (
         p .acceleration,
@@ -150,7 +158,8 @@ abbrev moves : tie.Start → Bool
 moves a = feasible (leg (a .args .x) (a .args .n)) (displacement (a .args .x) (a .args .n))
 
 moved : (c : tie.After-makes) → c .makes .result ≡ moves (start₂ (second c))
-moved c = c .makes .ensures ∙ (λ i. feasible (legOf (c .before .before .profile-of .ensures .is i)) (travelled (c .before) i))
+moved c =
+    c .makes .ensures ∙ (λ i. feasible (legOf (c .before .before .profile-of .ensures .is i)) (travelled (c .before) i))
 
 returns : tie.Need-returns
 returns c =

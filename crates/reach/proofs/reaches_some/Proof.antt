@@ -23,7 +23,8 @@ returns-2 : tie.Need-returns-2
 returns-2 c =
     let b = c .before in
     let a = b .before .before in
-    last-decides (a .args .x) (a .pre .0) (sym (b .before .accelerates .ensures) ∙ b .if1 .left) (a .args .last) (c .next-reached .result) (a .pre .1 .0)
+    last-decides (a .args .x) (a .pre .0) (sym (b .before .accelerates .ensures) ∙ b .if1 .left) (a .args .last)
+    (c .next-reached .result) (a .pre .1 .0)
     (c .next-reached .ensures)
 
 pub reaches-some-spec : {M : Type 1} → statement M

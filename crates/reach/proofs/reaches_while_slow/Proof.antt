@@ -26,14 +26,16 @@ returns c =
     let d = l .before .before in
     let a = d .before in
     let x = a .args .x in
-    some-passes (reachable x) _ (a .args .last) (l .last-slow .result) _ (omega arith) (λ k h. reach-after x k (omega (arith, d .delay-of .ensures)))
+    some-passes (reachable x) _ (a .args .last) (l .last-slow .result) _ (omega arith)
+    (λ k h. reach-after x k (omega (arith, d .delay-of .ensures)))
     (l .last-slow .ensures) (c .reaches .ensures)
 
 returns-2 : tie.Need-returns-2
 returns-2 c =
     let d = c .before in
     let a = d .before in
-    none-passes (reachable (a .args .x)) (a .args .last) (λ k h. reach-after (a .args .x) k (omega (arith, c .if1 .left, d .delay-of .ensures)))
+    none-passes (reachable (a .args .x)) (a .args .last)
+    (λ k h. reach-after (a .args .x) k (omega (arith, c .if1 .left, d .delay-of .ensures)))
 
 pub reaches-while-slow-spec : {M : Type 1} → statement M
 reaches-while-slow-spec =

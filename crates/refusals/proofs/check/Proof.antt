@@ -29,7 +29,8 @@ returns c =
     let number = c .before .number-of in
     let axis = c .lowest-axis in
     let xs = setAxes 0 (a .mask) (a .axes) in
-    some-refused (a .resting) xs (a .windows) (n .result) (k .result) (n .ensures) (k .ensures) (d .if1 .taken) (number .result) (axis .result)
+    some-refused (a .resting) xs (a .windows) (n .result) (k .result) (n .ensures) (k .ensures) (d .if1 .taken)
+    (number .result) (axis .result)
     (number .ensures) (axis .ensures)
 
 window-refusal-requires : tie.Need-window-refusal-requires
@@ -42,7 +43,8 @@ returns-2 c =
     let k = d .before .before .least-rank in
     let n = d .before .test-count in
     c .window-refusal .ensures
-    ∙ none-refused (a .resting) (setAxes 0 (a .mask) (a .axes)) (a .windows) (n .result) (k .result) (n .ensures) (k .ensures) (d .if1 .left)
+    ∙ none-refused (a .resting) (setAxes 0 (a .mask) (a .axes)) (a .windows) (n .result) (k .result)
+    (n .ensures) (k .ensures) (d .if1 .left)
 
 pub check-spec : {M : Type 1} → statement M
 check-spec =

@@ -59,11 +59,20 @@ loop-again c =
     record {
       low = omega arith;
       six = l .inv .six;
-      few = ⊎-elim (λ w. omega (arith, l .inv .few, w .3, w .2 .ensures)) (λ w. omega (arith, l .inv .few, w .1)) (c .if1 .came);
+      few = ⊎-elim (λ w. omega (arith, l .inv .few, w .3, w .2 .ensures))
+          (λ w. omega (arith, l .inv .few, w .1)) (c .if1 .came);
       is =
           ⊎-elim
-          (λ w. omega (arith, l .inv .is, w .3, w .2 .ensures, least-named (a .resting) (a .t2) (l .i) (l .bits) within (w .0 .taken)))
-          (λ w. omega (arith, l .inv .is, w .1, least-unnamed (a .resting) (a .t2) (l .i) (l .bits) within (w .0 .left)))
+          (λ w. omega (
+            arith,
+            l .inv .is,
+            w .3,
+            w .2 .ensures,
+            least-named (a .resting) (a .t2) (l .i)
+                (l .bits) within (w .0 .taken),
+          ))
+          (λ w. omega
+          (arith, l .inv .is, w .1, least-unnamed (a .resting) (a .t2) (l .i) (l .bits) within (w .0 .left)))
           (c .if1 .came);
     }
 
@@ -72,7 +81,8 @@ returns c =
     let l = c .before .loop in
     let a = c .before .before .before .args in
     let none = least-none (a .resting) (a .t2) (l .i) (l .bits) (omega (arith, l .inv .six)) in
-    let all : l .least ≡ leastRank (testsFor (a .resting)) (setAxes 0 (a .mask) (a .t2)) = omega (arith, l .inv .few, l .inv .is, none) in
+    let all : l .least ≡ leastRank (testsFor (a .resting)) (setAxes 0 (a .mask) (a .t2)) =
+    omega (arith, l .inv .few, l .inv .is, none) in
     all
 
 pub least-rank-spec : {M : Type 1} → statement M

@@ -40,7 +40,8 @@ returns c =
     let a = c .before .before .before .before .before .before .args in
     let has = sym (c .before .has-rank .ensures) ∙ c .if2 .taken in
     let within : l .i < length (a .t2) = omega (arith, l .inv .six) in
-    sym (lowest-here (a .resting) (a .t2) (a .rank) (l .i) (l .bits) within (c .before .before .before .if1 .taken) has) ∙ l .inv .is
+    sym (lowest-here (a .resting) (a .t2) (a .rank) (l .i) (l .bits) within (c .before .before .before .if1 .taken) has)
+    ∙ l .inv .is
 
 add-i : tie.Need-add-i Inv-loop μ-loop
 add-i c = omega arith
@@ -58,7 +59,9 @@ loop-again c =
       six = l .inv .six;
       is =
           ⊎-elim
-          (λ w. sym (lowest-later (a .resting) (a .t2) (a .rank) (l .i) (l .bits) within (w .0 .taken) (sym (w .2 .ensures) ∙ w .3 .left)))
+          (λ w. sym
+          (lowest-later (a .resting) (a .t2) (a .rank) (l .i) (l .bits) within (w .0 .taken)
+          (sym (w .2 .ensures) ∙ w .3 .left)))
           (λ w. sym (lowest-unnamed (a .resting) (a .t2) (a .rank) (l .i) (l .bits) within (w .left)))
           (c .if1 .came)
           ∙ l .inv .is;

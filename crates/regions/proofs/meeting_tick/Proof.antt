@@ -32,13 +32,15 @@ joined a = ends-joined (legOf (a .args .p)) (a .pre .1 .1)
 up-is : (c : tie.After-change-after)
     → toZ w64 (ofZ w64 (toZ w64 (ofZ w64 (start c .args .p .end)) -ℤ toZ w64 (ofZ w64 (start c .args .p .start))))
     +ℤ toZ w64 (ofZ w64 (c .change-after .result))
-    ≡ start c .args .p .end -ℤ start c .args .p .start +ℤ pos (start c .args .p .«acceleration_limit» * start c .args .p .ticks)
+    ≡ start c .args .p .end -ℤ start c .args .p .start
+    +ℤ pos (start c .args .p .«acceleration_limit» * start c .args .p .ticks)
 up-is c = exactly (search computed depth 20) tt
 
 down-is : (c : tie.After-change-after)
     → toZ w64 (ofZ w64 (toZ w64 (ofZ w64 (start c .args .p .start)) -ℤ toZ w64 (ofZ w64 (start c .args .p .end))))
     +ℤ toZ w64 (ofZ w64 (c .change-after .result))
-    ≡ start c .args .p .start -ℤ start c .args .p .end +ℤ pos (start c .args .p .«acceleration_limit» * start c .args .p .ticks)
+    ≡ start c .args .p .start -ℤ start c .args .p .end
+    +ℤ pos (start c .args .p .«acceleration_limit» * start c .args .p .ticks)
 down-is c = exactly (search computed depth 20) tt
 
 -- half of it by the limit, which is at most t
@@ -56,7 +58,8 @@ cast-result : tie.Need-cast-result
 cast-result c =
     let a = start (c .before) in
     cast-up _ (add-way c)
-    (subst (λ (z : ℤ). pos 0 ≤ℤ z) (sym (up-is (c .before))) (up-some (legOf (a .args .p)) (joined a) (a .pre .1 .0) (a .args .c)))
+    (subst (λ (z : ℤ). pos 0 ≤ℤ z) (sym (up-is (c .before)))
+    (up-some (legOf (a .args .p)) (joined a) (a .pre .1 .0) (a .args .c)))
 
 mul-result : tie.Need-mul-result
 mul-result c = search needs
@@ -70,7 +73,8 @@ returns c =
     let a = start (b .before) in
     let g = legOf (a .args .p) in
     let e = ap natAbs (back-id (add-way b) ∙ up-is (b .before)) in
-    halved-is _ _ _ _ _ e (meets-up g (joined a) (a .pre .1 .0) (a .args .c) (below b)) (up-late g (joined a) (a .pre .1 .0) (a .args .c))
+    halved-is _ _ _ _ _ e (meets-up g (joined a) (a .pre .1 .0) (a .args .c) (below b))
+    (up-late g (joined a) (a .pre .1 .0) (a .args .c))
 
 sub-way-2 : tie.Need-sub-way-2
 sub-way-2 c = sfits (search computed depth 9) tt
@@ -82,7 +86,8 @@ cast-result-2 : tie.Need-cast-result-2
 cast-result-2 c =
     let a = start (c .before) in
     cast-up _ (add-way-2 c)
-    (subst (λ (z : ℤ). pos 0 ≤ℤ z) (sym (down-is (c .before))) (down-some (legOf (a .args .p)) (joined a) (a .pre .1 .0) (a .args .c)))
+    (subst (λ (z : ℤ). pos 0 ≤ℤ z) (sym (down-is (c .before)))
+    (down-some (legOf (a .args .p)) (joined a) (a .pre .1 .0) (a .args .c)))
 
 mul-result-2 : tie.Need-mul-result-2
 mul-result-2 c = search needs
@@ -96,7 +101,8 @@ returns-2 c =
     let a = start (b .before) in
     let g = legOf (a .args .p) in
     let e = ap natAbs (back-id (add-way-2 b) ∙ down-is (b .before)) in
-    halved-is _ _ _ _ _ e (meets-down g (joined a) (a .pre .1 .0) (a .args .c) (above b)) (down-late g (joined a) (a .pre .1 .0) (a .args .c))
+    halved-is _ _ _ _ _ e (meets-down g (joined a) (a .pre .1 .0) (a .args .c) (above b))
+    (down-late g (joined a) (a .pre .1 .0) (a .args .c))
 
 pub meeting-tick-spec : {M : Type 1} → statement M
 meeting-tick-spec =

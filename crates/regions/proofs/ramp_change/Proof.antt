@@ -20,7 +20,8 @@ change a = cast-small (2 ^ 33) (a .args .limit) (a .pre) tt
 returns : tie.Need-returns
 returns c =
     let a = c .before .args in
-    then-is (change (c .before)) (change-up (a .limit) (a .v) (a .c) (le-taken (c .if1 .taken) (search loose depth 9) tt))
+    then-is (change (c .before))
+    (change-up (a .limit) (a .v) (a .c) (le-taken (c .if1 .taken) (search loose depth 9) tt))
 
 sub-result : tie.Need-sub-result
 sub-result c = let l = change (c .before) in sfits (search exact depth 9) tt
@@ -30,7 +31,8 @@ returns-2 c =
     let a = c .before .args in
     let l = change (c .before) in
     let above = le-left (c .if1 .left) (search loose depth 9) tt in
-    then-is (is-of (search exact depth 9) tt) (+ℤ-idl (negℤ (pos (a .limit))) ∙ change-down (a .limit) (a .v) (a .c) above)
+    then-is (is-of (search exact depth 9) tt)
+    (+ℤ-idl (negℤ (pos (a .limit))) ∙ change-down (a .limit) (a .v) (a .c) above)
 
 pub ramp-change-spec : {M : Type 1} → statement M
 ramp-change-spec = tie.close (tie.spec cast-change returns sub-result returns-2)

@@ -30,7 +30,8 @@ up-is : (a : tie.Start) → toZ w64 (ofZ w64 (a .args .c)) -ℤ toZ w64 (ofZ w64
 up-is a = exactly (search exact depth 9) tt
 
 down-is : (a : tie.Start)
-    → toZ w64 (ofZ w64 (toZ w64 (ofZ w64 (a .args .v)) -ℤ toZ w64 (ofZ w64 (a .args .c)))) -ℤ pos 1 ≡ a .args .v -ℤ a .args .c -ℤ pos 1
+    → toZ w64 (ofZ w64 (toZ w64 (ofZ w64 (a .args .v)) -ℤ toZ w64 (ofZ w64 (a .args .c)))) -ℤ pos 1
+    ≡ a .args .v -ℤ a .args .c -ℤ pos 1
 down-is a = exactly (search exact depth 9) tt
 
 -- a number of ticks from a way of at most 2³⁸
@@ -61,7 +62,8 @@ sub-way-3 c = sfits (search exact depth 9) tt
 cast-result-2 : tie.Need-cast-result-2
 cast-result-2 c =
     let a = c .before .args in
-    cast-up _ (sub-way-3 c) (subst (λ (z : ℤ). pos 0 ≤ℤ z) (sym (down-is (c .before))) (some-way (a .v) (a .c) (above c)))
+    cast-up _ (sub-way-3 c)
+    (subst (λ (z : ℤ). pos 0 ≤ℤ z) (sym (down-is (c .before))) (some-way (a .v) (a .c) (above c)))
 
 div-result-2 : tie.Need-div-result-2
 div-result-2 c = search needs
@@ -70,7 +72,8 @@ returns-2 : tie.Need-returns-2
 returns-2 c =
     let a = c .before .args in
     let far = less-one (a .v) (a .c) (above c) (c .before .pre .1 .0) (c .before .pre .1 .1) in
-    ticks-is _ (natAbs (a .v -ℤ a .c -ℤ pos 1)) (a .limit) _ (ap natAbs (back-id (sub-way-3 c) ∙ down-is (c .before))) (far .within)
+    ticks-is _ (natAbs (a .v -ℤ a .c -ℤ pos 1)) (a .limit) _
+    (ap natAbs (back-id (sub-way-3 c) ∙ down-is (c .before))) (far .within)
     (ticks-down (a .limit) (a .v) (a .c) (above c))
   where
     less-one : (v c : ℤ) → c <ℤ v → Within (2 ^ 37) v → Within (2 ^ 37) c → Within (2 ^ 38) (v -ℤ c -ℤ pos 1)

@@ -45,7 +45,8 @@ rise-is c =
     c .before .before .ramp-ticks .ensures .0 ∙ (λ i. rampTicks (a .p .«acceleration_limit») (s i) (v i))
 
 fall-is : (c : tie.After-ramp-ticks2)
-    → c .ramp-ticks2 .result ≡ rampTicks (start c .args .p .«acceleration_limit») (start c .args .p .end) (start c .args .cruise .velocity)
+    → c .ramp-ticks2 .result
+    ≡ rampTicks (start c .args .p .«acceleration_limit») (start c .args .p .end) (start c .args .cruise .velocity)
 fall-is c =
     let a = start c .args in
     let e : toZ w64 (ofZ w64 (a .p .end)) ≡ a .p .end = exactly (search computed depth 9) tt in

@@ -47,7 +47,8 @@ mul-result-2 : tie.Need-mul-result-2
 mul-result-2 c = let k = until (c .before .before .before .before .before) in sfits (search exact depth 9) tt
 
 add-result-2 : tie.Need-add-result-2
-add-result-2 c = let k = until (c .before .before .before .before .before .before .before) in sfits (search exact depth 20) tt
+add-result-2 c = let k = until (c .before .before .before .before .before .before .before) in
+    sfits (search exact depth 20) tt
 
 returns-2 : tie.Need-returns-2
 returns-2 c =
@@ -69,7 +70,8 @@ returns-3 c =
     let b = f .before .before in
     let e = b .before .before in
     let a = e .before .args in
-    then-is (is-of (search exact depth 9) tt) (sym (in-raised (a .r) (a .k) (e .if1 .left) (b .if2 .left) (f .if3 .taken)))
+    then-is (is-of (search exact depth 9) tt)
+    (sym (in-raised (a .r) (a .k) (e .if1 .left) (b .if2 .left) (f .if3 .taken)))
 
 returns-4 : tie.Need-returns-4
 returns-4 c =
@@ -77,7 +79,8 @@ returns-4 c =
     let b = f .before .before in
     let e = b .before .before in
     let a = e .before .args in
-    then-is (is-of (search exact depth 9) tt) (sym (in-level (a .r) (a .k) (e .if1 .left) (b .if2 .left) (f .if3 .left)))
+    then-is (is-of (search exact depth 9) tt)
+    (sym (in-level (a .r) (a .k) (e .if1 .left) (b .if2 .left) (f .if3 .left)))
 
 pub velocity-in-spec : {M : Type 1} → statement M
 velocity-in-spec =

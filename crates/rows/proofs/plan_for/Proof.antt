@@ -44,7 +44,8 @@ loop-holds c =
       six = omega arith;
       long = refl;
       unset = λ j h l. getD-replicate 6 j _ unsetPlan l ∙ c .unset-plan .ensures;
-      plannable = all-plannable (a .args .n) (setAxes 0 (a .args .mask) (a .args .t2)) (a .pre .0) (a .pre .1 .0) (a .pre .1 .1);
+      plannable = all-plannable (a .args .n) (setAxes 0 (a .args .mask) (a .args .t2)) (a .pre .0)
+          (a .pre .1 .0) (a .pre .1 .1);
       done = refl;
     }
 
@@ -59,7 +60,8 @@ axis-plan-requires c κs =
     let d = c .before .before in
     let a = d .before .before .before in
     let h = d .before .loop in
-    plannable-here (a .args .n) (h .i) (h .rest) (a .args .t2) (omega (arith, h .inv .six)) (h .inv .plannable) (eq-eqb (h .rest % 2) 1 (c .before .if1 .taken))
+    plannable-here (a .args .n) (h .i) (h .rest) (a .args .t2) (omega (arith, h .inv .six)) (h .inv .plannable)
+    (eq-eqb (h .rest % 2) 1 (c .before .if1 .taken))
 
 mul-plans : tie.Need-mul-plans Inv-loop μ-loop
 mul-plans c = search needs
@@ -77,7 +79,8 @@ loop-less : tie.Need-loop-less Inv-loop μ-loop
 loop-less c = omega arith
 
 -- after a turn the plan of axis i is put after the others, or left out
-record Turned (n i rest : ℕ) (axes : List Axis) (plans₀ : List AxisPlan) (count₀ : ℕ) (plans : List AxisPlan) (count : ℕ) : Type 0 where
+record Turned (n i rest : ℕ) (axes : List Axis) (plans₀ : List AxisPlan) (count₀ : ℕ)
+    (plans : List AxisPlan) (count : ℕ) : Type 0 where
   pub few : count ≤ count₀ + 1
   pub long : length plans ≡ length plans₀
   pub unset : (j : ℕ) → count ≤ j → j < 6 → getD plans j unsetPlan ≡ unsetPlan
@@ -102,15 +105,18 @@ turned c =
           ∙ h .inv .unset j (omega (arith, w .4)) l;
       done =
           ap₂ (λ (k : ℕ) (ps : List AxisPlan). take k ps ++ after) (w .4) is
-          ∙ plan-put (a .n) (h .i) (h .rest) (a .t2) here (h .plans) (h .count) (omega (arith, h .inv .long)) (eq-eqb (h .rest % 2) 1 (w .0 .taken));
+          ∙ plan-put (a .n) (h .i) (h .rest) (a .t2) here (h .plans) (h .count) (omega (arith, h .inv .long))
+          (eq-eqb (h .rest % 2) 1 (w .0 .taken));
     })
     (λ w. record {
       few = omega (arith, w .2);
       long = ap (λ (ps : List AxisPlan). length ps) (w .1);
-      unset = λ j q l. ap (λ (ps : List AxisPlan). getD ps j unsetPlan) (w .1) ∙ h .inv .unset j (omega (arith, w .2)) l;
+      unset = λ j q l. ap (λ (ps : List AxisPlan). getD ps j unsetPlan) (w .1)
+          ∙ h .inv .unset j (omega (arith, w .2)) l;
       done =
           ap₂ (λ (k : ℕ) (ps : List AxisPlan). take k ps ++ after) (w .2) (w .1)
-          ∙ plan-left-out (a .n) (h .i) (h .rest) (a .t2) here (take (h .count) (h .plans)) (ne-eqb (h .rest % 2) 1 (w .0 .left));
+          ∙ plan-left-out (a .n) (h .i) (h .rest) (a .t2) here (take (h .count) (h .plans))
+          (ne-eqb (h .rest % 2) 1 (w .0 .left));
     })
     (c .if1 .came)
 
@@ -133,7 +139,9 @@ returns : tie.Need-returns Inv-loop μ-loop
 returns c =
     let a = c .before .before .before .args in
     let h = c .before .loop in
-    let plans = sym (plans-put (a .n) (h .i) (h .rest) (a .t2) (take (h .count) (h .plans)) (omega (arith, h .inv .six))) ∙ h .inv .done in
+    let plans =
+    sym (plans-put (a .n) (h .i) (h .rest) (a .t2) (take (h .count) (h .plans)) (omega (arith, h .inv .six)))
+    ∙ h .inv .done in
     record {
       plans = plans;
       count =

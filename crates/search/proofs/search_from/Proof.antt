@@ -32,7 +32,8 @@ sub-report-of c =
     let n = c .before .least-common in
     let k = c .before .before .within-budget in
     let test = arrivesIn (a .windows) (setAxes 0 (a .mask) (a .axes)) in
-    let late = found-late test (a .first) (a .budget) (k .result) (n .result) (p .1 .1 .0) (k .ensures) (n .ensures) (c .if1 .taken) in
+    let late = found-late test (a .first) (a .budget) (k .result) (n .result) (p .1 .1 .0) (k .ensures)
+    (n .ensures) (c .if1 .taken) in
     omega arith
 
 add-report-of : tie.Need-add-report-of
@@ -49,7 +50,8 @@ returns c =
     let k = c .before .before .before .within-budget in
     let test = arrivesIn (a .windows) (setAxes 0 (a .mask) (a .axes)) in
     c .report-of .ensures
-    ∙ found-out test (a .first) (a .budget) (k .result) (n .result) (p .1 .1 .0) (k .ensures) (n .ensures) (c .before .if1 .taken)
+    ∙ found-out test (a .first) (a .budget) (k .result) (n .result) (p .1 .1 .0) (k .ensures)
+    (n .ensures) (c .before .if1 .taken)
 
 add-t14 : tie.Need-add-t14
 add-t14 c = search needs

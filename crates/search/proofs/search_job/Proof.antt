@@ -28,7 +28,8 @@ returns c =
     let k = c .before .before .before .before .check in
     let v = c .before .before .checked .given in
     promise (typed (a .job)) (a .first) (a .budget) (c .refused .result)
-    (c .refused .ensures ∙ job-refused (a .job) (a .first) (a .budget) (k .result) (k .ensures) (v .0 .0) (v .0 .1 .0) (v .1))
+    (c .refused .ensures
+    ∙ job-refused (a .job) (a .first) (a .budget) (k .result) (k .ensures) (v .0 .0) (v .0 .1 .0) (v .1))
 
 enum-told : tie.Need-enum-told
 enum-told c = search needs
@@ -46,7 +47,8 @@ returns-2 c =
     let a = e .before .before .before .before .before .args in
     let bad = sym (c .before .before .first-allowed .ensures) ∙ not-true _ (c .before .if1 .taken) in
     promise (typed (a .job)) (a .first) (a .budget) (c .refused2 .result)
-    (c .refused2 .ensures ∙ first-refused (a .job) (a .first) (a .budget) (k .result) (k .ensures) (e .enum-told .given .1) bad)
+    (c .refused2 .ensures
+    ∙ first-refused (a .job) (a .first) (a .budget) (k .result) (k .ensures) (e .enum-told .given .1) bad)
 
 any-measured-requires : tie.Need-any-measured-requires
 any-measured-requires c κs = search needs
@@ -55,7 +57,9 @@ with-weight-requires : tie.Need-with-weight-requires
 with-weight-requires c κs = search needs
 
 -- worked out, or given already
-with-weight : (c : tie.Joined2) → let t = c .before .before .before .before .before .before .before .before .before .args .job in c .if2 .given ≡ namedWithWeight (t .mask) (t .axes)
+with-weight : (c : tie.Joined2) → let t =
+    c .before .before .before .before .before .before .before .before .before .args .job in
+    c .if2 .given ≡ namedWithWeight (t .mask) (t .axes)
 with-weight c =
     let t = c .before .before .before .before .before .before .before .before .before .args .job in
     ⊎-elim
@@ -71,7 +75,8 @@ search-from-requires c κs =
     let a = e .before .before .before .before .before .args in
     let t = a .job in
     let q = goes t (a .first) (a .budget) (k .result) (k .ensures) (e .enum-told .given .1) in
-    let given = given-passed (t .mask) (t .axes) (c .if2 .given) (with-weight c) (clear-passed (setAxes 0 (t .mask) (t .axes)) (q .clear)) in
+    let given = given-passed (t .mask) (t .axes) (c .if2 .given) (with-weight c)
+    (clear-passed (setAxes 0 (t .mask) (t .axes)) (q .clear)) in
     let range = first-range (a .first) (sym (f .before .first-allowed .ensures) ∙ not-false _ (f .if1 .left)) in
     (given, (q .windows, (range .0, omega (arith, range .1))))
 
@@ -90,7 +95,8 @@ returns-3 c =
     promise (typed t) (a .first) (a .budget) (c .answered .result)
     (c .answered .ensures
     ∙ ap (searchAnswer (t .mask)) (c .before .search-from .ensures)
-    ∙ searched t (a .first) (a .budget) (k .result) (k .ensures) (e .enum-told .given .1) allowed (d .if2 .given) (with-weight d))
+    ∙ searched t (a .first) (a .budget) (k .result) (k .ensures) (e .enum-told .given .1) allowed
+    (d .if2 .given) (with-weight d))
 
 pub search-job-spec : {M : Type 1} → statement M
 search-job-spec =

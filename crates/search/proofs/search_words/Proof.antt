@@ -16,7 +16,8 @@ returns c =
     let a = c .before .before .before .before .before .args in
     let d = c .before .before .before .decode in
     promise (words (a .words .now)) (a .first) (a .budget) (c .refused .result)
-    (c .refused .ensures ∙ words-refused (a .words .now) (a .first) (a .budget) (d .result) (d .ensures) (c .before .if1 .taken))
+    (c .refused .ensures
+    ∙ words-refused (a .words .now) (a .first) (a .budget) (d .result) (d .ensures) (c .before .if1 .taken))
 
 search-job-requires : tie.Need-search-job-requires
 search-job-requires c κs = search needs
@@ -26,7 +27,8 @@ returns-2 c =
     let a = c .before .before .before .before .before .before .args in
     let d = c .before .before .before .before .decode in
     promise (words (a .words .now)) (a .first) (a .budget) (c .search-job .result)
-    (c .search-job .ensures .is ∙ words-passed (a .words .now) (a .first) (a .budget) (d .result) (d .ensures) (c .before .before .if1 .left))
+    (c .search-job .ensures .is
+    ∙ words-passed (a .words .now) (a .first) (a .budget) (d .result) (d .ensures) (c .before .before .if1 .left))
 
 pub search-words-spec : {M : Type 1} → statement M
 search-words-spec = tie.close (tie.spec decode-requires refused-requires returns search-job-requires returns-2)

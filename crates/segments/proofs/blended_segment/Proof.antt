@@ -62,7 +62,8 @@ returns c =
     let t = b .before .before .before .segment-back2 .ensures in
     let w = change-is b in
     subst (SegmentAt (2 ^ 14) (2 ^ 56) (blendedBack (a .args .p) (a .args .d)) (a .args .k)) (sym (c .common .ensures))
-    (shared-at s t (segment-blend (a .args .p) (a .args .d) (s .segment) (t .segment)) (exactly (search exact depth 9) tt) (record { within = w .within }))
+    (shared-at s t (segment-blend (a .args .p) (a .args .d) (s .segment) (t .segment))
+    (exactly (search exact depth 9) tt) (record { within = w .within }))
 
 pub blended-segment-spec : {M : Type 1} → statement M
 blended-segment-spec =

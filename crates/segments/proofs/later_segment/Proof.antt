@@ -25,8 +25,11 @@ returns c =
     let p = a .args .p in
     let g = a .pre .0 .regions in
     let is = c .fall-begins .ensures in
-    segment-at (subst (λ (b : ℕ). SegmentOf (plannedAt p) (over (pos 0 -ℤ p .regions .down) b (p .regions .ticks))) (sym is) (segment-falling p))
-    (exactly (search exact depth 9) tt) (omega (arith, is, fall-first (p .regions) (a .args .k) (omega arith) (c .before .if1 .taken))) (omega arith)
+    segment-at
+    (subst (λ (b : ℕ). SegmentOf (plannedAt p) (over (pos 0 -ℤ p .regions .down) b (p .regions .ticks)))
+    (sym is) (segment-falling p))
+    (exactly (search exact depth 9) tt)
+    (omega (arith, is, fall-first (p .regions) (a .args .k) (omega arith) (c .before .if1 .taken))) (omega arith)
     (omega (arith, g .ticks)) (within (search exact depth 9) tt)
 
 sub-level-segment : tie.Need-sub-level-segment
@@ -36,7 +39,8 @@ sub-level-segment-2 : tie.Need-sub-level-segment-2
 sub-level-segment-2 c = search needs
 
 level-segment-requires : tie.Need-level-segment-requires
-level-segment-requires c κs = let a = c .before .before .before in (a .pre .0, (a .pre .1 .0, (omega arith, omega arith)))
+level-segment-requires c κs = let a = c .before .before .before in
+    (a .pre .0, (a .pre .1 .0, (omega arith, omega arith)))
 
 returns-2 : tie.Need-returns-2
 returns-2 c = c .level-segment .ensures

@@ -48,7 +48,8 @@ returns-2 c =
     let p = a .args .p in
     record {
       segment =
-          subst (λ (b : ℕ). SegmentOf (plannedAt p) (over (pos 0) (b + 1) (a .args .last))) (sym (d .raised-until .ensures))
+          subst (λ (b : ℕ). SegmentOf (plannedAt p) (over (pos 0) (b + 1) (a .args .last)))
+          (sym (d .raised-until .ensures))
           (segment-level p (a .args .last) (omega arith) (a .pre .1 .1 .1));
       from = omega arith;
       until = omega arith;

@@ -21,12 +21,14 @@ planned-velocity-requires-2 c κs = search needs
 
 -- the planned velocity one tick on
 abbrev Next : tie.After-planned-velocity2 → Type 0
-Next d = Is (2 ^ 38) (d .planned-velocity2 .result) (plannedAt (d .before .before .args .p) (suc (d .before .before .args .k)))
+Next d = Is (2 ^ 38) (d .planned-velocity2 .result)
+    (plannedAt (d .before .before .args .p) (suc (d .before .before .args .k)))
 
 next : (d : tie.After-planned-velocity2) → Next d
 next d =
     let a = d .before .before .args in
-    subst (λ (k : ℕ). Is (2 ^ 38) (d .planned-velocity2 .result) (plannedAt (a .p) k)) (add-one (a .k)) (d .planned-velocity2 .ensures)
+    subst (λ (k : ℕ). Is (2 ^ 38) (d .planned-velocity2 .result) (plannedAt (a .p) k)) (add-one (a .k))
+    (d .planned-velocity2 .ensures)
 
 sub-t7 : tie.Need-sub-t7
 sub-t7 c = sfits (search exact depth 9) tt
@@ -41,7 +43,8 @@ returns c =
     let w = next c in
     let now : Within (2 ^ 38) (plannedAt (a .args .p) (a .args .k)) = record { within = v .within } in
     let later : Within (2 ^ 38) (plannedAt (a .args .p) (suc (a .args .k))) = record { within = w .within } in
-    segment-at (segment-once (plannedAt (a .args .p)) (a .args .k)) (exactly (search exact depth 20) tt) (omega arith) (omega arith)
+    segment-at (segment-once (plannedAt (a .args .p)) (a .args .k))
+    (exactly (search exact depth 20) tt) (omega arith) (omega arith)
     (omega (arith, a .pre .0 .last)) (within (search exact depth 9) tt)
 
 pub one-tick-spec : {M : Type 1} → statement M

@@ -9,7 +9,8 @@ returns : tie.Need-returns
 returns c =
     let a = c .before .before .before in
     let r = a .pre .0 in
-    segment-at (segment-landed (a .args .p) 4097) (exactly (search exact depth 9) tt) (c .before .if1 .taken) (omega (arith, r .last)) (omega arith)
+    segment-at (segment-landed (a .args .p) 4097) (exactly (search exact depth 9) tt) (c .before .if1 .taken)
+    (omega (arith, r .last)) (omega arith)
     (within (search exact depth 9) tt)
 
 later-segment-requires : tie.Need-later-segment-requires
@@ -22,7 +23,8 @@ returns-3 : tie.Need-returns-3
 returns-3 c =
     let a = c .before .before .before .before .before .before in
     let g = a .pre .0 .regions in
-    segment-at (segment-rising (a .args .p) (omega arith)) (exactly (search exact depth 9) tt) (omega arith) (omega arith) (omega (arith, g .ticks))
+    segment-at (segment-rising (a .args .p) (omega arith)) (exactly (search exact depth 9) tt) (omega arith)
+    (omega arith) (omega (arith, g .ticks))
     (within (search exact depth 9) tt)
 
 one-tick-requires : tie.Need-one-tick-requires

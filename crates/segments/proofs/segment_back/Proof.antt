@@ -29,7 +29,8 @@ returns-2 : tie.Need-returns-2
 returns-2 c =
     let a = c .before .before .before .before .before in
     let s = c .before .before .before .planned-segment .ensures in
-    segment-at (segment-back (a .args .p) (a .args .d) (s .segment)) (exactly (search exact depth 9) tt) (omega (arith, s .from)) (omega (arith, s .until))
+    segment-at (segment-back (a .args .p) (a .args .d) (s .segment)) (exactly (search exact depth 9) tt)
+    (omega (arith, s .from)) (omega (arith, s .until))
     (omega (arith, s .short)) (s .small)
 
 pub segment-back-spec : {M : Type 1} → statement M

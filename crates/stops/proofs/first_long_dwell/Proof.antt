@@ -44,7 +44,8 @@ loop-again c =
     let l = c .before .before .before .before .loop in
     let a = c .before .before .before .before .before .args in
     record {
-      first = sym (long-later (a .t1) (a .count) (omega arith) (l .i) emptyStop (omega arith) (c .if1 .left)) ∙ l .inv .first;
+      first = sym (long-later (a .t1) (a .count) (omega arith) (l .i) emptyStop (omega arith) (c .if1 .left))
+          ∙ l .inv .first;
       low = omega arith;
       long = l .inv .long;
     }

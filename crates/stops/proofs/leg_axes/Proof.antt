@@ -70,7 +70,8 @@ loop-again c =
       ends = v .ends;
       long = length-set (h .axes) (h .i) (x .result) ∙ v .long;
       front =
-          legs-next (a .settings) (a .here) (a .there) (h .axes) (h .i) (x .result) (omega (arith, v .limits)) (omega (arith, v .starts))
+          legs-next (a .settings) (a .here) (a .there) (h .axes) (h .i) (x .result)
+          (omega (arith, v .limits)) (omega (arith, v .starts))
           (omega (arith, v .ends)) (omega (arith, legs)) (omega (arith, v .long)) (x .ensures) (v .front);
     }
 

@@ -13,7 +13,8 @@ returns : tie.Need-returns
 returns c =
     let a = c .before .args in
     let long = simp length-map at (c .before .good .0 .1 .1 .0 .1 .0 .1) in
-    ap (λ (l : List Stop). record { stops = l; lent = a .row .lent }) (sym (set-past (a .row .stops) (a .index) (a .stop) (omega arith)))
+    ap (λ (l : List Stop). record { stops = l; lent = a .row .lent })
+    (sym (set-past (a .row .stops) (a .index) (a .stop) (omega arith)))
 
 mul-stop : tie.Need-mul-stop
 mul-stop c = search needs

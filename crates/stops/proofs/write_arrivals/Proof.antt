@@ -34,7 +34,8 @@ slice-write-arrivals : tie.Need-slice-write-arrivals Inv-loop μ-loop
 slice-write-arrivals c =
     let l = c .before .loop in
     let a = c .before .before .args in
-    let same = front-length (a .t1) (a .arrivals .now) (l .arrivals) (l .i) (omega arith) (omega arith) (l .inv .front) in
+    let same =
+    front-length (a .t1) (a .arrivals .now) (l .arrivals) (l .i) (omega arith) (omega arith) (l .inv .front) in
     omega arith
 
 add-i : tie.Need-add-i Inv-loop μ-loop

@@ -32,7 +32,8 @@ returns c =
     let long = simp length-replicate at (r .kept .1 .0) in
     let short : length (r .last .1 .0) ≤ 8192 = omega (arith, long) in (
       (start-within (a .kept .1 .1 .0) (a .ensures), start-length (a .ensures)),
-      whole-printed (r .result) (r .last .1 .0) _ short (s .pre) (r .ensures .fitted) (r .ensures .outcome) (a .ensures),
+      whole-printed (r .result) (r .last .1 .0) _ short (s .pre) (r .ensures .fitted)
+          (r .ensures .outcome) (a .ensures),
     )
 
 pub put-job-spec : {M : Type 1} → statement M

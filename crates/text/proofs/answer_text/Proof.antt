@@ -14,7 +14,8 @@ same-length c = search needs
 returns : tie.Need-returns
 returns c =
     let s = c .before .before .before .before .before .before .args in
-    put-accepted (outcomeOf (s .answer) (s .table .now)) (c .before .before .before .before .if1 .taken) (c .before .before .put-table .ensures)
+    put-accepted (outcomeOf (s .answer) (s .table .now)) (c .before .before .before .before .if1 .taken)
+    (c .before .before .put-table .ensures)
 
 returns-2 : tie.Need-returns-2
 returns-2 c =
@@ -31,7 +32,8 @@ returns-3 : tie.Need-returns-3
 returns-3 c =
     let long = c .before .before .before .before in
     let s = long .before .before .before .args in
-    put-refused (outcomeOf (s .answer) (s .table .now)) (long .before .if1 .left) (long .if2 .left) (c .before .before .put-refusal .ensures)
+    put-refused (outcomeOf (s .answer) (s .table .now)) (long .before .if1 .left) (long .if2 .left)
+    (c .before .before .put-refusal .ensures)
 
 pub answer-text-spec : {M : Type 1} → statement M
 answer-text-spec =

@@ -1,5 +1,5 @@
--- The lines of the text, part by part: how many bytes they have, and what a turn of the loops that write them leaves.
--- Assumes nothing.
+-- The lines of the text, part by part: how many bytes they have, and what a turn of the loops that
+-- write them leaves. Assumes nothing.
 use Prim.Native.Nat.{ℕ, suc, _+_, _-_, _*_, _^_, _<_, _≤_}
 use native.Mathlib.Omega.{arith}
 use native.Mathlib.Nat.{mul-add, mul-le-mul-left}
@@ -13,9 +13,11 @@ use mir.Syntax.{w64}
 use mir.Val.{SFits, toZ, ofZ}
 use mir.ValLaws.{toZ-ofZ}
 use Rattle.whole.specs.Lists.{upTo, Room, Written, WrittenWithin}
-use Rattle.whole.proofs.Lists.{flatten-upTo, turn-within, written-within, written-one, written-then, room-front, room-then, room-on}
+use Rattle.whole.proofs.Lists.{flatten-upTo, turn-within, written-within, written-one, written-then, room-front}
+use Rattle.whole.proofs.Lists.{room-then, room-on}
 use Rattle.model.specs.planning.Refusals.{lastTick}
-use Rattle.text.specs.Printed.{ascii, decimal, printedNumber, labelled, cellText, cellsText, rowLine, printedRow, arrivalLine, refusalLine}
+use Rattle.text.specs.Printed.{ascii, decimal, printedNumber, labelled, cellText, cellsText, rowLine, printedRow}
+use Rattle.text.specs.Printed.{arrivalLine, refusalLine}
 use Rattle.text.specs.Enough.{refusalBytes, cellsBytes, rowBytes}
 use Rattle.text.proofs.numbers.Laws.{decimal-most, signed-below, signed-from}
 
@@ -39,7 +41,8 @@ refusal-most number place mask arrival h q m a =
     simp length-append (omega arith)
 
 -- writing a refusal, part by part
-module _ (number place mask arrival : ℕ) {t : List ℕ} {i : ℕ} (h : Room t i (refusalLine number place mask arrival)) where
+module _ (number place mask arrival : ℕ) {t : List ℕ} {i : ℕ}
+    (h : Room t i (refusalLine number place mask arrival)) where
   abbrev one : List ℕ
   one = labelled (ascii "refused ") number
 
@@ -106,8 +109,10 @@ cell-most : (z : ℤ) → SFits w64 z → length (cellText z) ≤ 21
 unfolding cellText
 cell-most z f = omega (arith, signed-most z f)
 
--- writing it, by its size n: a space, a sign where it is negative, and its digits. The room does not depend on what was stored.
-module _ (x : ℤ) {n i : ℕ} {t : List ℕ} (f : SFits w64 x) (e : n ≡ natAbs (toZ w64 (ofZ w64 x))) (h : Room t i (cellText x)) where
+-- writing it, by its size n: a space, a sign where it is negative, and its digits. The room does
+-- not depend on what was stored.
+module _ (x : ℤ) {n i : ℕ} {t : List ℕ} (f : SFits w64 x) (e : n ≡ natAbs (toZ w64 (ofZ w64 x)))
+    (h : Room t i (cellText x)) where
   pub space-index : i < length t
   unfolding cellText
   space-index = omega (arith, h .room)
@@ -124,16 +129,19 @@ module _ (x : ℤ) {n i : ℕ} {t : List ℕ} (f : SFits w64 x) (e : n ≡ natAb
     sign-index p = omega (arith, below-all .room, length-set t i p)
 
     pub below-room : (p q : ℕ) → Room (set (set t i p) (i + 1) q) (i + 2) (decimal n)
-    below-room p q = record { room = omega (arith, below-all .room, length-set t i p, length-set (set t i p) (i + 1) q) }
+    below-room p q =
+        record { room = omega (arith, below-all .room, length-set t i p, length-set (set t i p) (i + 1) q) }
 
-    pub below-done : {v : List ℕ} {r : ℕ} → Written (set (set t i 32) (i + 1) 45) (i + 2) (decimal n) v r → Written t i (cellText x) v r
+    pub below-done : {v : List ℕ} {r : ℕ} → Written (set (set t i 32) (i + 1) 45) (i + 2) (decimal n) v r
+        → Written t i (cellText x) v r
     below-done {v} {r} y = subst (λ (l : List ℕ). Written t i l v r) (sym below) (written-then below-all both y)
       where
         sign : Written (set t i 32) (i + 1) (ascii "-") (set (set t i 32) (i + 1) 45) (i + 2)
         sign = record { list = written-one (sign-index 32) .list; next = omega arith }
 
         both : Written t i (ascii " -") (set (set t i 32) (i + 1) 45) (i + 2)
-        both = written-then {l = ascii " "} {m = ascii "-"} (room-front (ascii " -") (decimal n) below-all) (written-one space-index) sign
+        both = written-then {l = ascii " "} {m = ascii "-"} (room-front (ascii " -") (decimal n) below-all)
+            (written-one space-index) sign
 
   module _ (b : ltZ (toZ w64 (ofZ w64 x)) (pos 0) ≡ false) where
     natural : cellText x ≡ ascii " " ++ decimal n
@@ -146,8 +154,10 @@ module _ (x : ℤ) {n i : ℕ} {t : List ℕ} (f : SFits w64 x) (e : n ≡ natAb
     pub natural-room : (p : ℕ) → Room (set t i p) (i + 1) (decimal n)
     natural-room p = record { room = omega (arith, natural-all .room, length-set t i p) }
 
-    pub natural-done : {v : List ℕ} {r : ℕ} → Written (set t i 32) (i + 1) (decimal n) v r → Written t i (cellText x) v r
-    natural-done {v} {r} y = subst (λ (l : List ℕ). Written t i l v r) (sym natural) (written-then natural-all (written-one space-index) y)
+    pub natural-done : {v : List ℕ} {r : ℕ} → Written (set t i 32) (i + 1) (decimal n) v r
+        → Written t i (cellText x) v r
+    natural-done {v} {r} y =
+        subst (λ (l : List ℕ). Written t i l v r) (sym natural) (written-then natural-all (written-one space-index) y)
 
 -- ---- the cells of a row
 
@@ -158,7 +168,8 @@ abbrev pub cellAt : List ℤ → ℕ → List ℕ
 cellAt cells k = cellText (cellOf cells k)
 
 -- a turn of the loop, which passes the cell on as its bits
-module _ (cells : List ℤ) {t u : List ℕ} {i j k : ℕ} (h : i + cellsBytes (length cells) ≤ length t) (q : k < length cells)
+module _ (cells : List ℤ) {t u : List ℕ} {i j k : ℕ}
+    (h : i + cellsBytes (length cells) ≤ length t) (q : k < length cells)
     (w : WrittenWithin (21 * k) t i (upTo (cellAt cells) k) u j) (f : SFits w64 (cellOf cells k)) where
   passed : cellText (toZ w64 (ofZ w64 (cellOf cells k))) ≡ cellAt cells k
   passed = ap (λ (z : ℤ). cellText z) (toZ-ofZ w64 (cellOf cells k) f)
@@ -166,7 +177,9 @@ module _ (cells : List ℤ) {t u : List ℕ} {i j k : ℕ} (h : i + cellsBytes (
   pub cell-room : length u ≡ length t → Room u j (cellText (toZ w64 (ofZ w64 (cellOf cells k))))
   cell-room e =
       subst (Room u j) (sym passed)
-      (record { room = omega (arith, turn-within (cellAt cells) 21 (length cells) h q w e, cell-most (cellOf cells k) f) })
+      (record {
+        room = omega (arith, turn-within (cellAt cells) 21 (length cells) h q w e, cell-most (cellOf cells k) f);
+      })
 
   pub cell-turn : {v : List ℕ} {r : ℕ} → Written u j (cellText (toZ w64 (ofZ w64 (cellOf cells k)))) v r
       → WrittenWithin (21 * (k + 1)) t i (upTo (cellAt cells) (k + 1)) v r
@@ -175,14 +188,17 @@ module _ (cells : List ℤ) {t u : List ℕ} {i j k : ℕ} (h : i + cellsBytes (
       (record { written = subst (λ (l : List ℕ). Written u j l v r) passed x; most = cell-most (cellOf cells k) f })
 
 pub cells-done : (cells : List ℤ) {t u : List ℕ} {i j : ℕ} (k : ℕ) → k ≡ length cells
-    → WrittenWithin (21 * k) t i (upTo (cellAt cells) k) u j → WrittenWithin (cellsBytes (length cells)) t i (cellsText cells) u j
+    → WrittenWithin (21 * k) t i (upTo (cellAt cells) k) u j
+    → WrittenWithin (cellsBytes (length cells)) t i (cellsText cells) u j
 cells-done cells {t} {u} {i} {j} k e w =
-    subst (λ (l : List ℕ). WrittenWithin (cellsBytes (length cells)) t i l u j) (sym (flatten-upTo cellText (pos 0) cells))
+    subst (λ (l : List ℕ). WrittenWithin (cellsBytes (length cells)) t i l u j)
+    (sym (flatten-upTo cellText (pos 0) cells))
     (subst (λ (n : ℕ). WrittenWithin (21 * n) t i (upTo (cellAt cells) n) u j) e w)
 
 -- ---- a row
 
-module _ (tick : ℕ) (cells : List ℤ) {t : List ℕ} {i : ℕ} (h : i + rowBytes (length cells) ≤ length t) (q : tick ≤ lastTick) where
+module _ (tick : ℕ) (cells : List ℤ) {t : List ℕ} {i : ℕ}
+    (h : i + rowBytes (length cells) ≤ length t) (q : tick ≤ lastTick) where
   pub tick-room : Room t i (decimal tick)
   tick-room = record { room = omega (arith, tick-most tick q) }
 
@@ -197,9 +213,14 @@ module _ (tick : ℕ) (cells : List ℤ) {t : List ℕ} {i : ℕ} (h : i + rowBy
       pub end-index : length v ≡ length t → k < length v
       end-index e = omega (arith, ends)
 
-      pub row-done : length v ≡ length t → WrittenWithin (rowBytes (length cells)) t i (rowLine tick cells) (set v k 10) (k + 1)
+      pub row-done : length v ≡ length t
+          → WrittenWithin (rowBytes (length cells)) t i (rowLine tick cells) (set v k 10) (k + 1)
       unfolding rowLine
-      row-done e = record { written = written-then (room-on (ascii "\n") ends both) both (written-one (end-index e)); most = row-most }
+      row-done e =
+          record {
+            written = written-then (room-on (ascii "\n") ends both) both (written-one (end-index e));
+            most = row-most;
+          }
         where
           both : Written t i (decimal tick ++ cellsText cells) v k
           both = written-then (room-on (cellsText cells) (omega (arith, ends, x .written .next)) w) w (x .written)
@@ -231,7 +252,8 @@ row-is w first k cells e =
     only w first = omega arith
 
 module _ (w n : ℕ) (cells : List ℤ) {t u : List ℕ} {i j k first : ℕ} (h : i + rowBytes w * suc n ≤ length t) (q : k ≤ n)
-    (x : WrittenWithin (rowBytes w * k) t i (upTo (printedRow w cells) k) u j) (m : w * suc n ≤ length cells) (e : first ≡ w * k) where
+    (x : WrittenWithin (rowBytes w * k) t i (upTo (printedRow w cells) k) u j)
+    (m : w * suc n ≤ length cells) (e : first ≡ w * k) where
   part-is : length (rowPart w first cells) ≡ w
   part-is = part-length w first cells (part-ends w first k n (length cells) e q m)
 

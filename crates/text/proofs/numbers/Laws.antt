@@ -29,7 +29,8 @@ fuel-free zero m n h q = absurd (omega arith)
 fuel-free (suc k) zero n h q = absurd (omega arith)
 fuel-free (suc k) (suc m) n h q = go (ltb n 10) refl (λ t. fuel-free k m (n / 10) (omega arith) (omega arith))
   where
-    go : (b : Bool) → ltb n 10 ≡ b → (10 ≤ n → decimalDigits k (n / 10) ≡ decimalDigits m (n / 10)) → by-size k n b ≡ by-size m n b
+    go : (b : Bool) → ltb n 10 ≡ b → (10 ≤ n → decimalDigits k (n / 10) ≡ decimalDigits m (n / 10))
+        → by-size k n b ≡ by-size m n b
     go true e f = refl
     go false e f = ap (λ (l : List ℕ). l ++ digit (n % 10)) (f (ltb-false n 10 e))
 
@@ -66,13 +67,16 @@ signed-natural (pos n) e = refl
 signed-natural (negsuc n) e = absurd (mathlib.Core.Bool.true≢false e)
 
 -- its text by its size n
-pub signed-below : (x : ℤ) {n : ℕ} → SFits w64 x → ltZ (toZ w64 (ofZ w64 x)) (pos 0) ≡ true → n ≡ natAbs (toZ w64 (ofZ w64 x))
+pub signed-below : (x : ℤ) {n : ℕ} → SFits w64 x → ltZ (toZ w64 (ofZ w64 x)) (pos 0) ≡ true
+    → n ≡ natAbs (toZ w64 (ofZ w64 x))
     → printedNumber x ≡ labelled (ascii "-") n
 signed-below x {n} f t e =
     let y : toZ w64 (ofZ w64 x) ≡ x = toZ-ofZ w64 x f in
-    signed-negative x (ap (λ (z : ℤ). ltZ z (pos 0)) (sym y) ∙ t) ∙ ap (labelled (ascii "-")) (sym (e ∙ ap (λ (z : ℤ). natAbs z) y))
+    signed-negative x (ap (λ (z : ℤ). ltZ z (pos 0)) (sym y) ∙ t)
+    ∙ ap (labelled (ascii "-")) (sym (e ∙ ap (λ (z : ℤ). natAbs z) y))
 
-pub signed-from : (x : ℤ) {n : ℕ} → SFits w64 x → ltZ (toZ w64 (ofZ w64 x)) (pos 0) ≡ false → n ≡ natAbs (toZ w64 (ofZ w64 x))
+pub signed-from : (x : ℤ) {n : ℕ} → SFits w64 x → ltZ (toZ w64 (ofZ w64 x)) (pos 0) ≡ false
+    → n ≡ natAbs (toZ w64 (ofZ w64 x))
     → printedNumber x ≡ decimal n
 signed-from x {n} f t e =
     let y : toZ w64 (ofZ w64 x) ≡ x = toZ-ofZ w64 x f in

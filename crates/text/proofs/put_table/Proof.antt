@@ -12,10 +12,12 @@ table-fits-requires c κs = search needs
 axis-count-requires : tie.Need-axis-count-requires
 axis-count-requires c κs =
     let a = c .before .before .before .args in
-    fits-parts (a .mask) (a .n) (length (a .table .now)) (length (a .out .now)) (sym (c .before .table-fits .ensures) ∙ c .if1 .taken) .mask
+    fits-parts (a .mask) (a .n) (length (a .table .now)) (length (a .out .now))
+    (sym (c .before .table-fits .ensures) ∙ c .if1 .taken) .mask
 
 mul-width : tie.Need-mul-width
-mul-width c = omega (arith, count-most (c .before .before .before .before .args .mask) (c .axis-count .result) (c .axis-count .ensures))
+mul-width c = omega
+    (arith, count-most (c .before .before .before .before .args .mask) (c .axis-count .result) (c .axis-count .ensures))
 
 put-arrival-requires : tie.Need-put-arrival-requires
 put-arrival-requires c κs =
@@ -34,7 +36,8 @@ put-rows-requires c κs =
     let fits = sym (taken .before .table-fits .ensures) ∙ taken .if1 .taken in
     let a = taken .before .before .before .args in
     let k = counted .axis-count in
-    rows-room (a .mask) (a .n) (k .result) (a .table .now) (a .out .now) (k .ensures) fits (arrived .put-arrival .ensures) (arrived .put-arrival .kept .0)
+    rows-room (a .mask) (a .n) (k .result) (a .table .now) (a .out .now) (k .ensures) fits
+    (arrived .put-arrival .ensures) (arrived .put-arrival .kept .0)
 
 same-length : tie.Need-same-length
 same-length c = search needs
@@ -48,7 +51,8 @@ returns c =
     let fits = sym (taken .before .table-fits .ensures) ∙ taken .if1 .taken in
     let a = taken .before .before .before .args in
     let k = counted .axis-count in
-    table-done (a .mask) (a .n) (k .result) (a .table .now) (a .out .now) (k .ensures) fits (arrived .put-arrival .ensures) (ended .put-rows .ensures)
+    table-done (a .mask) (a .n) (k .result) (a .table .now) (a .out .now) (k .ensures) fits
+    (arrived .put-arrival .ensures) (ended .put-rows .ensures)
 
 returns-2 : tie.Need-returns-2
 returns-2 c = put-nothing _ _ (sym (c .before .table-fits .ensures) ∙ c .if1 .left)

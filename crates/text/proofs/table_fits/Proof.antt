@@ -34,7 +34,8 @@ returns-3 : tie.Need-returns-3
 returns-3 c =
     let s = c .before .before .before .before .args in
     let k = c .before .axis-count in
-    rows-short (s .mask) (s .n) (s .cells) (s .bytes) (k .result) (k .ensures) (omega arith) (omega arith) (c .if3 .taken)
+    rows-short (s .mask) (s .n) (s .cells) (s .bytes) (k .result) (k .ensures)
+    (omega arith) (omega arith) (c .if3 .taken)
 
 mul-result : tie.Need-mul-result
 mul-result c = omega (arith, few (c .before))
@@ -45,12 +46,20 @@ add-result c = omega (arith, few (c .before))
 mul-result-2 : tie.Need-mul-result-2
 mul-result-2 c =
     let counted = c .before in
-    omega (arith, bytes-small (counted .axis-count .result) (c .before .before .before .before .args .n) (few counted) (omega arith))
+    omega (
+      arith,
+      bytes-small (counted .axis-count .result)
+          (c .before .before .before .before .args .n) (few counted) (omega arith),
+    )
 
 add-result-2 : tie.Need-add-result-2
 add-result-2 c =
     let counted = c .before in
-    omega (arith, bytes-small (counted .axis-count .result) (c .before .before .before .before .args .n) (few counted) (omega arith))
+    omega (
+      arith,
+      bytes-small (counted .axis-count .result)
+          (c .before .before .before .before .args .n) (few counted) (omega arith),
+    )
 
 returns-4 : tie.Need-returns-4
 returns-4 c =

@@ -16,7 +16,8 @@ next : (bytes : List ℕ) (i j : ℕ) → suc i ≡ j → i < length bytes → d
 next bytes i j e h = drop-cons bytes i 0 h ∙ ap (λ (n : ℕ). getD bytes i 0 ∷ drop n bytes) e
 
 pub word-four : (bytes : List ℕ) (i : ℕ) → i + 4 ≤ length bytes
-    → littleEndian (getD bytes i 0) (getD bytes (i + 1) 0) (getD bytes (i + 2) 0) (getD bytes (i + 3) 0) ≡ firstWord (drop i bytes)
+    → littleEndian (getD bytes i 0) (getD bytes (i + 1) 0) (getD bytes (i + 2) 0) (getD bytes (i + 3) 0)
+    ≡ firstWord (drop i bytes)
 unfolding firstWord
 word-four bytes i h =
     sym
@@ -28,12 +29,14 @@ word-four bytes i h =
     (next bytes (i + 2) (i + 3) (omega arith) (omega arith)
     ∙ ap (λ (l : List ℕ). getD bytes (i + 2) 0 ∷ l) (next bytes (i + 3) (i + 4) (omega arith) (omega arith))))))
 
-pub word-pairs : (bytes : List ℕ) (i : ℕ) {p q : ℕ} → i + 4 ≤ length bytes → p ≡ pairAt bytes i → q ≡ pairAt bytes (i + 2)
+pub word-pairs : (bytes : List ℕ) (i : ℕ) {p q : ℕ} → i + 4 ≤ length bytes
+    → p ≡ pairAt bytes i → q ≡ pairAt bytes (i + 2)
     → p + 65536 * q ≡ firstWord (drop i bytes)
 word-pairs bytes i {p} {q} h e f =
     let third : i + 2 + 1 ≡ i + 3 = omega arith in
     let last = ap (λ (k : ℕ). getD bytes k 0) third in
-    joined (getD bytes i 0) (getD bytes (i + 1) 0) (getD bytes (i + 2) 0) (getD bytes (i + 2 + 1) 0) (getD bytes (i + 3) 0) e f last
+    joined (getD bytes i 0) (getD bytes (i + 1) 0) (getD bytes (i + 2) 0) (getD bytes (i + 2 + 1) 0)
+    (getD bytes (i + 3) 0) e f last
     ∙ word-four bytes i h
   where
     joined : (a b c d d' : ℕ) → p ≡ a + 256 * b → q ≡ c + 256 * d → d ≡ d' → p + 65536 * q ≡ littleEndian a b c d'
@@ -101,7 +104,8 @@ words-take (suc n) (a ∷ []) = ap (λ (m : ℕ). wordsOf (take m (a ∷ []))) (
 words-take (suc n) (a ∷ b ∷ []) = ap (λ (m : ℕ). wordsOf (take m (a ∷ b ∷ []))) (four-more n) ∙ none n
 words-take (suc n) (a ∷ b ∷ c ∷ []) = ap (λ (m : ℕ). wordsOf (take m (a ∷ b ∷ c ∷ []))) (four-more n) ∙ none n
 words-take (suc n) (a ∷ b ∷ c ∷ d ∷ l) =
-    ap (λ (m : ℕ). wordsOf (take m (a ∷ b ∷ c ∷ d ∷ l))) (four-more n) ∙ ap (λ (ws : List ℕ). littleEndian a b c d ∷ ws) (words-take n l)
+    ap (λ (m : ℕ). wordsOf (take m (a ∷ b ∷ c ∷ d ∷ l))) (four-more n)
+    ∙ ap (λ (ws : List ℕ). littleEndian a b c d ∷ ws) (words-take n l)
 
 -- ---- writing the words, as many as the list has entries for
 

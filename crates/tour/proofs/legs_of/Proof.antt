@@ -16,7 +16,8 @@ use Rattle.tour.proofs.legs_of.Tie as tie
 abbrev Inv-loop : tie.InvT-loop
 Inv-loop settings count stops arrivals₀ here₀ tick₀ i₀ arrivals here tick i =
     record {
-      legs : legsFrom settings (drop i (take count stops)) tick here (take i arrivals) ≡ legsFrom settings (take count stops) 0 (settings .start) [];
+      legs : legsFrom settings (drop i (take count stops)) tick here (take i arrivals)
+          ≡ legsFrom settings (take count stops) 0 (settings .start) [];
       dwells : firstLongDwell i (drop i (take count stops)) ≡ none;
       low : i ≤ count;
       ticks : tick ≤ i * 8192;
@@ -61,7 +62,8 @@ returns c =
     ap (λ (g : LegRow). legsIn g (a .count)) (c .leg-row .ensures)
     ∙ refused-row (q .result) (l .i) (a .count) (l .arrivals) refuses (omega arith)
     ∙ ap (λ (r : Answer). refusedLeg r (length (take (l .i) (l .arrivals)))) is
-    ∙ sym (leg-refused (a .t2) (a .count) few (a .settings) (l .tick) (l .here) (l .i) emptyStop (omega arith) (take (l .i) (l .arrivals))
+    ∙ sym (leg-refused (a .t2) (a .count) few (a .settings) (l .tick) (l .here) (l .i) emptyStop
+    (omega arith) (take (l .i) (l .arrivals))
     (λ z. refuses (ap (λ (r : Answer). r .number) is ∙ z)))
     ∙ l .inv .legs
 
@@ -108,13 +110,15 @@ loop-again c =
     let is = q .ensures .is in
     let tick = l .tick + q .result .arrival in
     let zero = c .before .before .if1 .left in
-    let made = leg-made (a .t2) (a .count) few (a .settings) (l .tick) (l .here) (l .i) emptyStop (omega arith) (take (l .i) (l .arrivals))
+    let made = leg-made (a .t2) (a .count) few (a .settings) (l .tick) (l .here) (l .i) emptyStop
+    (omega arith) (take (l .i) (l .arrivals))
     (sym (ap (λ (r : Answer). r .number) is) ∙ zero) in
     record {
       legs =
           ap (legsFrom (a .settings) (drop (l .i + 1) (take (a .count) (a .t2))) (tick + stop .dwell) (stop .positions))
           (stored-next (l .arrivals) (l .i) tick (omega arith))
-          ∙ ap (λ (r : Answer). legsFrom (a .settings) (drop (l .i + 1) (take (a .count) (a .t2))) (l .tick + r .arrival + stop .dwell) (stop .positions)
+          ∙ ap (λ (r : Answer). legsFrom (a .settings) (drop (l .i + 1) (take (a .count) (a .t2)))
+          (l .tick + r .arrival + stop .dwell) (stop .positions)
           (take (l .i) (l .arrivals) ++ ((l .tick + r .arrival) ∷ []))) is
           ∙ sym made
           ∙ l .inv .legs;
@@ -136,7 +140,8 @@ returns-2 c =
     let all : a .count ≡ l .i = omega arith in
     ap (λ (g : LegRow). legsIn g (a .count)) (c .leg-row2 .ensures)
     ∙ ap (λ (k : ℕ). allLegs (a .settings) (l .tick) (take k (l .arrivals))) all
-    ∙ sym (legs-made (a .t2) (a .count) few (a .settings) (l .tick) (l .here) (l .i) (take (l .i) (l .arrivals)) (omega arith))
+    ∙ sym (legs-made (a .t2) (a .count) few (a .settings) (l .tick) (l .here) (l .i)
+    (take (l .i) (l .arrivals)) (omega arith))
     ∙ l .inv .legs
 
 pub legs-of-spec : {M : Type 1} → statement M

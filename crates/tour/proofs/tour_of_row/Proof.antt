@@ -29,7 +29,8 @@ promised : (s : tie.Start) (q r : TourAnswer) (exit : List ℕ) → q ≡ r → 
 promised s q r exit e is =
     let a = s .args in
     let long = simp length-map at (s .good .1 .0 .1 .1 .0 .1 .0 .1) in
-    row-promise (a .settings) (a .arrivals .now) q exit (a .row) long (ap (λ (z : TourAnswer). tourOutcomeOf z exit) e ∙ is)
+    row-promise (a .settings) (a .arrivals .now) q exit (a .row) long
+    (ap (λ (z : TourAnswer). tourOutcomeOf z exit) e ∙ is)
 
 tour-answer-requires : tie.Need-tour-answer-requires
 tour-answer-requires c κs = search needs
@@ -39,7 +40,8 @@ returns c =
     let s = c .before .before .before in
     let a = s .args in
     let lent = a .arrivals .now in
-    promised s _ _ lent (c .tour-answer .ensures) (no-stops (a .settings) (a .row .lent) (held s) lent (c .before .if1 .taken))
+    promised s _ _ lent (c .tour-answer .ensures)
+    (no-stops (a .settings) (a .row .lent) (held s) lent (c .before .if1 .taken))
 
 tour-answer-requires-2 : tie.Need-tour-answer-requires-2
 tour-answer-requires-2 c κs = search needs
@@ -50,7 +52,8 @@ returns-2 c =
     let a = s .args in
     let lent = a .arrivals .now in
     let some = c .before .before .if1 .left in
-    promised s _ _ lent (c .tour-answer2 .ensures) (many-stops (a .settings) (a .row .lent) (held s) lent some (c .before .if2 .taken))
+    promised s _ _ lent (c .tour-answer2 .ensures)
+    (many-stops (a .settings) (a .row .lent) (held s) lent some (c .before .if2 .taken))
 
 first-long-dwell-requires : tie.Need-first-long-dwell-requires
 first-long-dwell-requires c κs = search needs
@@ -76,7 +79,8 @@ returns-3 c =
     let lent = a .arrivals .now in
     let few : a .row .lent ≤ 64 = omega arith in
     let at = sym (ap foundStop (c .before .before .long .given .1)) ∙ d .first-long-dwell .ensures in
-    promised s _ _ lent (c .tour-answer3 .ensures) (long-dwell (a .settings) (a .row .lent) (held s) lent (lends d .if1 .left) few _ at)
+    promised s _ _ lent (c .tour-answer3 .ensures)
+    (long-dwell (a .settings) (a .row .lent) (held s) lent (lends d .if1 .left) few _ at)
 
 enum-told : tie.Need-enum-told
 enum-told c = search needs
@@ -100,7 +104,8 @@ returns-4 c =
     let few : a .row .lent ≤ 64 = omega arith in
     let legs = g .legs-of in
     promised s _ _ lent (c .tour-answer4 .ensures)
-    (leg-refused (a .settings) (a .row .lent) (held s) lent (lends d .if1 .left) few (none-long (g .before)) (legs .result) (legs .ensures)
+    (leg-refused (a .settings) (a .row .lent) (held s) lent (lends d .if1 .left) few (none-long (g .before))
+    (legs .result) (legs .ensures)
     (c .before .if3 .taken))
 
 tour-answer-requires-5 : tie.Need-tour-answer-requires-5
@@ -117,7 +122,8 @@ returns-5 c =
     let few : a .row .lent ≤ 64 = omega arith in
     let legs = g .legs-of in
     promised s _ _ lent (c .tour-answer5 .ensures)
-    (list-short (a .settings) (a .row .lent) (held s) lent (lends d .if1 .left) few (none-long (g .before)) (legs .result) (legs .ensures)
+    (list-short (a .settings) (a .row .lent) (held s) lent (lends d .if1 .left) few (none-long (g .before))
+    (legs .result) (legs .ensures)
     (zero .if3 .left) (c .before .if4 .taken))
 
 write-arrivals-requires : tie.Need-write-arrivals-requires
@@ -143,8 +149,10 @@ returns-6 c =
     let legs = g .legs-of in
     let r = legs .result in
     promised s _ _ (written .last .1 .1 .0) (c .tour-answer6 .ensures)
-    (ap (λ (l : List ℕ). record { number = 0; place = 0; mask = r .mask; arrival = 0; total = r .total; arrivals = l }) (written .ensures)
-    ∙ list-written (a .settings) (a .row .lent) (held s) lent (lends d .if1 .left) few (none-long (g .before)) r (legs .ensures)
+    (ap (λ (l : List ℕ). record { number = 0; place = 0; mask = r .mask; arrival = 0; total = r .total; arrivals = l })
+    (written .ensures)
+    ∙ list-written (a .settings) (a .row .lent) (held s) lent (lends d .if1 .left) few
+    (none-long (g .before)) r (legs .ensures)
     (zero .if3 .left) (room .if4 .left))
 
 pub tour-of-row-spec : {M : Type 1} → statement M

@@ -1,4 +1,5 @@
--- `whole::size` meets its contract. Below 0 the code takes −(x + 1), which fits also where −x does not, and adds the one again.
+-- `whole::size` meets its contract. Below 0 the code takes −(x + 1), which fits also where −x
+-- does not, and adds the one again.
 use mathlib.Core.Path.{_≡_, sym, ap, _∙_, subst}
 use mathlib.Core.Bool.{true}
 use Prim.Native.Nat.{ℕ, _+_, _≤_}
@@ -14,7 +15,8 @@ use Rattle.whole.proofs.Bounds.{back-id, fits-holds, nonneg-cast}
 use Rattle.whole.proofs.size.Statement.{statement}
 use Rattle.whole.proofs.size.Tie as tie
 
--- what is added to a number below 0 is read off the code: the sum fits where it is at most 1, and its negative where it is 1
+-- what is added to a number below 0 is read off the code: the sum fits where it is at most 1,
+-- and its negative where it is 1
 next-fits : (k : ℕ) (y : ℤ) → SFits w64 y → y <ℤ pos 0 → k ≤ 1 → SFits w64 (y +ℤ pos k)
 next-fits k = all₁ _ (λ a b. simp whole (omega arith))
 
@@ -27,7 +29,8 @@ turned-nonneg = all₃ _ (λ a b c d e f. simp whole (omega arith))
 turned-size : (y z w : ℤ) → z ≡ y +ℤ pos 1 → w ≡ pos 0 -ℤ z → y <ℤ pos 0 → natAbs w + 1 ≡ natAbs y
 turned-size = all₃ _ (λ a b c d e f. simp whole (omega arith))
 
--- the number as it is read, what stands one above it, and that with its sign turned, each read back from its bits
+-- the number as it is read, what stands one above it, and that with its sign
+-- turned, each read back from its bits
 module _ (x : ℤ) (f : SFits w64 x) where
   abbrev y : ℤ
   y = toZ w64 (ofZ w64 x)
@@ -58,7 +61,8 @@ module _ (x : ℤ) (f : SFits w64 x) where
     w-fits = minus-fits 1 (lit≤ tt) (lit≤ tt)
 
     w-cast : T (nonNeg w) × Fits w64 (natAbs w)
-    w-cast = nonneg-cast w (turned-nonneg y z w (back-id z-fits) (back-id w-fits) below) (subst (SFits w64) (sym (back-id w-fits)) w-fits)
+    w-cast = nonneg-cast w (turned-nonneg y z w (back-id z-fits) (back-id w-fits) below)
+        (subst (SFits w64) (sym (back-id w-fits)) w-fits)
 
     w-size : natAbs w + 1 ≡ natAbs x
     w-size = turned-size y z w (back-id z-fits) (back-id w-fits) below ∙ ap natAbs (back-id f)

@@ -16,7 +16,8 @@ returns : tie.Need-returns
 returns c =
     let a = c .before .before .before .args in
     let w = a .windows in
-    c .fits-one .ensures ∙ choice-yes (w .given) (fitsOne (a .tick) (w .dwell) (brought w)) true (c .before .before .if1 .taken)
+    c .fits-one .ensures
+    ∙ choice-yes (w .given) (fitsOne (a .tick) (w .dwell) (brought w)) true (c .before .before .if1 .taken)
 
 returns-2 : tie.Need-returns-2
 returns-2 c =

@@ -24,7 +24,8 @@ abbrev μ-loop : tie.MeasureT-loop
 μ-loop count list closed₀ i₀ closed i = count - i
 
 loop-holds : tie.Need-loop-holds Inv-loop μ-loop
-loop-holds c = record { rest = refl; low = omega arith; long = length-take-le (c .args .count) (c .args .t1) (omega arith) }
+loop-holds c =
+    record { rest = refl; low = omega arith; long = length-take-le (c .args .count) (c .args .t1) (omega arith) }
 
 mul-window : tie.Need-mul-window Inv-loop μ-loop
 mul-window c = omega arith
@@ -39,8 +40,10 @@ returns : tie.Need-returns Inv-loop μ-loop
 returns c =
     let l = c .before .before .before .before .loop in
     let a = c .before .before .before .before .before .args in
-    let wrong = sym (c .before .in-order-after .ensures) ∙ not-true (c .before .in-order-after .result) (c .if1 .taken) in
-    sym (wrong-here (a .t1) (a .count) (l .i) (omega (arith, l .inv .long)) (omega arith) (l .closed) wrong) ∙ l .inv .rest
+    let wrong = sym (c .before .in-order-after .ensures)
+    ∙ not-true (c .before .in-order-after .result) (c .if1 .taken) in
+    sym (wrong-here (a .t1) (a .count) (l .i) (omega (arith, l .inv .long)) (omega arith) (l .closed) wrong)
+    ∙ l .inv .rest
 
 add-i : tie.Need-add-i Inv-loop μ-loop
 add-i c = omega arith
@@ -52,9 +55,11 @@ loop-again : tie.Need-loop-again Inv-loop μ-loop
 loop-again c =
     let l = c .before .before .before .before .loop in
     let a = c .before .before .before .before .before .args in
-    let good = sym (c .before .in-order-after .ensures) ∙ not-false (c .before .in-order-after .result) (c .if1 .left) in
+    let good = sym (c .before .in-order-after .ensures)
+    ∙ not-false (c .before .in-order-after .result) (c .if1 .left) in
     record {
-      rest = sym (wrong-later (a .t1) (a .count) (l .i) (omega (arith, l .inv .long)) (omega arith) (l .closed) good) ∙ l .inv .rest;
+      rest = sym (wrong-later (a .t1) (a .count) (l .i) (omega (arith, l .inv .long)) (omega arith) (l .closed) good)
+          ∙ l .inv .rest;
       low = omega arith;
       long = l .inv .long;
     }
@@ -63,7 +68,8 @@ returns-2 : tie.Need-returns-2 Inv-loop μ-loop
 returns-2 c =
     let l = c .before .loop in
     let a = c .before .before .args in
-    sym (ap (λ (r : List Window). firstWrongWindow (l .i) (l .closed) r) (ended (take (a .count) (a .t1)) (l .i) (omega (arith, l .inv .long)))) ∙ l .inv .rest
+    sym (ap (λ (r : List Window). firstWrongWindow (l .i) (l .closed) r)
+    (ended (take (a .count) (a .t1)) (l .i) (omega (arith, l .inv .long)))) ∙ l .inv .rest
 
 pub first-wrong-spec : {M : Type 1} → statement M
 first-wrong-spec =

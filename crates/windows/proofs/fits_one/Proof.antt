@@ -22,7 +22,8 @@ abbrev μ-loop : tie.MeasureT-loop
 μ-loop tick dwell count list i₀ i = count - i
 
 loop-holds : tie.Need-loop-holds Inv-loop μ-loop
-loop-holds c = record { rest = refl; low = omega arith; long = length-take-le (c .args .count) (c .args .t3) (omega arith) }
+loop-holds c =
+    record { rest = refl; low = omega arith; long = length-take-le (c .args .count) (c .args .t3) (omega arith) }
 
 mul-window : tie.Need-mul-window Inv-loop μ-loop
 mul-window c = omega arith
@@ -38,7 +39,8 @@ returns c =
     let l = c .before .before .before .before .loop in
     let a = c .before .before .before .before .before .args in
     let fit = sym (c .before .fits2 .ensures) ∙ c .if1 .taken in
-    sym (fits-here (a .t3) (a .count) (l .i) (omega (arith, l .inv .long)) (omega arith) (a .tick) (a .dwell) fit) ∙ l .inv .rest
+    sym (fits-here (a .t3) (a .count) (l .i) (omega (arith, l .inv .long)) (omega arith) (a .tick) (a .dwell) fit)
+    ∙ l .inv .rest
 
 add-i : tie.Need-add-i Inv-loop μ-loop
 add-i c = omega arith
@@ -52,7 +54,9 @@ loop-again c =
     let a = c .before .before .before .before .before .args in
     let missed = sym (c .before .fits2 .ensures) ∙ c .if1 .left in
     record {
-      rest = sym (fits-later (a .t3) (a .count) (l .i) (omega (arith, l .inv .long)) (omega arith) (a .tick) (a .dwell) missed) ∙ l .inv .rest;
+      rest = sym
+          (fits-later (a .t3) (a .count) (l .i) (omega (arith, l .inv .long)) (omega arith) (a .tick) (a .dwell) missed)
+          ∙ l .inv .rest;
       low = omega arith;
       long = l .inv .long;
     }
@@ -61,7 +65,8 @@ returns-2 : tie.Need-returns-2 Inv-loop μ-loop
 returns-2 c =
     let l = c .before .loop in
     let a = c .before .before .args in
-    sym (ap (λ (r : List Window). fitsOne (a .tick) (a .dwell) r) (ended (take (a .count) (a .t3)) (l .i) (omega (arith, l .inv .long)))) ∙ l .inv .rest
+    sym (ap (λ (r : List Window). fitsOne (a .tick) (a .dwell) r)
+    (ended (take (a .count) (a .t3)) (l .i) (omega (arith, l .inv .long)))) ∙ l .inv .rest
 
 pub fits-one-spec : {M : Type 1} → statement M
 fits-one-spec =

@@ -16,7 +16,8 @@ returns-2 : tie.Need-returns-2
 returns-2 c =
     let a = c .before .before .before .before .args in
     c .first-wrong .ensures
-    ∙ one-by-one (a .count) (a .list) (a .dwell) (c .before .before .before .if1 .left) (c .before .before .if2 .taken) (c .before .if3 .taken)
+    ∙ one-by-one (a .count) (a .list) (a .dwell) (c .before .before .before .if1 .left)
+    (c .before .before .if2 .taken) (c .before .if3 .taken)
 
 returns-3 : tie.Need-returns-3
 returns-3 c =

@@ -8,7 +8,8 @@ use Rattle.words.proofs.between.Tie as tie
 returns : tie.Need-returns
 returns c =
     let a = c .before .args in
-    and-yes (leZ (a .low) (a .z)) (leZ (a .z) (a .high)) (sym (le-is (search loose depth 9) tt) ∙ c .if1 .taken) (le-is (search loose depth 9) tt)
+    and-yes (leZ (a .low) (a .z)) (leZ (a .z) (a .high)) (sym (le-is (search loose depth 9) tt) ∙ c .if1 .taken)
+    (le-is (search loose depth 9) tt)
 
 returns-2 : tie.Need-returns-2
 returns-2 c =

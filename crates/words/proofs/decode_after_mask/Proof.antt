@@ -38,7 +38,8 @@ returns-2 c =
     let kind = c .before .before .before .before .before .before .is-kind .ensures in
     let asked = sym kind ∙ not-false _ (c .before .before .before .before .before .if1 .left) in
     let wrong = not-true _ (c .before .if2 .taken) in
-    c .refused2 .ensures ∙ wrong-axis (a .words .now) (a .mask) asked (k .result) (k .ensures) (s .result) (s .ensures .0) wrong
+    c .refused2 .ensures
+    ∙ wrong-axis (a .words .now) (a .mask) asked (k .result) (k .ensures) (s .result) (s .ensures .0) wrong
 
 is-end-requires : tie.Need-is-end-requires
 is-end-requires c κs = search needs
@@ -55,7 +56,8 @@ returns-3 c =
     let asked = sym kind ∙ not-false _ (c .before .before .before .before .before .before .before .if1 .left) in
     let got = not-false _ (c .before .before .before .if2 .left) in
     let end = sym (c .before .before .is-end .ensures) ∙ not-true _ (c .before .if3 .taken) in
-    c .refused3 .ensures ∙ no-end (a .words .now) (a .mask) asked (k .result) (k .ensures) (s .result) (s .ensures .0) got end
+    c .refused3 .ensures
+    ∙ no-end (a .words .now) (a .mask) asked (k .result) (k .ensures) (s .result) (s .ensures .0) got end
 
 add-if4 : tie.Need-add-if4
 add-if4 c = search needs
@@ -91,17 +93,22 @@ refused-requires-5 c κs = search needs
 
 returns-5 : tie.Need-returns-5
 returns-5 c =
-    let a = c .before .before .before .before .before .before .before .before .before .before .before .before .before .args in
+    let a = c .before .before .before .before .before .before .before .before .before .before
+    .before .before .before .args in
     let k = c .before .before .before .before .before .before .before .before .before .payload in
     let s = c .before .before .before .before .before .before .before .before .read-axes in
-    let kind = c .before .before .before .before .before .before .before .before .before .before .before .is-kind .ensures in
-    let asked = sym kind ∙ not-false _ (c .before .before .before .before .before .before .before .before .before .before .if1 .left) in
+    let kind =
+    c .before .before .before .before .before .before .before .before .before .before .before .is-kind .ensures in
+    let asked = sym kind
+    ∙ not-false _ (c .before .before .before .before .before .before .before .before .before .before .if1 .left) in
     let got = not-false _ (c .before .before .before .before .before .before .if2 .left) in
-    let end = sym (c .before .before .before .before .before .is-end .ensures) ∙ not-false _ (c .before .before .before .before .if3 .left) in
+    let end = sym (c .before .before .before .before .before .is-end .ensures)
+    ∙ not-false _ (c .before .before .before .before .if3 .left) in
     let last = c .before .before .before .if4 .left in
     let f = c .before .before .first-bad-long in
     c .refused5 .ensures
-    ∙ bad-long (a .words .now) (a .mask) asked (k .result) (k .ensures) (s .result) (s .ensures .0) got end last (f .result) (f .ensures)
+    ∙ bad-long (a .words .now) (a .mask) asked (k .result) (k .ensures) (s .result)
+    (s .ensures .0) got end last (f .result) (f .ensures)
     (c .before .if5 .taken)
 
 job-of-requires : tie.Need-job-of-requires
@@ -109,17 +116,23 @@ job-of-requires c κs = search needs
 
 returns-6 : tie.Need-returns-6
 returns-6 c =
-    let a = c .before .before .before .before .before .before .before .before .before .before .before .before .before .before .args in
+    let a = c .before .before .before .before .before .before .before .before .before .before .before
+    .before .before .before .args in
     let k = c .before .before .before .before .before .before .before .before .before .before .payload in
     let s = c .before .before .before .before .before .before .before .before .before .read-axes in
-    let kind = c .before .before .before .before .before .before .before .before .before .before .before .before .is-kind .ensures in
-    let asked = sym kind ∙ not-false _ (c .before .before .before .before .before .before .before .before .before .before .before .if1 .left) in
+    let kind =
+    c .before .before .before .before .before .before .before .before .before .before
+    .before .before .is-kind .ensures in
+    let asked = sym kind ∙ not-false _
+    (c .before .before .before .before .before .before .before .before .before .before .before .if1 .left) in
     let got = not-false _ (c .before .before .before .before .before .before .before .if2 .left) in
-    let end = sym (c .before .before .before .before .before .before .is-end .ensures) ∙ not-false _ (c .before .before .before .before .before .if3 .left) in
+    let end = sym (c .before .before .before .before .before .before .is-end .ensures)
+    ∙ not-false _ (c .before .before .before .before .before .if3 .left) in
     let last = c .before .before .before .before .if4 .left in
     let f = c .before .before .before .first-bad-long in
     ap (λ (t : Typed.Job). record { number = 0; place = 0; job = t }) (c .job-of .ensures)
-    ∙ whole-job (a .words .now) (a .mask) asked (k .result) (k .ensures) (s .result) (s .ensures .0) got end last (f .result) (f .ensures)
+    ∙ whole-job (a .words .now) (a .mask) asked (k .result) (k .ensures) (s .result)
+    (s .ensures .0) got end last (f .result) (f .ensures)
     (c .before .before .if5 .left)
 
 pub decode-after-mask-spec : {M : Type 1} → statement M

@@ -63,7 +63,8 @@ returns-2 c =
     let l = c .before .loop in
     let a = c .before .before .before .args in
     let all : a .count ≡ l .i = omega arith in
-    ap (λ (k : ℕ). a .at + k) all ∙ sym (ended (a .words .now) (a .at) (a .first) (a .count) (l .i) (c .loop-test .left)) ∙ l .inv .1
+    ap (λ (k : ℕ). a .at + k) all
+    ∙ sym (ended (a .words .now) (a .at) (a .first) (a .count) (l .i) (c .loop-test .left)) ∙ l .inv .1
 
 pub first-wrong-spec : {M : Type 1} → statement M
 first-wrong-spec =

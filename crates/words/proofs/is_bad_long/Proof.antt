@@ -11,7 +11,8 @@ use Rattle.words.specs.ByIndex.{signedAt, longAt, isBadLong}
 use Rattle.words.proofs.is_bad_long.Statement.{statement}
 use Rattle.words.proofs.is_bad_long.Tie as tie
 
--- `isBadLong` by its three tests: kind 14, a payload from −64 to 63, a position that a single word holds
+-- `isBadLong` by its three tests: kind 14, a payload from −64 to 63, a position that a single word
+-- holds
 abbrev by : Bool → Bool → Bool → Bool
 by k a f = cond k (not (a && not f)) false
 
@@ -28,7 +29,8 @@ returns c =
     let a = c .before .before .before .args in
     let ws = a .words .now in
     let kind = sym (c .before .is-kind .ensures) ∙ not-true _ (c .if1 .taken) in
-    sym (ap (λ (k : Bool). by k (between (negsuc 63) (pos 63) (signedAt ws (a .at))) (fitsWord (longAt ws (a .at)))) kind)
+    sym (ap (λ (k : Bool). by k (between (negsuc 63) (pos 63) (signedAt ws (a .at))) (fitsWord (longAt ws (a .at))))
+    kind)
 
 signed-payload-requires : tie.Need-signed-payload-requires
 signed-payload-requires c κs = search needs
@@ -51,7 +53,8 @@ unfolding isBadLong
 returns-2 c =
     let a = c .before .before .before .before .before .before .args in
     let ws = a .words .now in
-    let kind = sym (c .before .before .before .before .is-kind .ensures) ∙ not-false _ (c .before .before .before .if1 .left) in
+    let kind = sym (c .before .before .before .before .is-kind .ensures)
+    ∙ not-false _ (c .before .before .before .if1 .left) in
     let high = sym (payload-is (c .before)) ∙ not-true _ (c .if2 .taken) in
     sym (λ j. by (kind j) (high j) (fitsWord (longAt ws (a .at))))
 
@@ -66,11 +69,13 @@ unfolding isBadLong
 returns-3 c =
     let a = c .before .before .before .before .before .before .before .before .args in
     let ws = a .words .now in
-    let kind = sym (c .before .before .before .before .before .before .is-kind .ensures) ∙ not-false _ (c .before .before .before .before .before .if1 .left) in
+    let kind = sym (c .before .before .before .before .before .before .is-kind .ensures)
+    ∙ not-false _ (c .before .before .before .before .before .if1 .left) in
     let high = sym (payload-is (c .before .before .before)) ∙ not-false _ (c .before .before .if2 .left) in
     let p = c .before .long-position in
     let z : toZ w64 (ofZ w64 (p .result)) ≡ longAt ws (a .at) = exactly (search computed depth 9) tt in
-    c .between2 .ensures ∙ ap fitsWord z ∙ twice-not (fitsWord (longAt ws (a .at))) ∙ sym (λ j. by (kind j) (high j) (fitsWord (longAt ws (a .at))))
+    c .between2 .ensures ∙ ap fitsWord z ∙ twice-not (fitsWord (longAt ws (a .at)))
+    ∙ sym (λ j. by (kind j) (high j) (fitsWord (longAt ws (a .at))))
 
 pub is-bad-long-spec : {M : Type 1} → statement M
 is-bad-long-spec =

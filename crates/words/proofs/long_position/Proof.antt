@@ -30,8 +30,10 @@ returns : tie.Need-returns
 returns c =
     let a = c .before .before .before .args in
     let ws = a .words .now in
-    let low : c .payload .result ≡ payloadAt ws (suc (a .at)) = c .payload .ensures ∙ ap (payloadAt ws) (sym (next-one (a .at))) in
-    then-is (is-of (search computed depth 30 fits 9000) tt) (ap (λ (n : ℕ). pos (2 ^ 28) *ℤ signedAt ws (a .at) +ℤ pos n) low)
+    let low : c .payload .result ≡ payloadAt ws (suc (a .at)) =
+    c .payload .ensures ∙ ap (payloadAt ws) (sym (next-one (a .at))) in
+    then-is (is-of (search computed depth 30 fits 9000) tt)
+    (ap (λ (n : ℕ). pos (2 ^ 28) *ℤ signedAt ws (a .at) +ℤ pos n) low)
 
 pub long-position-spec : {M : Type 1} → statement M
 long-position-spec =

@@ -12,7 +12,9 @@ returns : tie.Need-returns
 returns c = sym (ap (λ (m : ℕ). goodMask m) (c .if1 .taken))
 
 returns-2 : tie.Need-returns-2
-returns-2 c = sym (ap (λ (t : Bool). t && leb (c .before .args .mask) 63) (lt-ltb 0 (c .before .args .mask) (omega (arith, c .if1 .left))))
+returns-2 c =
+    sym (ap (λ (t : Bool). t && leb (c .before .args .mask) 63)
+    (lt-ltb 0 (c .before .args .mask) (omega (arith, c .if1 .left))))
 
 pub mask-allowed-spec : {M : Type 1} → statement M
 mask-allowed-spec = tie.close (tie.spec returns returns-2)

@@ -69,7 +69,8 @@ loop-less c = omega arith
 -- what a turn has read, whether the mask names the axis or not
 turn-is : (c : tie.Joined1 Inv-loop μ-loop)
     → let l = c .before .before .loop in
-    going (c .if1 .at) (c .if1 .axes) ≡ readOn (c .before .before .before .before .before .args .words .now) (l .number) (l .bits) (going (l .at) (l .axes))
+    going (c .if1 .at) (c .if1 .axes) ≡ readOn (c .before .before .before .before .before .args .words .now) (l .number)
+    (l .bits) (going (l .at) (l .axes))
 turn-is c =
     let l = c .before .before .loop in
     let ws = c .before .before .before .before .before .args .words .now in

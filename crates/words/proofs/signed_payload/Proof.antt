@@ -22,7 +22,11 @@ returns : tie.Need-returns
 returns c =
     let n = payloadAt (c .before .before .args .words .now) (c .before .before .args .at) in
     let f : Fits w32 n = record { fits = omega arith } in
-    record { is = exactly (search exact depth 9) tt ∙ twos.clear n (c .if1 .taken); within = twos.clear-within n (c .if1 .taken) }
+    record {
+      is = exactly (search exact depth 9) tt
+          ∙ twos.clear n (c .if1 .taken);
+      within = twos.clear-within n (c .if1 .taken);
+    }
 
 cast-result-2 : tie.Need-cast-result-2
 cast-result-2 c = search needs
@@ -37,7 +41,11 @@ returns-2 : tie.Need-returns-2
 returns-2 c =
     let n = payloadAt (c .before .before .args .words .now) (c .before .before .args .at) in
     let f : Fits w32 n = record { fits = omega arith } in
-    record { is = exactly (search exact depth 9) tt ∙ twos.set n (c .if1 .left) (omega arith); within = twos.set-within n (c .if1 .left) (omega arith) }
+    record {
+      is = exactly (search exact depth 9) tt
+          ∙ twos.set n (c .if1 .left) (omega arith);
+      within = twos.set-within n (c .if1 .left) (omega arith);
+    }
 
 pub signed-payload-spec : {M : Type 1} → statement M
 signed-payload-spec =

@@ -14,7 +14,8 @@ raises-in-c-requires : tie.Need-raises-in-c-requires
 raises-in-c-requires c κs = search needs
 
 returns : tie.Need-returns
-returns c = for-typed (c .before .before .job-of .ensures) (in-c (c .raises-in-c .ensures) (c .before .raises-job .ensures))
+returns c =
+    for-typed (c .before .before .job-of .ensures) (in-c (c .raises-in-c .ensures) (c .before .raises-job .ensures))
 
 pub polgamir-raises-job-spec : {M : Type 1} → statement M
 polgamir-raises-job-spec = tie.close (tie.spec job-of-requires raises-job-requires raises-in-c-requires returns)

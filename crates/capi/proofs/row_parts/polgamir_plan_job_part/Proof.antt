@@ -17,7 +17,8 @@ same-length : tie.Need-same-length
 same-length c = search needs
 
 returns : tie.Need-returns
-returns c = part-for-job (c .before .before .before .before .job-of .ensures) (for-part (c .part-returned .ensures) (c .before .before .plan-job-part .ensures))
+returns c = part-for-job (c .before .before .before .before .job-of .ensures)
+    (for-part (c .part-returned .ensures) (c .before .before .plan-job-part .ensures))
 
 pub polgamir-plan-job-part-spec : {M : Type 1} → statement M
 polgamir-plan-job-part-spec =

@@ -1,4 +1,5 @@
--- `polgamir_plan_words_part` keeps the promise of the call for rows in parts: its answer is that call's, and it writes nothing more.
+-- `polgamir_plan_words_part` keeps the promise of the call for rows in parts: its answer is that
+-- call's, and it writes nothing more.
 use borrow.Author.Needs.{needs}
 use Rattle.capi.proofs.Passed.{for-part}
 use Rattle.capi.proofs.row_parts.polgamir_plan_words_part.Statement.{statement}

@@ -22,7 +22,8 @@ returns c =
     let r = c .before .search-job in
     record {
       answer = r .result;
-      promise = subst (λ (t : Job). SearchPromise (typed t) (a .first) (a .budget) (r .result)) (c .before .before .job-of .ensures) (r .ensures);
+      promise = subst (λ (t : Job). SearchPromise (typed t) (a .first) (a .budget) (r .result))
+          (c .before .before .job-of .ensures) (r .ensures);
       is = c .searched .ensures;
     }
 

@@ -1,4 +1,5 @@
--- `tour_by_value`: no stops give the answer that the definitions give for any settings; else it is the tour of the settings that the struct stands for.
+-- `tour_by_value`: no stops give the answer that the definitions give for any settings; else it is
+-- the tour of the settings that the struct stands for.
 use borrow.Author.Needs.{needs}
 use mathlib.Core.Path.{subst}
 use lib.ListN.{length-map, take}
@@ -18,7 +19,8 @@ returns c =
     let long = simp length-map at (s .good .1 .0 .1 .1 .0 .1 .0 .1) in
     let t = settingsOf (a .tour) in
     let lent = a .arrivals .now in
-    row-promise t lent _ lent (a .row) long (no-stops t (a .row .lent) (take (a .row .lent) (a .row .stops)) lent (c .if1 .taken))
+    row-promise t lent _ lent (a .row) long
+    (no-stops t (a .row .lent) (take (a .row .lent) (a .row .stops)) lent (c .if1 .taken))
 
 settings-of-requires : tie.Need-settings-of-requires
 settings-of-requires c κs = search needs

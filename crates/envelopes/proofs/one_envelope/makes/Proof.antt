@@ -40,7 +40,8 @@ start c = c .before .before .before .before
 
 near : (c : tie.After-size-at-most)
     → c .size-at-most .result
-    ≡ leb (natAbs (start c .args .p .end -ℤ start c .args .p .start)) (start c .args .p .«acceleration_limit» * start c .args .p .ticks)
+    ≡ leb (natAbs (start c .args .p .end -ℤ start c .args .p .start))
+    (start c .args .p .«acceleration_limit» * start c .args .p .ticks)
 near c =
     let p = start c .args .p in
     let r = start c .pre .0 in
@@ -92,8 +93,12 @@ turned-joinable c =
             «speed_limit» = r .«speed_limit»;
             «acceleration_limit» = r .«acceleration_limit»;
             ticks = r .ticks;
-            start = record { within = subst (λ (n : ℕ). n ≤ 2 ^ 37) (sym (natAbs-neg (a .args .p .start))) (r .start .within) };
-            end = record { within = subst (λ (n : ℕ). n ≤ 2 ^ 37) (sym (natAbs-neg (a .args .p .end))) (r .end .within) };
+            start = record {
+              within = subst (λ (n : ℕ). n ≤ 2 ^ 37) (sym (natAbs-neg (a .args .p .start))) (r .start .within);
+            };
+            end = record {
+              within = subst (λ (n : ℕ). n ≤ 2 ^ 37) (sym (natAbs-neg (a .args .p .end))) (r .end .within);
+            };
           };
       acceleration = a .pre .1 .0;
       some = a .pre .1 .1 .0;
@@ -101,7 +106,10 @@ turned-joinable c =
     }
 
 comes-up-requires : tie.Need-comes-up-requires
-comes-up-requires c κs = (subst Joinable (sym (c .mirrored .ensures)) (turned-joinable (c .before .before .before)), within (search exact depth 9) tt)
+comes-up-requires c κs = (
+  subst Joinable (sym (c .mirrored .ensures)) (turned-joinable (c .before .before .before)),
+  within (search exact depth 9) tt,
+)
 
 returns : tie.Need-returns
 returns c =
@@ -113,10 +121,13 @@ returns c =
     let t = ticks-is b in
     let d : toZ w64 (ofZ w64 (pos 0 -ℤ toZ w64 (ofZ w64 (a .args .displacement)))) ≡ negℤ (a .args .displacement) =
     exactly (search exact depth 9) tt ∙ +ℤ-idl (negℤ (a .args .displacement)) in
-    let far : a .args .displacement <ℤ (pos (p .ticks) *ℤ (p .start +ℤ p .end)) = lt-taken (m .before .if2 .taken) (search computed depth 20) tt in
+    let far : a .args .displacement <ℤ (pos (p .ticks) *ℤ (p .start +ℤ p .end)) =
+    lt-taken (m .before .if2 .taken) (search computed depth 20) tt in
     c .comes-up .ensures
-    ∙ (λ i. leZ (required (legOf (m .mirrored .ensures i)) (d i)) (sumTo (upper (legOf (m .mirrored .ensures i))) (m .mirrored .ensures i .ticks - 1)))
-    ∙ behind (legOf p) (a .args .displacement) (a .pre .1 .1 .0) (a .pre .1 .0) (r .«speed_limit») (joined b) far (a .pre .1 .1 .1 .1 .1 .1)
+    ∙ (λ i. leZ (required (legOf (m .mirrored .ensures i)) (d i))
+    (sumTo (upper (legOf (m .mirrored .ensures i))) (m .mirrored .ensures i .ticks - 1)))
+    ∙ behind (legOf p) (a .args .displacement) (a .pre .1 .1 .0) (a .pre .1 .0) (r .«speed_limit»)
+    (joined b) far (a .pre .1 .1 .1 .1 .1 .1)
 
 -- ---- ahead of it
 
@@ -124,7 +135,12 @@ comes-up-requires-2 : tie.Need-comes-up-requires-2
 comes-up-requires-2 c κs =
     let b = c .before .before in
     let a = start₁ b in (
-      record { ranged = a .pre .0; acceleration = a .pre .1 .0; some = a .pre .1 .1 .0; ends = joined-ends (legOf (a .args .p)) (joined b) },
+      record {
+        ranged = a .pre .0;
+        acceleration = a .pre .1 .0;
+        some = a .pre .1 .1 .0;
+        ends = joined-ends (legOf (a .args .p)) (joined b);
+      },
       within (search exact depth 9) tt,
     )
 
@@ -136,7 +152,8 @@ returns-2 c =
     let r = a .pre .0 in
     let t = ticks-is b in
     let d : toZ w64 (ofZ w64 (a .args .displacement)) ≡ a .args .displacement = exactly (search exact depth 9) tt in
-    let far : (pos (p .ticks) *ℤ (p .start +ℤ p .end)) ≤ℤ a .args .displacement = lt-left (c .before .if2 .left) (search computed depth 20) tt in
+    let far : (pos (p .ticks) *ℤ (p .start +ℤ p .end)) ≤ℤ a .args .displacement =
+    lt-left (c .before .if2 .left) (search computed depth 20) tt in
     c .comes-up2 .ensures
     ∙ (λ i. leZ (required (legOf p) (d i)) (sumTo (upper (legOf p)) (p .ticks - 1)))
     ∙ ahead (legOf p) (a .args .displacement) (a .pre .1 .1 .0) (joined b) far (a .pre .1 .1 .1 .1 .1 .1)

@@ -48,8 +48,10 @@ returns c t =
     let w = s .pre .1 .1 .0 in
     let rising = c .before .before .lesser2 .ensures in
     let falling = c .before .lesser3 .ensures in
-    below (sumTo (upper (legOf p)) (p .ticks - 1)) (splitArea (legOf p) (splitAt p (c .before .before .lesser2 .result) (c .before .lesser3 .result))) (s .args .sum)
-    (split-above (legOf p) (splitAt p (c .before .before .lesser2 .result) (c .before .lesser3 .result)) (omega (arith, rising, falling)))
+    below (sumTo (upper (legOf p)) (p .ticks - 1))
+    (splitArea (legOf p) (splitAt p (c .before .before .lesser2 .result) (c .before .lesser3 .result))) (s .args .sum)
+    (split-above (legOf p) (splitAt p (c .before .before .lesser2 .result) (c .before .lesser3 .result))
+    (omega (arith, rising, falling)))
     (lt-taken t (search computed depth 20) tt)
 
 pub falls-short-spec : {M : Type 1} → statement M

@@ -21,8 +21,10 @@ abbrev μ-loop : tie.MeasureT-loop
 μ-loop p sum change last r from t₀ step₀ t step = step
 
 -- of the numbers as the code has them
-given : (a : tie.Start Inv-loop μ-loop) (t : ℕ) → GallopsTo (legOf (a .args .p)) (a .args .sum) (a .args .change) (a .args .last) t
-    → GallopsTo (legOf (a .args .p)) (toZ w64 (ofZ w64 (a .args .sum))) (toZ w64 (ofZ w64 (a .args .change))) (a .args .last) t
+given : (a : tie.Start Inv-loop μ-loop) (t : ℕ)
+    → GallopsTo (legOf (a .args .p)) (a .args .sum) (a .args .change) (a .args .last) t
+    → GallopsTo (legOf (a .args .p)) (toZ w64 (ofZ w64 (a .args .sum)))
+    (toZ w64 (ofZ w64 (a .args .change))) (a .args .last) t
 given a t =
     let s : toZ w64 (ofZ w64 (a .args .sum)) ≡ a .args .sum = exactly (search exact depth 9) tt in
     let d : toZ w64 (ofZ w64 (a .args .change)) ≡ a .args .change = exactly (search exact depth 9) tt in
@@ -40,7 +42,10 @@ leapt-requires c κs =
         a .pre .1 .0,
         (
           within (search exact depth 9) tt,
-          (within (search exact depth 9) tt, (a .pre .1 .1 .1 .1 .0, (a .pre .1 .1 .1 .1 .1 .0, (l .inv .narrow, l .inv .there)))),
+          (
+            within (search exact depth 9) tt,
+            (a .pre .1 .1 .1 .1 .0, (a .pre .1 .1 .1 .1 .1 .0, (l .inv .narrow, l .inv .there))),
+          ),
         ),
       ),
     )
@@ -56,7 +61,8 @@ returns c =
     let a = c .before .before in
     let s : toZ w64 (ofZ w64 (a .args .sum)) ≡ a .args .sum = exactly (search exact depth 9) tt in
     let d : toZ w64 (ofZ w64 (a .args .change)) ≡ a .args .change = exactly (search exact depth 9) tt in
-    subst₂ (λ (x y : ℤ). GallopsTo (legOf (a .args .p)) x y (a .args .last) (c .before .loop .t)) s d (c .before .loop .inv .there)
+    subst₂ (λ (x y : ℤ). GallopsTo (legOf (a .args .p)) x y (a .args .last) (c .before .loop .t)) s d
+    (c .before .loop .inv .there)
 
 pub gallop-spec : {M : Type 1} → statement M
 gallop-spec =

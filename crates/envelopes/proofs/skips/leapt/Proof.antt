@@ -40,7 +40,8 @@ returns c =
     record {
       low = omega (arith, g .low);
       high = c .before .before .if1 .taken;
-      short = subst₂ (λ (x y : ℤ). ShortAt (legOf (a .args .p)) x y (a .args .t + a .args .step)) s d (c .before .short-at .ensures (c .if2 .taken));
+      short = subst₂ (λ (x y : ℤ). ShortAt (legOf (a .args .p)) x y (a .args .t + a .args .step)) s d
+          (c .before .short-at .ensures (c .if2 .taken));
     }
 
 returns-2 : tie.Need-returns-2

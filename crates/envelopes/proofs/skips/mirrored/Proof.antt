@@ -15,8 +15,10 @@ sub-t5 c = sfits (search computed depth 9) tt
 returns : tie.Need-returns
 returns c =
     let p = c .before .before .args .p in
-    let s : toZ w64 (ofZ w64 (pos 0 -ℤ toZ w64 (ofZ w64 (p .start)))) ≡ negℤ (p .start) = exactly (search computed depth 9) tt ∙ +ℤ-idl (negℤ (p .start)) in
-    let e : toZ w64 (ofZ w64 (pos 0 -ℤ toZ w64 (ofZ w64 (p .end)))) ≡ negℤ (p .end) = exactly (search computed depth 9) tt ∙ +ℤ-idl (negℤ (p .end)) in
+    let s : toZ w64 (ofZ w64 (pos 0 -ℤ toZ w64 (ofZ w64 (p .start)))) ≡ negℤ (p .start) =
+    exactly (search computed depth 9) tt ∙ +ℤ-idl (negℤ (p .start)) in
+    let e : toZ w64 (ofZ w64 (pos 0 -ℤ toZ w64 (ofZ w64 (p .end)))) ≡ negℤ (p .end) =
+    exactly (search computed depth 9) tt ∙ +ℤ-idl (negℤ (p .end)) in
     λ i. record {
       «speed_limit» = p .«speed_limit»;
       «acceleration_limit» = p .«acceleration_limit»;

@@ -10,7 +10,8 @@ signed-requires : tie.Need-signed-requires
 signed-requires c κs = search needs
 
 -- the speed limit
-limit-is : (c : tie.After-signed) → Is (2 ^ 37) (c .signed .result) (pos (c .before .before .before .args .p .«speed_limit»))
+limit-is : (c : tie.After-signed)
+    → Is (2 ^ 37) (c .signed .result) (pos (c .before .before .before .args .p .«speed_limit»))
 limit-is c = record { is = c .signed .ensures .is; within = c .before .before .before .pre .0 .«speed_limit» }
 
 ramp-room-requires : tie.Need-ramp-room-requires

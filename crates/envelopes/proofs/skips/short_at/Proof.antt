@@ -58,7 +58,9 @@ returns c t =
     let a = c .before .before .before in
     let l = later-is a in
     let code : ℤ =
-    toZ w64 (ofZ w64 (toZ w64 (ofZ w64 (a .args .sum)) +ℤ toZ w64 (ofZ w64 (toZ w64 (a .args .t - a .args .p .ticks) *ℤ toZ w64 (ofZ w64 (a .args .change)))))) in
+    toZ w64 (ofZ w64
+    (toZ w64 (ofZ w64 (a .args .sum))
+    +ℤ toZ w64 (ofZ w64 (toZ w64 (a .args .t - a .args .p .ticks) *ℤ toZ w64 (ofZ w64 (a .args .change)))))) in
     let wanted : code ≡ a .args .sum +ℤ pos (a .args .t - a .args .p .ticks) *ℤ a .args .change =
     exactly (search exact depth 20) tt in
     subst (λ (z : ℤ). Short (withTicks (legOf (a .args .p)) (a .args .t)) z) wanted

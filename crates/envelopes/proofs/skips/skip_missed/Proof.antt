@@ -22,7 +22,8 @@ add-if1 c = search needs
 returns : tie.Need-returns
 returns c =
     let a = c .before .before in
-    skips-to (legOf (a .args .p)) (a .args .sum) (a .args .change) (a .args .last) (a .pre .1 .1 .1 .1 .1) (a .args .p .ticks) (omega arith)
+    skips-to (legOf (a .args .p)) (a .args .sum) (a .args .change) (a .args .last) (a .pre .1 .1 .1 .1 .1)
+    (a .args .p .ticks) (omega arith)
     (omega (arith, a .pre .1 .1 .1 .0)) (λ l. absurd (omega arith))
 
 sub-inner : tie.Need-sub-inner
@@ -58,7 +59,13 @@ skip-short-requires c κs =
       j .ranged,
       (
         j .acceleration,
-        (j .some, (within (search exact depth 9) tt, (within (search exact depth 9) tt, (omega (arith, b .if1 .left), a .pre .1 .1 .1 .1 .0)))),
+        (
+          j .some,
+          (
+            within (search exact depth 9) tt,
+            (within (search exact depth 9) tt, (omega (arith, b .if1 .left), a .pre .1 .1 .1 .1 .0)),
+          ),
+        ),
       ),
     )
 
@@ -69,7 +76,8 @@ returns-2 c =
     let s : toZ w64 (ofZ w64 (a .args .sum)) ≡ a .args .sum = exactly (search exact depth 9) tt in
     let d : toZ w64 (ofZ w64 (a .args .change)) ≡ a .args .change = exactly (search exact depth 9) tt in
     let w = subst₂ (λ (x y : ℤ). ShortTo g x y (a .args .last) (c .skip-short .result)) s d (c .skip-short .ensures) in
-    skips-to g (a .args .sum) (a .args .change) (a .args .last) (a .pre .1 .1 .1 .1 .1) (c .skip-short .result) (w .low) (w .high)
+    skips-to g (a .args .sum) (a .args .change) (a .args .last) (a .pre .1 .1 .1 .1 .1)
+    (c .skip-short .result) (w .low) (w .high)
     (λ l. short-missed g (a .args .sum) (a .args .change) (c .skip-short .result - 1) (w .short l))
 
 mirrored-requires : tie.Need-mirrored-requires
@@ -92,8 +100,13 @@ skip-short-requires-2 c κs =
             «speed_limit» = j .ranged .«speed_limit»;
             «acceleration_limit» = j .ranged .«acceleration_limit»;
             ticks = j .ranged .ticks;
-            start = record { within = subst (λ (n : ℕ). n ≤ 2 ^ 37) (sym (natAbs-neg (a .args .p .start))) (j .ranged .start .within) };
-            end = record { within = subst (λ (n : ℕ). n ≤ 2 ^ 37) (sym (natAbs-neg (a .args .p .end))) (j .ranged .end .within) };
+            start = record {
+              within = subst (λ (n : ℕ). n ≤ 2 ^ 37)
+                  (sym (natAbs-neg (a .args .p .start))) (j .ranged .start .within);
+            };
+            end = record {
+              within = subst (λ (n : ℕ). n ≤ 2 ^ 37) (sym (natAbs-neg (a .args .p .end))) (j .ranged .end .within);
+            };
           }),
       (
         subst (λ (p : Profile). 0 < p .«acceleration_limit») (sym e) (j .acceleration),
@@ -103,7 +116,11 @@ skip-short-requires-2 c κs =
             within (search exact depth 9) tt,
             (
               within (search exact depth 9) tt,
-              (subst (λ (p : Profile). p .ticks + 64 ≤ a .args .last) (sym e) (omega (arith, b .if1 .left)), a .pre .1 .1 .1 .1 .0),
+              (
+                subst (λ (p : Profile). p .ticks + 64 ≤ a .args .last) (sym e)
+                    (omega (arith, b .if1 .left)),
+                a .pre .1 .1 .1 .1 .0,
+              ),
             ),
           ),
         ),
@@ -115,14 +132,16 @@ returns-3 c =
     let a = start (c .before .before .before .before .before .before) in
     let g = legOf (a .args .p) in
     let r = c .skip-short2 .result in
-    let s : toZ w64 (ofZ w64 (pos 0 -ℤ toZ w64 (ofZ w64 (a .args .sum)))) ≡ negℤ (a .args .sum) = exactly (search exact depth 9) tt ∙ +ℤ-idl (negℤ (a .args .sum)) in
+    let s : toZ w64 (ofZ w64 (pos 0 -ℤ toZ w64 (ofZ w64 (a .args .sum)))) ≡ negℤ (a .args .sum) =
+    exactly (search exact depth 9) tt ∙ +ℤ-idl (negℤ (a .args .sum)) in
     let d : toZ w64 (ofZ w64 (pos 0 -ℤ toZ w64 (ofZ w64 (a .args .change)))) ≡ negℤ (a .args .change) =
     exactly (search exact depth 9) tt ∙ +ℤ-idl (negℤ (a .args .change)) in
     let turned : ℤ = toZ w64 (ofZ w64 (pos 0 -ℤ toZ w64 (ofZ w64 (a .args .sum)))) in
     let drift : ℤ = toZ w64 (ofZ w64 (pos 0 -ℤ toZ w64 (ofZ w64 (a .args .change)))) in
     let w =
     subst₂ (λ (x y : ℤ). ShortTo (mirrored g) x y (a .args .last) r) s d
-    (subst (λ (p : Profile). ShortTo (legOf p) turned drift (a .args .last) r) (c .before .mirrored .ensures) (c .skip-short2 .ensures)) in
+    (subst (λ (p : Profile). ShortTo (legOf p) turned drift (a .args .last) r)
+    (c .before .mirrored .ensures) (c .skip-short2 .ensures)) in
     skips-to g (a .args .sum) (a .args .change) (a .args .last) (a .pre .1 .1 .1 .1 .1) r (w .low) (w .high)
     (λ l. mirrored-missed g (a .args .sum) (a .args .change) (r - 1) (w .short l))
 

@@ -27,7 +27,10 @@ short-at-requires c κs =
           within (search exact depth 9) tt,
           (
             within (search exact depth 9) tt,
-            (omega arith, (omega (arith, a .pre .1 .1 .1 .1 .1 .0, a .pre .1 .1 .1 .1 .1 .1), c .before .ramps-of .ensures)),
+            (
+              omega arith,
+              (omega (arith, a .pre .1 .1 .1 .1 .1 .0, a .pre .1 .1 .1 .1 .1 .1), c .before .ramps-of .ensures),
+            ),
           ),
         ),
       ),
@@ -47,7 +50,11 @@ gallop-requires c κs =
               a .pre .1 .1 .1 .1 .1 .1,
               (
                 c .before .before .before .ramps-of .ensures,
-                record { low = omega arith; high = a .pre .1 .1 .1 .1 .1 .0; short = c .before .short-at .ensures (c .if1 .taken) },
+                record {
+                  low = omega arith;
+                  high = a .pre .1 .1 .1 .1 .1 .0;
+                  short = c .before .short-at .ensures (c .if1 .taken);
+                },
               ),
             ),
           ),
@@ -69,7 +76,8 @@ returns c =
     record {
       low = omega (arith, g .low);
       high = omega (arith, g .high);
-      short = λ _. subst (ShortAt (legOf (a .args .p)) (a .args .sum) (a .args .change)) back (subst₂ (λ (x y : ℤ). ShortAt (legOf (a .args .p)) x y n) s d (g .short));
+      short = λ _. subst (ShortAt (legOf (a .args .p)) (a .args .sum) (a .args .change)) back
+          (subst₂ (λ (x y : ℤ). ShortAt (legOf (a .args .p)) x y n) s d (g .short));
     }
 
 returns-2 : tie.Need-returns-2

@@ -30,11 +30,17 @@ signed-requires-2 : tie.Need-signed-requires-2
 signed-requires-2 c κs = search needs
 
 -- the limits
-limit-is : (c : tie.After-signed) → Is (2 ^ 37) (c .signed .result) (pos (c .before .before .before .before .args .p .«speed_limit»))
+limit-is : (c : tie.After-signed)
+    → Is (2 ^ 37) (c .signed .result) (pos (c .before .before .before .before .args .p .«speed_limit»))
 limit-is c = record { is = c .signed .ensures .is; within = c .before .before .before .before .pre .0 .«speed_limit» }
 
-steep-is : (c : tie.After-signed2) → Is (2 ^ 33) (c .signed2 .result) (pos (c .before .before .before .before .before .args .p .«acceleration_limit»))
-steep-is c = record { is = c .signed2 .ensures .is; within = c .before .before .before .before .before .pre .0 .«acceleration_limit» }
+steep-is : (c : tie.After-signed2)
+    → Is (2 ^ 33) (c .signed2 .result) (pos (c .before .before .before .before .before .args .p .«acceleration_limit»))
+steep-is c =
+    record {
+      is = c .signed2 .ensures .is;
+      within = c .before .before .before .before .before .pre .0 .«acceleration_limit»;
+    }
 
 ramp-area-requires : tie.Need-ramp-area-requires
 ramp-area-requires c κs =
@@ -92,9 +98,11 @@ returns c =
     let steep = steep-is (c .before .before) in
     let s : toZ w64 (ofZ w64 (a .p .start)) ≡ a .p .start = exactly (search exact depth 9) tt in
     let e : toZ w64 (ofZ w64 (a .p .end)) ≡ a .p .end = exactly (search exact depth 9) tt in
-    let u : toZ w64 (ofZ w64 (c .before .before .signed2 .result)) ≡ pos (a .p .«acceleration_limit») = exactly (search exact depth 9) tt in
+    let u : toZ w64 (ofZ w64 (c .before .before .signed2 .result)) ≡ pos (a .p .«acceleration_limit») =
+    exactly (search exact depth 9) tt in
     then-is (is-of (search exact depth 30 fits 9000) tt)
-    (λ i. rampArea (s i) (u i) (a .rising) +ℤ pos (level c) *ℤ pos (a .p .«speed_limit») +ℤ rampArea (e i) (u i) (a .falling))
+    (λ i. rampArea (s i) (u i) (a .rising) +ℤ pos (level c) *ℤ pos (a .p .«speed_limit»)
+    +ℤ rampArea (e i) (u i) (a .falling))
 
 pub split-area-spec : {M : Type 1} → statement M
 split-area-spec =

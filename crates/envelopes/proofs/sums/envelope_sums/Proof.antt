@@ -35,7 +35,8 @@ asks : (a : tie.Start) (t : ℕ) → a .args .p .ticks ≤ t → t ≤ 4097
     × (Within (2 ^ 37) (toZ w64 (ofZ w64 (a .args .p .start)))
     × (Within (2 ^ 37) (toZ w64 (ofZ w64 (a .args .p .end)))
     × ((t ≤ 4097)
-    × Within (a .args .p .«acceleration_limit» * t) (toZ w64 (ofZ w64 (a .args .p .end)) -ℤ toZ w64 (ofZ w64 (a .args .p .start)))))))
+    × Within (a .args .p .«acceleration_limit» * t)
+    (toZ w64 (ofZ w64 (a .args .p .end)) -ℤ toZ w64 (ofZ w64 (a .args .p .start)))))))
 asks a t h k =
     let r = a .pre .ranged in
     let near : Within (a .args .p .«acceleration_limit» * t) (a .args .p .end -ℤ a .args .p .start) =
@@ -47,7 +48,11 @@ asks a t h k =
           subst (Within (2 ^ 37)) (sym (start-is a)) (r .start),
           (
             subst (Within (2 ^ 37)) (sym (end-is a)) (r .end),
-            (k, subst (Within (a .args .p .«acceleration_limit» * t)) (sym (ap₂ (λ (x y : ℤ). x -ℤ y) (end-is a) (start-is a))) near),
+            (
+              k,
+              subst (Within (a .args .p .«acceleration_limit» * t))
+                  (sym (ap₂ (λ (x y : ℤ). x -ℤ y) (end-is a) (start-is a))) near,
+            ),
           ),
         ),
       ),
@@ -60,7 +65,8 @@ negative-requires c κs = search needs
 abbrev start₁ : tie.After-negative → tie.Start
 start₁ c = c .before .before .before
 
-lowest-is : (c : tie.After-negative) → toZ w64 (ofZ w64 (c .negative .result)) ≡ negℤ (pos (start₁ c .args .p .«speed_limit»))
+lowest-is : (c : tie.After-negative)
+    → toZ w64 (ofZ w64 (c .negative .result)) ≡ negℤ (pos (start₁ c .args .p .«speed_limit»))
 lowest-is c = exactly (search computed depth 9) tt
 
 abbrev start₂ : tie.After-signed → tie.Start
@@ -78,11 +84,15 @@ signed-requires : tie.Need-signed-requires
 signed-requires c κs = search needs
 
 area-at-requires-2 : tie.Need-area-at-requires-2
-area-at-requires-2 c κs =
-    (start₂ c .pre, subst (Within (start₂ c .args .p .«speed_limit»)) (sym (highest-is c)) (record { within = omega arith }))
+area-at-requires-2 c κs = (
+  start₂ c .pre,
+  subst (Within (start₂ c .args .p .«speed_limit»)) (sym (highest-is c))
+      (record { within = omega arith }),
+)
 
 trough-of-requires : tie.Need-trough-of-requires
-trough-of-requires c κs = let a = start₂ (c .before) in asks a (a .args .p .ticks) (omega arith) (omega (arith, a .pre .ranged .ticks))
+trough-of-requires c κs = let a = start₂ (c .before) in
+    asks a (a .args .p .ticks) (omega arith) (omega (arith, a .pre .ranged .ticks))
 
 add-trough-of : tie.Need-add-trough-of
 add-trough-of c = omega (arith, start₂ (c .before .before) .pre .ranged .ticks)
@@ -112,9 +122,11 @@ returns c =
     let g = legOf (a .args .p) in
     let n = a .args .p .«acceleration_limit» in
     let t = a .args .p .ticks in
-    let trough : (u : ℕ) → troughOf n (toZ w64 (ofZ w64 (g .start))) (toZ w64 (ofZ w64 (g .end))) u ≡ troughOf n (g .start) (g .end) u =
+    let trough : (u : ℕ)
+    → troughOf n (toZ w64 (ofZ w64 (g .start))) (toZ w64 (ofZ w64 (g .end))) u ≡ troughOf n (g .start) (g .end) u =
     λ u. λ i. troughOf n (start-is a i) (end-is a i) u in
-    let peak : (u : ℕ) → peakOf n (toZ w64 (ofZ w64 (g .start))) (toZ w64 (ofZ w64 (g .end))) u ≡ peakOf n (g .start) (g .end) u =
+    let peak : (u : ℕ)
+    → peakOf n (toZ w64 (ofZ w64 (g .start))) (toZ w64 (ofZ w64 (g .end))) u ≡ peakOf n (g .start) (g .end) u =
     λ u. λ i. peakOf n (start-is a i) (end-is a i) u in
     sums-same
     (exactly (search computed depth 9) tt ∙ ap (sumAt g) (lowest-is (b .before .before)) ∙ lowest-sum g)

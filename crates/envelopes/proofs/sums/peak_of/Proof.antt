@@ -50,7 +50,8 @@ way-is c = exactly (search computed depth 20) tt
 cast-crossing : tie.Need-cast-crossing
 cast-crossing c =
     let a = c .before in
-    cast-up _ (add-way c) (subst (λ (z : ℤ). pos 0 ≤ℤ z) (sym (way-is c)) (up-some (leg a) (joined a) (a .pre .0) (pos 0)))
+    cast-up _ (add-way c)
+    (subst (λ (z : ℤ). pos 0 ≤ℤ z) (sym (way-is c)) (up-some (leg a) (joined a) (a .pre .0) (pos 0)))
 
 -- where the ramps cross
 abbrev cross : tie.After-change-after → ℕ
@@ -63,7 +64,8 @@ cross c =
     / (2 * c .before .args .limit)
 
 cross-is : (c : tie.After-change-after)
-    → cross c ≡ crossing (c .before .args .limit) (c .before .args .start) (c .before .args .end) (c .before .args .ticks)
+    → cross c
+    ≡ crossing (c .before .args .limit) (c .before .args .start) (c .before .args .end) (c .before .args .ticks)
 unfolding crossing
 cross-is c = ap (λ (z : ℤ). natAbs z / (2 * c .before .args .limit)) (back-id (add-way c) ∙ way-is c)
 
@@ -103,7 +105,8 @@ returns c =
     let b = c .before .before .before in
     let a = b .before .args in
     let n = cross-is b in
-    let m : cross b + 1 ≡ suc (crossing (a .limit) (a .start) (a .end) (a .ticks)) = ap (λ (k : ℕ). k + 1) n ∙ add-one _ in
+    let m : cross b + 1 ≡ suc (crossing (a .limit) (a .start) (a .end) (a .ticks)) =
+    ap (λ (k : ℕ). k + 1) n ∙ add-one _ in
     then-is (is-of (search computed depth 30 fits 9000) tt)
     (λ i. least (a .start +ℤ pos (a .limit * m i)) (a .end +ℤ pos (a .limit * (a .ticks - n i))))
 

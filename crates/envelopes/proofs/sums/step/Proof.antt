@@ -32,8 +32,10 @@ returns : tie.Need-returns
 returns c =
     let a = c .before .before .before .before .before .before .before .args in
     sums-same
-    (exactly (search computed depth 20) tt ∙ ap (λ (z : ℤ). a .r .lowest +ℤ greatest z (a .r .trough)) (+ℤ-idl (negℤ (a .limit))))
-    (exactly (search computed depth 20) tt) (exactly (search computed depth 9) tt) (exactly (search computed depth 9) tt)
+    (exactly (search computed depth 20) tt
+    ∙ ap (λ (z : ℤ). a .r .lowest +ℤ greatest z (a .r .trough)) (+ℤ-idl (negℤ (a .limit))))
+    (exactly (search computed depth 20) tt) (exactly (search computed depth 9) tt)
+    (exactly (search computed depth 9) tt)
     (exactly (search computed depth 9) tt) (exactly (search computed depth 9) tt)
 
 pub step-spec : {M : Type 1} → statement M

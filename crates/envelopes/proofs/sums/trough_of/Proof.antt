@@ -35,7 +35,8 @@ peak-of-requires c κs =
             within (search computed depth 9) tt,
             (
               c .pre .1 .1 .1 .1 .0,
-              subst (Within (c .args .limit * c .args .ticks)) (sym (ap₂ (λ (x y : ℤ). x -ℤ y) (end-is c) (start-is c))) near,
+              subst (Within (c .args .limit * c .args .ticks))
+                  (sym (ap₂ (λ (x y : ℤ). x -ℤ y) (end-is c) (start-is c))) near,
             ),
           ),
         ),

@@ -12,7 +12,8 @@ slice-relend-prefix-convert : tie.Need-slice-relend-prefix-convert
 slice-relend-prefix-convert c = search needs
 
 slice-aggregate-convert : tie.Need-slice-aggregate-convert
-slice-aggregate-convert c = sym (length-take-le (c .before .at-most .result) (c .before .before .before .before .args .list .now) (omega arith))
+slice-aggregate-convert c =
+    sym (length-take-le (c .before .at-most .result) (c .before .before .before .before .args .list .now) (omega arith))
 
 convert-requires : tie.Need-convert-requires
 convert-requires c κs = search needs
@@ -25,4 +26,5 @@ returns c = search needs
 
 pub converted-within-spec : {M : Type 1} → statement M
 converted-within-spec =
-    tie.close (tie.spec at-most-requires slice-relend-prefix-convert slice-aggregate-convert convert-requires same-length returns)
+    tie.close
+    (tie.spec at-most-requires slice-relend-prefix-convert slice-aggregate-convert convert-requires same-length returns)

@@ -45,4 +45,5 @@ returns c = search needs
 pub put-words-spec : {M : Type 1} → statement M
 put-words-spec =
     tie.close
-    (tie.spec Inv-loop μ-loop loop-holds word-at-requires cast-word mul-word slice-set-from-word add-i loop-less loop-again same-length returns)
+    (tie.spec Inv-loop μ-loop loop-holds word-at-requires cast-word mul-word slice-set-from-word add-i loop-less
+    loop-again same-length returns)

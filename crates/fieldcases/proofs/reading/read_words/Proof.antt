@@ -26,7 +26,8 @@ same-length : tie.Need-same-length Inv-loop μ-loop
 same-length c = search needs
 
 returns : tie.Need-returns Inv-loop μ-loop
-returns c = (omega arith, sym (length-take-le (c .before .before .loop .i) (c .before .before .loop .words) (omega arith)))
+returns c =
+    (omega arith, sym (length-take-le (c .before .before .loop .i) (c .before .before .loop .words) (omega arith)))
 
 next-low-requires-2 : tie.Need-next-low-requires-2 Inv-loop μ-loop
 next-low-requires-2 c κs = search needs

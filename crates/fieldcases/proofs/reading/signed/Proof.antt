@@ -14,7 +14,8 @@ cast-k : tie.Need-cast-k
 cast-k c = search needs
 
 sub-result : tie.Need-sub-result
-sub-result c = let k = cast-small 9223372036854775807 (c .before .before .args .size) (omega arith) tt in sfits (search exact depth 12) tt
+sub-result c = let k = cast-small 9223372036854775807 (c .before .before .args .size) (omega arith) tt in
+    sfits (search exact depth 12) tt
 
 returns-3 : tie.Need-returns-3
 returns-3 c = search needs

@@ -60,14 +60,16 @@ loop-again c =
       six = h .inv .six;
       long = length-set (h .entries) (h .i) (b .result) ∙ h .inv .long;
       stored =
-          stored-next entryInC _ _ (h .entries) (h .i) (b .result) (omega (arith, h .inv .six)) (omega (arith, h .inv .long)) (b .ensures)
+          stored-next entryInC _ _ (h .entries) (h .i) (b .result) (omega (arith, h .inv .six))
+          (omega (arith, h .inv .long)) (b .ensures)
           (h .inv .stored);
     }
 
 returns : tie.Need-returns Inv-loop μ-loop
 returns c =
     let h = c .before .loop in
-    stored-all entryInC _ (h .entries) (h .i) (omega (arith, h .inv .six)) (omega (arith, h .inv .long)) (h .inv .stored)
+    stored-all entryInC _ (h .entries) (h .i) (omega (arith, h .inv .six))
+    (omega (arith, h .inv .long)) (h .inv .stored)
 
 pub entries-in-c-spec : {M : Type 1} → statement M
 entries-in-c-spec =

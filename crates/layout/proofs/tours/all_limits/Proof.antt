@@ -1,4 +1,5 @@
--- `all_limits` gives the limits of the axes that the mask names: before i they are stored, from i on all are unset, and the bits that are left name those to come.
+-- `all_limits` gives the limits of the axes that the mask names: before i they are stored, from i
+-- on all are unset, and the bits that are left name those to come.
 use Prim.Native.Nat.{ℕ, _+_, _-_, _≤_, _<_}
 use native.Mathlib.Omega.{arith}
 use mathlib.Core.Path.{_≡_, refl, sym, ap, _∙_}
@@ -62,16 +63,20 @@ loop-less c = omega arith
 
 -- after a turn axis i is as its bit names it: stored, or unset as it was
 turned : (c : tie.Joined1 Inv-loop μ-loop)
-    → let h = c .before .before .loop in c .if1 .limits ≡ set (h .limits) (h .i) (namedAt limitsOf unsetLimits (c .before .before .before .before .args .t2) (h .i) (h .bits))
+    → let h = c .before .before .loop in
+    c .if1 .limits ≡ set (h .limits) (h .i)
+    (namedAt limitsOf unsetLimits (c .before .before .before .before .args .t2) (h .i) (h .bits))
 turned c =
     let h = c .before .before .loop in
     let l = c .before .before .before .before .args .t2 in
     let put : AxisLimits → List AxisLimits = set (h .limits) (h .i) in
     ⊎-elim
-    (λ w. w .3 ∙ ap put (w .2 .ensures ∙ is-named limitsOf unsetLimits l _ (h .i) (h .bits) (omega (arith, h .inv .six)) (omega arith)))
+    (λ w. w .3 ∙ ap put
+    (w .2 .ensures ∙ is-named limitsOf unsetLimits l _ (h .i) (h .bits) (omega (arith, h .inv .six)) (omega arith)))
     (λ w. w .1
     ∙ sym (set-getD (h .limits) (h .i) unsetLimits)
-    ∙ ap put (h .inv .unset (h .i) (omega arith) (omega arith) ∙ not-named limitsOf unsetLimits l (h .i) (h .bits) (λ e. omega arith)))
+    ∙ ap put (h .inv .unset (h .i) (omega arith) (omega arith)
+    ∙ not-named limitsOf unsetLimits l (h .i) (h .bits) (λ e. omega arith)))
     (c .if1 .came)
 
 loop-again : tie.Need-loop-again Inv-loop μ-loop
@@ -88,14 +93,16 @@ loop-again c =
           ∙ h .inv .unset j (omega arith) k;
       stored =
           ap (namedFrom limitsOf unsetLimits l (h .i + 1) _) t
-          ∙ named-next limitsOf unsetLimits l (h .i) (h .bits) (h .limits) (omega (arith, h .inv .six)) (omega (arith, h .inv .long))
+          ∙ named-next limitsOf unsetLimits l (h .i) (h .bits) (h .limits)
+          (omega (arith, h .inv .six)) (omega (arith, h .inv .long))
           ∙ h .inv .stored;
     }
 
 returns : tie.Need-returns Inv-loop μ-loop
 returns c =
     let h = c .before .loop in
-    sym (named-all limitsOf unsetLimits _ (h .i) (h .bits) (h .limits) (omega (arith, h .inv .six)) (omega (arith, h .inv .long))) ∙ h .inv .stored
+    sym (named-all limitsOf unsetLimits _ (h .i) (h .bits) (h .limits) (omega (arith, h .inv .six))
+    (omega (arith, h .inv .long))) ∙ h .inv .stored
 
 pub all-limits-spec : {M : Type 1} → statement M
 all-limits-spec =

@@ -1,4 +1,5 @@
--- `settings_of` gives the settings that its struct stands for: the limits are those of its six, the rest is its own.
+-- `settings_of` gives the settings that its struct stands for: the limits are those
+-- of its six, the rest is its own.
 use borrow.Author.Needs.{needs}
 use Rattle.layout.proofs.tours.settings_of.Statement.{statement}
 use Rattle.layout.proofs.tours.settings_of.Tie as tie

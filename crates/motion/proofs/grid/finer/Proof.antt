@@ -25,7 +25,8 @@ returns-2 : tie.Need-returns-2
 unfolding finer
 returns-2 c =
     let x = c .before .before .before .args .x in
-    c .finer-by-target .ensures ∙ sym (ap (λ (s : SecondSway). finerBy s (accelerates (x .target) && damped x)) (c .before .enum-told2 .given .1))
+    c .finer-by-target .ensures ∙ sym
+    (ap (λ (s : SecondSway). finerBy s (accelerates (x .target) && damped x)) (c .before .enum-told2 .given .1))
 
 pub finer-spec : {M : Type 1} → statement M
 finer-spec = tie.close (tie.spec enum-told enum-told-2 finer-by-target-requires returns returns-2)

@@ -28,7 +28,8 @@ returns-2 c =
 returns-3 : tie.Need-returns-3
 returns-3 c =
     let x = c .before .before .args .x in
-    choice-no _ _ _ (sym (and-no (accelerates (x .target)) (damped x) (sym (c .before .accelerates .ensures) ∙ c .if1 .left)))
+    choice-no _ _ _
+    (sym (and-no (accelerates (x .target)) (damped x) (sym (c .before .accelerates .ensures) ∙ c .if1 .left)))
 
 pub finer-by-target-spec : {M : Type 1} → statement M
 finer-by-target-spec = tie.close (tie.spec accelerates-requires damped-requires returns returns-2 returns-3)

@@ -7,7 +7,8 @@ use mir.Val.{toZ, ofZ}
 use Rattle.whole.specs.Ranges.{Within}
 use Rattle.whole.proofs.Bounds.{within, exactly, computed}
 use Rattle.model.specs.planning.Quantities.{delay}
-use Rattle.model.specs.planning.Motion.{startPosition, startVelocity, landingVelocity, landingAcceleration, displacement}
+use Rattle.model.specs.planning.Motion.{startPosition, startVelocity, landingVelocity, landingAcceleration}
+use Rattle.model.specs.planning.Motion.{displacement}
 use Rattle.model.proofs.jobs.PassedAxis.{some-acceleration}
 use Rattle.model.proofs.motions.Grid.{speed-range, acceleration-range, acceleration-some}
 use Rattle.motion.proofs.PassedRanges.{ranges-of}
@@ -55,11 +56,15 @@ returns c =
     let x = a .args .x in
     let n = a .args .n in
     let h = ranges-of (a .pre .0) in
-    let start : toZ w64 (ofZ w64 (s .start-velocity .result)) ≡ startVelocity x = exactly (search computed depth 9) tt in
+    let start : toZ w64 (ofZ w64 (s .start-velocity .result)) ≡ startVelocity x =
+    exactly (search computed depth 9) tt in
     let end : toZ w64 (ofZ w64 (e .result .velocity)) ≡ landingVelocity x n = exactly (search computed depth 9) tt in
-    let change : toZ w64 (ofZ w64 (e .result .acceleration)) ≡ landingAcceleration x n = exactly (search computed depth 9) tt in
-    let way : toZ w64 (ofZ w64 (d .displacement .result)) ≡ e .result .position -ℤ startPosition x = exactly (search computed depth 9) tt in
-    let travel : toZ w64 (ofZ w64 (d .displacement .result)) ≡ displacement x n = way ∙ ap (λ (z : ℤ). z -ℤ startPosition x) (e .ensures .position .is) in
+    let change : toZ w64 (ofZ w64 (e .result .acceleration)) ≡ landingAcceleration x n =
+    exactly (search computed depth 9) tt in
+    let way : toZ w64 (ofZ w64 (d .displacement .result)) ≡ e .result .position -ℤ startPosition x =
+    exactly (search computed depth 9) tt in
+    let travel : toZ w64 (ofZ w64 (d .displacement .result)) ≡ displacement x n =
+    way ∙ ap (λ (z : ℤ). z -ℤ startPosition x) (e .ensures .position .is) in
     approach-is x (a .pre .0) (a .pre .1 .0) n (a .pre .1 .1 .1) _
     (λ i. record {
       «speed_limit» = l₁ .limit-on-grid .ensures i;
@@ -78,7 +83,8 @@ returns c =
       start = record { within = omega (arith, start-slow x (a .pre .0), speed-range x (h .«speed_limit»)) };
       end = record { within = e .ensures .velocity .within };
       change = record { within = e .ensures .acceleration .within };
-      travel = subst (Within (2 ^ 60)) (ap (λ (z : ℤ). z -ℤ startPosition x) (e .ensures .position .is)) (record { within = d .displacement .ensures .within });
+      travel = subst (Within (2 ^ 60)) (ap (λ (z : ℤ). z -ℤ startPosition x) (e .ensures .position .is))
+          (record { within = d .displacement .ensures .within });
       ticks = omega (arith, a .pre .1 .1 .0);
       delay = omega (arith, h .«half_period», h .«second_half_period»);
       acceleration = acceleration-some x (some-acceleration x (a .pre .0));

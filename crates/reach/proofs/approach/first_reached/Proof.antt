@@ -8,7 +8,8 @@ use Rattle.reach.proofs.approach.first_reached.Statement.{statement}
 use Rattle.reach.proofs.approach.first_reached.Tie as tie
 
 abbrev Inv-loop : tie.InvT-loop
-Inv-loop a last low₀ width₀ low width = record { most : width ≤ 4096; some : 1 ≤ width; bracket : Bracket (reachesLater a) last low width }
+Inv-loop a last low₀ width₀ low width =
+    record { most : width ≤ 4096; some : 1 ≤ width; bracket : Bracket (reachesLater a) last low width }
 
 abbrev μ-loop : tie.MeasureT-loop
 μ-loop a last low₀ width₀ low width = width
@@ -47,7 +48,8 @@ loop-again c =
       most = omega (arith, l .inv .most);
       some = omega (arith, t .loop-test .taken);
       bracket =
-          halved (reachesLater (a .args .a)) 0 (a .args .last) (a .pre .1 .0) (l .low) (l .width) _ _ (omega arith) (omega arith) (l .inv .bracket)
+          halved (reachesLater (a .args .a)) 0 (a .args .last) (a .pre .1 .0) (l .low) (l .width) _ _ (omega arith)
+          (omega arith) (l .inv .bracket)
           (c .further .ensures);
     }
 

@@ -29,7 +29,8 @@ arrived-later-requires : tie.Need-arrived-later-requires
 arrived-later-requires c κs = (c .before .before .before .pre .ranged, omega arith)
 
 ticks-within-requires : tie.Need-ticks-within-requires
-ticks-within-requires c κs = (c .before .before .before .before .pre .ranged .«speed_limit», within (search computed depth 9) tt)
+ticks-within-requires c κs =
+    (c .before .before .before .before .pre .ranged .«speed_limit», within (search computed depth 9) tt)
 
 reaches-later-requires-2 : tie.Need-reaches-later-requires-2
 reaches-later-requires-2 c κs = (c .before .before .before .before .before .pre, c .ticks-within .ensures .high)
@@ -38,14 +39,17 @@ reaches-later-requires-2 c κs = (c .before .before .before .before .before .pre
 abbrev start : tie.After-ticks-within → tie.Start
 start c = c .before .before .before .before .before
 
-last-one : (c : tie.After-ticks-within) → LastPassing (reachesLater (start c .args .a)) 0 (start c .args .last) (c .ticks-within .result)
+last-one : (c : tie.After-ticks-within)
+    → LastPassing (reachesLater (start c .args .a)) 0 (start c .args .last) (c .ticks-within .result)
 last-one c =
     let a = start c .args .a in
     let r = start c .pre .ranged in
-    let v : toZ w64 (ofZ w64 (c .before .arrived-later .result)) ≡ arrivedLater a 0 = exactly (search computed depth 9) tt in
+    let v : toZ w64 (ofZ w64 (c .before .arrived-later .result)) ≡ arrivedLater a 0 =
+    exactly (search computed depth 9) tt in
     let d : toZ w64 (ofZ w64 (a .change)) ≡ a .change = exactly (search computed depth 9) tt in
     last-slow a (start c .args .last) (c .ticks-within .result) (start c .pre)
-    (subst₂ (λ (x y : ℤ). TicksWithin (a .«speed_limit») x y (start c .args .last) (c .ticks-within .result)) v d (c .ticks-within .ensures))
+    (subst₂ (λ (x y : ℤ). TicksWithin (a .«speed_limit») x y (start c .args .last) (c .ticks-within .result)) v d
+    (c .ticks-within .ensures))
 
 first-reached-requires : tie.Need-first-reached-requires
 first-reached-requires c κs =
@@ -54,7 +58,8 @@ first-reached-requires c κs =
     let high = t .ticks-within .ensures .high in (
       nearer (a .args .a) (a .args .last) (t .ticks-within .result) high (a .pre),
       (
-        lasting-to (a .args .a) (a .args .last) (t .ticks-within .result) (a .pre) high (sym (c .before .reaches-later2 .ensures) ∙ c .if2 .taken),
+        lasting-to (a .args .a) (a .args .last) (t .ticks-within .result) (a .pre) high
+            (sym (c .before .reaches-later2 .ensures) ∙ c .if2 .taken),
         sym (t .before .before .before .before .reaches-later .ensures) ∙ t .before .before .before .if1 .left,
       ),
     )
@@ -63,7 +68,8 @@ returns-2 : tie.Need-returns-2
 returns-2 c =
     let t = c .before .before .before in
     let a = start t in
-    next-within (reachesLater (a .args .a)) 0 (a .args .last) (t .ticks-within .result) (c .first-reached .result) (last-one t)
+    next-within (reachesLater (a .args .a)) 0 (a .args .last) (t .ticks-within .result)
+    (c .first-reached .result) (last-one t)
     (sym (c .before .before .reaches-later2 .ensures) ∙ c .before .if2 .taken) (c .first-reached .ensures)
 
 add-result : tie.Need-add-result

@@ -19,7 +19,8 @@ returns c =
     let a = c .before .before .before in
     let r = a .pre .0 in
     let s : toZ w64 (ofZ w64 (a .args .a .start)) ≡ a .args .a .start = exactly (search computed depth 9) tt in
-    let e : toZ w64 (ofZ w64 (c .before .end-later .result)) ≡ endLater (a .args .a) (a .args .i) = exactly (search computed depth 9) tt in
+    let e : toZ w64 (ofZ w64 (c .before .end-later .result)) ≡ endLater (a .args .a) (a .args .i) =
+    exactly (search computed depth 9) tt in
     λ j. record {
       «speed_limit» = a .args .a .«speed_limit»;
       «acceleration_limit» = a .args .a .«acceleration_limit»;

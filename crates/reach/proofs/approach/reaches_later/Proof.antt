@@ -27,10 +27,12 @@ abbrev start : tie.After-size-at-most → tie.Start
 start c = c .before .before
 
 landed : (c : tie.After-size-at-most)
-    → c .size-at-most .result ≡ leb (natAbs (endLater (start c .args .a) (start c .args .i))) (start c .args .a .«speed_limit»)
+    → c .size-at-most .result
+    ≡ leb (natAbs (endLater (start c .args .a) (start c .args .i))) (start c .args .a .«speed_limit»)
 landed c =
     let a = start c .args in
-    let e : toZ w64 (ofZ w64 (c .before .end-later .result)) ≡ endLater (a .a) (a .i) = exactly (search computed depth 9) tt in
+    let e : toZ w64 (ofZ w64 (c .before .end-later .result)) ≡ endLater (a .a) (a .i) =
+    exactly (search computed depth 9) tt in
     c .size-at-most .ensures ∙ (λ j. leb (natAbs (e j)) (a .a .«speed_limit»))
 
 abbrev start₁ : tie.Then1 → tie.Start
@@ -50,17 +52,21 @@ abbrev first : tie.After-size-at-most2 → tie.Then1
 first c = c .before .before
 
 arrived : (c : tie.After-size-at-most2)
-    → c .size-at-most2 .result ≡ leb (natAbs (arrivedLater (start₁ (first c) .args .a) (start₁ (first c) .args .i))) (start₁ (first c) .args .a .«speed_limit»)
+    → c .size-at-most2 .result ≡ leb (natAbs (arrivedLater (start₁ (first c) .args .a) (start₁ (first c) .args .i)))
+    (start₁ (first c) .args .a .«speed_limit»)
 arrived c =
     let a = start₁ (first c) .args in
-    let e : toZ w64 (ofZ w64 (c .before .arrived-later .result)) ≡ arrivedLater (a .a) (a .i) = exactly (search computed depth 9) tt in
+    let e : toZ w64 (ofZ w64 (c .before .arrived-later .result)) ≡ arrivedLater (a .a) (a .i) =
+    exactly (search computed depth 9) tt in
     c .size-at-most2 .ensures ∙ (λ j. leb (natAbs (e j)) (a .a .«speed_limit»))
 
 profile-later-requires : tie.Need-profile-later-requires
-profile-later-requires c κs = let a = start₁ (first (c .before)) in (a .pre .0 .ranged, omega (arith, a .pre .0 .few, a .pre .1))
+profile-later-requires c κs = let a = start₁ (first (c .before)) in
+    (a .pre .0 .ranged, omega (arith, a .pre .0 .few, a .pre .1))
 
 travel-later-requires : tie.Need-travel-later-requires
-travel-later-requires c κs = let a = start₁ (first (c .before .before)) in (a .pre .0 .ranged, omega (arith, a .pre .0 .few, a .pre .1))
+travel-later-requires c κs = let a = start₁ (first (c .before .before)) in
+    (a .pre .0 .ranged, omega (arith, a .pre .0 .few, a .pre .1))
 
 -- the last: the leg
 abbrev second : tie.After-travel-later → tie.After-size-at-most2
@@ -79,7 +85,8 @@ ranged c =
     }
 
 travelled : (c : tie.After-travel-later)
-    → toZ w64 (ofZ w64 (c .travel-later .result)) ≡ travelLater (start₁ (first (second c)) .args .a) (start₁ (first (second c)) .args .i)
+    → toZ w64 (ofZ w64 (c .travel-later .result))
+    ≡ travelLater (start₁ (first (second c)) .args .a) (start₁ (first (second c)) .args .i)
 travelled c = exactly (search computed depth 9) tt
 
 makes-requires : tie.Need-makes-requires
@@ -97,7 +104,11 @@ makes-requires c κs =
             subst (λ (p : Profile). natAbs (p .start) ≤ p .«speed_limit») (sym e) (r .slow),
             (
               subst (λ (p : Profile). natAbs (p .end) ≤ p .«speed_limit») (sym e) (slow f),
-              (within (search computed depth 9) tt, (λ j. sumIsWhole (legOf (e j)) (travelled c j)) ∙ a .pre .0 .whole (a .args .i) (a .pre .1)),
+              (
+                within (search computed depth 9) tt,
+                (λ j. sumIsWhole (legOf (e j)) (travelled c j))
+                    ∙ a .pre .0 .whole (a .args .i) (a .pre .1),
+              ),
             ),
           ),
         ),
@@ -121,14 +132,16 @@ returns-2 c =
     let f = first s in
     let a = start₁ f .args in
     and-yes _ _ (sym (landed (f .before)) ∙ f .if1 .taken)
-    (and-no _ (feasible (legOf (profileLater (a .a) (a .i))) (travelLater (a .a) (a .i))) (sym (arrived s) ∙ c .if2 .left))
+    (and-no _ (feasible (legOf (profileLater (a .a) (a .i))) (travelLater (a .a) (a .i)))
+    (sym (arrived s) ∙ c .if2 .left))
 
 returns-3 : tie.Need-returns-3
 unfolding reachesLater
 returns-3 c =
     let a = start (c .before) .args in
     and-no _
-    (leb (natAbs (arrivedLater (a .a) (a .i))) (a .a .«speed_limit») && feasible (legOf (profileLater (a .a) (a .i))) (travelLater (a .a) (a .i)))
+    (leb (natAbs (arrivedLater (a .a) (a .i))) (a .a .«speed_limit»)
+    && feasible (legOf (profileLater (a .a) (a .i))) (travelLater (a .a) (a .i)))
     (sym (landed (c .before)) ∙ c .if1 .left)
 
 pub reaches-later-spec : {M : Type 1} → statement M

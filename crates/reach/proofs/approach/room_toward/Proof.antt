@@ -20,8 +20,11 @@ limit-is a = cast-small (2 ^ 37) (a .args .limit) (a .pre .0) tt
 -- which of the two it is
 chosen : (a : tie.Start) (b : Bool) → ltZ (a .args .change) (pos 0) ≡ b
     → cond b (pos (a .args .limit) +ℤ a .args .velocity) (pos (a .args .limit) -ℤ a .args .velocity)
-    ≡ cond (ltZ (a .args .change) (pos 0)) (pos (a .args .limit) +ℤ a .args .velocity) (pos (a .args .limit) -ℤ a .args .velocity)
-chosen a b e = ap (λ (t : Bool). cond t (pos (a .args .limit) +ℤ a .args .velocity) (pos (a .args .limit) -ℤ a .args .velocity)) (sym e)
+    ≡ cond (ltZ (a .args .change) (pos 0)) (pos (a .args .limit) +ℤ a .args .velocity)
+    (pos (a .args .limit) -ℤ a .args .velocity)
+chosen a b e =
+    ap (λ (t : Bool). cond t (pos (a .args .limit) +ℤ a .args .velocity) (pos (a .args .limit) -ℤ a .args .velocity))
+    (sym e)
 
 add-result : tie.Need-add-result
 add-result c = let l = limit-is (c .before) in sfits (search computed depth 20) tt
@@ -30,7 +33,8 @@ returns : tie.Need-returns
 returns c =
     let l = limit-is (c .before) in
     then-is (is-of (search computed depth 20) tt)
-    (chosen (c .before) true (subst (λ (z : ℤ). ltZ z (pos 0) ≡ true) (back-id (c .before .fits .change)) (c .if1 .taken)))
+    (chosen (c .before) true
+    (subst (λ (z : ℤ). ltZ z (pos 0) ≡ true) (back-id (c .before .fits .change)) (c .if1 .taken)))
 
 sub-result : tie.Need-sub-result
 sub-result c = let l = limit-is (c .before) in sfits (search computed depth 20) tt
@@ -39,7 +43,8 @@ returns-2 : tie.Need-returns-2
 returns-2 c =
     let l = limit-is (c .before) in
     then-is (is-of (search computed depth 20) tt)
-    (chosen (c .before) false (subst (λ (z : ℤ). ltZ z (pos 0) ≡ false) (back-id (c .before .fits .change)) (c .if1 .left)))
+    (chosen (c .before) false
+    (subst (λ (z : ℤ). ltZ z (pos 0) ≡ false) (back-id (c .before .fits .change)) (c .if1 .left)))
 
 pub room-toward-spec : {M : Type 1} → statement M
 room-toward-spec = tie.close (tie.spec cast-most add-result returns sub-result returns-2)

@@ -31,7 +31,8 @@ room-toward-requires c κs = search needs
 -- the room
 room-is : (c : tie.After-room-toward)
     → toZ w64 (ofZ w64 (c .room-toward .result))
-    ≡ roomToward (c .before .before .before .args .limit) (c .before .before .before .args .velocity) (c .before .before .before .args .change)
+    ≡ roomToward (c .before .before .before .args .limit) (c .before .before .before .args .velocity)
+    (c .before .before .before .args .change)
 room-is c =
     let a = c .before .before .before in
     let v = back-id (a .fits .velocity) in
@@ -42,7 +43,8 @@ returns-2 : tie.Need-returns-2
 returns-2 c =
     let b = c .before in
     let a = b .before .before .before .args in
-    ticks-none (a .limit) (a .velocity) (a .change) (a .most) (subst (λ (z : ℤ). z <ℤ pos 0) (room-is b) (ltZ-yes (true-T (c .if2 .taken))))
+    ticks-none (a .limit) (a .velocity) (a .change) (a .most)
+    (subst (λ (z : ℤ). z <ℤ pos 0) (room-is b) (ltZ-yes (true-T (c .if2 .taken))))
 
 room-some : (c : tie.Else2) → pos 0 ≤ℤ toZ w64 (ofZ w64 (c .before .room-toward .result))
 room-some c = ltZ-no (false-T (c .if2 .left))
@@ -61,7 +63,8 @@ returns-3 c =
     let d = c .before in
     let b = d .before .before .before in
     let a = b .before .args in
-    ticks-divided (a .limit) (a .velocity) (a .change) (a .most) _ _ (steps-is b) (omega (arith, d .before .before .if1 .left)) (room-is (d .before)) (room-some d)
+    ticks-divided (a .limit) (a .velocity) (a .change) (a .most) _ _ (steps-is b)
+    (omega (arith, d .before .before .if1 .left)) (room-is (d .before)) (room-some d)
     _ (omega (arith, c .if3 .taken)) (omega arith) (λ k h q. q)
 
 returns-4 : tie.Need-returns-4
@@ -69,7 +72,8 @@ returns-4 c =
     let d = c .before in
     let b = d .before .before .before in
     let a = b .before .args in
-    ticks-divided (a .limit) (a .velocity) (a .change) (a .most) _ _ (steps-is b) (omega (arith, d .before .before .if1 .left)) (room-is (d .before)) (room-some d)
+    ticks-divided (a .limit) (a .velocity) (a .change) (a .most) _ _ (steps-is b)
+    (omega (arith, d .before .before .if1 .left)) (room-is (d .before)) (room-some d)
     (a .most) (omega arith) (omega (arith, c .if3 .left)) (λ k h q. h)
 
 pub ticks-within-spec : {M : Type 1} → statement M

@@ -26,7 +26,8 @@ returns c =
 returns-2 : tie.Need-returns-2
 returns-2 c =
     let x = c .before .before .args .x in
-    ap not (and-no (within 0 256 (halfPeriod x)) (within 1 128 (secondWeight x)) (sym (c .before .within .ensures) ∙ c .if1 .left))
+    ap not (and-no (within 0 256 (halfPeriod x)) (within 1 128 (secondWeight x))
+    (sym (c .before .within .ensures) ∙ c .if1 .left))
 
 pub blend-refused-spec : {M : Type 1} → statement M
 blend-refused-spec = tie.close (tie.spec within-requires second-weight-requires within-requires-2 returns returns-2)

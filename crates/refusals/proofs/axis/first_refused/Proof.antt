@@ -4,7 +4,8 @@ use mathlib.Core.Bool.{Bool, true, false, cond}
 use borrow.Author.Tests.{not-true, not-false}
 use borrow.Author.Needs.{needs}
 use Rattle.model.specs.declared.Axis.{Axis}
-use Rattle.model.specs.planning.Refusals.{limitsRefused, dampingRefused, blendRefused, swayRefused, valuesRefused, accelerationRefused, flyingRefused}
+use Rattle.model.specs.planning.Refusals.{limitsRefused, dampingRefused, blendRefused, swayRefused, valuesRefused}
+use Rattle.model.specs.planning.Refusals.{accelerationRefused, flyingRefused}
 use Rattle.refusals.specs.Checks.{testsFor, firstMet}
 use Rattle.refusals.proofs.axis.first_refused.Statement.{statement}
 use Rattle.refusals.proofs.axis.first_refused.Tie as tie
@@ -12,20 +13,23 @@ use Rattle.refusals.proofs.axis.first_refused.Tie as tie
 -- the rank by what each test says; where fixed targets may fly the last is none of them
 abbrev ranks : Bool → Bool → Bool → Bool → Bool → Bool → Bool → Bool → ℕ
 ranks r l d b s v a f =
-    cond l 0 (suc (cond d 0 (suc (cond b 0 (suc (cond s 0 (suc (cond v 0 (suc (cond a 0 (suc (cond r (cond f 0 1) 0))))))))))))
+    cond l 0
+    (suc (cond d 0 (suc (cond b 0 (suc (cond s 0 (suc (cond v 0 (suc (cond a 0 (suc (cond r (cond f 0 1) 0))))))))))))
 
 abbrev rank : Bool → Axis → ℕ
 rank r x = firstMet (testsFor r) x
 
 by-tests : (r : Bool) (x : Axis)
     → rank r x
-    ≡ ranks r (limitsRefused x) (dampingRefused x) (blendRefused x) (swayRefused x) (valuesRefused x) (accelerationRefused x) (flyingRefused x)
+    ≡ ranks r (limitsRefused x) (dampingRefused x) (blendRefused x) (swayRefused x) (valuesRefused x)
+    (accelerationRefused x) (flyingRefused x)
 by-tests true x = refl
 by-tests false x = refl
 
 -- the rank by one test, those before it having failed
 abbrev by1 : Bool → Axis → Bool → ℕ
-by1 r x b = ranks r b (dampingRefused x) (blendRefused x) (swayRefused x) (valuesRefused x) (accelerationRefused x) (flyingRefused x)
+by1 r x b = ranks r b (dampingRefused x) (blendRefused x) (swayRefused x) (valuesRefused x)
+    (accelerationRefused x) (flyingRefused x)
 
 abbrev by2 : Bool → Axis → Bool → ℕ
 by2 r x b = ranks r false b (blendRefused x) (swayRefused x) (valuesRefused x) (accelerationRefused x) (flyingRefused x)
@@ -51,7 +55,8 @@ limits-refused-requires c κs = search needs
 returns : tie.Need-returns
 returns c =
     let s = c .before .before .args in
-    sym (by-tests (s .resting) (s .x) ∙ ap (by1 (s .resting) (s .x)) (sym (c .before .limits-refused .ensures) ∙ c .if1 .taken))
+    sym (by-tests (s .resting) (s .x)
+    ∙ ap (by1 (s .resting) (s .x)) (sym (c .before .limits-refused .ensures) ∙ c .if1 .taken))
 
 -- after each test that fails, what is left
 abbrev start1 : tie.Else1 → tie.Start
@@ -60,7 +65,8 @@ start1 d = d .before .before
 left1 : (d : tie.Else1) → let s = start1 d .args in rank (s .resting) (s .x) ≡ by1 (s .resting) (s .x) false
 left1 d =
     let s = start1 d .args in
-    by-tests (s .resting) (s .x) ∙ ap (by1 (s .resting) (s .x)) (sym (d .before .limits-refused .ensures) ∙ d .if1 .left)
+    by-tests (s .resting) (s .x)
+    ∙ ap (by1 (s .resting) (s .x)) (sym (d .before .limits-refused .ensures) ∙ d .if1 .left)
 
 damping-refused-requires : tie.Need-damping-refused-requires
 damping-refused-requires c κs = search needs
@@ -145,7 +151,8 @@ start6 d = start5 (d .before .before)
 left6 : (d : tie.Else6) → let s = start6 d .args in rank (s .resting) (s .x) ≡ by6 (s .resting) (s .x) false
 left6 d =
     let s = start6 d .args in
-    left5 (d .before .before) ∙ ap (by6 (s .resting) (s .x)) (sym (d .before .acceleration-refused .ensures) ∙ d .if6 .left)
+    left5 (d .before .before)
+    ∙ ap (by6 (s .resting) (s .x)) (sym (d .before .acceleration-refused .ensures) ∙ d .if6 .left)
 
 -- where fixed targets may fly, there is no test more
 abbrev at-rest : Axis → Bool → ℕ
@@ -159,18 +166,22 @@ returns-7 c =
 flying-refused-requires : tie.Need-flying-refused-requires
 flying-refused-requires c κs = search needs
 
-left7 : (d : tie.Else7) → let s = start6 (d .before) .args in rank (s .resting) (s .x) ≡ by7 true (s .x) (flyingRefused (s .x))
-left7 d = let s = start6 (d .before) .args in left6 (d .before) ∙ ap (at-rest (s .x)) (not-false (s .resting) (d .if7 .left))
+left7 : (d : tie.Else7) → let s = start6 (d .before) .args in
+    rank (s .resting) (s .x) ≡ by7 true (s .x) (flyingRefused (s .x))
+left7 d = let s = start6 (d .before) .args in
+    left6 (d .before) ∙ ap (at-rest (s .x)) (not-false (s .resting) (d .if7 .left))
 
 returns-8 : tie.Need-returns-8
 returns-8 c =
     let d = c .before .before in
-    sym (left7 d ∙ ap (by7 true (start6 (d .before) .args .x)) (sym (c .before .flying-refused .ensures) ∙ c .if8 .taken))
+    sym (left7 d
+    ∙ ap (by7 true (start6 (d .before) .args .x)) (sym (c .before .flying-refused .ensures) ∙ c .if8 .taken))
 
 returns-9 : tie.Need-returns-9
 returns-9 c =
     let d = c .before .before in
-    sym (left7 d ∙ ap (by7 true (start6 (d .before) .args .x)) (sym (c .before .flying-refused .ensures) ∙ c .if8 .left))
+    sym (left7 d
+    ∙ ap (by7 true (start6 (d .before) .args .x)) (sym (c .before .flying-refused .ensures) ∙ c .if8 .left))
 
 pub first-refused-spec : {M : Type 1} → statement M
 first-refused-spec =

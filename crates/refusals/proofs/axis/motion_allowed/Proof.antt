@@ -31,7 +31,8 @@ slow c =
     let z : toZ w64 (ofZ w64 (a .m .acceleration)) ≡ a .m .acceleration = exactly (search loose depth 9) tt in
     c .size-at-most .ensures ∙ ap (λ (y : ℤ). leb (natAbs y) (accelerationLimit (a .x))) z
 
-near : (c : tie.After-size-at-most2) → c .size-at-most2 .result ≡ leb (natAbs (start (c .before .before) .args .m .tick)) lastTick
+near : (c : tie.After-size-at-most2)
+    → c .size-at-most2 .result ≡ leb (natAbs (start (c .before .before) .args .m .tick)) lastTick
 near c =
     let a = start (c .before .before) .args in
     let z : toZ w64 (ofZ w64 (a .m .tick)) ≡ a .m .tick = exactly (search loose depth 9) tt in

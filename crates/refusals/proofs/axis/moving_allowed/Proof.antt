@@ -23,7 +23,8 @@ restOf m = record { position = m .position; velocity = m .velocity }
 abbrev start : tie.After-rest-allowed → tie.Start
 start c = c .before .before .before
 
-rest : (c : tie.After-rest-allowed) → c .rest-allowed .result ≡ restAllowed (start c .args .x) (restOf (start c .args .m))
+rest : (c : tie.After-rest-allowed)
+    → c .rest-allowed .result ≡ restAllowed (start c .args .x) (restOf (start c .args .m))
 rest c =
     let a = start c .args in
     let p : toZ w64 (ofZ w64 (a .m .position)) ≡ a .m .position = exactly (search loose depth 9) tt in
@@ -34,7 +35,8 @@ returns : tie.Need-returns
 returns c =
     let b = c .before .before in
     let a = start b .args in
-    and-yes (restAllowed (a .x) (restOf (a .m))) (motionAllowed (a .x) (a .m)) (sym (rest b) ∙ c .before .if1 .taken) (c .motion-allowed .ensures)
+    and-yes (restAllowed (a .x) (restOf (a .m))) (motionAllowed (a .x) (a .m))
+    (sym (rest b) ∙ c .before .if1 .taken) (c .motion-allowed .ensures)
 
 returns-2 : tie.Need-returns-2
 returns-2 c =

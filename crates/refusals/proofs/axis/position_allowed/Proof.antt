@@ -9,7 +9,8 @@ use Rattle.refusals.proofs.axis.position_allowed.Tie as tie
 returns : tie.Need-returns
 returns c =
     let p = c .before .args .p in
-    and-yes (leZ (negsuc 17179869183) p) (leZ p (pos 17179869183)) (sym (le-is (search loose depth 9) tt) ∙ c .if1 .taken)
+    and-yes (leZ (negsuc 17179869183) p) (leZ p (pos 17179869183))
+    (sym (le-is (search loose depth 9) tt) ∙ c .if1 .taken)
     (le-is (search loose depth 9) tt)
 
 returns-2 : tie.Need-returns-2

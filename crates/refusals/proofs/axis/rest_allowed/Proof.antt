@@ -29,13 +29,15 @@ returns c =
     let b = c .before .before in
     let a = start b .args in
     let v : toZ w64 (ofZ w64 (a .r .velocity)) ≡ a .r .velocity = exactly (search loose depth 9) tt in
-    and-yes (positionAllowed (a .r .position)) (velocityAllowed (a .x) (a .r .velocity)) (sym (near b) ∙ c .before .if1 .taken)
+    and-yes (positionAllowed (a .r .position)) (velocityAllowed (a .x) (a .r .velocity))
+    (sym (near b) ∙ c .before .if1 .taken)
     (c .velocity-allowed .ensures ∙ ap (velocityAllowed (a .x)) v)
 
 returns-2 : tie.Need-returns-2
 returns-2 c =
     let a = start (c .before) .args in
-    and-no (positionAllowed (a .r .position)) (velocityAllowed (a .x) (a .r .velocity)) (sym (near (c .before)) ∙ c .if1 .left)
+    and-no (positionAllowed (a .r .position)) (velocityAllowed (a .x) (a .r .velocity))
+    (sym (near (c .before)) ∙ c .if1 .left)
 
 pub rest-allowed-spec : {M : Type 1} → statement M
 rest-allowed-spec =

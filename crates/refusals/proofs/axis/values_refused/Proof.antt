@@ -21,7 +21,8 @@ returns c =
 returns-2 : tie.Need-returns-2
 returns-2 c =
     let x = c .before .before .before .args .x in
-    ap not (and-no (restAllowed x (x .start)) (targetAllowed x (x .target)) (sym (c .before .rest-allowed .ensures) ∙ c .if1 .left))
+    ap not (and-no (restAllowed x (x .start)) (targetAllowed x (x .target))
+    (sym (c .before .rest-allowed .ensures) ∙ c .if1 .left))
 
 pub values-refused-spec : {M : Type 1} → statement M
 values-refused-spec =

@@ -15,11 +15,16 @@ unfolding arrivalLine
 put-labelled-requires c κs = room-front _ _ (c .before .before .before .pre)
 
 -- the index of the line feed
-index : (c : tie.After-slice-known2) → c .before .before .put-labelled .result < length (c .before .before .put-labelled .last .0)
+index : (c : tie.After-slice-known2)
+    → c .before .before .put-labelled .result < length (c .before .before .put-labelled .last .0)
 unfolding arrivalLine
 index c =
     let labelled = c .before .before in
-    omega (arith, room-then {m = ascii "\n"} (labelled .before .before .before .before .pre) (labelled .put-labelled .ensures) .room)
+    omega (
+      arith,
+      room-then {m = ascii "\n"} (labelled .before .before .before .before .pre)
+          (labelled .put-labelled .ensures) .room,
+    )
 
 slice-write-out : tie.Need-slice-write-out
 slice-write-out c = index c
@@ -36,7 +41,8 @@ returns : tie.Need-returns
 unfolding arrivalLine
 returns c =
     let labelled = c .before .before in
-    written-then (labelled .before .before .before .before .pre) (labelled .put-labelled .ensures) (written-one (index c))
+    written-then (labelled .before .before .before .before .pre)
+    (labelled .put-labelled .ensures) (written-one (index c))
 
 pub put-arrival-spec : {M : Type 1} → statement M
 put-arrival-spec =

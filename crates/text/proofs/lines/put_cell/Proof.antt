@@ -34,14 +34,16 @@ put-number-requires c κs =
 same-length : tie.Need-same-length
 same-length c =
     let a = c .before .before .before .before .before .before .before .args in
-    c .before .before .put-number .kept .0 ∙ length-set (set (a .out .now) (a .at) _) (a .at + 1) _ ∙ length-set (a .out .now) (a .at) _
+    c .before .before .put-number .kept .0 ∙ length-set (set (a .out .now) (a .at) _) (a .at + 1) _
+    ∙ length-set (a .out .now) (a .at) _
 
 returns : tie.Need-returns
 returns c =
     let ended = c .before .before in
     let sized = ended .before .before .before in
     let s = sized .before .before in
-    below-done (s .args .x) (s .fits .x) (sized .size .ensures) (s .pre) (ended .before .before .if1 .taken) (ended .put-number .ensures)
+    below-done (s .args .x) (s .fits .x) (sized .size .ensures) (s .pre)
+    (ended .before .before .if1 .taken) (ended .put-number .ensures)
 
 add-put-number-2 : tie.Need-add-put-number-2
 add-put-number-2 c = search needs
@@ -62,7 +64,8 @@ returns-2 c =
     let ended = c .before .before in
     let sized = ended .before .before .before in
     let s = sized .before .before in
-    natural-done (s .args .x) (s .fits .x) (sized .size .ensures) (s .pre) (ended .before .before .if1 .left) (ended .put-number2 .ensures)
+    natural-done (s .args .x) (s .fits .x) (sized .size .ensures) (s .pre)
+    (ended .before .before .if1 .left) (ended .put-number2 .ensures)
 
 pub put-cell-spec : {M : Type 1} → statement M
 put-cell-spec =

@@ -26,7 +26,11 @@ abbrev μ-loop : tie.MeasureT-loop
 loop-holds : tie.Need-loop-holds Inv-loop μ-loop
 loop-holds c =
     let s = c .before in
-    record { low = omega arith; long = refl; text = within-nil (cellAt (s .args .cells .now)) 21 (omega (arith, s .pre)) }
+    record {
+      low = omega arith;
+      long = refl;
+      text = within-nil (cellAt (s .args .cells .now)) 21 (omega (arith, s .pre));
+    }
 
 mul-x : tie.Need-mul-x Inv-loop μ-loop
 mul-x c = search needs
@@ -39,7 +43,8 @@ put-cell-requires c κs =
     let turn = c .before .before in
     let l = turn .before .loop in
     let s = turn .before .before .before in
-    cell-room (s .args .cells .now) (s .pre) (turn .loop-test .taken) (l .inv .text) (record { sfits = c .before .x .given }) (l .inv .long)
+    cell-room (s .args .cells .now) (s .pre) (turn .loop-test .taken) (l .inv .text)
+    (record { sfits = c .before .x .given }) (l .inv .long)
 
 add-i : tie.Need-add-i Inv-loop μ-loop
 add-i c = search needs
@@ -53,7 +58,8 @@ loop-again c =
     let turn = c .before .before .before .before .before in
     let l = turn .before .loop in
     let s = turn .before .before .before in
-    let f : SFits w64 (getD (s .args .cells .now) (l .i) (pos 0)) = record { sfits = c .before .before .before .before .x .given } in
+    let f : SFits w64 (getD (s .args .cells .now) (l .i) (pos 0)) =
+    record { sfits = c .before .before .before .before .x .given } in
     record {
       low = omega arith;
       long = w .kept .0 ∙ l .inv .long;
@@ -64,7 +70,8 @@ same-length : tie.Need-same-length Inv-loop μ-loop
 same-length c = c .before .loop .inv .long
 
 returns : tie.Need-returns Inv-loop μ-loop
-returns c = cells-done (c .before .before .before .args .cells .now) (c .before .loop .i) (omega arith) (c .before .loop .inv .text)
+returns c = cells-done (c .before .before .before .args .cells .now) (c .before .loop .i)
+    (omega arith) (c .before .loop .inv .text)
 
 pub put-cells-spec : {M : Type 1} → statement M
 put-cells-spec =

@@ -18,7 +18,8 @@ line-most : (s : tie.Start) → length (line s) ≤ refusalBytes
 line-most s =
     let a = s .args in
     let f = s .fits in
-    laws.refusal-most (a .number) (a .place) (a .mask) (a .arrival) (f .number .fits) (f .place .fits) (f .mask .fits) (f .arrival .fits)
+    laws.refusal-most (a .number) (a .place) (a .mask) (a .arrival) (f .number .fits) (f .place .fits)
+    (f .mask .fits) (f .arrival .fits)
 
 space : (s : tie.Start) → Room (s .args .out .now) (s .args .at) (line s)
 space s = record { room = omega (arith, line-most s, s .pre) }
@@ -51,7 +52,8 @@ put-labelled-requires-3 c κs =
     let first = second .before .before .before .before .before in
     let s = first .before .before .before .before in
     let a = s .args in
-    laws.mask-room (a .number) (a .place) (a .mask) (a .arrival) (space s) (first .put-labelled .ensures) (second .put-labelled2 .ensures)
+    laws.mask-room (a .number) (a .place) (a .mask) (a .arrival) (space s) (first .put-labelled .ensures)
+    (second .put-labelled2 .ensures)
 
 slice-aggregate-put-labelled-4 : tie.Need-slice-aggregate-put-labelled-4
 slice-aggregate-put-labelled-4 c = search needs
@@ -64,7 +66,8 @@ put-labelled-requires-4 c κs =
     let s = first .before .before .before .before in
     let a = s .args in
     let one = first .put-labelled .ensures in
-    laws.arrival-room (a .number) (a .place) (a .mask) (a .arrival) (space s) one (second .put-labelled2 .ensures) (third .put-labelled3 .ensures)
+    laws.arrival-room (a .number) (a .place) (a .mask) (a .arrival) (space s) one (second .put-labelled2 .ensures)
+    (third .put-labelled3 .ensures)
 
 slice-write-out : tie.Need-slice-write-out
 slice-write-out c =
@@ -76,7 +79,8 @@ slice-write-out c =
     let a = s .args in
     let one = first .put-labelled .ensures in
     let two = second .put-labelled2 .ensures in
-    laws.feed-index (a .number) (a .place) (a .mask) (a .arrival) (space s) one two (third .put-labelled3 .ensures) (fourth .put-labelled4 .ensures)
+    laws.feed-index (a .number) (a .place) (a .mask) (a .arrival) (space s) one two (third .put-labelled3 .ensures)
+    (fourth .put-labelled4 .ensures)
 
 add-result : tie.Need-add-result
 add-result c =
@@ -84,7 +88,8 @@ add-result c =
     let third = fourth .before .before .before .before .before in
     let second = third .before .before .before .before .before in
     let first = second .before .before .before .before .before in
-    let long = fourth .put-labelled4 .kept .0 ∙ third .put-labelled3 .kept .0 ∙ second .put-labelled2 .kept .0 ∙ first .put-labelled .kept .0 in
+    let long = fourth .put-labelled4 .kept .0 ∙ third .put-labelled3 .kept .0 ∙ second .put-labelled2 .kept .0
+    ∙ first .put-labelled .kept .0 in
     omega (arith, slice-write-out c, long, first .before .before .before .before .good .0 .0)
 
 same-length : tie.Need-same-length

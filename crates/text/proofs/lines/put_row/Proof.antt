@@ -14,11 +14,13 @@ put-cells-requires : tie.Need-put-cells-requires
 put-cells-requires c κs =
     let ticked = c .before .before .before in
     let s = ticked .before .before .before in
-    cells-room (s .args .tick) (s .args .cells .now) (s .pre .1) (s .pre .0) (ticked .put-number .ensures) (ticked .put-number .kept .0)
+    cells-room (s .args .tick) (s .args .cells .now) (s .pre .1) (s .pre .0)
+    (ticked .put-number .ensures) (ticked .put-number .kept .0)
 
 -- the length is that of the buffer at entry
 long : (c : tie.After-slice-known3)
-    → length (c .before .before .put-cells .last .0) ≡ length (c .before .before .before .before .before .before .before .before .before .args .out .now)
+    → length (c .before .before .put-cells .last .0)
+    ≡ length (c .before .before .before .before .before .before .before .before .before .args .out .now)
 long c = c .before .before .put-cells .kept .0 ∙ c .before .before .before .before .before .before .put-number .kept .0
 
 slice-write-out : tie.Need-slice-write-out
@@ -27,10 +29,17 @@ slice-write-out c =
     let ticked = filled .before .before .before .before in
     let s = ticked .before .before .before in
     let a = s .args in
-    end-index (a .tick) (a .cells .now) (s .pre .1) (s .pre .0) (ticked .put-number .ensures) (filled .put-cells .ensures) (long c)
+    end-index (a .tick) (a .cells .now) (s .pre .1) (s .pre .0) (ticked .put-number .ensures)
+    (filled .put-cells .ensures) (long c)
 
 add-result : tie.Need-add-result
-add-result c = omega (arith, slice-write-out c, long c, c .before .before .before .before .before .before .before .before .before .good .0 .0)
+add-result c =
+    omega (
+      arith,
+      slice-write-out c,
+      long c,
+      c .before .before .before .before .before .before .before .before .before .good .0 .0,
+    )
 
 same-length : tie.Need-same-length
 same-length c = length-set (c .before .before .put-cells .last .0) (c .before .before .put-cells .result) _ ∙ long c
@@ -41,7 +50,8 @@ returns c =
     let ticked = filled .before .before .before .before in
     let s = ticked .before .before .before in
     let a = s .args in
-    row-done (a .tick) (a .cells .now) (s .pre .1) (s .pre .0) (ticked .put-number .ensures) (filled .put-cells .ensures) (long c)
+    row-done (a .tick) (a .cells .now) (s .pre .1) (s .pre .0) (ticked .put-number .ensures)
+    (filled .put-cells .ensures) (long c)
 
 pub put-row-spec : {M : Type 1} → statement M
 put-row-spec =

@@ -25,12 +25,14 @@ abbrev μ-loop : tie.MeasureT-loop
 
 -- the cells of the row that a turn writes are in the table
 here : (c : tie.In-loop Inv-loop μ-loop)
-    → c .before .loop .first + c .before .before .before .args .width ≤ length (c .before .before .before .args .table .now)
+    → c .before .loop .first + c .before .before .before .args .width
+    ≤ length (c .before .before .before .args .table .now)
 here c =
     let s = c .before .before .before in
     let a = s .args in
     let l = c .before .loop in
-    part-ends (a .width) (l .first) (l .k) (a .n) (length (a .table .now)) (l .inv .place) (c .loop-test .taken) (s .pre .1 .0)
+    part-ends (a .width) (l .first) (l .k) (a .n) (length (a .table .now)) (l .inv .place)
+    (c .loop-test .taken) (s .pre .1 .0)
 
 loop-holds : tie.Need-loop-holds Inv-loop μ-loop
 loop-holds c =
@@ -39,7 +41,8 @@ loop-holds c =
       low = omega arith;
       place = omega arith;
       long = refl;
-      text = within-nil (printedRow (s .args .width) (s .args .table .now)) (rowBytes (s .args .width)) (omega (arith, s .pre .1 .1));
+      text = within-nil (printedRow (s .args .width) (s .args .table .now)) (rowBytes (s .args .width))
+          (omega (arith, s .pre .1 .1));
     }
 
 add-end : tie.Need-add-end Inv-loop μ-loop
@@ -65,7 +68,8 @@ put-row-requires c κs =
     let a = s .args in
     let q = turn .loop-test .taken in (
       omega (arith, s .pre .0),
-      row-room (a .width) (a .n) (a .table .now) (s .pre .1 .1) q (l .inv .text) (s .pre .1 .0) (l .inv .place) (l .inv .long),
+      row-room (a .width) (a .n) (a .table .now) (s .pre .1 .1) q (l .inv .text) (s .pre .1 .0)
+          (l .inv .place) (l .inv .long),
     )
 
 add-k : tie.Need-add-k Inv-loop μ-loop
@@ -86,7 +90,8 @@ loop-again c =
       low = omega arith;
       place = part-next (a .width) (l .first) (l .k) (l .inv .place);
       long = w .kept .0 ∙ l .inv .long;
-      text = row-turn (a .width) (a .n) (a .table .now) (s .pre .1 .1) q (l .inv .text) (s .pre .1 .0) (l .inv .place) (w .ensures);
+      text = row-turn (a .width) (a .n) (a .table .now) (s .pre .1 .1) q (l .inv .text)
+          (s .pre .1 .0) (l .inv .place) (w .ensures);
     }
 
 same-length : tie.Need-same-length Inv-loop μ-loop
@@ -97,7 +102,8 @@ returns c =
     let a = c .before .before .before .args in
     let l = c .before .loop in
     let f = printedRow (a .width) (a .table .now) in
-    subst (λ (m : ℕ). WrittenWithin (rowBytes (a .width) * m) (a .out .now) (a .at) (upTo f m) (l .out) (l .next)) (omega arith) (l .inv .text)
+    subst (λ (m : ℕ). WrittenWithin (rowBytes (a .width) * m) (a .out .now) (a .at) (upTo f m) (l .out) (l .next))
+    (omega arith) (l .inv .text)
 
 pub put-rows-spec : {M : Type 1} → statement M
 put-rows-spec =

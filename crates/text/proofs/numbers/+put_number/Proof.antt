@@ -1,4 +1,5 @@
--- `text::put_number` meets its contract. The measure is the number: each call has one digit less to write.
+-- `text::put_number` meets its contract. The measure is the number: each call has one digit less to
+-- write.
 use Prim.Native.Nat.{ℕ, _+_, _<_}
 use native.Mathlib.Omega.{arith}
 use mathlib.Core.Path.{_∙_}
@@ -27,19 +28,23 @@ cast-out t c = omega arith
 add-out : (t : ℕ) → put-number-lts.Need-add-out (below-measure t, put-number.Post) (at-measure t) put-number.Post
 add-out t c = omega arith
 
-slice-write-out : (t : ℕ) → put-number-lts.Need-slice-write-out (below-measure t, put-number.Post) (at-measure t) put-number.Post
+slice-write-out : (t : ℕ)
+    → put-number-lts.Need-slice-write-out (below-measure t, put-number.Post) (at-measure t) put-number.Post
 slice-write-out t c = digit-index (c .before .before .pre .1) (c .if1 .taken)
 
 add-result : (t : ℕ) → put-number-lts.Need-add-result (below-measure t, put-number.Post) (at-measure t) put-number.Post
 add-result t c = omega (arith, c .before .before .good .0 .0, digit-index (c .before .before .pre .1) (c .if1 .taken))
 
-same-length : (t : ℕ) → put-number-lts.Need-same-length (below-measure t, put-number.Post) (at-measure t) put-number.Post
-same-length t c = length-set (c .before .before .args .out .now) (c .before .before .args .at) (48 + c .before .before .args .x)
+same-length : (t : ℕ)
+    → put-number-lts.Need-same-length (below-measure t, put-number.Post) (at-measure t) put-number.Post
+same-length t c =
+    length-set (c .before .before .args .out .now) (c .before .before .args .at) (48 + c .before .before .args .x)
 
 returns : (t : ℕ) → put-number-lts.Need-returns (below-measure t, put-number.Post) (at-measure t) put-number.Post
 returns t c = written-digit (c .before .before .pre .1) (c .if1 .taken)
 
-put-number-requires : (t : ℕ) → put-number-lts.Need-put-number-requires (below-measure t, put-number.Post) (at-measure t) put-number.Post
+put-number-requires : (t : ℕ)
+    → put-number-lts.Need-put-number-requires (below-measure t, put-number.Post) (at-measure t) put-number.Post
 put-number-requires t c κs =
     let s = c .before .before .before in
     (omega (arith, s .pre .0), room-shorter (s .pre .1) (c .before .if1 .left))
@@ -50,20 +55,29 @@ cast-out-2 t c = omega arith
 add-out-2 : (t : ℕ) → put-number-lts.Need-add-out-2 (below-measure t, put-number.Post) (at-measure t) put-number.Post
 add-out-2 t c = omega arith
 
-slice-write-out-2 : (t : ℕ) → put-number-lts.Need-slice-write-out-2 (below-measure t, put-number.Post) (at-measure t) put-number.Post
+slice-write-out-2 : (t : ℕ)
+    → put-number-lts.Need-slice-write-out-2 (below-measure t, put-number.Post) (at-measure t) put-number.Post
 slice-write-out-2 t c =
     let front = c .before .before in
     let more = front .before .before in
     room-digit (more .before .before .pre .1) (more .if1 .left) (front .put-number .ensures)
 
-add-result-2 : (t : ℕ) → put-number-lts.Need-add-result-2 (below-measure t, put-number.Post) (at-measure t) put-number.Post
+add-result-2 : (t : ℕ)
+    → put-number-lts.Need-add-result-2 (below-measure t, put-number.Post) (at-measure t) put-number.Post
 add-result-2 t c =
     let front = c .before .before in
     let more = front .before .before in
     let s = more .before .before in
-    omega (arith, s .good .0 .0, front .put-number .kept .0, room-digit (s .pre .1) (more .if1 .left) (front .put-number .ensures))
+    omega (
+      arith,
+      s .good .0 .0,
+      front .put-number .kept .0,
+      room-digit (s .pre .1)
+          (more .if1 .left) (front .put-number .ensures),
+    )
 
-same-length-2 : (t : ℕ) → put-number-lts.Need-same-length-2 (below-measure t, put-number.Post) (at-measure t) put-number.Post
+same-length-2 : (t : ℕ)
+    → put-number-lts.Need-same-length-2 (below-measure t, put-number.Post) (at-measure t) put-number.Post
 same-length-2 t c =
     let front = c .before .before .put-number in
     length-set (front .last .0) (front .result) _ ∙ front .kept .0

@@ -30,7 +30,8 @@ shared-slice-read-out c = search needs
 
 -- the index of a byte of the label
 index : (c : tie.After-shared-slice-known2 Inv-loop μ-loop)
-    → c .before .before .before .before .before .args .at + c .before .before .loop .i < length (c .before .before .before .before .before .args .out .now)
+    → c .before .before .before .before .before .args .at + c .before .before .loop .i
+    < length (c .before .before .before .before .before .args .out .now)
 index c =
     let s = c .before .before .before .before .before in
     let a = s .args in
@@ -81,7 +82,8 @@ returns c =
     let l = ended .before .before .before .loop in
     let s = ended .before .before .before .before .before .before in
     let a = s .args in
-    number-done (a .label .now) (a .x) (s .pre) (ended .before .before .loop-test .left) (l .inv .copied) (ended .put-number .ensures)
+    number-done (a .label .now) (a .x) (s .pre) (ended .before .before .loop-test .left)
+    (l .inv .copied) (ended .put-number .ensures)
 
 pub put-labelled-spec : {M : Type 1} → statement M
 put-labelled-spec =

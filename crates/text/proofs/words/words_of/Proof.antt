@@ -62,7 +62,8 @@ loop-again c =
     record {
       low = omega arith;
       long = length-set (l .words) (l .i) (c .word .result) ∙ l .inv .long;
-      text = words-turn (s .args .bytes .now) (s .args .words .now) inside (omega arith) (c .word .ensures) (l .inv .text);
+      text = words-turn (s .args .bytes .now) (s .args .words .now) inside (omega arith)
+          (c .word .ensures) (l .inv .text);
     }
 
 same-length-2 : tie.Need-same-length-2 Inv-loop μ-loop
