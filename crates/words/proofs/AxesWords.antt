@@ -11,7 +11,7 @@ use borrow.Author.Tests.{eq-eqb, ne-eqb}
 use Rattle.model.specs.declared.Axis.{Axis}
 use Rattle.model.specs.planning.Job.{JobAxis, setFrom}
 use Rattle.model.specs.planning.Words.{Reading, got, wrong, axis, axes, give, _>>=_}
-use Rattle.words.specs.declared.AxisReading.{AxisReading}
+use Rattle.words.specs.declared.axis.AxisReading.{AxisReading}
 use Rattle.words.specs.declared.AxesReading.{AxesReading}
 use Rattle.words.specs.Decoding.{placed}
 use Rattle.words.specs.ByIndex.{axisReading, withAxis, readOn, readAll}

@@ -13,22 +13,22 @@ use Rattle.model.specs.declared.Target.{Target}
 use Rattle.model.specs.declared.Target.the-variants.{Fixed, Moving}
 use Rattle.model.specs.planning.Words.{Reading, got, wrong, Reader, _>>=_, give, signed, next, position, target, axis}
 use Rattle.model.proofs.words.Spelling.{assoc₂}
-use Rattle.words.specs.declared.AxisReading.the-variants.{Got, Wrong}
-use Rattle.words.specs.ByIndex.{isKind, passing, firstWrong, signedAt, positionAt, restAt, stateAt, axisAt}
+use Rattle.words.specs.declared.axis.AxisReading.the-variants.{Got, Wrong}
+use Rattle.words.specs.ByIndex.{isKind, skipOptional, firstWrong, signedAt, positionAt, restAt, stateAt, axisAt}
 use Rattle.words.specs.ByIndex.{axisReading}
-use Rattle.words.proofs.Reader.{on, next-is, step-field, step-signed, step-position, step-sway, passing-within}
+use Rattle.words.proofs.Reader.{on, next-is, step-field, step-signed, step-position, step-sway, skip-within}
 use Rattle.words.proofs.Reader.{after, after-none, after-short, after-full, after-both, run-within, full-there}
 
 module _ (ws : List ℕ) (i : ℕ) where
   -- the indices of the words of kinds 3 and 9, and where those of the target begin
   abbrev first : ℕ
-  first = passing ws i 14
+  first = skipOptional ws i 14
 
   abbrev goal : ℕ
-  goal = passing ws (first + 6) 13
+  goal = skipOptional ws (first + 6) 13
 
   abbrev ninth : ℕ
-  ninth = passing ws goal 14
+  ninth = skipOptional ws goal 14
 
   -- once the words of kinds 3 to 10 are there: a fixed target or, where a word
   -- of kind 11 follows, a moving one
@@ -113,13 +113,13 @@ module _ (ws : List ℕ) (i : ℕ) where
     axis-short h = ap (λ (p : ℕ). Wrong p) run₁
         ∙ sym (ap axisReading (axis-is ∙ after-short ws first 3 6 _ (omega (arith, es, run₁))))
 
-    module _ (h : s + 6 ≤ n) (g : ℕ) (eg : g ≡ passing ws (s + 6) 13) (t : ℕ) (et : t ≡ passing ws g 14) (m : ℕ)
-        (im : m ≡ firstWrong ws t 9 2) where
+    module _ (h : s + 6 ≤ n) (g : ℕ) (eg : g ≡ skipOptional ws (s + 6) 13) (t : ℕ) (et : t ≡ skipOptional ws g 14)
+        (m : ℕ) (im : m ≡ firstWrong ws t 9 2) where
       is-goal : g ≡ goal
-      is-goal = eg ∙ ap (λ (k : ℕ). passing ws (k + 6) 13) es
+      is-goal = eg ∙ ap (λ (k : ℕ). skipOptional ws (k + 6) 13) es
 
       is-ninth : t ≡ ninth
-      is-ninth = et ∙ ap (λ (k : ℕ). passing ws k 14) is-goal
+      is-ninth = et ∙ ap (λ (k : ℕ). skipOptional ws k 14) is-goal
 
       run₂ : m ≡ firstWrong ws ninth 9 2
       run₂ = im ∙ ap (λ (k : ℕ). firstWrong ws k 9 2) is-ninth
@@ -127,7 +127,7 @@ module _ (ws : List ℕ) (i : ℕ) where
       full₂ : t + 2 ≤ m → firstWrong ws ninth 9 2 ≡ ninth + 2
       full₂ k = omega (arith, is-ninth, run₂, run-within ws ninth 9 2)
 
-      pub target-there : t + 2 ≤ m → passing ws g 14 + 2 ≤ length ws
+      pub target-there : t + 2 ≤ m → skipOptional ws g 14 + 2 ≤ length ws
       target-there k = omega (arith, et, is-ninth, full-there ws ninth 9 1 (full₂ k))
 
       axis-tail : axis i (drop i ws) ≡ after ws ninth 9 2 (rest (ninth + 2) (drop (ninth + 2) ws))
@@ -158,7 +158,7 @@ module _ (ws : List ℕ) (i : ℕ) where
           full₃ : t + 4 ≤ l → firstWrong ws (ninth + 2) 11 2 ≡ ninth + 2 + 2
           full₃ k = omega (arith, is-ninth, run₃, run-within ws (ninth + 2) 11 2)
 
-          pub motion-there : t + 4 ≤ l → passing ws g 14 + 4 ≤ length ws
+          pub motion-there : t + 4 ≤ l → skipOptional ws g 14 + 4 ≤ length ws
           motion-there k = omega (arith, et, is-ninth, full-there ws (ninth + 2) 11 1 (full₃ k))
 
           axis-motion : axis i (drop i ws) ≡ after ws (ninth + 2) 11 2 (got moving (ninth + 4) (drop (ninth + 4) ws))
@@ -183,7 +183,7 @@ module _ (ws : List ℕ) (i : ℕ) where
   Follows (wrong p) = p ≤ i + 13
 
   near : ninth ≤ i + 9
-  near = omega (arith, passing-within ws i 14, passing-within ws (first + 6) 13, passing-within ws goal 14)
+  near = omega (arith, skip-within ws i 14, skip-within ws (first + 6) 13, skip-within ws goal 14)
 
   rest-follows : Follows (rest (ninth + 2) (drop (ninth + 2) ws))
   rest-follows = ⊎-elim
@@ -200,4 +200,4 @@ module _ (ws : List ℕ) (i : ℕ) where
   pub axis-follows : Follows (axis i (drop i ws))
   axis-follows =
       subst Follows (sym axis-is)
-      (after-both ws first 3 6 _ Follows tail-follows (omega (arith, passing-within ws i 14, run-within ws first 3 6)))
+      (after-both ws first 3 6 _ Follows tail-follows (omega (arith, skip-within ws i 14, run-within ws first 3 6)))

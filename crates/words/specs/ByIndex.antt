@@ -14,8 +14,8 @@ use Rattle.model.specs.declared.State.{State}
 use Rattle.model.specs.declared.Target.{Target}
 use Rattle.model.specs.declared.RestPoint.{RestPoint}
 use Rattle.model.specs.planning.Words.{kind, payload, twos, longPosition, longAllowed, Reading, got, wrong, axis}
-use Rattle.words.specs.declared.AxisReading.{AxisReading}
-use Rattle.words.specs.declared.AxisReading.the-variants.{Got, Wrong}
+use Rattle.words.specs.declared.axis.AxisReading.{AxisReading}
+use Rattle.words.specs.declared.axis.AxisReading.the-variants.{Got, Wrong}
 use Rattle.words.specs.declared.AxesReading.{AxesReading}
 use Rattle.words.specs.Decoding.{unsetAxes}
 
@@ -42,8 +42,8 @@ firstWrong ws i k zero = i
 firstWrong ws i k (suc n) = cond (isKind ws i k) (firstWrong ws (suc i) (suc k) n) i
 
 -- the index after a word of kind k that may stand at i
-unfoldable pub passing : List ℕ → ℕ → ℕ → ℕ
-passing ws i k = cond (isKind ws i k) (suc i) i
+unfoldable pub skipOptional : List ℕ → ℕ → ℕ → ℕ
+skipOptional ws i k = cond (isKind ws i k) (suc i) i
 
 -- ---- positions
 
@@ -67,11 +67,11 @@ badLongIn ws (suc n) i = cond (isBadLong ws i) i (badLongIn ws n (suc i))
 -- ---- one axis, whose words begin at i
 
 unfoldable pub restAt : List ℕ → ℕ → RestPoint
-restAt ws i = record { position = positionAt ws i; velocity = signedAt ws (passing ws i 14 + 1) }
+restAt ws i = record { position = positionAt ws i; velocity = signedAt ws (skipOptional ws i 14 + 1) }
 
 unfoldable pub stateAt : List ℕ → ℕ → State
 stateAt ws i =
-    let s : ℕ = passing ws i 14 in
+    let s : ℕ = skipOptional ws i 14 in
     record {
       position = positionAt ws i;
       velocity = signedAt ws (s + 1);
@@ -85,7 +85,7 @@ swayAt ws i = cond (isKind ws i 13) (HalfPeriod (payloadAt ws i)) Absent
 
 unfoldable pub axisAt : List ℕ → ℕ → Target → Axis
 axisAt ws i g =
-    let s : ℕ = passing ws i 14 in
+    let s : ℕ = skipOptional ws i 14 in
     record {
       start = restAt ws i;
       «speed_limit» = payloadAt ws (s + 2);
