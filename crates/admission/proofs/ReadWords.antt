@@ -1,8 +1,11 @@
 -- Words that are refused are refused by any rules, and others are admitted as the job that they
 -- hold.
 use Prim.Native.Nat.{ℕ}
-use mathlib.Core.Path.{_≡_, refl, sym, ap, _∙_}
+use native.Mathlib.Omega.{arith}
+use mathlib.Core.Path.{_≡_, sym, ap, _∙_}
 use mathlib.Core.List.{List}
+use Rattle.model.specs.declared.Checked.{Checked}
+use Rattle.model.specs.declared.Checked.the-variants.{Passed, Refused}
 use Rattle.model.specs.planning.Words.{Decoded, noMask, badWord, badLong, job, decode}
 use Rattle.model.specs.planning.Admission.{words, typed, Admission, refusedAt, Rules, jobAdmission, admission}
 use Rattle.words.specs.declared.DecodedJob.{DecodedJob}
@@ -19,19 +22,21 @@ module _ (r : Rules) (ws : List ℕ) (d : DecodedJob) (is : Decodes ws d) where
         | job j ↦ jobAdmission r j
       ]
 
-  pub words-refused : (d .number ≡ 0 → ⊥) → admission r (words ws) ≡ refusedAt (d .number) (d .place)
-  unfolding by-words
-  words-refused h =
-      go (decode ws) (λ z. h (ap (λ (e : DecodedJob). e .number) (is .decoded) ∙ z))
-      ∙ sym (ap (λ (e : DecodedJob). refusedAt (e .number) (e .place)) (is .decoded))
-    where
-      go : (w : Decoded) → (decodedJob w .number ≡ 0 → ⊥)
-          → by-words w ≡ refusedAt (decodedJob w .number) (decodedJob w .place)
-      go noMask h = refl
-      go (badWord p) h = refl
-      go (badLong p) h = refl
-      go (job j) h = absurd (h refl)
+  -- what a refusal of the words comes to
+  abbrev at : Checked → Admission
+  at (Refused n p) = refusedAt n p
+  at Passed = refusedAt 0 0
 
-  pub words-passed : d .number ≡ 0 → admission r (typed (d .job)) ≡ admission r (words ws)
+  pub words-refused : (n p : ℕ) → d .checked ≡ Refused n p → admission r (words ws) ≡ refusedAt n p
+  unfolding by-words
+  words-refused n p h = go (decode ws) (sym (ap (λ (e : DecodedJob). e .checked) (is .decoded)) ∙ h)
+    where
+      go : (w : Decoded) → decodedJob w .checked ≡ Refused n p → by-words w ≡ refusedAt n p
+      go noMask e = ap at e
+      go (badWord q) e = ap at e
+      go (badLong q) e = ap at e
+      go (job j) e = absurd (let z : _≡_ {A = ℕ} 0 1 = cc in omega arith)
+
+  pub words-passed : d .checked ≡ Passed → admission r (typed (d .job)) ≡ admission r (words ws)
   unfolding by-words
   words-passed z = mask-passed r (d .job) (is .allowed z) ∙ sym (ap by-words (is .typed z))

@@ -85,17 +85,19 @@ promised ws lent r exit g =
 
 -- the three ways out of the call: a refusal of the words, one of the job, and the last stage
 module _ (ws lent : List ℕ) (r : DecodedJob) (d : Decodes ws r) where
-  pub ends-at-words : (r .number ≡ 0 → ⊥) → (a : Answer) → a ≡ answered (r .number) (r .place) → Converts ws lent a lent
-  ends-at-words z a e =
+  pub ends-at-words : (n p : ℕ) → r .checked ≡ Refused n p → (a : Answer) → a ≡ answered n p
+      → Converts ws lent a lent
+  ends-at-words n p z a e =
       promised ws lent a lent
       (record {
         conversion = ap (λ (q : Answer). unconverted (q .number) (q .place) lent) e
-            ∙ sym (ap (conversionAfter ws lent) (words-refused conversionRules ws r d z));
+            ∙ sym (ap (conversionAfter ws lent) (words-refused conversionRules ws r d n p z));
         mask = ap (λ (q : Answer). q .mask) e;
         arrival = ap (λ (q : Answer). q .arrival) e;
       })
 
-  module _ (z : r .number ≡ 0) (c : Checked) (is : c ≡ withoutJob (admission conversionRules (typed (r .job)))) where
+  module _ (z : r .checked ≡ Passed) (c : Checked)
+      (is : c ≡ withoutJob (admission conversionRules (typed (r .job)))) where
     pub ends-at-job : (n p : ℕ) → c ≡ Refused n p → (a : Answer) → a ≡ answered n p → Converts ws lent a lent
     ends-at-job n p e a f =
         promised ws lent a lent

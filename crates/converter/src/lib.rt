@@ -31,8 +31,9 @@ pub fn convert(words: &[u32], lent: &mut [u32]) -> Answer
     ensures { λ r. ⌜ Converts (now (words .entry)) (now (lent .entry)) r (now (lent .exit)) ⌝ }
 {
     let decoded = words::decode(words);
-    if decoded.number != 0 {
-        return answer(decoded.number, decoded.place);
+    let read = decoded.checked;
+    if let Checked::Refused(number, word) = read {
+        return answer(number, word);
     }
     let job = decoded.job;
     let axes = job.axes;

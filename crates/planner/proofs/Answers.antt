@@ -8,6 +8,7 @@ use mathlib.Core.List.{List, []}
 use lib.Dec.{eqb}
 use lib.IntN.{ℤ}
 use Rattle.model.specs.declared.Answer.{Answer}
+use Rattle.model.specs.declared.Checked.the-variants.{Passed, Refused}
 use Rattle.model.specs.declared.Job as Typed
 use Rattle.model.specs.declared.Order.the-variants.{Forwards}
 use Rattle.model.specs.declared.PartAnswer.{PartAnswer}
@@ -95,28 +96,27 @@ answered t k entry r exit e =
 -- ---- words: the answer, and the job, are those of the typed values that the words hold
 
 module _ (ws : List ℕ) (d : DecodedJob) (is : Decodes ws d) where
-  pub job-of-words : d .number ≡ 0 → jobOf (d .job) ≡ inputJob (words ws)
+  pub job-of-words : d .checked ≡ Passed → jobOf (d .job) ≡ inputJob (words ws)
   job-of-words z = sym (ap jobRead (is .typed z))
 
-  pub answer-of-words : d .number ≡ 0 → answerOf (typed (d .job)) ≡ answerOf (words ws)
+  pub answer-of-words : d .checked ≡ Passed → answerOf (typed (d .job)) ≡ answerOf (words ws)
   unfolding answerOf
   answer-of-words z = ap₂ (λ (j : Job). beforeTen (j .mask)) (job-of-words z)
       (ap (outcomeAfter []) (words-passed planningRules ws d is z))
 
-  pub of-words : (d .number ≡ 0 → ⊥) → Refusal planningRules (words ws) (d .number) (d .place)
-  of-words h =
-      refusal planningRules planning-numbered (words ws) (d .number) (d .place) (words-refused planningRules ws d is h)
+  module _ (n p : ℕ) (e : d .checked ≡ Refused n p) where
+    pub of-words : Refusal planningRules (words ws) n p
+    of-words = refusal planningRules planning-numbered (words ws) n p (words-refused planningRules ws d is n p e)
 
-  pub refusal-of-words : (d .number ≡ 0 → ⊥)
-      → record { number = d .number; place = d .place; mask = 0; arrival = 0 } ≡ answerOf (words ws)
-  unfolding answerOf
-  refusal-of-words h =
-      before-ten (inputJob (words ws) .mask)
-      (record { number = d .number; place = d .place; mask = 0; arrival = 0 }) [] (of-words h .not-10)
-      ∙ sym (ap (λ (a : Admission). beforeTen (inputJob (words ws) .mask) (outcomeAfter [] a)) (of-words h .is))
+    pub refusal-of-words : record { number = n; place = p; mask = 0; arrival = 0 } ≡ answerOf (words ws)
+    unfolding answerOf
+    refusal-of-words =
+        before-ten (inputJob (words ws) .mask) (record { number = n; place = p; mask = 0; arrival = 0 }) []
+        (of-words .not-10)
+        ∙ sym (ap (λ (a : Admission). beforeTen (inputJob (words ws) .mask) (outcomeAfter [] a)) (of-words .is))
 
   -- what is promised of the typed values is promised of the words
-  pub words-promise : (w : Wanted) (entry : List ℤ) (r : PartAnswer) (exit : List ℤ) → d .number ≡ 0
+  pub words-promise : (w : Wanted) (entry : List ℤ) (r : PartAnswer) (exit : List ℤ) → d .checked ≡ Passed
       → PromiseIn w (typed (d .job)) entry r exit → PromiseIn w (words ws) entry r exit
   unfolding partCall
   words-promise (Whole o) entry r exit z p =

@@ -8,6 +8,8 @@ use lib.ListN.{getD}
 use borrow.Author.Tests.{eq-eqb, ne-eqb}
 use Rattle.model.specs.declared.Answer.{Answer}
 use Rattle.model.specs.declared.AxisRaises.{AxisRaises}
+use Rattle.model.specs.declared.Checked.{Checked}
+use Rattle.model.specs.declared.Checked.the-variants.{Passed, Refused}
 use Rattle.model.specs.declared.Job as Typed
 use Rattle.model.specs.declared.RaisesAnswer.{RaisesAnswer}
 use Rattle.model.specs.planning.Job.{Job, jobOf}
@@ -52,33 +54,35 @@ promise t r e = promised (typed t) r e (subst (RaisesHold (jobOf t)) (sym e) (ra
 
 module _ (ws : List ℕ) (d : DecodedJob) (is : Decodes ws d) where
   -- the answer to the words is that to their job
-  pub words-promise : (r : RaisesAnswer) → d .number ≡ 0 → RaisesPromise (typed (d .job)) r → RaisesPromise (words ws) r
+  pub words-promise : (r : RaisesAnswer) → d .checked ≡ Passed → RaisesPromise (typed (d .job)) r
+      → RaisesPromise (words ws) r
   unfolding raisesCall
   words-promise r z p =
       promised (words ws) r (p .is ∙ ap₂ raisesWith (answer-of-words ws d is z) (job-of-words ws d is z))
       (subst (λ (j : Job). RaisesHold j r) (job-of-words ws d is z) (p .holds))
 
   -- refusals 1, 2 and 14
-  pub refusal-promise : (r : RaisesAnswer) → (d .number ≡ 0 → ⊥)
-      → r ≡ record {
-        answer = record { number = d .number; place = d .place; mask = 0; arrival = 0 };
-        axes = noneRaised;
-      } → RaisesPromise (words ws) r
-  refusal-promise r h e =
-      promised (words ws) r (e ∙ without-raises (words ws) _ (refusal-of-words ws d is h) no-eight)
+  pub refusal-promise : (r : RaisesAnswer) (n p : ℕ) → d .checked ≡ Refused n p
+      → r ≡ record { answer = record { number = n; place = p; mask = 0; arrival = 0 }; axes = noneRaised }
+      → RaisesPromise (words ws) r
+  refusal-promise r n p h e =
+      promised (words ws) r (e ∙ without-raises (words ws) _ (refusal-of-words ws d is n p h) no-eight)
       (record {
-        named = λ x m n. absurd (eight (x .number) n);
-        others = λ i n. ap (λ (a : RaisesAnswer). getD (a .axes) i noRaises) e ∙ none-raised i;
+        named = λ x m k. absurd (eight (x .number) k);
+        others = λ i k. ap (λ (a : RaisesAnswer). getD (a .axes) i noRaises) e ∙ none-raised i;
       })
     where
-      no-eight : d .number ≡ 8 → ⊥
-      no-eight z = go (decode ws) (sym (ap (λ (e : DecodedJob). e .number) (is .decoded)) ∙ z)
+      number : Checked → ℕ
+      number c = elim c [ Refused n p ↦ n | Passed ↦ 0 ]
+
+      no-eight : n ≡ 8 → ⊥
+      no-eight z = go (decode ws) (sym (ap (λ (e : DecodedJob). number (e .checked)) (is .decoded)) ∙ ap number h ∙ z)
         where
-          go : (w : Decoded) → decodedJob w .number ≡ 8 → ⊥
+          go : (w : Decoded) → number (decodedJob w .checked) ≡ 8 → ⊥
           go noMask e = omega arith
-          go (badWord p) e = omega arith
-          go (badLong p) e = omega arith
+          go (badWord q) e = omega arith
+          go (badLong q) e = omega arith
           go (job j) e = omega arith
 
       eight : (i : ℕ) → Named (r .answer) i → ⊥
-      eight i n = no-eight (sym (ap (λ (a : RaisesAnswer). a .answer .number) e) ∙ n .0)
+      eight i k = no-eight (sym (ap (λ (a : RaisesAnswer). a .answer .number) e) ∙ k .0)

@@ -13,6 +13,7 @@ use least_limit::Task;
 use model::Answer;
 use model::Axis;
 use model::AxisRaises;
+use model::Checked;
 use model::Job;
 use model::Limit;
 use model::Raise;
@@ -49,10 +50,11 @@ pub fn raises_words(words: &[u32]) -> RaisesAnswer
     ensures { λ r. ⌜ RaisesPromise (Input.words (now (words .entry))) r ⌝ }
 {
     let decoded = words::decode(words);
-    if decoded.number != 0 {
+    let checked = decoded.checked;
+    if let Checked::Refused(number, place) = checked {
         let refused = Answer {
-            number: decoded.number,
-            place: decoded.place,
+            number: number,
+            place: place,
             mask: 0,
             arrival: 0,
         };

@@ -82,11 +82,11 @@ module _ (t : Typed.Job) (first budget : ℕ) (c : Checked) (is : c ≡ withoutJ
 -- ---- words
 
 module _ (ws : List ℕ) (first budget : ℕ) (d : DecodedJob) (is : Decodes ws d) where
-  pub words-refused : (d .number ≡ 0 → ⊥) → refuseSearch (d .number) (d .place) ≡ searchCall (words ws) first budget
+  pub words-refused : (n p : ℕ) → d .checked ≡ Refused n p → refuseSearch n p ≡ searchCall (words ws) first budget
   unfolding searchCall
-  words-refused h = sym (ap (searchAfter first budget) (Read.words-refused searchRules ws d is h))
+  words-refused n p h = sym (ap (searchAfter first budget) (Read.words-refused searchRules ws d is n p h))
 
   -- the call from words is the call of the job that they hold
-  pub words-passed : d .number ≡ 0 → searchCall (typed (d .job)) first budget ≡ searchCall (words ws) first budget
+  pub words-passed : d .checked ≡ Passed → searchCall (typed (d .job)) first budget ≡ searchCall (words ws) first budget
   unfolding searchCall
   words-passed z = ap (searchAfter first budget) (Read.words-passed searchRules ws d is z)

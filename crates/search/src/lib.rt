@@ -63,8 +63,9 @@ pub fn search_words(words: &[u32], first: u32, budget: u32) -> SearchAnswer
     ensures { λ r. ⌜ SearchPromise (Input.words (now (words .entry))) first budget r ⌝ }
 {
     let decoded = words::decode(words);
-    if decoded.number != 0 {
-        return refused(decoded.number, decoded.place);
+    let checked = decoded.checked;
+    if let Checked::Refused(number, word) = checked {
+        return refused(number, word);
     }
     let job = decoded.job;
     search_job(job, first, budget)

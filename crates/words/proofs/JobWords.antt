@@ -1,96 +1,32 @@
 -- A whole job: what the code returns at each of its ways out is what the definitions decode.
-use Prim.Native.Nat.{ℕ, suc, _+_, _<_, _≤_}
-use Rattle.whole.proofs.Tests.{either}
-use Rattle.whole.proofs.Counting.{next-one}
+use Prim.Native.Nat.{ℕ, suc, _+_}
 use native.Mathlib.Omega.{arith}
 use mathlib.Core.Path.{_≡_, refl, sym, ap, subst, _∙_}
 use mathlib.Core.Bool.{Bool, true, false, cond, _&&_, and-false, true≢false}
-use mathlib.Core.Logic.{⊎-elim}
 use mathlib.Core.Option.{Option, none, some}
 use mathlib.Core.List.{List, [], _∷_}
-use lib.ListN.{getD, length, drop, drop-of-length-le}
-use lib.Seq.{drop-cons}
+use lib.ListN.{length, drop}
 use lib.Dec.{eqb, ltb}
-use borrow.Author.Tests.{ltb-true, ltb-false, lt-ltb, le-ltb}
+use borrow.Author.Tests.{ltb-true, ltb-false}
 use Rattle.model.specs.declared.Axis.{Axis}
+use Rattle.model.specs.declared.Checked.{Checked}
+use Rattle.model.specs.declared.Checked.the-variants.{Passed, Refused}
 use Rattle.model.specs.planning.Job.{JobAxis, setBits}
 use Rattle.model.specs.planning.Words.{kind, payload, firstBadLong, Reading, got, wrong, axes, ending, readJob}
 use Rattle.model.specs.planning.Words.{afterMask, goodMask, noMask, spelled, decided, decode}
 use Rattle.words.specs.declared.AxesReading.{AxesReading}
 use Rattle.words.specs.declared.DecodedJob.{DecodedJob}
 use Rattle.words.specs.Decoding.{unsetAxes, placed, wordJob, refusedJob, decodedJob, decidedJob}
-use Rattle.words.specs.ByIndex.{isKind, isEnd, payloadAt, badLongIn, readAll, begun}
-use Rattle.words.proofs.Reader.{on, field-yes, field-no, inside, outside, there}
+use Rattle.words.specs.ByIndex.{isKind, isEnd, payloadAt, badLongIn, longChecked, endChecked, readAll, begun}
+use Rattle.words.proofs.Reader.{on, field-yes, field-no, inside, there}
+use Rattle.words.proofs.EndWords.{end-there, ends, ending-is}
 use Rattle.words.proofs.LongWords.{long-found, no-long}
 use Rattle.words.proofs.AxesWords.{Matches, reads}
-
--- ---- the end word
-
-abbrev endWord : ℕ → Bool
-endWord w = eqb (kind w) 15 && eqb (payload w) 0
-
-end-inside : (ws : List ℕ) (i : ℕ) → i < length ws → isEnd ws i ≡ endWord (getD ws i 0)
-end-inside ws i h =
-    ap (λ (b : Bool). cond b (eqb (payloadAt ws i) 0) false) (inside ws i 15 h)
-    ∙ both (eqb (kind (getD ws i 0)) 15) (eqb (payloadAt ws i) 0)
-  where
-    both : (b d : Bool) → cond b d false ≡ b && d
-    both true d = refl
-    both false d = refl
-
-pub end-there : (ws : List ℕ) (i : ℕ) → isEnd ws i ≡ true → i < length ws
-end-there ws i e = there ws i 15 (first (isKind ws i 15) (eqb (payloadAt ws i) 0) e)
-  where
-    first : (b d : Bool) → cond b d false ≡ true → b ≡ true
-    first true d e = refl
-    first false d e = e
-
--- what `ending` reads at index i, by its tests: an end word, and a word after it
-abbrev ends : {A : Type 0} → A → ℕ → Bool → Bool → Reading A
-ends a i b l = cond b (cond l (wrong (i + 1)) (got a (i + 1) [])) (wrong i)
-
-last-word : {A : Type 0} (a : A) (i w : ℕ) → ending a i (w ∷ []) ≡ ends a i (endWord w) false
-last-word a i w = go (endWord w)
-  where
-    go : (b : Bool) → elim b [ true ↦ got a (suc i) [] | false ↦ wrong i ] ≡ ends a i b false
-    go true = ap (λ (k : ℕ). got a k []) (next-one i)
-    go false = refl
-
-more-words : {A : Type 0} (a : A) (i w u : ℕ) (us : List ℕ) → ending a i (w ∷ u ∷ us) ≡ ends a i (endWord w) true
-more-words a i w u us = go (endWord w)
-  where
-    go : (b : Bool) → elim b [ true ↦ wrong (suc i) | false ↦ wrong i ] ≡ ends a i b true
-    go true = ap (λ (k : ℕ). wrong k) (next-one i)
-    go false = refl
-
-module _ {A : Type 0} (a : A) (ws : List ℕ) (i : ℕ) where
-  ending-there : i < length ws → ending a i (drop i ws) ≡ ends a i (endWord (getD ws i 0)) (ltb (i + 1) (length ws))
-  ending-there h =
-      ap (ending a i) (drop-cons ws i 0 h)
-      ∙ ⊎-elim
-      (λ t. let k = ltb-true (i + 1) (length ws) t in
-      ap (λ (vs : List ℕ). ending a i (getD ws i 0 ∷ vs)) (drop-cons ws (suc i) 0 (omega arith))
-      ∙ more-words a i (getD ws i 0) (getD ws (suc i) 0) (drop (suc (suc i)) ws)
-      ∙ ap (ends a i (endWord (getD ws i 0))) (sym t))
-      (λ t. let k = ltb-false (i + 1) (length ws) t in
-      ap (λ (vs : List ℕ). ending a i (getD ws i 0 ∷ vs)) (drop-of-length-le ws {i = suc i} (omega arith))
-      ∙ last-word a i (getD ws i 0)
-      ∙ ap (ends a i (endWord (getD ws i 0))) (sym t))
-      (either (ltb (i + 1) (length ws)))
-
-  ending-is : ending a i (drop i ws) ≡ ends a i (isEnd ws i) (ltb (i + 1) (length ws))
-  ending-is = ⊎-elim
-      (λ t. let h = ltb-true i (length ws) t in
-      ending-there h ∙ ap (λ (b : Bool). ends a i b (ltb (i + 1) (length ws))) (sym (end-inside ws i h)))
-      (λ t. ap (ending a i) (drop-of-length-le ws {i = i} (ltb-false i (length ws) t))
-      ∙ sym (ap (λ (b : Bool). ends a i (cond b (eqb (payloadAt ws i) 0) false) (ltb (i + 1) (length ws)))
-      (outside ws i 15 t)))
-      (either (ltb i (length ws)))
 
 -- ---- from the mask on
 
 abbrev accepted : ℕ → ℕ → List Axis → DecodedJob
-accepted m asked six = record { number = 0; place = 0; job = wordJob m asked six }
+accepted m asked six = record { checked = Passed; job = wordJob m asked six }
 
 -- once the structure is right, by what refusal 14 names
 abbrev unless : Option ℕ → ℕ → ℕ → List Axis → DecodedJob
@@ -99,6 +35,11 @@ unless o m asked six = elim o [ some p ↦ refusedJob 14 p | none ↦ accepted m
 -- once the axes are read, by the tests of the end word
 abbrev closed : Option ℕ → ℕ → ℕ → ℕ → List Axis → Bool → Bool → DecodedJob
 closed o m asked i six b l = cond b (cond l (refusedJob 2 (i + 1)) (unless o m asked six)) (refusedJob 2 i)
+
+-- the same by what the code's check of the end says
+abbrev checkedJob : ℕ → ℕ → List Axis → Checked → DecodedJob
+checkedJob m asked six (Refused n p) = refusedJob n p
+checkedJob m asked six Passed = accepted m asked six
 
 -- a reading of axes that the code's reading s matches
 module _ (ws : List ℕ) (m asked : ℕ) (s : AxesReading) where
@@ -170,25 +111,43 @@ module _ (ws : List ℕ) (m : ℕ) where
         ∙ closed-is ws m asked s axes-read matches h
         ∙ (λ i. closed (firstBadLong 0 ws) m asked (s .at) (s .axes) (p i) (q i)))
 
-    pub no-end : s .got ≡ true → isEnd ws (s .at) ≡ false → refusedJob 2 (s .at) ≡ after
-    no-end h p = by-end false (ltb (s .at + 1) (length ws)) h p refl
+    module _ (h : s .got ≡ true) where
+      by-long : isEnd ws (s .at) ≡ true → ltb (s .at + 1) (length ws) ≡ false
+          → checkedJob m asked (s .axes) (longChecked (badLongIn ws (s .at) 0) (s .at)) ≡ after
+      by-long p q = go (ltb f (s .at)) refl
+        where
+          f : ℕ
+          f = badLongIn ws (s .at) 0
 
-    pub left-over : s .got ≡ true → isEnd ws (s .at) ≡ true → s .at + 1 < length ws → refusedJob 2 (s .at + 1) ≡ after
-    left-over h p k = by-end true true h p (lt-ltb _ _ k)
+          count : length ws ≡ suc (s .at)
+          count = omega (arith, end-there ws (s .at) p, ltb-false (s .at + 1) (length ws) q)
 
-    module _ (h : s .got ≡ true) (p : isEnd ws (s .at) ≡ true) (k : length ws ≤ s .at + 1) (f : ℕ)
-        (is-f : f ≡ badLongIn ws (s .at) 0) where
-      count : length ws ≡ suc (s .at)
-      count = omega (arith, end-there ws (s .at) p)
+          named : (o : Option ℕ) → firstBadLong 0 ws ≡ o → unless o m asked (s .axes) ≡ after
+          named o e = ap (λ (q : Option ℕ). unless q m asked (s .axes)) (sym e) ∙ by-end true false h p q
 
-      by-long : (o : Option ℕ) → firstBadLong 0 ws ≡ o → unless o m asked (s .axes) ≡ after
-      by-long o e = ap (λ (q : Option ℕ). unless q m asked (s .axes)) (sym e) ∙ by-end true false h p (le-ltb _ _ k)
+          go : (b : Bool) → ltb f (s .at) ≡ b → checkedJob m asked (s .axes) (cond b (Refused 14 f) Passed) ≡ after
+          go true e = named (some f) (long-found ws (s .at) f count refl (ltb-true f (s .at) e))
+          go false e = named none (no-long ws (s .at) f count refl (ltb-false f (s .at) e))
 
-      pub bad-long : f < s .at → refusedJob 14 f ≡ after
-      bad-long l = by-long (some f) (long-found ws (s .at) f count is-f l)
+      ended : checkedJob m asked (s .axes) (endChecked ws (s .at)) ≡ after
+      unfolding endChecked
+      ended = go (isEnd ws (s .at)) (ltb (s .at + 1) (length ws)) refl refl
+        where
+          last : Bool → Checked
+          last l = cond l (Refused 2 (s .at + 1)) (longChecked (badLongIn ws (s .at) 0) (s .at))
 
-      pub whole-job : s .at ≤ f → accepted m asked (s .axes) ≡ after
-      whole-job l = by-long none (no-long ws (s .at) f count is-f l)
+          go : (b l : Bool) → isEnd ws (s .at) ≡ b → ltb (s .at + 1) (length ws) ≡ l
+              → checkedJob m asked (s .axes) (cond b (last l) (Refused 2 (s .at))) ≡ after
+          go false l p q = by-end false l h p q
+          go true true p q = by-end true true h p q
+          go true false p q = by-long p q
+
+      module _ (c : Checked) (is-c : c ≡ endChecked ws (s .at)) where
+        pub wrong-end : (n p : ℕ) → c ≡ Refused n p → refusedJob n p ≡ after
+        wrong-end n p e = ap (checkedJob m asked (s .axes)) (sym e ∙ is-c) ∙ ended
+
+        pub whole-job : c ≡ Passed → accepted m asked (s .axes) ≡ after
+        whole-job e = ap (checkedJob m asked (s .axes)) (sym e ∙ is-c) ∙ ended
 
 -- ---- the mask
 

@@ -9,6 +9,7 @@ use lib.ListN.{getD, length, drop, set, length-set, drop-of-length-le}
 use lib.Seq.{drop-cons, getD-set-same, getD-set-other}
 use lib.Dec.{eqb}
 use Rattle.model.specs.declared.Axis.{Axis}
+use Rattle.model.specs.declared.Checked.the-variants.{Passed, Refused}
 use Rattle.model.specs.declared.Windows.{Windows}
 use Rattle.model.specs.planning.Windows.{noWindows}
 use Rattle.model.specs.planning.Job.{Job, JobAxis, setFrom, setBits, setAxes, jobOf, unsetAxis}
@@ -178,28 +179,33 @@ sound (w ∷ ws) = go (eqb (kind w) 1) (goodMask (payload w)) refl
     go true false e = tt
     go false b e = tt
 
+apart : {n p : ℕ} → Refused n p ≡ Passed → ⊥
+apart e = let z : _≡_ {A = ℕ} 0 1 = cc in omega arith
+
 pub decodes : (ws : List ℕ) (r : DecodedJob) → r ≡ decodedJob (decode ws) → Decodes ws r
 decodes ws r e =
     record {
       decoded = e;
-      typed = λ z. typed-of (decode ws) (sound ws) (zero-of z) ∙ ap (λ (s : DecodedJob). job (jobOf (s .job))) (sym e);
-      allowed = λ z. ap (λ (s : DecodedJob). goodMask (s .job .mask)) e ∙ allowed-of (decode ws) (sound ws) (zero-of z);
+      typed = λ z.
+          typed-of (decode ws) (sound ws) (passed-of z) ∙ ap (λ (s : DecodedJob). job (jobOf (s .job))) (sym e);
+      allowed = λ z.
+          ap (λ (s : DecodedJob). goodMask (s .job .mask)) e ∙ allowed-of (decode ws) (sound ws) (passed-of z);
     }
   where
-    zero-of : r .number ≡ 0 → decodedJob (decode ws) .number ≡ 0
-    zero-of z = sym (ap (λ (s : DecodedJob). s .number) e) ∙ z
+    passed-of : r .checked ≡ Passed → decodedJob (decode ws) .checked ≡ Passed
+    passed-of z = sym (ap (λ (s : DecodedJob). s .checked) e) ∙ z
 
-    typed-of : (d : Decoded) → Sound d → decodedJob d .number ≡ 0 → d ≡ job (jobOf (decodedJob d .job))
-    typed-of noMask h z = absurd (omega arith)
-    typed-of (badWord p) h z = absurd (omega arith)
-    typed-of (badLong p) h z = absurd (omega arith)
+    typed-of : (d : Decoded) → Sound d → decodedJob d .checked ≡ Passed → d ≡ job (jobOf (decodedJob d .job))
+    typed-of noMask h z = absurd (apart z)
+    typed-of (badWord p) h z = absurd (apart z)
+    typed-of (badLong p) h z = absurd (apart z)
     typed-of (job j) (g, ns, w) z =
         ap₂ (λ (xs : List JobAxis) (v : Windows). job
         (record { mask = j .mask; asked = j .asked; axes = xs; windows = v }))
         (sym (axes-again 6 0 (j .mask) (j .axes) unsetAxes refl ns)) w
 
-    allowed-of : (d : Decoded) → Sound d → decodedJob d .number ≡ 0 → goodMask (decodedJob d .job .mask) ≡ true
-    allowed-of noMask h z = absurd (omega arith)
-    allowed-of (badWord p) h z = absurd (omega arith)
-    allowed-of (badLong p) h z = absurd (omega arith)
+    allowed-of : (d : Decoded) → Sound d → decodedJob d .checked ≡ Passed → goodMask (decodedJob d .job .mask) ≡ true
+    allowed-of noMask h z = absurd (apart z)
+    allowed-of (badWord p) h z = absurd (apart z)
+    allowed-of (badLong p) h z = absurd (apart z)
     allowed-of (job j) h z = h .0

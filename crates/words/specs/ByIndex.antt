@@ -8,6 +8,8 @@ use lib.ListN.{getD, length, drop, set}
 use lib.Dec.{eqb, ltb}
 use Rattle.model.specs.declared.Weight.the-variants.{Given}
 use Rattle.model.specs.declared.Axis.{Axis}
+use Rattle.model.specs.declared.Checked.{Checked}
+use Rattle.model.specs.declared.Checked.the-variants.{Passed, Refused}
 use Rattle.model.specs.declared.SecondSway.{SecondSway}
 use Rattle.model.specs.declared.SecondSway.the-variants.{Absent, HalfPeriod}
 use Rattle.model.specs.declared.State.{State}
@@ -120,3 +122,15 @@ readAll ws (suc n) i m s = readAll ws n (suc i) (m / 2) (readOn ws i m s)
 -- no axis read; their words begin at index 2
 abbrev pub begun : AxesReading
 begun = record { got = true; at = 2; axes = unsetAxes }
+
+-- ---- the end of a job
+
+-- refusal 14 of the words before i, f being the first that it names, or i where it names none
+abbrev pub longChecked : ℕ → ℕ → Checked
+longChecked f i = cond (ltb f i) (Refused 14 f) Passed
+
+-- refusal 2 where word i is not the end word, or not the last; then refusal 14
+unfoldable pub endChecked : List ℕ → ℕ → Checked
+endChecked ws i =
+    cond (isEnd ws i)
+    (cond (ltb (i + 1) (length ws)) (Refused 2 (i + 1)) (longChecked (badLongIn ws i 0) i)) (Refused 2 i)

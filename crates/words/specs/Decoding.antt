@@ -5,6 +5,7 @@ use mathlib.Core.Bool.{true}
 use mathlib.Core.List.{List, [], _∷_}
 use lib.ListN.{set, replicate}
 use Rattle.model.specs.declared.Axis.{Axis}
+use Rattle.model.specs.declared.Checked.the-variants.{Passed, Refused}
 use Rattle.model.specs.declared.Job as Typed
 use Rattle.model.specs.planning.Windows.{noWindows}
 use Rattle.model.specs.planning.Job.{Job, JobAxis, jobOf, unsetAxis}
@@ -25,10 +26,10 @@ abbrev pub wordJob : ℕ → ℕ → List Axis → Typed.Job
 wordJob m asked six = record { mask = m; asked = asked; axes = six; windows = noWindows }
 
 abbrev pub acceptedJob : Job → DecodedJob
-acceptedJob j = record { number = 0; place = 0; job = wordJob (j .mask) (j .asked) (placed (j .axes) unsetAxes) }
+acceptedJob j = record { checked = Passed; job = wordJob (j .mask) (j .asked) (placed (j .axes) unsetAxes) }
 
 abbrev pub refusedJob : ℕ → ℕ → DecodedJob
-refusedJob number place = record { number = number; place = place; job = wordJob 0 0 unsetAxes }
+refusedJob number place = record { checked = Refused number place; job = wordJob 0 0 unsetAxes }
 
 -- refusal 1, refusal 2 or 14 with its place, or the job
 abbrev pub decodedJob : Decoded → DecodedJob
@@ -45,6 +46,6 @@ decidedJob ws r = decodedJob (decided ws r)
 pub record Decodes (ws : List ℕ) (r : DecodedJob) : Type 0 where
   -- every field, from the definition
   pub decoded : r ≡ decodedJob (decode ws)
-  -- number 0: the definition's job is that of the typed values, and the mask is allowed
-  pub typed : r .number ≡ 0 → decode ws ≡ job (jobOf (r .job))
-  pub allowed : r .number ≡ 0 → goodMask (r .job .mask) ≡ true
+  -- passed: the definition's job is that of the typed values, and the mask is allowed
+  pub typed : r .checked ≡ Passed → decode ws ≡ job (jobOf (r .job))
+  pub allowed : r .checked ≡ Passed → goodMask (r .job .mask) ≡ true

@@ -54,11 +54,10 @@ returns c =
     let x = c .before .before .before .read-axis in
     let named = c .before .before .before .before .if1 .taken in
     let e = turn-set ws (l .number) (l .bits) s refl named (x .result) _ (x .ensures) (c .before .next2 .given .1) in
-    let at = ap (λ (r : AxesReading). r .at) e in
     let more = more-axes ws (l .number) (l .bits) s (c .before .before .before .before .before .loop-test .taken) in
     let later = readAll ws (6 - (l .number + 1)) (l .number + 1) (l .bits / 2) in
     let none = stays ws (6 - (l .number + 1)) (l .number + 1) (l .bits / 2) (c .before .next2 .given .0 .0) (l .axes) in
-    (sym none ∙ ap later e ∙ sym more ∙ l .inv .reads, omega (arith, at, turn-end ws (l .number) (l .bits) s))
+    sym none ∙ ap later e ∙ sym more ∙ l .inv .reads
 
 add-number : tie.Need-add-number Inv-loop μ-loop
 add-number c = search needs
@@ -101,7 +100,7 @@ returns-2 c =
     let l = c .before .loop in
     let ws = c .before .before .before .before .args .words .now in
     let none = no-axes ws (l .number) (l .bits) (going (l .at) (l .axes)) (c .loop-test .left) in
-    (sym none ∙ l .inv .reads, omega arith)
+    sym none ∙ l .inv .reads
 
 pub read-axes-spec : {M : Type 1} → statement M
 read-axes-spec =
