@@ -2,7 +2,7 @@
 -- an axis are those of its task.
 use Prim.Native.Nat.{ℕ, suc, _+_, _-_, _≤_, _<_}
 use native.Mathlib.Omega.{arith}
-use mathlib.Core.Path.{_≡_, refl, sym, ap, ap₂, _∙_}
+use mathlib.Core.Path.{_≡_, sym, ap, ap₂, _∙_}
 use mathlib.Core.Bool.{Bool, false, false≢true}
 use mathlib.Core.Option.{Option, none, some}
 use lib.Dec.{ltb}
@@ -22,8 +22,7 @@ use Rattle.envelopes.specs.Sums.{Next}
 use Rattle.least_limit.specs.declared.Task.{Task}
 use Rattle.least_limit.specs.Limits.{limitIn, enough, enoughWith}
 use Rattle.least_limit.specs.Tasks.{TaskIs}
-use Rattle.raises.proofs.BothRaises.{none-of, some-of}
-use Rattle.raises.specs.Promise.{orNone, leastRaise}
+use Rattle.raises.specs.LeastRaises.{leastRaise}
 
 -- ---- a task
 
@@ -40,11 +39,10 @@ module _ (q : Limit) (t : Task) (r : ℕ) (n : Next (enoughWith q t) (suc (limit
   only : (o : Option ℕ) → Result tried 1 most o → o ≡ leastFrom tried 1 most
   only o h = one-result tried 1 most o (leastFrom tried 1 most) h (result tried 1 most)
 
-  pub found : r ≤ highest q → orNone (r - current) ≡ leastRaise q t
+  pub found : r ≤ highest q → some (r - current) ≡ leastRaise q t
   unfolding leastRaise
   found h =
-      some-of (r - current) (λ z. omega (arith, n .low))
-      ∙ only (some (r - current))
+      only (some (r - current))
       (record {
         first = omega (arith, n .low);
         last = omega (arith, n .low);
@@ -52,11 +50,10 @@ module _ (q : Limit) (t : Task) (r : ℕ) (n : Next (enoughWith q t) (suc (limit
         least = λ i a b e. false≢true (sym (n .missed (current + i) (omega arith) (omega arith)) ∙ e);
       })
 
-  pub not-found : limitIn q t ≤ highest q → highest q < r → orNone 0 ≡ leastRaise q t
+  pub not-found : limitIn q t ≤ highest q → highest q < r → none ≡ leastRaise q t
   unfolding leastRaise
   not-found l h =
-      none-of 0 refl
-      ∙ only none (λ i a b e. false≢true (sym (n .missed (current + i) (omega arith) (omega arith)) ∙ e))
+      only none (λ i a b e. false≢true (sym (n .missed (current + i) (omega arith) (omega arith)) ∙ e))
 
 -- ---- an axis
 

@@ -20,6 +20,7 @@ use model::Raise;
 use model::RaisesAnswer;
 use motion::Landing;
 ghost use mathlib.Core.Path.{_≡_};
+ghost use mathlib.Core.Option.{none, some};
 ghost use Prim.Native.Nat.{_^_, _≤_, _<_, max};
 ghost use lib.IntN.{pos, _+ℤ_, _*ℤ_};
 ghost use Rattle.whole.specs.Ranges.{Within};
@@ -30,7 +31,8 @@ ghost use Rattle.model.specs.planning.Outcome as Input;
 ghost use Rattle.model.specs.calls.Raises.{highest, inOrder, raisesOf, raisesFrom, noneRaised};
 ghost use Rattle.least_limit.specs.Limits.{TaskRanged};
 ghost use Rattle.least_limit.specs.Tasks.{taskWith, fastestOf, TaskIs};
-ghost use Rattle.raises.specs.Promise.{RaisesPromise, orNone, leastRaise};
+ghost use Rattle.raises.specs.Promise.{RaisesPromise};
+ghost use Rattle.raises.specs.LeastRaises.{raiseBy, leastRaise};
 
 // The answer to a job with no table lent, so that 10 never comes; where its number is 8, with the
 // raises of each axis that its mask names, and else with none.
@@ -119,23 +121,44 @@ fn raises_of(x: Axis, n: u32) -> AxisRaises
     in_order(m, l)
 }
 
-// The raise of M and that of L, 0 standing for none: the smaller first, M's if they are equal.
-fn in_order(m: u32, l: u32) -> AxisRaises
-    ensures { λ r. ⌜ r ≡ inOrder (orNone m) (orNone l) ⌝ }
+// The raise of M and that of L: the smaller first, M's if they are equal.
+fn in_order(m: LeastRaise, l: LeastRaise) -> AxisRaises
+    ensures { λ r. ⌜ r ≡ inOrder (raiseBy m) (raiseBy l) ⌝ }
 {
-    if m == 0 {
-        if l == 0 {
-            return pair(Raise::NoRaise, Raise::NoRaise);
-        }
-        return pair(Raise::SpeedBy(l), Raise::NoRaise);
+    match m {
+        LeastRaise::Missing => speed_alone(l),
+        LeastRaise::By(a) => acceleration_and(a, l),
     }
-    if l == 0 {
-        return pair(Raise::AccelerationBy(m), Raise::NoRaise);
+}
+
+// The raise of L where there is none of M.
+fn speed_alone(l: LeastRaise) -> AxisRaises
+    ensures { λ r. ⌜ r ≡ inOrder none (raiseBy l) ⌝ }
+{
+    match l {
+        LeastRaise::Missing => pair(Raise::NoRaise, Raise::NoRaise),
+        LeastRaise::By(v) => pair(Raise::SpeedBy(v), Raise::NoRaise),
     }
-    if m <= l {
-        return pair(Raise::AccelerationBy(m), Raise::SpeedBy(l));
+}
+
+// The raise a of M, and that of L.
+fn acceleration_and(a: u32, l: LeastRaise) -> AxisRaises
+    ensures { λ r. ⌜ r ≡ inOrder (some a) (raiseBy l) ⌝ }
+{
+    match l {
+        LeastRaise::Missing => pair(Raise::AccelerationBy(a), Raise::NoRaise),
+        LeastRaise::By(v) => both(a, v),
     }
-    pair(Raise::SpeedBy(l), Raise::AccelerationBy(m))
+}
+
+// The raise a of M and the raise v of L.
+fn both(a: u32, v: u32) -> AxisRaises
+    ensures { λ r. ⌜ r ≡ inOrder (some a) (some v) ⌝ }
+{
+    if a <= v {
+        return pair(Raise::AccelerationBy(a), Raise::SpeedBy(v));
+    }
+    pair(Raise::SpeedBy(v), Raise::AccelerationBy(a))
 }
 
 fn pair(first: Raise, second: Raise) -> AxisRaises
@@ -149,18 +172,25 @@ fn pair(first: Raise, second: Raise) -> AxisRaises
 
 // ---- one limit
 
-// The least raise of a limit, within its range, that is enough for a task; 0 where there is none.
-fn least_raise(t: Task, limit: Limit) -> u32
+// The least raise of a limit, or none within its range.
+enum LeastRaise {
+    By(u32),
+    Missing,
+}
+
+// The least raise of a limit, within its range, that is enough for a task.
+fn least_raise(t: Task, limit: Limit) -> LeastRaise
     requires { ⌜ TaskRanged t ⌝ }
-    ensures { λ r. ⌜ orNone r ≡ leastRaise limit t ⌝ }
+    ensures { λ r. ⌜ raiseBy r ≡ leastRaise limit t ⌝ }
 {
     let current = least_limit::limit_in(t, limit);
     let most = highest(limit);
     let found = least_limit::least_limit(t, limit, most);
     if most < found {
-        return 0;
+        return LeastRaise::Missing;
     }
-    (found - current) as u32
+    let by = (found - current) as u32;
+    LeastRaise::By(by)
 }
 
 // The highest of a limit's range.

@@ -1,12 +1,12 @@
 use Prim.Native.Nat.{ℕ, suc, _-_}
 use mathlib.Core.Path.{ap, subst, _∙_}
+use mathlib.Core.Option.{some}
 use native.Mathlib.Omega.{arith}
 use borrow.Author.Needs.{needs}
 use Rattle.model.specs.calls.Raises as model
 use Rattle.envelopes.specs.Sums.{Next}
 use Rattle.least_limit.specs.Limits.{limitIn, enoughWith}
 use Rattle.least_limit.proofs.FallsShort.{limit-range, highest-small}
-use Rattle.raises.specs.Promise.{orNone}
 use Rattle.raises.proofs.LeastRaises.{found, not-found}
 use Rattle.raises.proofs.least_raise.Statement.{statement}
 use Rattle.raises.proofs.least_raise.Tie as tie
@@ -46,11 +46,11 @@ returns c =
     (limit-range (a .args .t) (a .args .limit) (a .pre))
     (omega (arith, c .before .before .highest .ensures, c .if1 .taken))
 
-sub-result : tie.Need-sub-result
-sub-result c = omega (arith, c .before .before .before .limit-in .ensures, least (c .before) .low)
+sub-by : tie.Need-sub-by
+sub-by c = omega (arith, c .before .before .before .limit-in .ensures, least (c .before) .low)
 
-cast-result : tie.Need-cast-result
-cast-result c =
+cast-by : tie.Need-cast-by
+cast-by c =
     omega (
       arith,
       highest-small (c .before .before .before .before .args .limit),
@@ -61,7 +61,7 @@ cast-result c =
 returns-2 : tie.Need-returns-2
 returns-2 c =
     let a = c .before .before .before .before in
-    ap (λ (n : ℕ). orNone (c .before .least-limit .result - n)) (c .before .before .before .limit-in .ensures)
+    ap (λ (n : ℕ). some (c .before .least-limit .result - n)) (c .before .before .before .limit-in .ensures)
     ∙ found (a .args .limit) (a .args .t) (c .before .least-limit .result) (least (c .before))
     (omega (arith, c .before .before .highest .ensures, c .if1 .left))
 
@@ -73,6 +73,6 @@ least-raise-spec =
     highest-requires
     least-limit-requires
     returns
-    sub-result
-    cast-result
+    sub-by
+    cast-by
     returns-2)
