@@ -4,3 +4,4 @@ pub mod PlannedRanges
 pub mod PlannedSums
 pub mod PlannedTicks
 pub mod PlannableAxis
+pub mod OneAnswer

@@ -16,7 +16,7 @@ use Rattle.profile.specs.Profiles.{endsAllowed, sumBetween}
 use Rattle.cruise.specs.Engines.{EnginesAgree}
 use Rattle.profile.proofs.FeasibleParts.{feasible-parts}
 use Rattle.cruise.proofs.Engines.{engines-agree}
-use Rattle.motion.specs.Engines.{OneAnswer, OneAnswers}
+use Rattle.planned.specs.Engines.{OneAnswer, OneAnswers}
 
 module _ (x : Axis) (some : 0 < accelerationLimit x) (n : ℕ) where
   agree : EnginesAgree (leg x n)
