@@ -11,7 +11,7 @@ use native.Mathlib.Omega.{arith}
 use Rattle.whole.proofs.Tests.{T-true, T-false, true-T, right, and-no, lt-or-le}
 use Rattle.model.specs.planning.Outcome.{leastFrom}
 use Rattle.model.proofs.jobs.LeastTick.{Least, Result, result, least-is, none-is}
-use Rattle.envelopes.specs.Sums.{Next}
+use Rattle.whole.specs.Candidates.{Next}
 use Rattle.arrival.specs.Arrivals.{orZero}
 use Rattle.arrival.proofs.Search.{is-some, is-none}
 

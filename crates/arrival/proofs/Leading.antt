@@ -14,7 +14,7 @@ use Rattle.whole.proofs.Counting.{next-one}
 use Rattle.model.specs.declared.Axis.{Axis}
 use Rattle.model.specs.planning.Motion.{reachable}
 use Rattle.model.specs.planning.Outcome.{allReach}
-use Rattle.envelopes.specs.Sums.{Next}
+use Rattle.whole.specs.Candidates.{Next}
 use Rattle.reach.specs.Halving.{Loses}
 use Rattle.model.specs.planning.Job.{JobAxis, setAxes}
 use Rattle.model.specs.planning.Refusals.{Passed, AllPassed}

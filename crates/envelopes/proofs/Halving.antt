@@ -7,7 +7,7 @@ use mathlib.Core.Logic.{_⊎_, inl, inr}
 use native.Mathlib.Omega.{arith}
 use lib.Dec.{T}
 use Rattle.whole.proofs.Tests.{T-true, T-false, lt-or-le}
-use Rattle.envelopes.specs.Sums.{Next}
+use Rattle.whole.specs.Candidates.{Next}
 use Rattle.envelopes.specs.Skips.{LastingTo, Further, Bracket}
 
 pub not-lower : (test : ℕ → Bool) (last low step r : ℕ) → Further test last low step r → low ≤ r

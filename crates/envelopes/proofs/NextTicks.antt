@@ -14,7 +14,8 @@ use Rattle.model.specs.planning.Leg.{Leg}
 use Rattle.model.proofs.legs.Envelopes.{Joined}
 use Rattle.profile.specs.Profiles.{endsAllowed, sumBetween}
 use Rattle.envelopes.specs.declared.sums.Sums.{Sums}
-use Rattle.envelopes.specs.Sums.{envelopeSumsAt, withinSums, withTicks, betweenAt, Next, NearFrom}
+use Rattle.whole.specs.Candidates.{Next}
+use Rattle.envelopes.specs.Sums.{envelopeSumsAt, withinSums, withTicks, betweenAt, NearFrom}
 use Rattle.profile.proofs.FeasibleParts.{joined-ends}
 
 -- the test at t ticks, by the envelope sums there

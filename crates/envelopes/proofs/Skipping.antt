@@ -14,7 +14,8 @@ use Rattle.whole.proofs.Ring.{pol, same}
 use Rattle.whole.proofs.Tests.{T-true, T-false, lt-or-le}
 use Rattle.model.specs.planning.Leg.{Leg, upper, lower}
 use Rattle.profile.specs.Profiles.{endsAllowed, sumBetween}
-use Rattle.envelopes.specs.Sums.{withTicks, betweenAt, Next}
+use Rattle.whole.specs.Candidates.{Next}
+use Rattle.envelopes.specs.Sums.{withTicks, betweenAt}
 use Rattle.envelopes.specs.Skips.{Lasting, Skips, ShortAt}
 use Rattle.envelopes.proofs.EnvelopeSums.{mirrored, lower-mirror}
 use Rattle.envelopes.proofs.NextTicks.{wanted-later}

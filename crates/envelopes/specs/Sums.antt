@@ -3,8 +3,7 @@
 -- ramps cross; the others stay, so that the sum grows by it. That `stepped` gives the next leg's
 -- sums is the theorem `step-is`.
 use Prim.Native.Nat.{ℕ, suc, _-_, _*_, _/_, _^_, _≤_, _<_}
-use mathlib.Core.Path.{_≡_}
-use mathlib.Core.Bool.{Bool, true, false, _&&_}
+use mathlib.Core.Bool.{Bool, _&&_}
 use lib.IntN.{ℤ, pos, negℤ, natAbs, _+ℤ_, _-ℤ_, _*ℤ_}
 use lib.Signed.{leZ}
 use Rattle.whole.specs.Integers.{least, greatest, sumTo}
@@ -76,13 +75,6 @@ withTicks g t =
     }
 
 -- ---- the next number of ticks that will do
-
--- of the candidates from first to last the least that passes a test, or one past the last
-pub record Next (test : ℕ → Bool) (first last r : ℕ) : Type 0 where
-  pub low : first ≤ r
-  pub high : r ≤ suc last
-  pub missed : (k : ℕ) → first ≤ k → k < r → test k ≡ false
-  pub passed : r ≤ last → test r ≡ true
 
 -- at t ticks: the ends can be joined, and the required sum, which is s at g .ticks and changes by c
 -- a tick, is between the sums of the envelopes

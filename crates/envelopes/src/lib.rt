@@ -22,7 +22,8 @@ ghost use mathlib.Core.Bool.{false};
 ghost use lib.IntN.{natAbs};
 ghost use Rattle.whole.specs.Ranges.{Within};
 ghost use Rattle.profile.specs.Profiles.{legOf, Ranged, Joinable};
-ghost use Rattle.envelopes.specs.Sums.{Next, betweenAt, NearFrom};
+ghost use Rattle.whole.specs.Candidates.{Next};
+ghost use Rattle.envelopes.specs.Sums.{betweenAt, NearFrom};
 ghost use Rattle.envelopes.specs.Skips.{Lasting, Further};
 
 // No leg has more ticks: twelve turns halve them down to one.

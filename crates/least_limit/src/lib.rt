@@ -13,7 +13,7 @@ ghost use Prim.Native.Nat.{suc, _-_, _*_, _^_, _≤_, _<_};
 ghost use mathlib.Core.Path.{_≡_};
 ghost use lib.Dec.{leb};
 ghost use Rattle.model.specs.calls.Raises.{highest};
-ghost use Rattle.envelopes.specs.Sums.{Next};
+ghost use Rattle.whole.specs.Candidates.{Next};
 ghost use Rattle.areas.specs.Areas.{triangle};
 ghost use Rattle.least_limit.specs.Limits.{profileAt, other, limitIn, need, unit, gainOf, enoughWith};
 ghost use Rattle.least_limit.specs.Limits.{TaskRanged, Allowed, PartsRanged, ProfileFor, FirstAllowed, Leads};

@@ -18,7 +18,7 @@ use Rattle.model.specs.calls.Raises.{limitOf, highest, withLimit, raiseOf}
 use Rattle.model.proofs.calls.LeastRaise.{raise-missing}
 use Rattle.model.proofs.jobs.LeastTick.{Result, result, one-result}
 use Rattle.model.proofs.jobs.PassedAxis.{speed-limit, some-acceleration}
-use Rattle.envelopes.specs.Sums.{Next}
+use Rattle.whole.specs.Candidates.{Next}
 use Rattle.least_limit.specs.declared.Task.{Task}
 use Rattle.least_limit.specs.Limits.{limitIn, enough, enoughWith}
 use Rattle.least_limit.specs.Tasks.{TaskIs}

@@ -20,7 +20,7 @@ use Rattle.model.specs.planning.Motion.{landingAcceleration, arrivalVelocity, r
 use Rattle.model.specs.planning.Refusals.{Passed}
 use Rattle.model.specs.theorems.Threshold.{Slow}
 use Rattle.model.proofs.motions.Threshold.{arrival-later, slow-ahead, reached-slow, reached-later}
-use Rattle.envelopes.specs.Sums.{Next}
+use Rattle.whole.specs.Candidates.{Next}
 use Rattle.reach.specs.Halving.{roomToward, TicksWithin, LastPassing, ReachesSome}
 use Rattle.reach.proofs.Steady.{reach-after, always-slow}
 

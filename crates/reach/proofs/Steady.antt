@@ -33,7 +33,8 @@ use Rattle.model.specs.theorems.Threshold.{Slow}
 use Rattle.model.proofs.motions.Threshold.{reached-later}
 use Rattle.model.proofs.legs.WholeSum.{sum-is-whole}
 use Rattle.profile.specs.Profiles.{endsAllowed, sumBetween}
-use Rattle.envelopes.specs.Sums.{withTicks, betweenAt, Next}
+use Rattle.whole.specs.Candidates.{Next}
+use Rattle.envelopes.specs.Sums.{withTicks, betweenAt}
 use Rattle.envelopes.specs.Skips.{Lasting}
 use Rattle.profile.proofs.FeasibleParts.{feasible-parts}
 use Rattle.reach.specs.Drift.{speedOf, driftOf, drift}

@@ -9,7 +9,7 @@ ghost use lib.IntN.{natAbs};
 ghost use Rattle.whole.specs.Ranges.{Within, Is};
 ghost use Rattle.model.specs.planning.Quantities.{accelerates, delay};
 ghost use Rattle.model.specs.planning.Refusals.{lastTick, Passed};
-ghost use Rattle.envelopes.specs.Sums.{Next};
+ghost use Rattle.whole.specs.Candidates.{Next};
 ghost use Rattle.envelopes.specs.Skips.{LastingTo, Further};
 ghost use Rattle.reach.specs.Halving.{roomToward, TicksWithin};
 ghost use Rattle.reach.specs.Approaches.{endLater, arrivedLater, travelLater, profileLater, reachesLater};

@@ -14,7 +14,7 @@ ghost use Rattle.whole.specs.Ranges.{Within, Is};
 ghost use Rattle.model.specs.planning.Quantities.{delay, accelerates};
 ghost use Rattle.model.specs.planning.Motion.{reachable};
 ghost use Rattle.model.specs.planning.Refusals.{lastTick, Passed};
-ghost use Rattle.envelopes.specs.Sums.{Next};
+ghost use Rattle.whole.specs.Candidates.{Next};
 ghost use Rattle.reach.specs.Drift.{driftOf, drift, speedOf};
 ghost use Rattle.reach.specs.Halving.{LastPassing, ReachesSome, Loses};
 

@@ -7,7 +7,7 @@ use Rattle.model.specs.planning.Job.{setAxes}
 use Rattle.model.specs.planning.Windows.{inWindows}
 use Rattle.model.proofs.jobs.LeastTick.{Least}
 use Rattle.model.proofs.jobs.WindowsInWords.{windows-right}
-use Rattle.envelopes.specs.Sums.{Next}
+use Rattle.whole.specs.Candidates.{Next}
 use Rattle.arrival.specs.Arrivals.{arrivesIn, orZero}
 use Rattle.arrival.proofs.WindowSearch.{with-windows}
 use Rattle.model.proofs.motions.ArrivalRuns.{all-between}

@@ -11,7 +11,8 @@ use Rattle.whole.proofs.Bounds.{sfits, within, exactly, exact, computed, back-i
 use Rattle.whole.proofs.Laws.{natAbs-+}
 use Rattle.model.proofs.legs.Envelopes.{Joined}
 use Rattle.profile.specs.Profiles.{legOf}
-use Rattle.envelopes.specs.Sums.{envelopeSumsAt, stepped, SumsRanged, withTicks, Next, betweenAt}
+use Rattle.whole.specs.Candidates.{Next}
+use Rattle.envelopes.specs.Sums.{envelopeSumsAt, stepped, SumsRanged, withTicks, betweenAt}
 use Rattle.envelopes.specs.Skips.{Lasting}
 use Rattle.profile.proofs.FeasibleParts.{ends-joined}
 use Rattle.envelopes.proofs.EnvelopeSums.{more-ticks, step-is, sums-ranged}

@@ -7,7 +7,8 @@ use mir.Syntax.{w64}
 use mir.Val.{toZ, ofZ}
 use Rattle.whole.proofs.Bounds.{within, exactly, exact}
 use Rattle.profile.specs.Profiles.{legOf}
-use Rattle.envelopes.specs.Sums.{Next, betweenAt}
+use Rattle.whole.specs.Candidates.{Next}
+use Rattle.envelopes.specs.Sums.{betweenAt}
 use Rattle.envelopes.specs.Skips.{Lasting, LastingTo, Bracket}
 use Rattle.envelopes.proofs.Halving.{not-lower, halved, found}
 use Rattle.envelopes.proofs.next_by_halving.Statement.{statement}

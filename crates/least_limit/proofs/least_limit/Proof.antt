@@ -8,7 +8,7 @@ use borrow.Author.Tests.{not-true, not-false}
 use borrow.Author.Needs.{needs}
 use Rattle.whole.proofs.Tests.{lt-or-le}
 use Rattle.model.specs.declared.Limit.{Limit}
-use Rattle.envelopes.specs.Sums.{Next}
+use Rattle.whole.specs.Candidates.{Next}
 use Rattle.least_limit.specs.declared.Task.{Task}
 use Rattle.least_limit.specs.Limits as limits
 use Rattle.least_limit.proofs.FallsShort.{highest-small, not-allowed, other-short, both-allow}

@@ -4,7 +4,7 @@ use mathlib.Core.Option.{some}
 use native.Mathlib.Omega.{arith}
 use borrow.Author.Needs.{needs}
 use Rattle.model.specs.calls.Raises as model
-use Rattle.envelopes.specs.Sums.{Next}
+use Rattle.whole.specs.Candidates.{Next}
 use Rattle.least_limit.specs.Limits.{limitIn, enoughWith}
 use Rattle.least_limit.proofs.FallsShort.{limit-range, highest-small}
 use Rattle.raises.proofs.LeastRaises.{found, not-found}

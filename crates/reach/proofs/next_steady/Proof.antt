@@ -11,7 +11,8 @@ use Rattle.model.specs.planning.Motion.{startPosition, leg, requiredSum, reacha
 use Rattle.model.specs.planning.Quantities.{delay}
 use Rattle.profile.specs.declared.Profile.{Profile}
 use Rattle.profile.specs.Profiles.{legOf}
-use Rattle.envelopes.specs.Sums.{Next, betweenAt}
+use Rattle.whole.specs.Candidates.{Next}
+use Rattle.envelopes.specs.Sums.{betweenAt}
 use Rattle.envelopes.specs.Skips.{Lasting}
 use Rattle.reach.specs.Drift.{drift}
 use Rattle.motion.proofs.PassedRanges.{ranges-of}
