@@ -1,4 +1,3 @@
 pub mod Weights
 pub mod Purposes
 pub mod Admitted
-pub mod ReadWords

@@ -11,28 +11,15 @@ use Rattle.model.specs.declared.Job as Typed
 use Rattle.model.specs.planning.Job.{Job, jobOf, jobWith, setAxes}
 use Rattle.model.specs.planning.Words.{goodMask}
 use Rattle.model.specs.planning.Refusals.{lastTick}
-use Rattle.model.specs.planning.Admission.{typed, Tests, Admission, refusedAt, Rules, tested, askedAdmission}
+use Rattle.model.specs.planning.Admission.{typed, Admission, refusedAt, tested, askedAdmission}
 use Rattle.model.specs.planning.Admission.{jobAdmission, admission}
 use Rattle.model.specs.calls.Converter.{conversionRefusals}
+use Rattle.model.proofs.AllowedMask.{mask-passed}
 use Rattle.refusals.specs.Checks.{testsFor, firstRefusal, withoutJob}
 use Rattle.refusals.proofs.Checks.{first-tested}
 use Rattle.admission.specs.declared.Purpose.{Purpose}
 use Rattle.admission.specs.declared.Purpose.the-variants.{Planning, Searching, Converting}
 use Rattle.admission.specs.Admitting.{rulesFor, askedRead, mustRest}
-
--- ---- refusal 1 of typed values
-
-module _ (r : Rules) (t : Typed.Job) where
-  by-mask : Bool → Admission
-  by-mask b = elim b [ true ↦ jobAdmission r (jobOf t) | false ↦ refusedAt 1 0 ]
-
-  pub mask-refused : goodMask (t .mask) ≡ false → admission r (typed t) ≡ refusedAt 1 0
-  unfolding by-mask
-  mask-refused e = ap by-mask e
-
-  pub mask-passed : goodMask (t .mask) ≡ true → admission r (typed t) ≡ jobAdmission r (jobOf t)
-  unfolding by-mask
-  mask-passed e = ap by-mask e
 
 -- ---- refusal 3, and then the tests that a purpose asks for
 

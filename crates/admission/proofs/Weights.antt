@@ -17,7 +17,7 @@ use Rattle.model.specs.planning.Outcome.{allReach}
 use Rattle.model.proofs.jobs.GivenWeights.{passed-with-weight, reach-with-weight}
 use Rattle.motion.specs.Motions.{measured}
 use Rattle.motion.proofs.WeightGiven.{given-is}
-use Rattle.arrival.proofs.SetAxes.{pick, from, axisAt, from-more, from-none}
+use Rattle.model.proofs.SetAxes.{pick, from, axisAt, from-more, from-none}
 use Rattle.admission.specs.Admitting.{anyMeasured, namedWithWeight}
 
 -- ---- none is measured

@@ -3,7 +3,7 @@
 // table, rows in parts, raises, searches and conversions all go on from here.
 //
 // The way of a job, after its words have been read (words::decode, refusals 1, 2 and 14):
-//     check           words::mask_allowed    refusal 1
+//     check           model::mask_allowed    refusal 1
 //                     asked_read             the asked arrival as the call reads it, and refusal 3
 //                     refusals::check        refusals 4, 12, 5, 15, 6, 16, 17 and 13
 // A caller then has the weights worked out where `any_measured` says so: `with_weight` copies the
@@ -31,7 +31,7 @@ pub fn check(mask: u32, asked: u32, axes: [Axis; 6], windows: Windows, purpose: 
     ensures { λ r. ⌜ r ≡ withoutJob (admission (rulesFor purpose)
         (typed (record { mask = mask; asked = asked; axes = axes; windows = windows }))) ⌝ }
 {
-    if !words::mask_allowed(mask) {
+    if !model::mask_allowed(mask) {
         return Checked::Refused(1, 0);
     }
     let read = asked_read(purpose, asked);

@@ -22,7 +22,7 @@ use Rattle.words.specs.declared.DecodedJob.{DecodedJob}
 use Rattle.words.specs.Decoding.{Decodes}
 use Rattle.admission.specs.Admitting.{withoutJob}
 use Rattle.admission.proofs.Admitted.{Goes, refused, passed}
-use Rattle.admission.proofs.ReadWords.{words-refused, words-passed}
+use Rattle.words.proofs.ReadWords.{words-refused, words-passed}
 use Rattle.converter.specs.Promise.{Converts, Answers}
 
 -- ---- refusal 10, or the words

@@ -179,7 +179,7 @@ fn axis_of(a: PolgamirAxis) -> Axis
 fn axes_of(mask: u32, list: [PolgamirAxis; 6]) -> [Axis; 6]
     ensures { λ r. ⌜ r ≡ axesFromC mask list ⌝ }
 {
-    let unset = words::unset_axis();
+    let unset = model::unset_axis();
     let mut axes = [unset; 6];
     let mut bits = mask;
     let mut i: usize = 0;
@@ -202,7 +202,7 @@ fn windows_of(w: PolgamirWindows) -> Windows
     ensures { λ r. ⌜ r ≡ windowsOf w ⌝ }
 {
     if w.given == 0 {
-        return windows::no_windows();
+        return model::no_windows();
     }
     let list = w.list;
     Windows {

@@ -2,6 +2,7 @@
 use crate::blend::second_weight;
 use crate::target::accelerates;
 use model::Axis;
+use model::FINE_STEPS;
 use model::SecondSway;
 ghost use Prim.Native.Nat.{_*_};
 ghost use mathlib.Core.Bool.{_&&_};
@@ -10,9 +11,6 @@ ghost use lib.IntN.{pos};
 ghost use Rattle.whole.specs.Ranges.{Is};
 ghost use Rattle.model.specs.planning.Quantities.{fineSteps, accelerates, damped, finerBy, finer};
 ghost use Rattle.model.specs.declared.SecondSway.the-variants.{Absent};
-
-// Fine steps in a unit.
-pub const FINE_STEPS: i64 = 256;
 
 // Whether the two weights of the blend differ.
 fn damped(x: Axis) -> bool

@@ -26,7 +26,7 @@ use Rattle.model.proofs.jobs.BeforeTen.{planning-numbered}
 use Rattle.words.specs.declared.DecodedJob.{DecodedJob}
 use Rattle.words.specs.Decoding.{Decodes}
 use Rattle.admission.proofs.Admitted.{Refusal, refusal}
-use Rattle.admission.proofs.ReadWords.{words-refused, words-passed}
+use Rattle.words.proofs.ReadWords.{words-refused, words-passed}
 use Rattle.planner.specs.declared.Wanted.{Wanted}
 use Rattle.planner.specs.declared.Wanted.the-variants.{Whole, From}
 use Rattle.planner.specs.Promise.{PromiseIn, Answered, partOutcome}

@@ -24,7 +24,7 @@ use Rattle.model.specs.planning.Outcome.{tableOver}
 use Rattle.model.specs.calls.Parts.{partRows, PartOutcome, partAccepted, partWith}
 use Rattle.model.proofs.jobs.BeforeTen.{before-filled}
 use Rattle.model.proofs.jobs.Ordered.{refusal-stays}
-use Rattle.arrival.proofs.SetAxes.{six-axes-bits}
+use Rattle.model.proofs.SetAxes.{six-axes-bits}
 use Rattle.planner.specs.declared.Choice.{Choice}
 use Rattle.planner.specs.declared.Wanted.{Wanted}
 use Rattle.planner.specs.declared.Wanted.the-variants.{Whole, From}

@@ -23,7 +23,7 @@ use Rattle.model.specs.planning.Outcome.{ordered, beforeTen}
 use Rattle.model.specs.calls.Parts.{PartOutcome, partRows, partAccepted, partRefused, partWith}
 use Rattle.arrival.specs.declared.Arrival.{Arrival}
 use Rattle.arrival.specs.Arrivals.{leastOr, askedOr, arrivalFor}
-use Rattle.arrival.proofs.SetAxes.{six-bits}
+use Rattle.model.proofs.SetAxes.{six-bits}
 use Rattle.model.proofs.jobs.Ordered.{refusal-stays}
 use Rattle.model.proofs.jobs.GivenWeights.{ordered-with-weight, arrived-with-weight, part-with-weight}
 use Rattle.admission.specs.Admitting.{namedWithWeight}

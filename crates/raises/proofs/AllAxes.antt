@@ -13,7 +13,7 @@ use Rattle.model.specs.planning.Motion.{reachable}
 use Rattle.model.specs.planning.Job.{JobAxis}
 use Rattle.model.specs.calls.Raises.{raisesOf, raisesFrom}
 use Rattle.arrival.specs.Arrivals.{missedBy}
-use Rattle.arrival.proofs.SetAxes.{pick, from, axisAt, from-more, from-none}
+use Rattle.model.proofs.SetAxes.{pick, from, axisAt, from-more, from-none}
 
 -- an axis that is missed by is named and does not reach n
 pub missed-is : (m : ℕ) (x : Axis) (n : ℕ) → missedBy m x n ≡ true → (m % 2 ≡ 1) × (reachable x n ≡ false)

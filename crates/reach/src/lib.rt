@@ -6,6 +6,7 @@ use approach::approach_of;
 use approach::next_later;
 use approach::ticks_within;
 use model::Axis;
+use model::FINE_STEPS;
 use model::Target;
 ghost use Prim.Native.Nat.{suc, _^_, _<_, _≤_, max};
 ghost use mathlib.Core.Bool.{true, false};
@@ -17,9 +18,6 @@ ghost use Rattle.model.specs.planning.Refusals.{lastTick, Passed};
 ghost use Rattle.whole.specs.Candidates.{Next};
 ghost use Rattle.reach.specs.Drift.{driftOf, drift, speedOf};
 ghost use Rattle.reach.specs.Halving.{LastPassing, ReachesSome, Loses};
-
-// Fine steps in a unit.
-const FINE_STEPS: i64 = 256;
 
 // Whether the axis can arrive at tick n.
 pub fn reaches(x: Axis, n: u32) -> bool

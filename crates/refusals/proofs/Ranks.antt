@@ -15,7 +15,7 @@ use Rattle.model.specs.declared.Axis.{Axis}
 use Rattle.model.specs.declared.Windows.{Windows}
 use Rattle.model.specs.planning.Job.{JobAxis}
 use Rattle.model.specs.planning.Admission.{firstAxis, Tests}
-use Rattle.arrival.proofs.SetAxes.{pick, from, axisAt, from-more, from-none}
+use Rattle.model.proofs.SetAxes.{pick, from, axisAt, from-more, from-none}
 use Rattle.model.specs.declared.Checked.{Checked}
 use Rattle.model.specs.declared.Checked.the-variants.{Refused}
 use Rattle.refusals.specs.Checks.{windowRefusal, testsFor, firstRefusal, firstMet, leastRank, lowestAxis}

@@ -24,7 +24,7 @@ use Rattle.admission.specs.Admitting.{withoutJob}
 use Rattle.admission.specs.Admitting.{namedWithWeight}
 use Rattle.admission.proofs.Weights.{given-reaches}
 use Rattle.admission.proofs.Admitted.{Goes, refused, passed}
-use Rattle.admission.proofs.ReadWords as Read
+use Rattle.words.proofs.ReadWords as Read
 use Rattle.search.specs.Promise.{SearchPromise}
 
 pub promise : (q : Input) (first budget : ℕ) (r : SearchAnswer) → r ≡ searchCall q first budget

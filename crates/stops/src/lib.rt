@@ -107,7 +107,7 @@ pub fn leg_job(settings: TourSettings, here: [i64; 6], there: [i64; 6]) -> Job
     ensures { λ r. ⌜ r ≡ legJob settings here there ⌝ }
 {
     let axes = leg_axes(settings, here, there);
-    let windows = windows::no_windows();
+    let windows = model::no_windows();
     Job {
         mask: settings.mask,
         asked: 0,

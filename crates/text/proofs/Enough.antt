@@ -17,7 +17,7 @@ use Rattle.whole.proofs.Tests.{true-T, both, and-yes, and-no, leb-yes, leb-no, 
 use Rattle.model.specs.planning.Job.{setBits}
 use Rattle.model.specs.planning.Refusals.{lastTick}
 use Rattle.model.specs.planning.Outcome.{Outcome, cellsNeeded}
-use Rattle.arrival.proofs.SetAxes.{six-bits}
+use Rattle.model.proofs.SetAxes.{six-bits}
 use Rattle.text.specs.Printed.{arrivalLine, refusalLine, rowWidth, rowLines, tableLines, printed}
 use Rattle.text.specs.Enough.{refusalBytes, rowBytes, tableBytes, tableFits, onlyIf, tableWithin, textWithin}
 use Rattle.text.proofs.lines.Laws.{arrival-most}

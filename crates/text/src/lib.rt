@@ -57,7 +57,7 @@ fn table_fits(mask: u32, n: u32, cells: usize, bytes: usize) -> bool
     if 4096 < n {
         return false;
     }
-    let width = 3 * arrival::axis_count(mask);
+    let width = 3 * model::axis_count(mask);
     let rows = n as usize + 1;
     if cells < width * rows {
         return false;
@@ -73,7 +73,7 @@ fn put_table(out: &mut [u8], mask: u32, n: u32, table: &[i64]) -> usize
 {
     let fits = table_fits(mask, n, table.len(), out.len());
     if fits {
-        let width = 3 * arrival::axis_count(mask);
+        let width = 3 * model::axis_count(mask);
         let next = put_arrival(out, 0, n);
         return put_rows(out, next, n, width, table);
     }

@@ -6,7 +6,7 @@ ghost use Prim.Native.Nat.{_≤_};
 ghost use lib.ListN.{take};
 ghost use mathlib.Core.Bool.{true};
 ghost use mathlib.Core.Option.{none};
-ghost use Rattle.model.specs.planning.Windows.{noWindows, fitsWindow, fitsOne, inWindows, inOrderAfter};
+ghost use Rattle.model.specs.planning.Windows.{fitsWindow, fitsOne, inWindows, inOrderAfter};
 ghost use Rattle.model.specs.planning.Windows.{firstWrongWindow, windowsRefused, refused13};
 ghost use Rattle.windows.specs.Places.{placeOf};
 ghost use Rattle.windows.specs.Ticks.{firstTick, upTo, afterLast};
@@ -118,22 +118,6 @@ fn wrong_place(list: [Window; 32], count: usize, dwell: u32) -> Place
         }
     }
     Place::At(32)
-}
-
-// What a job brings that brings no windows: zero in every field.
-pub fn no_windows() -> Windows
-    ensures { λ r. ⌜ r ≡ noWindows ⌝ }
-{
-    let unset = Window {
-        opening: 0,
-        closing: 0,
-    };
-    Windows {
-        given: false,
-        dwell: 0,
-        count: 0,
-        list: [unset; 32],
-    }
 }
 
 // ---- the ticks of a window

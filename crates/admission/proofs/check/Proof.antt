@@ -1,9 +1,10 @@
 use mathlib.Core.Path.{sym, ap, _∙_}
 use borrow.Author.Needs.{needs}
 use borrow.Author.Tests.{not-true, not-false}
+use Rattle.model.proofs.AllowedMask.{mask-refused}
 use Rattle.refusals.specs.Checks.{withoutJob}
 use Rattle.admission.specs.Admitting.{rulesFor}
-use Rattle.admission.proofs.Purposes.{mask-refused, asked-late, asked-in-time}
+use Rattle.admission.proofs.Purposes.{asked-late, asked-in-time}
 use Rattle.admission.proofs.check.Statement.{statement}
 use Rattle.admission.proofs.check.Tie as tie
 

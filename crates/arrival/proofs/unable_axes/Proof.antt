@@ -7,7 +7,7 @@ use Rattle.model.specs.planning.Refusals.{AllPassed}
 use Rattle.model.specs.planning.Job.{setAxes, maskWhere}
 use Rattle.arrival.specs.Arrivals.{cannotArrive, bitOf}
 use Rattle.arrival.proofs.Unable.{rest, one-more, none-more, all, bit-at-most, bit-of-six}
-use Rattle.arrival.proofs.SetAxes.{from, axisAt, passed-from}
+use Rattle.model.proofs.SetAxes.{from, axisAt, passed-from}
 use Rattle.arrival.proofs.unable_axes.Statement.{statement}
 use Rattle.arrival.proofs.unable_axes.Tie as tie
 

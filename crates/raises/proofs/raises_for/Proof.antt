@@ -10,7 +10,7 @@ use Rattle.model.specs.declared.AxisRaises.{AxisRaises}
 use Rattle.model.specs.planning.Job.{setAxes}
 use Rattle.model.specs.planning.Refusals.{AllPassed}
 use Rattle.model.specs.calls.Raises.{raisesOf, raisesFrom, noneRaised}
-use Rattle.arrival.proofs.SetAxes.{from, axisAt, passed-from}
+use Rattle.model.proofs.SetAxes.{from, axisAt, passed-from}
 use Rattle.raises.proofs.AllAxes.{missed-is, missed, not-missed, no-more}
 use Rattle.raises.proofs.raises_for.Statement.{statement}
 use Rattle.raises.proofs.raises_for.Tie as tie

@@ -3,9 +3,9 @@ use Prim.Native.Nat.{ℕ, _^_, _<_}
 use lib.Count.{ones, ones-le}
 use mir.Syntax.{w64}
 use mir.Val.{Fits}
-use Rattle.arrival.proofs.SetAxes.{ones-bits}
-use Rattle.arrival.proofs.axis_count.Statement.{statement}
-use Rattle.arrival.proofs.axis_count.Tie as tie
+use Rattle.model.proofs.SetAxes.{ones-bits}
+use Rattle.model.proofs.masks.axis_count.Statement.{statement}
+use Rattle.model.proofs.masks.axis_count.Tie as tie
 
 -- a number of ones is small
 few : (m : ℕ) → m < 2 ^ 32 → Fits w64 (ones m)

@@ -4,9 +4,9 @@ use mathlib.Core.Bool.{Bool, _&&_}
 use mathlib.Core.Path.{sym, ap}
 use lib.Dec.{leb}
 use borrow.Author.Tests.{lt-ltb}
 use Rattle.model.specs.planning.Words.{goodMask}
-use Rattle.words.proofs.mask_allowed.Statement.{statement}
-use Rattle.words.proofs.mask_allowed.Tie as tie
+use Rattle.model.proofs.masks.mask_allowed.Statement.{statement}
+use Rattle.model.proofs.masks.mask_allowed.Tie as tie
 
 returns : tie.Need-returns
 returns c = sym (ap (λ (m : ℕ). goodMask m) (c .if1 .taken))

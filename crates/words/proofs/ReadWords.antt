@@ -8,9 +8,9 @@ use Rattle.model.specs.declared.Checked.{Checked}
 use Rattle.model.specs.declared.Checked.the-variants.{Passed, Refused}
 use Rattle.model.specs.planning.Words.{Decoded, noMask, badWord, badLong, job, decode}
 use Rattle.model.specs.planning.Admission.{words, typed, Admission, refusedAt, Rules, jobAdmission, admission}
+use Rattle.model.proofs.AllowedMask.{mask-passed}
 use Rattle.words.specs.declared.DecodedJob.{DecodedJob}
 use Rattle.words.specs.Decoding.{decodedJob, Decodes}
-use Rattle.admission.proofs.Purposes.{mask-passed}
 
 module _ (r : Rules) (ws : List ℕ) (d : DecodedJob) (is : Decodes ws d) where
   by-words : Decoded → Admission
