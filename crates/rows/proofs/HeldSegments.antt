@@ -1,16 +1,19 @@
--- The segments that are held for the first `count` axes.
-use mathlib.Core.Path.{_≡_, sym, subst}
+-- The segments that are held for the first `count` axes, and that of an axis in a row.
+use mathlib.Core.Path.{_≡_, sym, subst, _∙_}
+use mathlib.Core.Bool.{true}
 use mathlib.Core.List.{List}
-use Prim.Native.Nat.{ℕ, _<_, _≤_}
+use Prim.Native.Nat.{ℕ, _^_, _<_, _≤_}
 use native.Mathlib.Omega.{arith}
 use native.Mathlib.Decide.{decLt}
-use lib.ListN.{length, getD, set, getD-replicate}
+use lib.ListN.{length, getD, set, getD-replicate, length-set}
 use lib.Seq.{getD-set-same, getD-set-other}
 use Rattle.planned.specs.declared.AxisPlan.{AxisPlan}
 use Rattle.segments.specs.declared.Segment.{Segment}
 use Rattle.rows.specs.Plans.{unsetPlan}
 use Rattle.blended.specs.BlendedStates.{blendedVelocity}
-use Rattle.segments.specs.Segments.{SegmentOf}
+use Rattle.segments.specs.Segments.{SegmentOf, SegmentAt}
+use Rattle.cells.specs.Rows.{keptAt}
+use Rattle.cells.proofs.OneRow.{Kept, kept}
 use Rattle.rows.specs.Table.{noSegment, noSegments}
 
 abbrev pub Segmented : List AxisPlan → ℕ → List Segment → Type 0
@@ -44,3 +47,30 @@ segmented-set axes count segments i q h e w a l = go (decLt a i) (decLt i a)
     go (Dec.no r) (Dec.no t) =
         subst Goal {x = i} {y = a} (omega arith)
         (subst (SegmentOf (blendedVelocity (getD axes i unsetPlan))) (sym (getD-set-same segments i q noSegment h)) e)
+
+-- ---- axis i, when the row of tick k is written: its segment has the tick
+pub record Held (axes : List AxisPlan) (count i k : ℕ) (segments : List Segment) : Type 0 where
+  pub six : length segments ≡ 6
+  pub segmented : Segmented axes count segments
+  pub here : Kept (getD axes i unsetPlan) k (getD segments i noSegment)
+
+module _ (axes : List AxisPlan) (count i k : ℕ) (segments : List Segment) (six : length segments ≡ 6)
+    (w : Segmented axes count segments) where
+  -- the one that is held
+  pub held-still : i < count → keptAt (getD segments i noSegment) k ≡ true → Held axes count i k segments
+  held-still h t = record {
+    six = six;
+    segmented = w;
+    here = kept (getD axes i unsetPlan) k (getD segments i noSegment) (w i h) t;
+  }
+
+  -- or one that is worked out
+  pub held-anew : (q : Segment) → i < 6 → SegmentAt (2 ^ 14) (2 ^ 57) (blendedVelocity (getD axes i unsetPlan)) k q
+      → Held axes count i k (set segments i q)
+  held-anew q h a = record {
+    six = length-set segments i q ∙ six;
+    segmented = segmented-set axes count segments i q (omega (arith, six)) (a .segment) w;
+    here =
+        subst (Kept (getD axes i unsetPlan) k) (sym (getD-set-same segments i q noSegment (omega (arith, six))))
+        (record { segment = a .segment; from = a .from; until = a .until });
+  }
