@@ -4,12 +4,14 @@ of each, as its input and its expected output. README.md describes a case.
 
     python3 tests/reference/make_fieldcases.py
     python3 tests/reference/make_fieldcases.py --check
+    python3 tests/reference/make_fieldcases.py --list
 
 The first writes crates/fieldcases/stdin and stdout, the second says whether
-these are what it would write.
+these are what it would write, the third prints each case with its name.
 """
 
 import os
+import struct
 import sys
 from typing import List, NamedTuple, Tuple
 
@@ -22,98 +24,99 @@ import searchcases
 from builders import UNTOUCHED, Case, axis, by_words, job, outcome, sum_of, to
 from reference import Answer, decode
 from search import Found, Spent
-from spelledcases import in_values
+from spelledcases import in_values, in_words
 from swaycases import ROWS
 from tour import Stop, Tour, TourAxis, plan_tour
 
 CRATE = os.path.join(os.path.dirname(os.path.abspath(__file__)), '../../crates/fieldcases')
 BUFFER = 8192                   # the cells of the program's buffer
+LIST = 13                       # the words that it lends to a conversion
 
 
 class CallCase(NamedTuple):
     name: str
-    given: str                  # 'words', or 'values': the typed values that these stand for
-    call: str                   # the program looks at its first letter
+    call: str
     words: List[int]
     lent: int                   # cells
     first: int = 0              # of a search the first candidate, of a part the first row, of a tour the dwell
-    budget: int = 0             # of a search
-
-
-class Expected(NamedTuple):
-    answer: Answer
-    beside: List[int]           # three numbers
-    sum: int                    # over the whole buffer
+    second: int = 0             # of a search the budget, of a tour the position of its first stop
 
 
 # --- What is expected ------------------------------------------------------
 
-def over(cells: List[int]) -> int:
-    return sum_of(cells + [UNTOUCHED] * (BUFFER - len(cells)))
+def shown(answer: Answer, beside: List[int], cells: List[int]) -> str:
+    """The line of an outcome, with the sum over the whole buffer."""
+    total = sum_of(cells + [UNTOUCHED] * (BUFFER - len(cells)))
+    return ' '.join('%x' % number for number in [*answer[:4], *beside, total])
 
 
-def planned(case: CallCase, one: Case) -> Expected:
+def planned(case: CallCase, one: Case) -> str:
     answer, cells = outcome(one, [UNTOUCHED] * case.lent)
-    return Expected(answer, [0, 0, 0], over(cells))
+    return shown(answer, [], cells)
 
 
-def backwards(case: CallCase, one: Case) -> Expected:
+def planned_values(case: CallCase, one: Case) -> str:
+    return planned(case, in_values(one))
+
+
+def backwards(case: CallCase, one: Case) -> str:
     answer, cells = backwardcases.turned(one, [UNTOUCHED] * case.lent)
-    return Expected(answer, [0, 0, 0], over(cells))
+    return shown(answer, [], cells)
 
 
-def part(case: CallCase, one: Case) -> Expected:
+def part(case: CallCase, one: Case) -> str:
     part = partcases.parted(partcases.PartCase(one, case.first), [UNTOUCHED] * case.lent)
-    return Expected(part.answer, [part.rows, 0, 0], over(part.cells))
+    return shown(part.answer, [part.rows], part.cells)
 
 
-def raises(_: CallCase, one: Case) -> Expected:
-    """Beside the answer the raises of axis 0: of M above 0, of L below 0, none 0."""
+def raises(_: CallCase, one: Case) -> str:
+    """Beside the answer two raises of axis 0, each its limit and its amount."""
     answer, axes = raisecases.raised(one)
-    amounts = [amount if limit == 'M' else -amount for x in axes if x.bit == 0 for limit, amount in x.raises]
-    return Expected(answer, (amounts + [0, 0, 0])[:3], over([]))
+    raised = [number for x in axes if x.bit == 0 for limit, amount in x.raises
+              for number in (1 if limit == 'M' else 2, amount)]
+    return shown(answer, (raised + [0, 0, 0, 0])[:4], [])
 
 
-def search(case: CallCase, one: Case) -> Expected:
-    """Beside the answer 1 found, 2 spent or 0 none, the tick, and the candidates
-    tried. What the method leaves free is the job's mask, and as arrival the tick found or 0."""
-    report = searchcases.searched(searchcases.SearchCase(one, case.first, case.budget))
+def search(case: CallCase, one: Case) -> str:
+    """Beside the answer the report, its tick, and the candidates tried. What the method
+    leaves free is the job's mask, and as arrival the tick found or 0."""
+    report = searchcases.searched(searchcases.SearchCase(one, case.first, case.second))
     if isinstance(report, Answer):
-        return Expected(report, [0, 0, 0], over([]))
+        return shown(report, [0, 0, 0], [])
     kind = 1 if isinstance(report, Found) else 2 if isinstance(report, Spent) else 0
     tick = report[0] if kind else 0
     answer = Answer(0, mask=decode(case.words).mask, arrival=tick if kind == 1 else 0)
-    return Expected(answer, [kind, tick, report.tried], over([]))
+    return shown(answer, [kind, tick, report.tried], [])
 
 
-def tour(case: CallCase, _: Case) -> Expected:
-    """Of axis 0 to its target, and back. Beside the answer the total and both
-    arrivals. What the method leaves free is 0, but for the mask."""
+def convert(case: CallCase, _: Case) -> str:
+    """Beside the answer the words that are lent. What the method leaves free is 0."""
+    one = convertcases.case(case.name, case.words, LIST)
+    answer = Answer(one.answer.number, one.answer.place, one.answer.mask or 0, one.answer.arrival or 0)
+    return shown(answer, one.left, [])
+
+
+def tour(case: CallCase, _: Case) -> str:
+    """Of axis 0 to a position, and back. Beside the answer the total and both arrivals.
+    What the method leaves free is 0, but for the mask."""
     meant = decode(case.words)
     one = meant.axes[0]
     shared = TourAxis(one.start.position, *one[1:5], one.second_half_period)
     stops = [Stop([position, 0, 0, 0, 0, 0], dwell)
-             for position, dwell in ((one.target.position, case.first), (one.start.position, 0))]
+             for position, dwell in ((case.second, case.first), (one.start.position, 0))]
     answer, arrivals = plan_tour(Tour(meant.mask, [shared] * 6, stops), [0, 0])
     mask = meant.mask if answer.number == 0 else answer.mask
     full = Answer(answer.number, answer.place or 0, mask, answer.arrival or 0)
-    return Expected(full, [answer.total or 0, *arrivals], over([]))
+    return shown(full, [answer.total or 0, *arrivals], [])
 
 
-def convert(case: CallCase, _: Case) -> Expected:
-    """The cells are the lent words. What the method leaves free is 0."""
-    one = convertcases.case(case.name, case.words, case.lent)
-    answer = Answer(one.answer.number, one.answer.place, one.answer.mask or 0, one.answer.arrival or 0)
-    return Expected(answer, [0, 0, 0], over(one.left))
+# By their place the numbers by which the program knows them; all but the last two are from words.
+CALLS = {'plan': planned, 'back': backwards, 'from': part, 'raises': raises, 'search': search, 'convert': convert,
+         'plan by values': planned_values, 'tour': tour}
 
 
-CALLS = {'plan': planned, 'back': backwards, 'from': part, 'raises': raises, 'search': search, 'tour': tour,
-         'convert': convert}
-
-
-def expected(case: CallCase) -> Expected:
-    one = by_words(case.name, case.words, case.lent)
-    return CALLS[case.call](case, in_values(one) if case.given == 'values' else one)
+def expected(case: CallCase) -> str:
+    return CALLS[case.call](case, by_words(case.name, case.words, case.lent))
 
 
 # --- The cases -------------------------------------------------------------
@@ -127,84 +130,58 @@ DAMPED = job('an accelerating target, damped', [cases.CHASED])
 JOINTED = job('rows of both blends', [ROWS])
 SIX = job('six axes, both kinds', cases.SIX_MOVING)
 FLYING = job('F asked 2', [cases.F], asked=2)
-SHORT = FLYING._replace(name='F asked 2, a word short')
+SHORT = job('F jointed, a word short', [cases.F._replace(second_half_period=3)], asked=2)
+EQUAL = job('equal raises', [to(9, speed_limit=2)], asked=6)
+
+# Jobs with cells that are lent and the numbers that a call takes. The vectors have the calls for
+# these from typed values, but for the plans.
+PLANS = [(K, 24), (L, 24), (B, 24), (C, 15), (J, 14), (E, 24), (H, 24), (DAMPED, 60), (JOINTED, 60), (SIX, 8192)]
+BACKWARDS = [(C, 15), (J, 14), (K, 24), (DAMPED, 60), (SIX, 8192)]
+PARTS = [(C, 6, 2), (C, 24, 5), (L, 24, 0), (SIX, 90, 3)]
+RAISES = [(E, 0), (B, 0), (K, 0), (EQUAL, 0)]
+SEARCHES = [(B, 0, 1, 3), (B, 0, 1, 4), (L, 0, 1, 4096), (K, 0, 1, 1)]
+CONVERSIONS = [(FLYING, 0), (SHORT, 0), (B, 0), (K, 0)]
+TOURS = [(B, 0, 3, 4), (B, 0, 4097, 4), (K, 0, 0, 0), (L, 0, 0, 100000000)]
 
 
-def both(call: str, one: Case, lent: int, *numbers: int) -> List[CallCase]:
-    """A job by its words and by the typed values that these stand for."""
-    said = ' '.join([call, one.name] + ['%s %d' % pair for pair in zip(('from', 'budget'), numbers)])
-    return [CallCase(said + ', by ' + given, given, call, one.words, lent, *numbers) for given in ('words', 'values')]
+def of(call: str, *chosen) -> List[CallCase]:
+    return [CallCase(' '.join([call, one.name, *map(str, numbers)]), call, one.words, *numbers)
+            for one, *numbers in chosen]
 
 
-def alone(call: str, given: str, one: Case, lent: int, *numbers: int) -> CallCase:
-    return CallCase(' '.join([call, one.name, *map(str, numbers)]), given, call, one.words, lent, *numbers)
+def more_plans() -> List[Tuple[Case, int]]:
+    """Every other field case, with as many cells as it needs."""
+    have = [one.words for one, _ in PLANS]
+    spelled = [in_words(one) for one in cases.field().cases]
+    return [(one, one.lent) for one in spelled if one.words is not None and one.words not in have]
 
 
 def all_cases() -> List[CallCase]:
     """The field cases that are not proved, K and L, and a few of every call."""
-    found = []
-    for one, lent in ((K, 24), (L, 24), (C, 15), (J, 14), (E, 24), (H, 24), (DAMPED, 60), (JOINTED, 60), (SIX, 8192)):
-        found += both('plan', one, lent)
-    for one, lent in ((C, 15), (J, 14), (K, 24), (DAMPED, 60), (SIX, 8192)):
-        found += both('back', one, lent)
-    for one, lent, first in ((C, 6, 2), (C, 24, 5), (L, 24, 0), (SIX, 90, 3)):
-        found += both('from', one, lent, first)
-    for one in (E, B, K, job('equal raises', [to(9, speed_limit=2)], asked=6)):
-        found += both('raises', one, 0)
-    for one, first, budget in ((B, 1, 3), (B, 1, 4), (L, 1, 4096), (K, 1, 1)):
-        found += both('search', one, 0, first, budget)
-    found += [alone('tour', 'values', one, 0, dwell) for one, dwell in ((B, 3), (B, 4097), (K, 0), (L, 0))]
-    found += [alone('convert', 'words', one, lent) for one, lent in ((FLYING, 20), (SHORT, 12), (B, 20), (K, 20))]
-    found += [CallCase(call + ' no words', 'words', call, [], 20) for call in CALLS if call != 'tour']
-    return found
-
-
-def wrong_on_purpose() -> List[Tuple[CallCase, Expected]]:
-    """A case with each part of what is expected altered in turn, so that a
-    difference in each is seen to be found."""
-    case = CallCase('', 'words', 'search', B.words, 0, 1, 4)
-    right = expected(case)
-    altered = [(what, right._replace(answer=right.answer._replace(**{what: 63}))) for what in Answer._fields[:4]]
-    for k in range(3):
-        altered.append(('number %d beside' % k, right._replace(beside=right.beside[:k] + [-9] + right.beside[k + 1:])))
-    altered.append(('sum', right._replace(sum=right.sum + 1)))
-    return [(case._replace(name='wrong on purpose: ' + what), one) for what, one in altered]
+    plans = PLANS + more_plans()
+    meant = [(one, lent) for one, lent in plans if in_values(one).words is None]
+    return (of('plan', *plans) + of('plan by values', *meant) + of('back', *BACKWARDS) + of('from', *PARTS)
+            + of('raises', *RAISES) + of('search', *SEARCHES) + of('convert', *CONVERSIONS) + of('tour', *TOURS)
+            + [CallCase(call + ' no words', call, [], 20) for call in list(CALLS)[:6]])
 
 
 # --- The two files ---------------------------------------------------------
 
-def case_lines(case: CallCase, shown: Expected) -> List[str]:
-    words = ['%08X' % word for word in case.words]
-    lines = ['"%s" %s %s lent %d first %d budget %d count %d' % (
-        case.name, case.given, case.call, case.lent, case.first, case.budget, len(words))]
-    lines += [' ' + ' '.join(words[i:i + 10]) for i in range(0, len(words), 10)]
-    return lines + [' ' + outcome_text(shown)]
+def numbers_of(case: CallCase) -> List[int]:
+    return [list(CALLS).index(case.call), case.lent, case.first, case.second, len(case.words), *case.words]
 
 
-def outcome_text(one: Expected) -> str:
-    return 'number %d place %d axes %d arrival %d beside %d %d %d sum %d' % (*one.answer[:4], *one.beside, one.sum)
-
-
-def both_files() -> Tuple[str, str]:
+def both_files() -> Tuple[bytes, bytes]:
     """The program's input and its output."""
-    lines, output = [], []
     chosen = all_cases()
-    for case in chosen:
-        came = expected(case)
-        lines += case_lines(case, came)
-        output.append('%s %s ok' % (case.name, outcome_text(came)))
-    lines += ['# Expectations that are wrong on purpose: the program must say so.']
-    for case, shown in wrong_on_purpose():
-        lines += case_lines(case, shown)
-        output.append('%s %s EXPECTED %s' % (case.name, outcome_text(expected(case)), outcome_text(shown)))
-    head = ['# Made by tests/reference/make_fieldcases.py.', 'cases %d' % len(output)]
-    output.append('as expected: %d of %d' % (len(chosen), len(output)))
-    return '\n'.join(head + lines) + '\n', '\n'.join(output) + '\n'
+    numbers = [number for case in chosen for number in numbers_of(case)]
+    lines = [expected(case) + '\n' for case in chosen]
+    return struct.pack('<%dI' % len(numbers), *numbers), ''.join(lines).encode()
 
 
 def is_stored() -> bool:
-    def stored(name: str) -> str:
-        with open(os.path.join(CRATE, name)) as kept:
+    def stored(name: str) -> bytes:
+        with open(os.path.join(CRATE, name), 'rb') as kept:
             return kept.read()
     return (stored('stdin'), stored('stdout')) == both_files()
 
@@ -214,11 +191,15 @@ def main(words: List[str]) -> int:
         same = is_stored()
         print('as stored' if same else 'not as stored')
         return 0 if same else 1
+    if words == ['--list']:
+        for case in all_cases():
+            print(case.name, '|', ' '.join('%X' % number for number in numbers_of(case)), '|', expected(case))
+        return 0
     if words:
         print(__doc__)
         return 2
     for name, text in zip(('stdin', 'stdout'), both_files()):
-        with open(os.path.join(CRATE, name), 'w') as out:
+        with open(os.path.join(CRATE, name), 'wb') as out:
             out.write(text)
     return 0
 

@@ -14,6 +14,7 @@ import backwardcases
 import cases
 import convertcases
 import dampingcases
+import make_fieldcases
 import partcases
 import raisecases
 import searchcases
@@ -23,7 +24,7 @@ from damping import Peaks, Ratio
 from raises import AxisRaises
 from reference import Answer, Axis, State, Windows
 from search import Found, Nothing, Report
-from spelledcases import bracketed, other_spelling, respelled
+from spelledcases import bracketed, in_values, other_spelling, respelled
 from tourcases import UNSET as UNSET_IN_TOUR, TourCase
 
 FOLDER = os.path.join(os.path.dirname(os.path.abspath(__file__)), 'vectors')
@@ -217,9 +218,15 @@ def sway_lines() -> List[str]:
     return [plan_line(case) for case in jobs] + [tour_line(case) for case in tours]
 
 
+def by_values(one: Case, lent: int) -> Case:
+    """A job of the program `fieldcases`, which calls by its words."""
+    return in_values(one._replace(name=one.name + ' by values', lent=lent))
+
+
 def raises_lines() -> List[str]:
     jobs = raisecases.raises_cases().cases + raisecases.drawn_raises().cases
-    return with_more([raises_line(case) for case in jobs], [raises_line(case) for case in respelled(jobs)])
+    more = respelled(jobs) + [by_values(*chosen) for chosen in make_fieldcases.RAISES]
+    return with_more([raises_line(case) for case in jobs], [raises_line(case) for case in more])
 
 
 def convert_lines() -> List[str]:
@@ -229,6 +236,8 @@ def convert_lines() -> List[str]:
 def search_lines() -> List[str]:
     searches = searchcases.searches() + searchcases.drawn_searches()
     more = [case._replace(job=other_spelling(case.job)) for case in searches] + bracketed()
+    more += [searchcases.SearchCase(by_values(one, lent), first, budget)
+             for one, lent, first, budget in make_fieldcases.SEARCHES]
     return with_more([search_line(case) for case in searches], [search_line(case) for case in more])
 
 
@@ -237,14 +246,17 @@ def backward_line(case: Case) -> str:
 
 
 def backward_lines() -> List[str]:
-    """The cases of this call, these in their other spelling, and the jobs of `plans.txt`."""
+    """The cases of this call, these in their other spelling, the jobs of `plans.txt`, and those of
+    the program `fieldcases`."""
     jobs = backwardcases.backward_cases().cases + backwardcases.drawn_backwards().cases
-    more = respelled(jobs) + plan_jobs()
+    more = respelled(jobs) + plan_jobs() + [by_values(*chosen) for chosen in make_fieldcases.BACKWARDS]
     return with_more([backward_line(case) for case in jobs], [backward_line(case) for case in more])
 
 
 def part_lines() -> List[str]:
-    return [part_line(case) for case in partcases.part_cases() + partcases.drawn_parts()]
+    more = [partcases.PartCase(by_values(one, lent), first) for one, lent, first in make_fieldcases.PARTS]
+    return with_more([part_line(case) for case in partcases.part_cases() + partcases.drawn_parts()],
+                     [part_line(case) for case in more])
 
 
 FILES = {
