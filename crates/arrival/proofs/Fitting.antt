@@ -9,27 +9,14 @@ use mathlib.Core.Logic.{_⊎_, inl, inr}
 use mathlib.Core.Option.{none, some}
 use native.Mathlib.Omega.{arith}
 use Rattle.whole.proofs.Tests.{T-true, T-false, true-T, right, and-no, lt-or-le}
-use Rattle.model.specs.planning.Outcome.{leastFrom}
-use Rattle.model.proofs.jobs.LeastTick.{Least, Result, result, least-is, none-is}
+use Rattle.model.proofs.jobs.LeastTick.{Least, Result}
 use Rattle.whole.specs.Candidates.{Next}
-use Rattle.arrival.specs.Arrivals.{orZero}
-use Rattle.arrival.proofs.Search.{is-some, is-none}
 
 -- none before r passes, and where a later one does r does too
 pub record LedTo (test : ℕ → Bool) (first last r : ℕ) : Type 0 where
   pub low : first ≤ r
   pub missed : (k : ℕ) → first ≤ k → k < r → test k ≡ false
   pub held : (k : ℕ) → r ≤ k → k ≤ last → test k ≡ true → test r ≡ true
-
--- ---- a tick that fits, or 0
-
-pub fit-some : (fit : ℕ → Bool) (n count t : ℕ) → t ≡ orZero (leastFrom fit n count) → (t ≡ 0 → ⊥) → Least fit n count t
-fit-some fit n count t e h = least-is fit n count t (is-some (leastFrom fit n count) (λ z. h (e ∙ z)) ∙ ap some (sym e))
-
-pub fit-none : (fit : ℕ → Bool) (n count t : ℕ) → 1 ≤ n → t ≡ orZero (leastFrom fit n count)
-    → t ≡ 0 → Result fit n count none
-fit-none fit n count t low e z =
-    none-is fit n count (is-none fit n count (leastFrom fit n count) low (result fit n count) (sym e ∙ z))
 
 pub nowhere-else : (test : ℕ → Bool) (first last n : ℕ) → LedTo test first last n → (n ≤ last → test n ≡ false)
     → (k : ℕ) → first ≤ k → k ≤ last → test k ≡ false
@@ -40,7 +27,7 @@ nowhere-else test first last n w e k p q = go (lt-or-le k n)
     go (inr l) = T-false (test k) (λ t. subst T (sym (w .held k l q (T-true (test k) t)) ∙ e (omega arith)) tt)
 
 -- a first candidate that passes where it is one
-pub at-first : (reach : ℕ → Bool) (first after : ℕ) → 1 ≤ first → (first < after → reach first ≡ true) → first ≤ after
+pub at-first : (reach : ℕ → Bool) (first after : ℕ) → 1 ≤ after → (first < after → reach first ≡ true) → first ≤ after
     → Next reach first (after - 1) first
 at-first reach first after s h l =
     record {

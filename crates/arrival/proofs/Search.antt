@@ -6,8 +6,6 @@ use mathlib.Core.Path.{_≡_, refl, sym, ap, _∙_}
 use mathlib.Core.Bool.{Bool, true, false}
 use mathlib.Core.Option.{Option, none, some}
 use Rattle.model.specs.planning.Outcome.{leastFrom}
-use Rattle.model.proofs.jobs.LeastTick.{Result}
-use Rattle.arrival.specs.Arrivals.{orZero}
 
 -- ---- what a loop over the ticks before `after` has before it
 
@@ -65,22 +63,12 @@ module _ (test : ℕ → Bool) (first after : ℕ) where
   from-later n h l e = sym (past n h l e ∙ begun test after n)
 
   pub none-passes : ((k : ℕ) → first ≤ k → k < after → test k ≡ false) → first ≤ after
-      → 0 ≡ orZero (leastFrom test first (after - first))
-  none-passes e h = sym (ap orZero (past after h (omega arith) e ∙ nowhere test after after (omega arith)))
+      → none ≡ leastFrom test first (after - first)
+  none-passes e h = sym (past after h (omega arith) e ∙ nowhere test after after (omega arith))
 
-  pub none-to-try : after ≤ first → 0 ≡ orZero (leastFrom test first (after - first))
-  none-to-try h = sym (ap orZero (sym (begun test after first) ∙ nowhere test after first h))
+  pub none-to-try : after ≤ first → none ≡ leastFrom test first (after - first)
+  none-to-try h = sym (sym (begun test after first) ∙ nowhere test after first h)
 
   pub first-passes : (n : ℕ) → first ≤ n → n < after → ((k : ℕ) → first ≤ k → k < n → test k ≡ false) → test n ≡ true
-      → n ≡ orZero (leastFrom test first (after - first))
-  first-passes n h l e t = sym (ap orZero (past n h (omega arith) e ∙ here test after n l t))
-
--- ---- 0 stands for none, since no candidate is 0
-
-pub is-some : (o : Option ℕ) → (orZero o ≡ 0 → ⊥) → o ≡ some (orZero o)
-is-some none h = absurd (h refl)
-is-some (some n) h = refl
-
-pub is-none : (test : ℕ → Bool) (k count : ℕ) (o : Option ℕ) → 1 ≤ k → Result test k count o → orZero o ≡ 0 → o ≡ none
-is-none test k count none h r e = refl
-is-none test k count (some n) h r e = absurd (omega (arith, r .first))
+      → some n ≡ leastFrom test first (after - first)
+  first-passes n h l e t = sym (past n h (omega arith) e ∙ here test after n l t)

@@ -21,8 +21,7 @@ use Rattle.windows.specs.Ticks.{firstTick, afterLast}
 use Rattle.windows.proofs.Ticks.{Fit, fit-is, fit-ticks, ticks-fit, first-above}
 use Rattle.windows.proofs.Listed.{noWindow, split}
 use Rattle.model.proofs.jobs.LeastTick.{Least, Result, result, one-result}
-use Rattle.arrival.specs.Arrivals.{searched, orZero}
-use Rattle.arrival.proofs.Search.{is-some, is-none}
+use Rattle.arrival.specs.Arrivals.{searched}
 
 -- ---- windows in order, the one before them having closed at tick c
 
@@ -153,7 +152,7 @@ module _ (test : ℕ → Bool) (first end dwell : ℕ) where
 
 -- ---- what a loop over the first `count` windows of a list has before it
 
-module _ (test : ℕ → Bool) (first end dwell : ℕ) (low : 1 ≤ first) (list : List Window) (count i : ℕ)
+module _ (test : ℕ → Bool) (first end dwell : ℕ) (list : List Window) (count i : ℕ)
     (inside : i < length (take count list))
     (below : i < count) where
   abbrev others : List Window
@@ -165,28 +164,23 @@ module _ (test : ℕ → Bool) (first end dwell : ℕ) (low : 1 ≤ first) (list
   by-window : Option ℕ → Option ℕ
   by-window o = elim o [ some n ↦ some n | none ↦ searched test first end dwell others ]
 
-  -- the least tick n of window i, its first tick being a and the one after its last b
-  module _ (a b n : ℕ) (from : a ≡ firstTick first window) (last : b ≡ afterLast dwell end window)
-      (is : n ≡ orZero (leastFrom test a (b - a))) where
+  -- window i, its first tick being a and the one after its last b
+  module _ (a b : ℕ) (from : a ≡ firstTick first window) (last : b ≡ afterLast dwell end window) where
     opened : searched test first end dwell (drop i (take count list)) ≡ by-window (leastFrom test a (b - a))
     unfolding by-window
     opened =
         ap (searched test first end dwell) (split list count i inside below)
         ∙ ap₂ (λ (k m : ℕ). by-window (leastFrom test k (m - k))) (sym from) (sym last)
 
-    pub in-window : (n ≡ 0 → ⊥) → searched test first end dwell (drop i (take count list)) ≡ some n
+    pub in-window : (n : ℕ) → some n ≡ leastFrom test a (b - a)
+        → searched test first end dwell (drop i (take count list)) ≡ some n
     unfolding by-window
-    in-window h = opened ∙ ap by-window (is-some (leastFrom test a (b - a)) (λ z. h (is ∙ z))) ∙ ap some (sym is)
+    in-window n is = opened ∙ ap by-window (sym is)
 
-    pub past-window : n ≡ 0
+    pub past-window : none ≡ leastFrom test a (b - a)
         → searched test first end dwell (drop i (take count list)) ≡ searched test first end dwell others
     unfolding by-window
-    past-window z =
-        opened
-        ∙ ap by-window
-        (is-none test a (b - a) (leastFrom test a (b - a))
-        (subst (λ (k : ℕ). 1 ≤ k) (sym from) (le-trans low (first-above first window)))
-        (result test a (b - a)) (sym is ∙ z))
+    past-window is = opened ∙ ap by-window (sym is)
 
 -- ---- with windows and without
 

@@ -16,6 +16,8 @@ use Rattle.model.specs.planning.Job.{JobAxis, maskWhere}
 use Rattle.model.specs.planning.Refusals.{lastTick}
 use Rattle.model.specs.planning.Outcome.{allReach, leastFrom, reachesNone}
 use Rattle.arrival.specs.declared.Arrival.{Arrival}
+use Rattle.arrival.specs.declared.Tick.{Tick}
+use Rattle.arrival.specs.declared.Tick.the-variants.{At, Never}
 
 -- ---- the arrival
 
@@ -63,9 +65,10 @@ searched test first after dwell (w ∷ ws) =
       | none ↦ searched test first after dwell ws
     ]
 
-abbrev pub orZero : Option ℕ → ℕ
-orZero none = 0
-orZero (some n) = n
+-- the tick that a search found, or none
+abbrev pub tickOf : Tick → Option ℕ
+tickOf (At n) = some n
+tickOf Never = none
 
 -- an axis does not reach the asked arrival; or any, where 0 is asked
 unfoldable pub cannotArrive : ℕ → Axis → Bool

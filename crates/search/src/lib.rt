@@ -11,6 +11,7 @@
 //                                                   is any
 //                       search_from                 the search
 use admission::Purpose;
+use arrival::Tick;
 use model::Axis;
 use model::Checked;
 use model::Job;
@@ -99,8 +100,8 @@ fn search_from(
 {
     let left = 4097 - first;
     let count = within_budget(budget, left);
-    let tick = arrival::least_common(mask, axes, windows, first, first + count);
-    if tick != 0 {
+    let least = arrival::least_common(mask, axes, windows, first, first + count);
+    if let Tick::At(tick) = least {
         return report_of(Report::Found(tick), tick - first + 1);
     }
     if budget < left {

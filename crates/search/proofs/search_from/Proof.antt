@@ -23,17 +23,22 @@ least-common-requires : tie.Need-least-common-requires
 least-common-requires c κs =
     let p = c .before .pre in
     let few = no-more _ (candidates (c .before .args .first)) (c .within-budget .result) (c .within-budget .ensures) in
-    (p .0, (p .1 .0, (omega (arith, p .1 .1 .0), omega (arith, p .1 .1 .1))))
+    (p .0, (p .1 .0, omega (arith, p .1 .1 .1)))
+
+enum-known-least : tie.Need-enum-known-least
+enum-known-least c = search needs
 
 sub-report-of : tie.Need-sub-report-of
 sub-report-of c =
-    let a = c .before .before .before .args in
-    let p = c .before .before .before .pre in
-    let n = c .before .least-common in
-    let k = c .before .before .within-budget in
+    let f = c .before in
+    let b = f .before .before in
+    let a = b .before .before .args in
+    let n = b .least-common in
+    let k = b .before .within-budget in
+    let tick = f .least .given in
     let test = arrivesIn (a .windows) (setAxes 0 (a .mask) (a .axes)) in
-    let late = found-late test (a .first) (a .budget) (k .result) (n .result) (p .1 .1 .0) (k .ensures)
-    (n .ensures) (c .if1 .taken) in
+    let late = found-late test (a .first) (a .budget) (k .result) (n .result) (k .ensures) (n .ensures)
+    (tick .0 .0) (tick .1) in
     omega arith
 
 add-report-of : tie.Need-add-report-of
@@ -44,45 +49,51 @@ report-of-requires c κs = search needs
 
 returns : tie.Need-returns
 returns c =
-    let a = c .before .before .before .before .args in
-    let p = c .before .before .before .before .pre in
-    let n = c .before .before .least-common in
-    let k = c .before .before .before .within-budget in
+    let f = c .before .before in
+    let b = f .before .before in
+    let a = b .before .before .args in
+    let n = b .least-common in
+    let k = b .before .within-budget in
+    let tick = f .least .given in
     let test = arrivesIn (a .windows) (setAxes 0 (a .mask) (a .axes)) in
     c .report-of .ensures
-    ∙ found-out test (a .first) (a .budget) (k .result) (n .result) (p .1 .1 .0) (k .ensures)
-    (n .ensures) (c .before .if1 .taken)
+    ∙ found-out test (a .first) (a .budget) (k .result) (n .result) (k .ensures) (n .ensures) (tick .0 .0) (tick .1)
 
-add-t14 : tie.Need-add-t14
-add-t14 c = search needs
+enum-told : tie.Need-enum-told
+enum-told c = search needs
+
+add-t15 : tie.Need-add-t15
+add-t15 c = search needs
 
 report-of-requires-2 : tie.Need-report-of-requires-2
 report-of-requires-2 c κs = search needs
 
 returns-2 : tie.Need-returns-2
 returns-2 c =
-    let a = c .before .before .before .before .before .args in
-    let p = c .before .before .before .before .before .pre in
-    let n = c .before .before .before .least-common in
-    let k = c .before .before .before .before .within-budget in
+    let f = c .before .before in
+    let b = f .before .before in
+    let a = b .before .before .args in
+    let n = b .least-common in
+    let k = b .before .within-budget in
     let test = arrivesIn (a .windows) (setAxes 0 (a .mask) (a .axes)) in
     c .report-of2 .ensures
-    ∙ spent-out test (a .first) (a .budget) (k .result) (n .result) (p .1 .1 .0) (k .ensures) (n .ensures)
-    (c .before .before .if1 .left) (c .before .if2 .taken)
+    ∙ spent-out test (a .first) (a .budget) (k .result) (n .result) (k .ensures) (n .ensures)
+    (f .enum-told .given .1) (c .before .if1 .taken)
 
 report-of-requires-3 : tie.Need-report-of-requires-3
 report-of-requires-3 c κs = search needs
 
 returns-3 : tie.Need-returns-3
 returns-3 c =
-    let a = c .before .before .before .before .before .args in
-    let p = c .before .before .before .before .before .pre in
-    let n = c .before .before .before .least-common in
-    let k = c .before .before .before .before .within-budget in
+    let f = c .before .before in
+    let b = f .before .before in
+    let a = b .before .before .args in
+    let n = b .least-common in
+    let k = b .before .within-budget in
     let test = arrivesIn (a .windows) (setAxes 0 (a .mask) (a .axes)) in
     c .report-of3 .ensures
-    ∙ nothing-out test (a .first) (a .budget) (k .result) (n .result) (p .1 .1 .0) (k .ensures) (n .ensures)
-    (c .before .before .if1 .left) (c .before .if2 .left)
+    ∙ nothing-out test (a .first) (a .budget) (k .result) (n .result) (k .ensures) (n .ensures)
+    (f .enum-told .given .1) (c .before .if1 .left)
 
 pub search-from-spec : {M : Type 1} → statement M
 search-from-spec =
@@ -92,11 +103,13 @@ search-from-spec =
     within-budget-requires
     add-least-common
     least-common-requires
+    enum-known-least
     sub-report-of
     add-report-of
     report-of-requires
     returns
-    add-t14
+    enum-told
+    add-t15
     report-of-requires-2
     returns-2
     report-of-requires-3

@@ -3,8 +3,8 @@ use mathlib.Core.Bool.{not}
 use mathlib.Core.Path.{ap, _∙_}
 use borrow.Author.Needs.{needs}
 use Rattle.arrival.proofs.Unable.{reaches-none, misses-asked}
-use Rattle.arrival.proofs.cannot_arrive.Statement.{statement}
-use Rattle.arrival.proofs.cannot_arrive.Tie as tie
+use Rattle.arrival.proofs.reached.cannot_arrive.Statement.{statement}
+use Rattle.arrival.proofs.reached.cannot_arrive.Tie as tie
 
 reaches-some-requires : tie.Need-reaches-some-requires
 reaches-some-requires c κs = (c .before .pre .0, (omega arith, omega arith))

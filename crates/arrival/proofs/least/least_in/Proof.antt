@@ -3,17 +3,16 @@ use native.Mathlib.Omega.{arith}
 use mathlib.Core.Path.{_≡_, refl, sym, ap, _∙_}
 use mathlib.Core.Bool.{true}
 use mathlib.Core.List.{List}
-use lib.ListN.{length, getD, take, drop}
+use lib.ListN.{length, take, drop}
 use lib.Seq.{length-take-le}
 use borrow.Author.Needs.{needs}
 use Rattle.model.specs.declared.Window.{Window}
-use Rattle.windows.proofs.Listed.{noWindow, ended}
-use Rattle.windows.proofs.Ticks.{first-above}
-use Rattle.arrival.specs.Arrivals.{searched, orZero}
+use Rattle.windows.proofs.Listed.{ended}
+use Rattle.arrival.specs.Arrivals.{searched}
 use Rattle.arrival.proofs.Search.{none-to-try, first-passes}
 use Rattle.arrival.proofs.WindowSearch.{in-window, past-window}
-use Rattle.arrival.proofs.least_in.Statement.{statement}
-use Rattle.arrival.proofs.least_in.Tie as tie
+use Rattle.arrival.proofs.least.least_in.Statement.{statement}
+use Rattle.arrival.proofs.least.least_in.Tie as tie
 
 abbrev Inv-loop : tie.InvT-loop
 Inv-loop count dwell first after list i₀ i =
@@ -47,17 +46,14 @@ returns : tie.Need-returns Inv-loop μ-loop
 returns c =
     let l = c .before .before .before .before .before .loop in
     let a = c .before .before .before .before .before .before .args in
-    let low = c .before .before .before .before .before .before .pre .1 .1 .0 in
     let f = c .before .before .first-tick in
     let g = c .before .after-last in
-    let above = first-above (a .first) (getD (a .t1) (l .i) noWindow) in
     let here = first-passes (λ n. true) (f .result) (g .result) (f .result) (omega arith) (c .if1 .taken)
     (λ k p q. absurd (omega arith)) refl in
-    let is = in-window (λ n. true) (a .first) (a .after) (a .dwell) low (a .t1) (a .count) (l .i)
+    let is = in-window (λ n. true) (a .first) (a .after) (a .dwell) (a .t1) (a .count) (l .i)
     (omega (arith, l .inv .long)) (omega arith)
-    (f .result) (g .result) (f .result) (f .ensures) (g .ensures) here
-    (λ z. absurd (omega (arith, z, f .ensures, above, low))) in
-    ap orZero (sym is ∙ l .inv .least)
+    (f .result) (g .result) (f .ensures) (g .ensures) (f .result) here in
+    sym is ∙ l .inv .least
 
 add-i : tie.Need-add-i Inv-loop μ-loop
 add-i c = omega arith
@@ -69,13 +65,12 @@ loop-again : tie.Need-loop-again Inv-loop μ-loop
 loop-again c =
     let l = c .before .before .before .before .before .loop in
     let a = c .before .before .before .before .before .before .args in
-    let low = c .before .before .before .before .before .before .pre .1 .1 .0 in
     let f = c .before .before .first-tick in
     let g = c .before .after-last in
-    let is = past-window (λ n. true) (a .first) (a .after) (a .dwell) low (a .t1) (a .count) (l .i)
+    let is = past-window (λ n. true) (a .first) (a .after) (a .dwell) (a .t1) (a .count) (l .i)
     (omega (arith, l .inv .long)) (omega arith)
-    (f .result) (g .result) 0 (f .ensures) (g .ensures)
-    (none-to-try (λ n. true) (f .result) (g .result) (c .if1 .left)) refl in
+    (f .result) (g .result) (f .ensures) (g .ensures)
+    (none-to-try (λ n. true) (f .result) (g .result) (c .if1 .left)) in
     record { least = sym is ∙ l .inv .least; low = omega arith; long = l .inv .long }
 
 returns-2 : tie.Need-returns-2 Inv-loop μ-loop
@@ -83,8 +78,7 @@ returns-2 c =
     let l = c .before .loop in
     let a = c .before .before .args in
     let over = ended (take (a .count) (a .t1)) (l .i) (omega (arith, l .inv .long)) in
-    ap orZero
-    (sym (ap (λ (r : List Window). searched (λ n. true) (a .first) (a .after) (a .dwell) r) over) ∙ l .inv .least)
+    sym (ap (λ (r : List Window). searched (λ n. true) (a .first) (a .after) (a .dwell) r) over) ∙ l .inv .least
 
 pub least-in-spec : {M : Type 1} → statement M
 least-in-spec =

@@ -1,7 +1,7 @@
 use mathlib.Core.Path.{refl}
 use mathlib.Core.Logic.{inl, inr}
-use Rattle.arrival.proofs.again_after.Statement.{statement}
-use Rattle.arrival.proofs.again_after.Tie as tie
+use Rattle.arrival.proofs.lead_on.again_after.Statement.{statement}
+use Rattle.arrival.proofs.lead_on.again_after.Tie as tie
 
 returns : tie.Need-returns
 returns c = inl (c .if1 .taken, refl)

@@ -1,6 +1,6 @@
 use Rattle.arrival.proofs.Leading.{next-named, next-unnamed}
-use Rattle.arrival.proofs.next_for.Statement.{statement}
-use Rattle.arrival.proofs.next_for.Tie as tie
+use Rattle.arrival.proofs.lead_on.next_for.Statement.{statement}
+use Rattle.arrival.proofs.lead_on.next_for.Tie as tie
 
 returns : tie.Need-returns
 returns c =

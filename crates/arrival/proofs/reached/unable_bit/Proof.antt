@@ -2,8 +2,8 @@ use mathlib.Core.Bool.{Bool, false, cond}
 use mathlib.Core.Path.{sym, ap, _∙_}
 use borrow.Author.Tests.{eq-eqb, ne-eqb}
 use Rattle.arrival.specs.Arrivals.{cannotArrive, bitOf}
-use Rattle.arrival.proofs.unable_bit.Statement.{statement}
-use Rattle.arrival.proofs.unable_bit.Tie as tie
+use Rattle.arrival.proofs.reached.unable_bit.Statement.{statement}
+use Rattle.arrival.proofs.reached.unable_bit.Tie as tie
 
 returns : tie.Need-returns
 unfolding bitOf

@@ -1,8 +1,8 @@
 use mathlib.Core.Path.{refl}
 use mathlib.Core.Logic.{inl, inr}
 use borrow.Author.Needs.{needs}
-use Rattle.arrival.proofs.number_after.Statement.{statement}
-use Rattle.arrival.proofs.number_after.Tie as tie
+use Rattle.arrival.proofs.lead_on.number_after.Statement.{statement}
+use Rattle.arrival.proofs.lead_on.number_after.Tie as tie
 
 returns : tie.Need-returns
 returns c = inl (c .if1 .taken, refl)

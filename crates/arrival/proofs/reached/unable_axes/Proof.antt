@@ -8,8 +8,8 @@ use Rattle.model.specs.planning.Job.{setAxes, maskWhere}
 use Rattle.arrival.specs.Arrivals.{cannotArrive, bitOf}
 use Rattle.arrival.proofs.Unable.{rest, one-more, none-more, all, bit-at-most, bit-of-six}
 use Rattle.model.proofs.SetAxes.{from, axisAt, passed-from}
-use Rattle.arrival.proofs.unable_axes.Statement.{statement}
-use Rattle.arrival.proofs.unable_axes.Tie as tie
+use Rattle.arrival.proofs.reached.unable_axes.Statement.{statement}
+use Rattle.arrival.proofs.reached.unable_axes.Tie as tie
 
 abbrev Inv-loop : tie.InvT-loop
 Inv-loop mask asked axes unable₀ bit₀ bits₀ number₀ unable bit bits number =

@@ -1,8 +1,8 @@
 use Prim.Native.Nat.{_%_}
 use native.Mathlib.Omega.{arith}
 use Rattle.arrival.proofs.Leading.{loses-named, loses-unnamed}
-use Rattle.arrival.proofs.drops_out.Statement.{statement}
-use Rattle.arrival.proofs.drops_out.Tie as tie
+use Rattle.arrival.proofs.lead_on.drops_out.Statement.{statement}
+use Rattle.arrival.proofs.lead_on.drops_out.Tie as tie
 
 loses-requires : tie.Need-loses-requires
 loses-requires c κs = (c .before .pre .0 (omega arith), c .before .pre .1)

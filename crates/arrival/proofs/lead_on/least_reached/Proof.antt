@@ -13,8 +13,8 @@ use Rattle.arrival.specs.Arrivals.{After}
 use Rattle.arrival.proofs.Leading.{bitsFrom, bits-first, bits-later, reach, passed-at, reach-of, axis-misses}
 use Rattle.arrival.proofs.Leading.{every-axis, reach-between, reach-loses}
 use Rattle.arrival.proofs.Leading.{Led, turn-done, led-rest, bits-none, reach-unnamed, led-all, led-nowhere}
-use Rattle.arrival.proofs.least_reached.Statement.{statement}
-use Rattle.arrival.proofs.least_reached.Tie as tie
+use Rattle.arrival.proofs.lead_on.least_reached.Statement.{statement}
+use Rattle.arrival.proofs.lead_on.least_reached.Tie as tie
 
 abbrev Inv-loop : tie.InvT-loop
 Inv-loop mask first last axes n₀ bits₀ number₀ again₀ n bits number again =
