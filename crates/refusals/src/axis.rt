@@ -179,6 +179,36 @@ fn flying_refused(x: Axis) -> bool
     flies(target)
 }
 
+// ---- ranks in checking order. They are compared, so they are numbers and not an enum; the number
+// of tests is the rank of an axis that none refuses.
+
+// Refusal 4.
+const LIMITS_RANK: usize = 0;
+
+// Refusal 12.
+const DAMPING_RANK: usize = 1;
+
+// Refusal 5.
+const BLEND_RANK: usize = 2;
+
+// Refusal 15.
+const SWAY_RANK: usize = 3;
+
+// Refusal 6.
+const VALUES_RANK: usize = 4;
+
+// Refusal 16.
+const ACCELERATION_RANK: usize = 5;
+
+// Refusal 17, the last.
+const FLYING_RANK: usize = 6;
+
+// How many tests there are where fixed targets may fly.
+pub const TESTS_WITHOUT_FLYING: usize = 6;
+
+// How many there are where they must be at rest.
+pub const TESTS: usize = 7;
+
 // The rank in checking order of the first of refusals 4, 12, 5, 15, 6, 16 and 17
 // that meets the axis, from 0 on, or one past the last; 17 is one of them only
 // where fixed targets must be at rest.
@@ -186,28 +216,28 @@ pub fn first_refused(x: Axis, resting: bool) -> usize
     ensures { λ r. ⌜ r ≡ firstMet (testsFor resting) x ⌝ }
 {
     if limits_refused(x) {
-        return 0;
+        return LIMITS_RANK;
     }
     if damping_refused(x) {
-        return 1;
+        return DAMPING_RANK;
     }
     if blend_refused(x) {
-        return 2;
+        return BLEND_RANK;
     }
     if sway_refused(x) {
-        return 3;
+        return SWAY_RANK;
     }
     if values_refused(x) {
-        return 4;
+        return VALUES_RANK;
     }
     if acceleration_refused(x) {
-        return 5;
+        return ACCELERATION_RANK;
     }
     if !resting {
-        return 6;
+        return TESTS_WITHOUT_FLYING;
     }
     if flying_refused(x) {
-        return 6;
+        return FLYING_RANK;
     }
-    7
+    TESTS
 }

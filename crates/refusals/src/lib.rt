@@ -2,6 +2,8 @@
 // and 13), in checking order. `axis` has those that one axis meets by itself.
 mod axis;
 
+use axis::TESTS;
+use axis::TESTS_WITHOUT_FLYING;
 use axis::first_refused;
 use model::Axis;
 use model::Checked;
@@ -92,7 +94,7 @@ fn number_of(rank: usize) -> u32
     requires { ⌜ rank < 7 ⌝ }
     ensures { λ r. ⌜ r ≡ numberOf rank ⌝ }
 {
-    let order: [u32; 7] = [4, 12, 5, 15, 6, 16, 17];
+    let order: [u32; TESTS] = [4, 12, 5, 15, 6, 16, 17];
     order[rank]
 }
 
@@ -102,9 +104,9 @@ fn test_count(resting: bool) -> usize
     ensures { λ r. ⌜ r ≡ length (testsFor resting) ⌝ }
 {
     if resting {
-        return 7;
+        return TESTS;
     }
-    6
+    TESTS_WITHOUT_FLYING
 }
 
 // Refusal 13, or none.
