@@ -35,17 +35,17 @@ fn settings(mask: u32, axis: Axis) -> TourSettings {
     }
 }
 
-fn stop(position: i64, dwell: u32) -> Stop {
-    Stop {
-        positions: [position, 0, 0, 0, 0, 0],
-        dwell: dwell,
-    }
-}
-
 // The stops of a tour of axis 0: a position, to stay there for so many ticks, and its start.
 fn out_and_back(start: i64, dwell: u32, position: u32) -> StopRow {
-    let row = stops::with_stop(stops::empty_row(2), 0, stop(position as i64, dwell));
-    stops::with_stop(row, 1, stop(start, 0))
+    let out = Stop {
+        positions: [position as i64, 0, 0, 0, 0, 0],
+        dwell: dwell,
+    };
+    let back = Stop {
+        positions: [start, 0, 0, 0, 0, 0],
+        dwell: 0,
+    };
+    stops::with_stop(stops::with_stop(stops::empty_row(2), 0, out), 1, back)
 }
 
 // A tour of axis 0 to a position and back: its total and both arrivals.
