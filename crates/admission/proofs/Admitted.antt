@@ -16,8 +16,8 @@ use Rattle.model.specs.planning.Words.{goodMask}
 use Rattle.model.specs.planning.Refusals.{lastTick}
 use Rattle.model.specs.planning.Admission.{Input, typed, inputJob, Admission, refusedAt, admitted, Rules, jobAdmission}
 use Rattle.model.specs.planning.Admission.{admission}
-use Rattle.model.proofs.jobs.OutsideWindows.{Clear}
-use Rattle.model.proofs.jobs.Admissions.{Numbered, Comes, refuses, goes, comes}
+use Rattle.theorems.proofs.jobs.OutsideWindows.{Clear}
+use Rattle.theorems.proofs.jobs.Admissions.{Numbered, Comes, refuses, goes, comes}
 use Rattle.refusals.specs.Checks.{withoutJob}
 
 -- ---- a refusal

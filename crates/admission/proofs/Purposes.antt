@@ -11,8 +11,7 @@ use Rattle.model.specs.declared.Job as Typed
 use Rattle.model.specs.planning.Job.{Job, jobOf, jobWith, setAxes}
 use Rattle.model.specs.planning.Words.{goodMask}
 use Rattle.model.specs.planning.Refusals.{lastTick}
-use Rattle.model.specs.planning.Admission.{typed, Admission, refusedAt, tested, askedAdmission}
-use Rattle.model.specs.planning.Admission.{jobAdmission, admission}
+use Rattle.model.specs.planning.Admission.{typed, Admission, refusedAt, tested, askedAdmission, jobAdmission, admission}
 use Rattle.model.specs.calls.Converter.{conversionRefusals}
 use Rattle.model.proofs.AllowedMask.{mask-passed}
 use Rattle.refusals.specs.Checks.{testsFor, firstRefusal, withoutJob}

@@ -11,10 +11,11 @@ use lib.ListN.{length, getD, set, take, drop, drop-of-length-le}
 use lib.Seq.{take-length, drop-cons}
 use borrow.Author.Tests.{eq-eqb, ne-eqb}
 use Rattle.model.specs.declared.Axis.{Axis}
-use Rattle.model.specs.planning.Job.{JobAxis, setAxes, withWeight, axesWithWeight, unsetAxis}
+use Rattle.model.specs.planning.Job.{JobAxis, setAxes, unsetAxis}
+use Rattle.theorems.specs.GivenWeights.{withWeight, axesWithWeight}
 use Rattle.model.specs.planning.Refusals.{AllPassed}
 use Rattle.model.specs.planning.Outcome.{allReach}
-use Rattle.model.proofs.jobs.GivenWeights.{passed-with-weight, reach-with-weight}
+use Rattle.theorems.proofs.jobs.GivenWeights.{passed-with-weight, reach-with-weight}
 use Rattle.motion.specs.Motions.{measured}
 use Rattle.motion.proofs.WeightGiven.{given-is}
 use Rattle.model.proofs.SetAxes.{pick, from, axisAt, from-more, from-none}

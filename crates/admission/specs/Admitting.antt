@@ -5,7 +5,8 @@ use mathlib.Core.Bool.{Bool, true, false, cond}
 use mathlib.Core.List.{List, [], _∷_}
 use lib.Dec.{eqb}
 use Rattle.model.specs.declared.Axis.{Axis}
-use Rattle.model.specs.planning.Job.{JobAxis, withWeight}
+use Rattle.model.specs.planning.Job.{JobAxis}
+use Rattle.theorems.specs.GivenWeights.{withWeight}
 use Rattle.model.specs.planning.Admission.{Rules, planningRules}
 use Rattle.model.specs.calls.Search.{searchRules}
 use Rattle.model.specs.calls.Converter.{conversionRules}

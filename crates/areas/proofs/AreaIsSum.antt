@@ -13,7 +13,7 @@ use Rattle.whole.proofs.Ring.{pol, same}
 use Rattle.whole.proofs.Sums.{sum-same}
 use Rattle.whole.proofs.Tests.{lt-or-le}
 use Rattle.model.specs.planning.Leg.{Leg, clamped, sumAt}
-use Rattle.model.proofs.legs.Envelopes.{Joined}
+use Rattle.theorems.proofs.legs.Envelopes.{Joined}
 use Rattle.regions.specs.declared.Regions.{Regions}
 use Rattle.regions.specs.Regions.{regionsOf, velocityIn}
 use Rattle.areas.specs.Areas.{rampArea, areaOf, areaAt, areaTo, fallArea, risingTicks, levelTicks, levelTo}

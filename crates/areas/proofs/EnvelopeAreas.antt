@@ -9,7 +9,7 @@ use Rattle.whole.specs.Integers.{sumTo}
 use Rattle.whole.specs.Ranges.{Within}
 use Rattle.whole.proofs.Laws.{natAbs-negpos}
 use Rattle.model.specs.planning.Leg.{Leg, upper, lower, sumAt}
-use Rattle.model.proofs.legs.Envelopes.{lowest-sum, highest-sum}
+use Rattle.theorems.proofs.legs.Envelopes.{lowest-sum, highest-sum}
 use Rattle.profile.specs.Profiles.{endsAllowed}
 use Rattle.areas.specs.Areas.{areaAt, lowestArea, highestArea}
 use Rattle.profile.proofs.FeasibleParts.{ends-joined}

@@ -12,7 +12,7 @@ use Rattle.whole.proofs.Differences.{whole, all₂}
 use Rattle.whole.proofs.Laws.{+ℤ-mono, natAbs-iff}
 use Rattle.whole.proofs.Sums.{sum-mono}
 use Rattle.model.specs.planning.Leg.{Leg, upper}
-use Rattle.model.proofs.legs.Envelopes.{Joined, since, until, highest}
+use Rattle.theorems.proofs.legs.Envelopes.{Joined, since, until, highest}
 use Rattle.areas.specs.declared.Parts.{Parts}
 use Rattle.areas.specs.Areas.{rampArea, areaOf, splitArea, upperParts}
 use Rattle.profile.proofs.FeasibleParts.{joined-ends}

@@ -9,7 +9,7 @@ use mathlib.Core.Logic.{_⊎_, inl, inr}
 use mathlib.Core.Option.{none, some}
 use native.Mathlib.Omega.{arith}
 use Rattle.whole.proofs.Tests.{T-true, T-false, true-T, right, and-no, lt-or-le}
-use Rattle.model.proofs.jobs.LeastTick.{Least, Result}
+use Rattle.theorems.proofs.jobs.LeastTick.{Least, Result}
 use Rattle.whole.specs.Candidates.{Next}
 
 -- none before r passes, and where a later one does r does too

@@ -18,7 +18,7 @@ use Rattle.whole.specs.Candidates.{Next}
 use Rattle.reach.specs.Halving.{Loses}
 use Rattle.model.specs.planning.Job.{JobAxis, setAxes}
 use Rattle.model.specs.planning.Refusals.{Passed, AllPassed}
-use Rattle.model.proofs.motions.Threshold.{reached-slow, reached-later}
+use Rattle.theorems.proofs.motions.Threshold.{reached-slow, reached-later}
 use Rattle.arrival.specs.Arrivals.{missedBy, reachedBy, Again}
 use Rattle.model.proofs.SetAxes.{from, axisAt, passed-from}
 use Rattle.arrival.proofs.Reaching.{missed, not-missed, no-more, later-missed}

@@ -14,7 +14,7 @@ use Rattle.model.specs.planning.Job.{JobAxis, setAxes, maskWhere}
 use Rattle.model.specs.planning.Outcome.{allReach, leastArrival}
 use Rattle.arrival.specs.Arrivals.{cannotArrive, bitOf}
 use Rattle.model.proofs.SetAxes.{pick, from, axisAt, from-more, from-none}
-use Rattle.model.proofs.jobs.LeastTick.{Result, result}
+use Rattle.theorems.proofs.jobs.LeastTick.{Result, result}
 
 -- ---- one axis
 

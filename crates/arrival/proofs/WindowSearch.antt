@@ -16,11 +16,11 @@ use Rattle.model.specs.declared.Windows.{Windows}
 use Rattle.model.specs.planning.Windows.{brought, fitsWindow, fitsOne, inOrderAfter, firstWrongWindow, windowsRefused}
 use Rattle.model.specs.planning.Windows.{refused13, inWindows}
 use Rattle.model.specs.planning.Outcome.{leastFrom}
-use Rattle.model.proofs.jobs.WindowsInWords.{none-wrong}
+use Rattle.theorems.proofs.jobs.WindowsInWords.{none-wrong}
 use Rattle.windows.specs.Ticks.{firstTick, afterLast}
 use Rattle.windows.proofs.Ticks.{Fit, fit-is, fit-ticks, ticks-fit, first-above}
 use Rattle.windows.proofs.Listed.{noWindow, split}
-use Rattle.model.proofs.jobs.LeastTick.{Least, Result, result, one-result}
+use Rattle.theorems.proofs.jobs.LeastTick.{Least, Result, result, one-result}
 use Rattle.arrival.specs.Arrivals.{searched}
 
 -- ---- windows in order, the one before them having closed at tick c

@@ -11,10 +11,8 @@ use Rattle.model.specs.declared.SecondSway.{SecondSway}
 use Rattle.model.specs.declared.SecondSway.the-variants.{Absent, HalfPeriod}
 use Rattle.planned.specs.declared.AxisPlan.{AxisPlan}
 use Rattle.blended.specs.declared.BlendedState.{BlendedState}
-use Rattle.planned.specs.Plans.{arrivalOf, PlanRanges}
+use Rattle.planned.specs.Plans.{arrivalOf, PlanRanges, velocityBack, blendsBy, totalWeight}
 use Rattle.blended.specs.BlendedStates.{mix, blendedBack, added, blendedVelocity}
-use Rattle.planned.specs.Plans.{velocityBack, blendsBy}
-use Rattle.planned.specs.Plans.{totalWeight}
 use Rattle.blended.specs.BlendedStates.{lagOf, blendedPosition, blendedStateAt, halfUnit, LandsAt}
 use Rattle.planned.proofs.PlannedRanges.{weighed, blends-some, start-weighed, back-weighed}
 

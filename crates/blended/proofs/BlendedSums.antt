@@ -14,9 +14,8 @@ use Rattle.model.specs.declared.SecondSway.{SecondSway}
 use Rattle.model.specs.declared.SecondSway.the-variants.{Absent, HalfPeriod}
 use Rattle.planned.specs.declared.AxisPlan.{AxisPlan}
 use Rattle.blended.specs.declared.BlendedState.{BlendedState}
-use Rattle.planned.specs.Plans.{arrivalOf, PlanRanges}
+use Rattle.planned.specs.Plans.{arrivalOf, PlanRanges, totalWeight, velocityBack}
 use Rattle.blended.specs.BlendedStates.{mix, added, blendedBack, blendedVelocity, blendedPosition, blendedStateAt}
-use Rattle.planned.specs.Plans.{totalWeight, velocityBack}
 use Rattle.planned.proofs.PlannedRanges.{back-weighed, blends-some}
 use Rattle.blended.proofs.BlendedRanges.{once-by, velocity-within}
 use Rattle.planned.proofs.PlannedSums.{weighed-sum, small-sum, few}

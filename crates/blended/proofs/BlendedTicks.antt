@@ -19,14 +19,13 @@ use Rattle.model.specs.declared.SecondSway.the-variants.{Absent, HalfPeriod}
 use Rattle.model.specs.planning.Quantities.{halfPeriod, secondWeight, asMoving, twicePositionAt}
 use Rattle.model.specs.planning.Motion.{Tick, earlier}
 use Rattle.model.specs.planning.Rows.{plannedAxis, tickAt, tickBack, blendOnce, blendBy, blend, divisor, cells}
-use Rattle.model.specs.planning.Rows.{fromLanding}
+use Rattle.theorems.specs.Rows.{fromLanding}
 use Rattle.model.specs.planning.Refusals.{Plannable}
-use Rattle.model.proofs.tables.FromLanding.{sums-from-landing}
-use Rattle.model.proofs.tables.TwoBlends.{divisor-some}
+use Rattle.theorems.proofs.tables.FromLanding.{sums-from-landing}
+use Rattle.theorems.proofs.tables.TwoBlends.{divisor-some}
 use Rattle.motion.proofs.PlannableAxis.{plannable-after}
 use Rattle.planned.specs.declared.AxisPlan.{AxisPlan}
-use Rattle.planned.specs.Plans.{scale, planOf}
-use Rattle.planned.specs.Plans.{plannedAt, velocityBack}
+use Rattle.planned.specs.Plans.{scale, planOf, plannedAt, velocityBack}
 use Rattle.blended.specs.BlendedStates.{mix, blendedBack, added, blendedVelocity, blendedPosition, axisCells}
 use Rattle.blended.specs.BlendedStates.{halfUnit, LandsAt}
 use Rattle.planned.proofs.Scale.{scale-some, scale-divides}

@@ -10,7 +10,7 @@ use Rattle.model.specs.declared.Order.{Order}
 use Rattle.model.specs.declared.PartAnswer.{PartAnswer}
 use Rattle.model.specs.declared.RaisesAnswer.{RaisesAnswer}
 use Rattle.model.specs.planning.Outcome.{Input, typed, inputJob}
-use Rattle.model.specs.calls.Raises.{RaisesHold, RaisesCallVerdict}
+use Rattle.theorems.specs.Raises.{RaisesHold, RaisesCallVerdict}
 use Rattle.planner.specs.Promise.{Promise}
 use Rattle.parts.specs.Promise.{PartPromise}
 use Rattle.raises.specs.Promise.{RaisesPromise}

@@ -1,7 +1,8 @@
 -- What the calls for raises promise.
 use mathlib.Core.Path.{_≡_}
 use Rattle.model.specs.planning.Outcome.{Input, inputJob}
-use Rattle.model.specs.calls.Raises.{raisesCall, RaisesHold, RaisesCallVerdict}
+use Rattle.model.specs.calls.Raises.{raisesCall}
+use Rattle.theorems.specs.Raises.{RaisesHold, RaisesCallVerdict}
 use Rattle.layout.specs.declared.limit_raises.PolgamirRaises.{PolgamirRaises}
 use Rattle.layout.specs.Raises.{raisesInC}
 

@@ -18,9 +18,8 @@ use Rattle.blended.specs.declared.BlendedState.{BlendedState}
 use Rattle.cells.specs.declared.RowStates.{RowStates}
 use Rattle.planned.specs.Plans.{arrivalOf, PlanRanges}
 use Rattle.blended.specs.BlendedStates.{blendedVelocity, blendedPosition, blendedStateAt}
-use Rattle.cells.specs.Rows.{comesAt, rowStates}
+use Rattle.cells.specs.Rows.{comesAt, rowStates, keptAt, changed}
 use Rattle.segments.specs.Segments.{SegmentOf}
-use Rattle.cells.specs.Rows.{keptAt, changed}
 use Rattle.blended.proofs.BlendedSteps.{state-next, state-before}
 use Rattle.blended.proofs.BlendedRanges.{velocity-within}
 

@@ -11,11 +11,10 @@ use lib.Seq.{drop-cons}
 use borrow.Author.Tests.{eq-eqb, ne-eqb}
 use Rattle.whole.specs.Lists.{over, upTo, Room, Written}
 use Rattle.whole.proofs.Lists.{over-three, written-nil, written-one, written-then, room-on, upTo-more}
-use Rattle.model.specs.planning.Words.{next}
-use Rattle.model.specs.theorems.Spelling.{word}
+use Rattle.model.specs.planning.Words.{next, word}
 use Rattle.model.specs.calls.Converter.{begins, flyingWord, converted}
-use Rattle.model.proofs.words.PositionSpelling.{value-of}
-use Rattle.model.proofs.calls.ConvertedWords as C
+use Rattle.theorems.proofs.words.PositionSpelling.{value-of}
+use Rattle.theorems.proofs.calls.ConvertedWords as C
 use Rattle.words.specs.ByIndex.{isKind, payloadAt}
 use Rattle.words.proofs.Reader as R
 use Rattle.converter.specs.Pieces.{flyingAt, pieceBy, pieceAt, neededFor}

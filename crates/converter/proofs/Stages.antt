@@ -16,8 +16,8 @@ use Rattle.model.specs.planning.Admission.{words, typed, admission}
 use Rattle.model.specs.planning.Outcome.{call}
 use Rattle.model.specs.calls.Converter.{oldOutcome, converted, Conversion, unconverted, written, conversionRules}
 use Rattle.model.specs.calls.Converter.{conversionAfter, conversion}
-use Rattle.model.specs.calls.Converter.{ConversionVerdict}
-use Rattle.model.proofs.calls.Conversion.{conversion-kept, conversion-plans, conversion-verdict, conversion-numbered}
+use Rattle.theorems.specs.Converter.{ConversionVerdict}
+use Rattle.theorems.proofs.calls.Conversion.{conversion-kept, conversion-plans, conversion-verdict, conversion-numbered}
 use Rattle.words.specs.declared.DecodedJob.{DecodedJob}
 use Rattle.words.specs.Decoding.{Decodes}
 use Rattle.admission.specs.Admitting.{withoutJob}

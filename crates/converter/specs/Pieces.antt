@@ -4,7 +4,7 @@ use mathlib.Core.Bool.{Bool, true, false, not, _&&_}
 use mathlib.Core.List.{List, [], _∷_}
 use lib.Dec.{eqb}
 use lib.ListN.{getD, length}
-use Rattle.model.specs.theorems.Spelling.{word}
+use Rattle.model.specs.planning.Words.{word}
 use Rattle.model.specs.calls.Converter.{converted}
 use Rattle.words.specs.ByIndex.{isKind, payloadAt}
 

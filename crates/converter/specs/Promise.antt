@@ -6,7 +6,8 @@ use lib.IntN.{ℤ}
 use lib.ListN.{take}
 use Rattle.model.specs.declared.Answer.{Answer}
 use Rattle.model.specs.planning.Outcome.{words, call}
-use Rattle.model.specs.calls.Converter.{oldOutcome, Conversion, conversion, ConversionVerdict}
+use Rattle.model.specs.calls.Converter.{oldOutcome, Conversion, conversion}
+use Rattle.theorems.specs.Converter.{ConversionVerdict}
 
 -- ws are the words of the job, entry and exit the lent words before and after the call, r is the
 -- answer

@@ -25,15 +25,15 @@ use Rattle.model.specs.planning.Motion.{Tick, leg, displacement, landingTick, l
 use Rattle.model.specs.planning.Rows.{plannedAxis, tickAt}
 use Rattle.model.specs.planning.Refusals.{Plannable}
 use Rattle.model.specs.planning.Demand.{CellTable}
-use Rattle.model.specs.theorems.Misfit.{variation, plannedVariation, SwayLeft}
-use Rattle.model.proofs.legs.Envelopes.{Joined, clamped-end}
-use Rattle.model.proofs.legs.ChosenMeets.{chosen-meets}
-use Rattle.model.proofs.legs.FeasibleTests.{feasible-joined}
-use Rattle.model.proofs.motions.PlannedTarget.{tick-landed}
-use Rattle.model.proofs.tables.MeasuredMisfit.{measured-left}
-use Rattle.model.proofs.jobs.PlannableAxis.{after, weight-range, some-acceleration, speed-range, moves}
-use Rattle.model.proofs.tables.CellLimits.{planned-change, now-acceleration}
-use Rattle.model.proofs.tables.Demand.{plannable-axes, sway-left}
+use Rattle.theorems.specs.Misfit.{variation, plannedVariation, SwayLeft}
+use Rattle.theorems.proofs.legs.Envelopes.{Joined, clamped-end}
+use Rattle.theorems.proofs.legs.ChosenMeets.{chosen-meets}
+use Rattle.theorems.proofs.legs.FeasibleTests.{feasible-joined}
+use Rattle.theorems.proofs.motions.PlannedTarget.{tick-landed}
+use Rattle.theorems.proofs.tables.MeasuredMisfit.{measured-left}
+use Rattle.theorems.proofs.jobs.PlannableAxis.{after, weight-range, some-acceleration, speed-range, moves}
+use Rattle.theorems.proofs.tables.CellLimits.{planned-change, now-acceleration}
+use Rattle.theorems.proofs.tables.Demand.{plannable-axes, sway-left}
 use Rattle.regions.specs.declared.Regions.{Regions}
 use Rattle.cruise.specs.Variation.{mostVariation, MostSwayHolds, MostMeasuredHolds}
 use Rattle.regions.specs.Regions.{rise, fall, chosenRegions, velocityIn}

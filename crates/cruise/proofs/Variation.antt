@@ -11,7 +11,7 @@ use Rattle.whole.specs.Ranges.{Within}
 use Rattle.whole.proofs.Differences.{whole, all₁, all₂}
 use Rattle.whole.proofs.Laws.{natAbs-negpos, natAbs-+}
 use Rattle.whole.proofs.Tests.{lt-or-le}
-use Rattle.model.specs.theorems.Misfit.{variation}
+use Rattle.theorems.specs.Misfit.{variation}
 
 -- u is μ or −μ
 abbrev pub Steep : ℕ → ℤ → Type 0

@@ -6,7 +6,7 @@ use lib.IntN.{natAbs}
 use Rattle.model.specs.declared.Axis.{Axis}
 use Rattle.model.specs.planning.Quantities.{accelerationSteps}
 use Rattle.model.specs.planning.Motion.{landingAcceleration}
-use Rattle.model.specs.theorems.Misfit.{SwayLeftHolds, MeasuredLeftHolds}
+use Rattle.theorems.specs.Misfit.{SwayLeftHolds, MeasuredLeftHolds}
 
 abbrev pub mostVariation : Axis → ℕ → ℕ
 mostVariation x n = 4 * accelerationSteps x + natAbs (landingAcceleration x n) + 2

@@ -15,8 +15,8 @@ use Rattle.whole.proofs.Ring.{pol, same}
 use Rattle.whole.proofs.Sums.{sum-same}
 use Rattle.whole.proofs.Tests.{lt-or-le}
 use Rattle.model.specs.planning.Leg.{Leg, upper, lower}
-use Rattle.model.proofs.legs.Envelopes.{Joined, since, until, highest, lowest, clamped-within, clamped-lowest}
-use Rattle.model.proofs.legs.Envelopes.{clamped-highest}
+use Rattle.theorems.proofs.legs.Envelopes.{Joined, since, until, highest, lowest, clamped-within, clamped-lowest}
+use Rattle.theorems.proofs.legs.Envelopes.{clamped-highest}
 use Rattle.envelopes.specs.declared.sums.Sums.{Sums}
 use Rattle.envelopes.specs.Sums.{crossing, peakOf, troughOf, envelopeSumsAt, stepped, SumsRanged, withTicks}
 use Rattle.regions.proofs.ThreeRegions.{before, after, up-is, up-late, before-half, after-half}

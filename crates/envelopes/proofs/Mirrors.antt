@@ -9,7 +9,7 @@ use lib.IntN.{ℤ, pos, negℤ, natAbs, _+ℤ_, _-ℤ_, _*ℤ_, negℤ-negℤ}
 use Rattle.whole.proofs.Laws.{natAbs-neg}
 use Rattle.whole.proofs.Ring.{pol, same}
 use Rattle.model.specs.planning.Leg.{Leg, Feasible, travelled, feasible}
-use Rattle.model.proofs.legs.FeasibleIsExistence.{feasible-is}
+use Rattle.theorems.proofs.legs.FeasibleIsExistence.{feasible-is}
 use Rattle.envelopes.proofs.EnvelopeSums.{mirrored}
 
 pub same-truth : (a b : Bool) → (T a → T b) → (T b → T a) → a ≡ b

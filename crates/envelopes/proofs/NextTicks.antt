@@ -11,7 +11,7 @@ use lib.IntN.{ℤ, pos, natAbs, _+ℤ_, _-ℤ_, _*ℤ_}
 use Rattle.whole.proofs.Ring.{pol, same}
 use Rattle.whole.proofs.Tests.{and-yes, and-no, leb-no, lt-or-le}
 use Rattle.model.specs.planning.Leg.{Leg}
-use Rattle.model.proofs.legs.Envelopes.{Joined}
+use Rattle.theorems.proofs.legs.Envelopes.{Joined}
 use Rattle.profile.specs.Profiles.{endsAllowed, sumBetween}
 use Rattle.envelopes.specs.declared.sums.Sums.{Sums}
 use Rattle.whole.specs.Candidates.{Next}

@@ -14,8 +14,8 @@ use Rattle.whole.proofs.Laws.{natAbs-neg}
 use Rattle.whole.proofs.Ring.{pol, same}
 use Rattle.whole.proofs.Tests.{T-false, true-T}
 use Rattle.model.specs.planning.Leg.{Leg, upper, required, twiceRequired, sumIsWhole, tests, feasible}
-use Rattle.model.proofs.legs.Envelopes.{Joined}
-use Rattle.model.proofs.legs.FeasibleTests.{every, feasible-joined, feasible-below}
+use Rattle.theorems.proofs.legs.Envelopes.{Joined}
+use Rattle.theorems.proofs.legs.FeasibleTests.{every, feasible-joined, feasible-below}
 use Rattle.envelopes.proofs.EnvelopeSums.{mirrored}
 use Rattle.envelopes.proofs.Mirrors.{same-truth, feasible-mirrored, apart-neg}
 use Rattle.envelopes.proofs.StraightLine.{above-lower}

@@ -15,7 +15,7 @@ use Rattle.whole.proofs.Ring.{pol, same}
 use Rattle.whole.proofs.Rounding.{shr-floor}
 use Rattle.whole.proofs.Sums.{sum-first, sum-same}
 use Rattle.model.specs.planning.Leg.{Leg, lower, required}
-use Rattle.model.proofs.legs.Envelopes.{Joined, since, until, lowest, apart-at}
+use Rattle.theorems.proofs.legs.Envelopes.{Joined, since, until, lowest, apart-at}
 
 -- ---- sums
 

@@ -23,11 +23,11 @@ use Rattle.model.specs.planning.Motion.{reachable, leg, displacement, startVelo
 use Rattle.model.specs.planning.Motion.{landingTick}
 use Rattle.model.specs.calls.Raises.{withLimits}
 use Rattle.model.specs.planning.Refusals.{Passed, lastTick}
-use Rattle.model.proofs.legs.Envelopes.{Joined}
-use Rattle.model.proofs.legs.FeasibleTests.{every, feasible-joined, feasible-below}
-use Rattle.model.proofs.motions.Grid.{finer-range, speed-range, acceleration-some}
-use Rattle.model.proofs.jobs.PassedAxis.{speed-limit, some-acceleration, acceleration-limit}
-use Rattle.model.proofs.legs.WholeSum.{sum-is-whole}
+use Rattle.theorems.proofs.legs.Envelopes.{Joined}
+use Rattle.theorems.proofs.legs.FeasibleTests.{every, feasible-joined, feasible-below}
+use Rattle.theorems.proofs.motions.Grid.{finer-range, speed-range, acceleration-some}
+use Rattle.theorems.proofs.jobs.PassedAxis.{speed-limit, some-acceleration, acceleration-limit}
+use Rattle.theorems.proofs.legs.WholeSum.{sum-is-whole}
 use Rattle.envelopes.proofs.EnvelopeSums.{mirrored}
 use Rattle.least_limit.specs.Limits.{enough, TaskRanged}
 use Rattle.least_limit.specs.Tasks.{taskWith, fastestOf, TaskIs}

@@ -21,7 +21,7 @@ use Rattle.model.specs.declared.Limit.{Limit}
 use Rattle.model.specs.declared.Limit.the-variants.{Acceleration, Speed}
 use Rattle.model.specs.planning.Leg.{Leg, upper}
 use Rattle.model.specs.calls.Raises.{highest}
-use Rattle.model.proofs.legs.Envelopes.{Joined}
+use Rattle.theorems.proofs.legs.Envelopes.{Joined}
 use Rattle.areas.specs.declared.Parts.{Parts}
 use Rattle.profile.specs.Profiles.{legOf, Joinable}
 use Rattle.areas.specs.Areas.{triangle, rampArea, splitArea, upperParts}
@@ -29,8 +29,7 @@ use Rattle.profile.proofs.FeasibleParts.{joined-ends}
 use Rattle.areas.proofs.UpperSplits.{split-above, split-is, parts-all}
 use Rattle.least_limit.specs.declared.Task.{Task}
 use Rattle.least_limit.specs.Limits.{profileAt, speedWith, accelerationWith, other, limitIn, need, unit, enough}
-use Rattle.least_limit.specs.Limits.{enoughWith, gainOf}
-use Rattle.least_limit.specs.Limits.{TaskRanged, Allowed, PartsRanged}
+use Rattle.least_limit.specs.Limits.{enoughWith, gainOf, TaskRanged, Allowed, PartsRanged}
 
 module _ (t : Task) where
   abbrev pub legWith : Limit → ℕ → Leg

@@ -2,6 +2,10 @@
 
 -- What a case is, and what cases share.
 pub mod Case
+-- Damping as measured.
+pub mod DampingCases
+-- Single definitions, and rows.
+pub mod RowCases
 -- The starred field cases.
 pub mod FieldCases
 -- Windows, and arrivals that end.

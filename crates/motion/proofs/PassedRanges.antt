@@ -16,7 +16,7 @@ use Rattle.model.specs.declared.Target.the-variants.{Fixed, Moving}
 use Rattle.model.specs.planning.Quantities.{speedLimit, accelerationLimit, asMoving}
 use Rattle.model.specs.planning.Refusals.{lastTick, within, positionAllowed, velocityAllowed, restAllowed}
 use Rattle.model.specs.planning.Refusals.{motionAllowed, targetAllowed, Passed}
-use Rattle.model.proofs.jobs.PassedAxis.{speed-limit, half-period, second-weight, second-half-period}
+use Rattle.theorems.proofs.jobs.PassedAxis.{speed-limit, half-period, second-weight, second-half-period}
 use Rattle.motion.specs.Motions.{StateRanges, Ranges}
 
 position-within : (p : ℤ) → T (positionAllowed p) → Within (2 ^ 34) p

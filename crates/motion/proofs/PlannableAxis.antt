@@ -13,12 +13,11 @@ use Rattle.whole.proofs.Bounds.{exact, within, mul-holds}
 use Rattle.model.specs.declared.Axis.{Axis}
 use Rattle.model.specs.planning.Leg.{feasible}
 use Rattle.model.specs.planning.Quantities.{fineSteps, delay, asMoving, finer, speedSteps}
-use Rattle.model.specs.planning.Motion.{reachable, shift, leg, displacement}
-use Rattle.model.specs.planning.Motion.{startPosition, startVelocity, landingVelocity, landingAcceleration}
-use Rattle.model.specs.planning.Motion.{arrivalVelocity}
+use Rattle.model.specs.planning.Motion.{reachable, shift, leg, displacement, startPosition, startVelocity}
+use Rattle.model.specs.planning.Motion.{landingVelocity, landingAcceleration, arrivalVelocity}
 use Rattle.model.specs.planning.Refusals.{Plannable}
-use Rattle.model.proofs.motions.Reaches.{reach-after, reach-lands, reach-arrives, reach-feasible}
-use Rattle.model.proofs.motions.Grid.{finer-range, speed-range, acceleration-range}
+use Rattle.theorems.proofs.motions.Reaches.{reach-after, reach-lands, reach-arrives, reach-feasible}
+use Rattle.theorems.proofs.motions.Grid.{finer-range, speed-range, acceleration-range}
 use Rattle.profile.specs.Profiles.{Ranged}
 use Rattle.motion.specs.Motions.{Ranges, profileFor}
 use Rattle.motion.proofs.PassedRanges.{ranges-of}

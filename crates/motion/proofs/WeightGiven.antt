@@ -5,7 +5,7 @@ use Rattle.model.specs.declared.Axis.{Axis}
 use Rattle.model.specs.declared.Weight.{Weight}
 use Rattle.model.specs.declared.Weight.the-variants.{Given, Measured}
 use Rattle.model.specs.planning.Damping.{weightOf}
-use Rattle.model.specs.planning.Job.{withWeight}
+use Rattle.theorems.specs.GivenWeights.{withWeight}
 use Rattle.motion.specs.Motions.{measuredBy, measured}
 
 given-weight : (w : Weight) → measuredBy w ≡ false → w ≡ Given (weightOf w)

@@ -6,7 +6,7 @@ ghost use mathlib.Core.Path.{_≡_};
 ghost use lib.IntN.{pos};
 ghost use Rattle.whole.specs.Ranges.{Is};
 ghost use Rattle.model.specs.planning.Quantities.{secondWeight, swayDelay, secondHalfPeriod, delay};
-ghost use Rattle.model.specs.planning.Job.{withWeight};
+ghost use Rattle.theorems.specs.GivenWeights.{withWeight};
 ghost use Rattle.motion.specs.Motions.{measured, Ranges};
 
 // h₂ of a second sway, 0 where there is none.

@@ -7,8 +7,9 @@ use lib.ListN.{length}
 use Rattle.model.specs.declared.Answer.{Answer}
 use Rattle.model.specs.declared.PartAnswer.{PartAnswer}
 use Rattle.model.specs.planning.Outcome.{Input, call, inputAxes, cellsNeeded, answerOf}
-use Rattle.model.specs.calls.Parts.{PartOutcome, partCall, PartOf}
-use Rattle.model.proofs.calls.Parts.{parts-hold}
+use Rattle.model.specs.calls.Parts.{PartOutcome, partCall}
+use Rattle.theorems.specs.Parts.{PartOf}
+use Rattle.theorems.proofs.calls.Parts.{parts-hold}
 use Rattle.planner.specs.Promise.{partOutcome}
 use Rattle.planner.proofs.Answers.{part-answer}
 use Rattle.parts.specs.Promise.{PartPromise}

@@ -8,7 +8,8 @@ use lib.IntN.{ℤ}
 use lib.ListN.{length}
 use Rattle.model.specs.declared.PartAnswer.{PartAnswer}
 use Rattle.model.specs.planning.Outcome.{Input, call, inputAxes, cellsNeeded}
-use Rattle.model.specs.calls.Parts.{partCall, PartOf}
+use Rattle.model.specs.calls.Parts.{partCall}
+use Rattle.theorems.specs.Parts.{PartOf}
 use Rattle.planner.specs.Promise.{partOutcome}
 
 -- q is what the call was given and k the first row, entry and exit are the lent table

@@ -10,8 +10,8 @@ use Rattle.model.specs.declared.Axis.{Axis}
 use Rattle.model.specs.planning.Quantities.{accelerationLimit, delay, speedSteps}
 use Rattle.model.specs.planning.Leg.{required, sumIsWhole}
 use Rattle.model.specs.planning.Motion.{leg, displacement, landingVelocity, arrivalVelocity, reachable, requiredSum}
-use Rattle.model.proofs.motions.Grid.{acceleration-some}
-use Rattle.model.proofs.motions.Reaches.{reach-feasible}
+use Rattle.theorems.proofs.motions.Grid.{acceleration-some}
+use Rattle.theorems.proofs.motions.Reaches.{reach-feasible}
 use Rattle.profile.specs.Profiles.{endsAllowed, sumBetween}
 use Rattle.cruise.specs.Engines.{EnginesAgree}
 use Rattle.profile.proofs.FeasibleParts.{feasible-parts}

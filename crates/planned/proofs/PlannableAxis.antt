@@ -23,15 +23,14 @@ use Rattle.profile.specs.Profiles.{legOf}
 use Rattle.regions.specs.Regions.{chosenRegions, velocityIn}
 use Rattle.regions.proofs.ChosenRegions.{chosen-within, chosen-ranged}
 use Rattle.motion.specs.Motions.{profileFor, destination}
-use Rattle.model.proofs.motions.Grid.{finer-range}
-use Rattle.model.proofs.tables.CellLimits.{between}
-use Rattle.model.proofs.jobs.PlannableAxis.{some-acceleration, speed-range, moves}
+use Rattle.theorems.proofs.motions.Grid.{finer-range}
+use Rattle.theorems.proofs.tables.CellLimits.{between}
+use Rattle.theorems.proofs.jobs.PlannableAxis.{some-acceleration, speed-range, moves}
 use Rattle.motion.proofs.PlannableAxis.{plannable-after, plannable-landed, plannable-arrived, plannable-feasible}
 use Rattle.motion.proofs.PlannableAxis.{plannable-ranges}
 use Rattle.motion.proofs.PlannableAxis.{start-position-size, landing-acceleration-size, profile-ranged}
 use Rattle.planned.specs.declared.AxisPlan.{AxisPlan}
-use Rattle.planned.specs.Plans.{scale, planOf, arrivalOf, PlanRanges}
-use Rattle.planned.specs.Plans.{plannedAt, totalWeight}
+use Rattle.planned.specs.Plans.{scale, planOf, arrivalOf, PlanRanges, plannedAt, totalWeight}
 use Rattle.planned.proofs.Scale.{weight-is, weighed-within}
 use Rattle.planned.proofs.Velocities.{planned-before, planned-after}
 

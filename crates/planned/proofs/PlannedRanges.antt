@@ -11,9 +11,7 @@ use lib.IntN.{ℤ, pos, natAbs, _*ℤ_}
 use Rattle.model.specs.declared.SecondSway.{SecondSway}
 use Rattle.model.specs.declared.SecondSway.the-variants.{Absent, HalfPeriod}
 use Rattle.planned.specs.declared.AxisPlan.{AxisPlan}
-use Rattle.planned.specs.Plans.{arrivalOf, PlanRanges}
-use Rattle.planned.specs.Plans.{plannedAt, velocityBack, blendsBy}
-use Rattle.planned.specs.Plans.{totalWeight}
+use Rattle.planned.specs.Plans.{arrivalOf, PlanRanges, plannedAt, velocityBack, blendsBy, totalWeight}
 use Rattle.planned.proofs.Velocities.{planned-start}
 
 -- the size of a number times a weight

@@ -13,8 +13,7 @@ use Rattle.areas.specs.Areas.{rampArea}
 use Rattle.regions.specs.Regions.{velocityIn}
 use Rattle.areas.proofs.RampSums.{parts, ramp-sum, level-sum}
 use Rattle.planned.specs.declared.AxisPlan.{AxisPlan}
-use Rattle.planned.specs.Plans.{arrivalOf, PlanRanges}
-use Rattle.planned.specs.Plans.{totalWeight, plannedAt, velocityBack}
+use Rattle.planned.specs.Plans.{arrivalOf, PlanRanges, totalWeight, plannedAt, velocityBack}
 use Rattle.planned.proofs.Velocities.{planned-before, planned-after, lands, back-early, back-late}
 use Rattle.planned.proofs.PlannedRanges.{planned-within, back-weighed}
 

@@ -14,13 +14,12 @@ use Rattle.model.specs.planning.Motion.{Tick, run, changesFrom, leg, displaceme
 use Rattle.model.specs.planning.Motion.{landingTick}
 use Rattle.model.specs.planning.Refusals.{Plannable}
 use Rattle.model.specs.planning.Rows.{plannedAxis, tickAt, tabulate}
-use Rattle.model.proofs.jobs.PlannableAxis.{some-acceleration, speed-range, moves}
+use Rattle.theorems.proofs.jobs.PlannableAxis.{some-acceleration, speed-range, moves}
 use Rattle.regions.specs.Regions.{velocityIn}
 use Rattle.regions.proofs.ChosenRegions.{chosen-in-regions}
 use Rattle.motion.proofs.PlannableAxis.{plannable-after}
 use Rattle.planned.specs.declared.AxisPlan.{AxisPlan}
-use Rattle.planned.specs.Plans.{planOf}
-use Rattle.planned.specs.Plans.{plannedAt}
+use Rattle.planned.specs.Plans.{planOf, plannedAt}
 use Rattle.planned.proofs.Velocities.{planned-before, planned-start, lands, goes-on}
 
 -- ---- the ticks of a plan

@@ -11,9 +11,8 @@ use Rattle.model.specs.declared.SecondSway.{SecondSway}
 use Rattle.model.specs.declared.SecondSway.the-variants.{Absent, HalfPeriod}
 use Rattle.model.specs.planning.Quantities.{secondWeight, finer}
 use Rattle.model.specs.planning.Rows.{weightsBy, divisor}
-use Rattle.model.proofs.motions.Grid.{Grid, twoSways, still, unblended, undamped, corrected, grid}
-use Rattle.planned.specs.Plans.{scale, planOf}
-use Rattle.planned.specs.Plans.{blendsBy, totalWeight}
+use Rattle.theorems.proofs.motions.Grid.{Grid, twoSways, still, unblended, undamped, corrected, grid}
+use Rattle.planned.specs.Plans.{scale, planOf, blendsBy, totalWeight}
 
 -- what the scale has, with a second sway s and f grid steps in a fine step
 abbrev Scales : SecondSway → ℕ → Type 0

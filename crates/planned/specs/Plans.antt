@@ -2,22 +2,18 @@
 -- (docs/METHOD.md, sections 1 and 3).
 use Prim.Native.Nat.{ℕ, suc, _+_, _-_, _*_, _/_, _^_, _≤_, _<_}
 use Rattle.whole.specs.Ranges.{Within}
-use lib.IntN.{pos, _*ℤ_}
+use lib.IntN.{pos, _*ℤ_, ℤ, _+ℤ_}
 use Rattle.model.specs.declared.Axis.{Axis}
 use Rattle.model.specs.planning.Quantities.{halfPeriod, secondWeight, swayDelay, finer}
 use Rattle.model.specs.planning.Motion.{leg, startPosition, landingAcceleration, requiredSum}
 use Rattle.model.specs.planning.Refusals.{lastTick}
 use Rattle.motion.specs.Motions.{destination}
-use Rattle.regions.specs.Regions.{chosenRegions, RegionsRanged}
+use Rattle.regions.specs.Regions.{chosenRegions, RegionsRanged, velocityIn}
 use Rattle.planned.specs.declared.AxisPlan.{AxisPlan}
-use Prim.Native.Nat.{ℕ, suc, _+_, _-_, _*_}
 use mathlib.Core.Bool.{true, false}
 use lib.Dec.{ltb}
-use lib.IntN.{ℤ, pos, _+ℤ_, _*ℤ_}
 use Rattle.model.specs.declared.SecondSway.{SecondSway}
 use Rattle.model.specs.declared.SecondSway.the-variants.{Absent, HalfPeriod}
-use Rattle.model.specs.planning.Quantities.{swayDelay}
-use Rattle.regions.specs.Regions.{velocityIn}
 
 -- ---- the plan
 

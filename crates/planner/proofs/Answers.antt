@@ -14,15 +14,14 @@ use Rattle.model.specs.declared.Order.the-variants.{Forwards}
 use Rattle.model.specs.declared.PartAnswer.{PartAnswer}
 use Rattle.model.specs.planning.Job.{Job, jobOf, axesOf}
 use Rattle.model.specs.planning.Refusals.{lastTick}
-use Rattle.model.specs.planning.Outcome.{Outcome, Input, call, inputAxes, ordered}
-use Rattle.model.specs.planning.Outcome.{outcomeAfter, beforeTen, answerOf}
+use Rattle.model.specs.planning.Outcome.{Outcome, Input, call, inputAxes, ordered, outcomeAfter, beforeTen, answerOf}
 use Rattle.model.specs.planning.Admission.{words, typed, jobRead, inputJob, Admission, planningRules}
-use Rattle.model.specs.theorems.Verdict.{Verdict, refused3, refused4, refused12, refused5, refused15, refused6}
-use Rattle.model.specs.theorems.Verdict.{refused16, refused17, refused13, refused8, refused9, refused10}
-use Rattle.model.specs.theorems.Verdict.{accepted, CallVerdict, words1, words2, words14, wordsJob, typed1, typedJobs}
+use Rattle.theorems.specs.Verdict.{Verdict, refused3, refused4, refused12, refused5, refused15, refused6}
+use Rattle.theorems.specs.Verdict.{refused16, refused17, refused13, refused8, refused9, refused10}
+use Rattle.theorems.specs.Verdict.{accepted, CallVerdict, words1, words2, words14, wordsJob, typed1, typedJobs}
 use Rattle.model.specs.calls.Parts.{PartOutcome, partAccepted, partRefused, partWith, partCall}
-use Rattle.model.proofs.calls.CallVerdict.{call-verdict}
-use Rattle.model.proofs.jobs.BeforeTen.{planning-numbered}
+use Rattle.theorems.proofs.calls.CallVerdict.{call-verdict}
+use Rattle.theorems.proofs.jobs.BeforeTen.{planning-numbered}
 use Rattle.words.specs.declared.DecodedJob.{DecodedJob}
 use Rattle.words.specs.Decoding.{Decodes}
 use Rattle.admission.proofs.Admitted.{Refusal, refusal}

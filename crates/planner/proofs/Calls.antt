@@ -1,7 +1,7 @@
 -- The calls: what they promise follows from the outcome of their stages.
-use Rattle.model.proofs.tables.Demand.{demand3, cell-limits, exact-start}
-use Rattle.model.proofs.jobs.VerdictIn.{verdict-in}
-use Rattle.model.proofs.jobs.BeforeTen.{same-answer}
+use Rattle.theorems.proofs.tables.Demand.{demand3, cell-limits, exact-start}
+use Rattle.theorems.proofs.jobs.VerdictIn.{verdict-in}
+use Rattle.theorems.proofs.jobs.BeforeTen.{same-answer}
 use mathlib.Core.Path.{sym, ap, subst, _∙_}
 use mathlib.Core.List.{List}
 use lib.IntN.{ℤ}
@@ -9,7 +9,7 @@ use Rattle.model.specs.declared.Answer.{Answer}
 use Rattle.model.specs.declared.Order.{Order}
 use Rattle.model.specs.declared.PartAnswer.{PartAnswer}
 use Rattle.model.specs.planning.Outcome.{Outcome, Input, call, callIn, inputJob, inputAxes}
-use Rattle.model.specs.theorems.Verdict.{CallVerdict}
+use Rattle.theorems.specs.Verdict.{CallVerdict}
 use Rattle.model.specs.calls.Parts.{partWith, partCall}
 use Rattle.model.specs.planning.Demand.{Demand3, CellLimits, ExactStart}
 use Rattle.planner.specs.Promise.{Promise, PromiseIn}

@@ -22,8 +22,8 @@ use Rattle.model.specs.planning.Refusals.{lastTick}
 use Rattle.model.specs.planning.Outcome.{Outcome, outcomeOf, refuse, accept, filled, ordered, cellsNeeded, partOver}
 use Rattle.model.specs.planning.Outcome.{tableOver}
 use Rattle.model.specs.calls.Parts.{partRows, PartOutcome, partAccepted, partWith}
-use Rattle.model.proofs.jobs.BeforeTen.{before-filled}
-use Rattle.model.proofs.jobs.Ordered.{refusal-stays}
+use Rattle.theorems.proofs.jobs.BeforeTen.{before-filled}
+use Rattle.theorems.proofs.jobs.Ordered.{refusal-stays}
 use Rattle.model.proofs.SetAxes.{six-axes-bits}
 use Rattle.planner.specs.declared.Choice.{Choice}
 use Rattle.planner.specs.declared.Wanted.{Wanted}

@@ -16,7 +16,8 @@ use Rattle.model.specs.declared.Answer.{Answer}
 use Rattle.model.specs.declared.Order.the-variants.{Forwards}
 use Rattle.model.specs.declared.PartAnswer.{PartAnswer}
 use Rattle.model.specs.declared.Windows.{Windows}
-use Rattle.model.specs.planning.Job.{Job, JobAxis, setBits, axesOf, jobWith, jobWithWeight}
+use Rattle.model.specs.planning.Job.{Job, JobAxis, setBits, axesOf, jobWith}
+use Rattle.theorems.specs.GivenWeights.{jobWithWeight}
 use Rattle.model.specs.planning.Refusals.{lastTick}
 use Rattle.model.specs.planning.Outcome.{Outcome, outcomeOf, refuse, leastFrom, arrives, partOver, filled, arrived}
 use Rattle.model.specs.planning.Outcome.{ordered, beforeTen}
@@ -24,8 +25,8 @@ use Rattle.model.specs.calls.Parts.{PartOutcome, partRows, partAccepted, partRe
 use Rattle.arrival.specs.declared.Arrival.{Arrival}
 use Rattle.arrival.specs.Arrivals.{leastOr, askedOr, arrivalFor}
 use Rattle.model.proofs.SetAxes.{six-bits}
-use Rattle.model.proofs.jobs.Ordered.{refusal-stays}
-use Rattle.model.proofs.jobs.GivenWeights.{ordered-with-weight, arrived-with-weight, part-with-weight}
+use Rattle.theorems.proofs.jobs.Ordered.{refusal-stays}
+use Rattle.theorems.proofs.jobs.GivenWeights.{ordered-with-weight, arrived-with-weight, part-with-weight}
 use Rattle.admission.specs.Admitting.{namedWithWeight}
 use Rattle.planner.specs.declared.Wanted.{Wanted}
 use Rattle.planner.specs.declared.Wanted.the-variants.{Whole, From}

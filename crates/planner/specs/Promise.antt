@@ -13,7 +13,7 @@ use Rattle.model.specs.declared.PartAnswer.{PartAnswer}
 use Rattle.model.specs.planning.Job.{setBits}
 use Rattle.model.specs.planning.Refusals.{lastTick}
 use Rattle.model.specs.planning.Outcome.{Input, typed, outcomeOf, callIn, inputAxes, cellsNeeded, answerOf}
-use Rattle.model.specs.theorems.Verdict.{CallVerdict}
+use Rattle.theorems.specs.Verdict.{CallVerdict}
 use Rattle.model.specs.planning.Demand.{Demand3, CellLimits, ExactStart}
 use Rattle.model.specs.calls.Parts.{PartOutcome, partCall}
 use Rattle.planner.specs.declared.Wanted.{Wanted}

@@ -7,7 +7,7 @@ use lib.IntN.{ℤ, natAbs, _-ℤ_}
 use lib.Signed.{leZ}
 use Rattle.whole.proofs.Tests.{left, right, true-T, and-yes, leb-yes}
 use Rattle.whole.specs.Integers.{sumTo}
-use Rattle.model.proofs.legs.Envelopes.{Joined}
+use Rattle.theorems.proofs.legs.Envelopes.{Joined}
 use Rattle.model.specs.planning.Leg.{Leg, lower, upper, required, sumIsWhole, feasible}
 use Rattle.profile.specs.Profiles.{endsAllowed, sumBetween}
 

@@ -15,8 +15,9 @@ use Rattle.model.specs.declared.RaisesAnswer.{RaisesAnswer}
 use Rattle.model.specs.planning.Job.{Job, jobOf}
 use Rattle.model.specs.planning.Words.{Decoded, noMask, badWord, badLong, job, decode}
 use Rattle.model.specs.planning.Outcome.{Input, words, typed, inputJob, answerOf}
-use Rattle.model.specs.calls.Raises.{noRaises, raisesFrom, noneRaised, raisesWith, raisesCall, Named, RaisesHold}
-use Rattle.model.proofs.calls.RaisesHold.{raises-hold, none-raised, raises-verdict}
+use Rattle.model.specs.calls.Raises.{noRaises, raisesFrom, noneRaised, raisesWith, raisesCall}
+use Rattle.theorems.specs.Raises.{Named, RaisesHold}
+use Rattle.theorems.proofs.calls.RaisesHold.{raises-hold, none-raised, raises-verdict}
 use Rattle.words.specs.declared.DecodedJob.{DecodedJob}
 use Rattle.words.specs.Decoding.{decodedJob, Decodes}
 use Rattle.planner.proofs.Answers.{job-of-words, answer-of-words, refusal-of-words}

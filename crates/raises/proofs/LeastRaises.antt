@@ -15,9 +15,9 @@ use Rattle.model.specs.planning.Motion.{reachable}
 use Rattle.model.specs.planning.Outcome.{leastFrom}
 use Rattle.model.specs.planning.Refusals.{Passed}
 use Rattle.model.specs.calls.Raises.{limitOf, highest, withLimit, raiseOf}
-use Rattle.model.proofs.calls.LeastRaise.{raise-missing}
-use Rattle.model.proofs.jobs.LeastTick.{Result, result, one-result}
-use Rattle.model.proofs.jobs.PassedAxis.{speed-limit, some-acceleration}
+use Rattle.theorems.proofs.calls.LeastRaise.{raise-missing}
+use Rattle.theorems.proofs.jobs.LeastTick.{Result, result, one-result}
+use Rattle.theorems.proofs.jobs.PassedAxis.{speed-limit, some-acceleration}
 use Rattle.whole.specs.Candidates.{Next}
 use Rattle.least_limit.specs.declared.Task.{Task}
 use Rattle.least_limit.specs.Limits.{limitIn, enough, enoughWith}

@@ -3,7 +3,8 @@
 use mathlib.Core.Path.{_≡_}
 use Rattle.model.specs.declared.RaisesAnswer.{RaisesAnswer}
 use Rattle.model.specs.planning.Outcome.{Input, inputJob}
-use Rattle.model.specs.calls.Raises.{raisesCall, RaisesHold, RaisesCallVerdict}
+use Rattle.model.specs.calls.Raises.{raisesCall}
+use Rattle.theorems.specs.Raises.{RaisesHold, RaisesCallVerdict}
 
 -- q is what the call was given, r the answer
 pub record RaisesPromise (q : Input) (r : RaisesAnswer) : Type 0 where

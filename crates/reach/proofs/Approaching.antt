@@ -21,9 +21,9 @@ use Rattle.model.specs.planning.Motion.{shift, startPosition, startVelocity, la
 use Rattle.model.specs.planning.Motion.{landingVelocity, landingAcceleration, arrivalVelocity}
 use Rattle.model.specs.planning.Motion.{leg, displacement, reachable}
 use Rattle.model.specs.planning.Refusals.{lastTick, Passed}
-use Rattle.model.specs.theorems.Threshold.{Slow}
-use Rattle.model.proofs.motions.Threshold.{landing-later, acceleration-same, slow-ahead, reached-slow, reached-later}
-use Rattle.model.proofs.legs.WholeSum.{sum-is-whole}
+use Rattle.theorems.specs.Threshold.{Slow}
+use Rattle.theorems.proofs.motions.Threshold.{landing-later, acceleration-same, slow-ahead, reached-slow, reached-later}
+use Rattle.theorems.proofs.legs.WholeSum.{sum-is-whole}
 use Rattle.profile.specs.Profiles.{legOf}
 use Rattle.envelopes.specs.Skips.{LastingTo}
 use Rattle.reach.specs.declared.approach.Approach.{Approach}

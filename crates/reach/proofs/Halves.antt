@@ -18,8 +18,8 @@ use Rattle.model.specs.declared.Axis.{Axis}
 use Rattle.model.specs.planning.Quantities.{delay, accelerates, speedSteps}
 use Rattle.model.specs.planning.Motion.{landingAcceleration, arrivalVelocity, reachable}
 use Rattle.model.specs.planning.Refusals.{Passed}
-use Rattle.model.specs.theorems.Threshold.{Slow}
-use Rattle.model.proofs.motions.Threshold.{arrival-later, slow-ahead, reached-slow, reached-later}
+use Rattle.theorems.specs.Threshold.{Slow}
+use Rattle.theorems.proofs.motions.Threshold.{arrival-later, slow-ahead, reached-slow, reached-later}
 use Rattle.whole.specs.Candidates.{Next}
 use Rattle.reach.specs.Halving.{roomToward, TicksWithin, LastPassing, ReachesSome}
 use Rattle.reach.proofs.Steady.{reach-after, always-slow}

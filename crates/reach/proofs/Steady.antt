@@ -29,9 +29,9 @@ use Rattle.model.specs.planning.Motion.{shift, startPosition, startVelocity, la
 use Rattle.model.specs.planning.Motion.{arrivalVelocity, leg, displacement, requiredSum, reachable}
 use Rattle.model.specs.planning.Refusals.{positionAllowed, velocityAllowed, restAllowed, motionAllowed, targetAllowed}
 use Rattle.model.specs.planning.Refusals.{Passed}
-use Rattle.model.specs.theorems.Threshold.{Slow}
-use Rattle.model.proofs.motions.Threshold.{reached-later}
-use Rattle.model.proofs.legs.WholeSum.{sum-is-whole}
+use Rattle.theorems.specs.Threshold.{Slow}
+use Rattle.theorems.proofs.motions.Threshold.{reached-later}
+use Rattle.theorems.proofs.legs.WholeSum.{sum-is-whole}
 use Rattle.profile.specs.Profiles.{endsAllowed, sumBetween}
 use Rattle.whole.specs.Candidates.{Next}
 use Rattle.envelopes.specs.Sums.{withTicks, betweenAt}

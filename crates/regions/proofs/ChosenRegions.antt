@@ -17,9 +17,9 @@ use Rattle.whole.proofs.Ring.{pol, same}
 use Rattle.whole.proofs.Tests.{left as fst, right, and, by-bool, choice-yes, choice-no, leb-yes, leb-no, lt-or-le}
 use Rattle.model.specs.planning.Leg.{Leg, clamped, sumAt, raised, required, cruise, remainder, chosen, feasible}
 use Rattle.model.specs.planning.Rows.{tabulate}
-use Rattle.model.proofs.legs.Envelopes.{Joined, highest-sum}
-use Rattle.model.proofs.legs.ChosenMeets.{chosen-meets}
-use Rattle.model.proofs.legs.FeasibleTests.{feasible-joined, feasible-below, feasible-cruise}
+use Rattle.theorems.proofs.legs.Envelopes.{Joined, highest-sum}
+use Rattle.theorems.proofs.legs.ChosenMeets.{chosen-meets}
+use Rattle.theorems.proofs.legs.FeasibleTests.{feasible-joined, feasible-below, feasible-cruise}
 use Rattle.regions.specs.declared.Regions.{Regions}
 use Rattle.regions.specs.Regions.{rise, fall, regionsOf, chosenRegions, velocityIn, RegionsRanged}
 use Rattle.regions.proofs.ThreeRegions.{on-start, on-end, on-level, on-level-raised, fall-late, change-within}

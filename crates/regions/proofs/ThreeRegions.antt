@@ -19,7 +19,7 @@ use Rattle.whole.proofs.Ring.{pol, same}
 use Rattle.whole.proofs.Order.{le-yes, le-no}
 use Rattle.whole.proofs.Tests.{by-bool, choice-yes, choice-no, leb-yes, leb-no, lt-or-le}
 use Rattle.model.specs.planning.Leg.{Leg, clamped}
-use Rattle.model.proofs.legs.Envelopes.{Joined, since, until, since-until, highest, lowest, apart-at}
+use Rattle.theorems.proofs.legs.Envelopes.{Joined, since, until, since-until, highest, lowest, apart-at}
 use Rattle.regions.specs.Regions.{rampTicks, rampChange, meetingTick, bothRamps, rise, fall}
 
 -- c with every sign turned: x < y exactly where −y ≤ turned x

@@ -1,9 +1,9 @@
 -- The cells of a plan's rows, as far as they are written: in the table the first k rows from a
 -- place on, in an order, and in a row the axes before axis i.
 use mathlib.Core.Path.{_≡_, refl, sym, ap, _∙_}
-use Rattle.model.proofs.tables.CellPlaces.{blocks-length}
-use Rattle.model.proofs.tables.CellPlaces as Places
-use Rattle.model.proofs.tables.Reversed.{tabulate-more}
+use Rattle.theorems.proofs.tables.CellPlaces.{blocks-length}
+use Rattle.theorems.proofs.tables.CellPlaces as Places
+use Rattle.theorems.proofs.tables.Reversed.{tabulate-more}
 use mathlib.Core.List.{List, [], _∷_, _++_, map, append-assoc, append-nil, map-append, flatten}
 use Prim.Native.Nat.{ℕ, _+_, _*_, _<_, _≤_}
 use native.Mathlib.Numerals.{add-one}

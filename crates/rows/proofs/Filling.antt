@@ -1,6 +1,6 @@
 -- One more axis of a row is written, one more row, and all of them.
 use mathlib.Core.Path.{_≡_, sym, ap, ap₂, subst, _∙_}
-use Rattle.whole.proofs.Lists.{over-front, over-nil}
+use Rattle.whole.proofs.Lists.{over-front, over-nil, over-over}
 use mathlib.Core.List.{List, _++_}
 use Prim.Native.Nat.{ℕ, suc, _+_, _*_, _<_, _≤_}
 use native.Mathlib.Omega.{arith}
@@ -17,7 +17,6 @@ use Rattle.rows.specs.Plans.{unsetPlan, plansOf, Each, Fillable}
 use Rattle.blended.specs.BlendedStates.{blendedStateAt, cellsOf, axisCells}
 use Rattle.rows.specs.Table.{planRow, rowsOver}
 use Rattle.whole.specs.Lists.{over}
-use Rattle.whole.proofs.Lists.{over-over}
 use Rattle.rows.proofs.FrontPlans.{each-of}
 use Rattle.rows.proofs.Cells.{rowTo, row-none, row-more, row-all, row-long, rowsTo, rows-none, rows-more}
 use Rattle.rows.proofs.Cells.{rows-length, rows-all}

@@ -11,8 +11,8 @@ use Rattle.model.specs.planning.Rows.{plannedAxis, tabulate, row, rowAt, part}
 use Rattle.model.specs.planning.Job.{JobAxis, setAxes, axesOf, typedJob}
 use Rattle.model.specs.planning.Refusals.{lastTick}
 use Rattle.model.specs.planning.Outcome.{partOver}
-use Rattle.model.proofs.tables.CellPlaces.{row-place}
-use Rattle.model.proofs.tables.Reversed.{tabulate-same}
+use Rattle.theorems.proofs.tables.CellPlaces.{row-place}
+use Rattle.theorems.proofs.tables.Reversed.{tabulate-same}
 use Rattle.rows.specs.Plans.{plansFor, plansOf, PlanIs, Each, Fillable}
 use Rattle.planned.specs.Plans.{arrivalOf, PlanRanges}
 use Rattle.planned.specs.declared.AxisPlan.{AxisPlan}

@@ -9,7 +9,7 @@ use borrow.Author.Tests.{lt-ltb, le-ltb, ltb-true}
 use Rattle.model.specs.declared.Report.the-variants.{Found, Spent, Nothing}
 use Rattle.model.specs.planning.Outcome.{leastFrom}
 use Rattle.model.specs.calls.Search.{candidates, notFound, reportOf, searchFrom}
-use Rattle.model.proofs.jobs.LeastTick.{least-is}
+use Rattle.theorems.proofs.jobs.LeastTick.{least-is}
 use Rattle.arrival.specs.declared.Tick.{Tick}
 use Rattle.arrival.specs.declared.Tick.the-variants.{At, Never}
 use Rattle.arrival.specs.Arrivals.{tickOf}

@@ -16,12 +16,11 @@ use Rattle.model.specs.planning.Admission.{Input, words, typed, admission}
 use Rattle.model.specs.planning.Outcome.{arrives}
 use Rattle.model.specs.calls.Search.{searchFrom, refuseSearch, searchAnswer, firstAllowed, firstChecked, asking}
 use Rattle.model.specs.calls.Search.{searchRules, searchAfter, searchCall}
-use Rattle.model.proofs.calls.SearchCalls.{search-numbered, search-verdict, call-says}
+use Rattle.theorems.proofs.calls.SearchCalls.{search-numbered, search-verdict, call-says}
 use Rattle.arrival.specs.Arrivals.{arrivesIn}
 use Rattle.words.specs.declared.DecodedJob.{DecodedJob}
 use Rattle.words.specs.Decoding.{Decodes}
-use Rattle.admission.specs.Admitting.{withoutJob}
-use Rattle.admission.specs.Admitting.{namedWithWeight}
+use Rattle.admission.specs.Admitting.{withoutJob, namedWithWeight}
 use Rattle.admission.proofs.Weights.{given-reaches}
 use Rattle.admission.proofs.Admitted.{Goes, refused, passed}
 use Rattle.words.proofs.ReadWords as Read

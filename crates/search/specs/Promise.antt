@@ -1,12 +1,13 @@
 -- What the calls for a search promise, `search_job` and `search_words`. Neither asks anything of
 -- its caller. What calls that go on from spent come to is said of the definition, for every job:
--- `continuing` and `within-4096` (`crates/model/proofs/calls/SearchCalls.antt`).
+-- `continuing` and `within-4096` (`crates/theorems/proofs/calls/SearchCalls.antt`).
 use Prim.Native.Nat.{ℕ}
 use mathlib.Core.Path.{_≡_}
 use Rattle.model.specs.declared.Report.the-variants.{Found}
 use Rattle.model.specs.declared.SearchAnswer.{SearchAnswer}
 use Rattle.model.specs.planning.Outcome.{Input, inputJob}
-use Rattle.model.specs.calls.Search.{searchCall, SearchSays, Planned, SearchCallVerdict}
+use Rattle.model.specs.calls.Search.{searchCall}
+use Rattle.theorems.specs.Search.{SearchSays, Planned, SearchCallVerdict}
 
 -- q is what the call was given, first the first candidate, r the answer
 pub record SearchPromise (q : Input) (first budget : ℕ) (r : SearchAnswer) : Type 0 where

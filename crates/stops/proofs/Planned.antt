@@ -14,12 +14,11 @@ use Rattle.model.specs.declared.Answer.{Answer}
 use Rattle.model.specs.declared.Stop.{Stop}
 use Rattle.model.specs.declared.TourSettings.{TourSettings}
 use Rattle.model.specs.calls.Tour.{Legs, TourOutcome, legJob, legAnswer, legsFrom, refusedLeg, refuseTour, arrivalsOver}
-use Rattle.model.specs.calls.Tour.{afterLegs}
-use Rattle.model.specs.calls.Tour.{firstLongDwell, dwellsChecked, stopsChecked, mostStops, tourOutcome}
+use Rattle.model.specs.calls.Tour.{afterLegs, firstLongDwell, dwellsChecked, stopsChecked, mostStops, tourOutcome}
 use Rattle.stops.specs.Rows.{noStop}
 use Rattle.stops.specs.Promise.{leavesFrom, departsAt, legTo, LegPlanned}
 use Rattle.model.specs.planning.Outcome.{typed}
-use Rattle.model.proofs.jobs.BeforeTen.{job-accepted}
+use Rattle.theorems.proofs.jobs.BeforeTen.{job-accepted}
 
 -- ---- the arrivals m of the stops ss, the first leg leaving `here` at tick n, and the total
 

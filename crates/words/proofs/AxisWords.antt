@@ -12,7 +12,7 @@ use Rattle.model.specs.declared.Axis.{Axis}
 use Rattle.model.specs.declared.Target.{Target}
 use Rattle.model.specs.declared.Target.the-variants.{Fixed, Moving}
 use Rattle.model.specs.planning.Words.{Reading, got, wrong, Reader, _>>=_, give, signed, next, position, target, axis}
-use Rattle.model.proofs.words.Spelling.{assoc₂}
+use Rattle.theorems.proofs.words.Spelling.{assoc₂}
 use Rattle.words.specs.declared.axis.AxisReading.the-variants.{Got, Wrong}
 use Rattle.words.specs.ByIndex.{isKind, skipOptional, firstWrong, signedAt, positionAt, restAt, stateAt, axisAt}
 use Rattle.words.specs.ByIndex.{axisReading}

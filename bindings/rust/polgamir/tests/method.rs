@@ -222,7 +222,9 @@ fn files_of(folder: &Path, endings: &[&str]) -> Vec<PathBuf> {
 #[test]
 fn definitions_and_sections_name_each_other() {
     let page = page();
-    for file in files_of(&folder("crates/model/specs"), &["antt"]) {
+    let mut definitions = files_of(&folder("crates/model/specs"), &["antt"]);
+    definitions.extend(files_of(&folder("crates/theorems/specs"), &["antt"]));
+    for file in definitions {
         let name = file.file_name().and_then(|name| name.to_str()).expect("a name").to_string();
         let is_contents = name == "Lib.antt" || file.with_extension("").is_dir();
         assert!(is_contents || page.contains(&format!("{name}`")), "{name}");

@@ -1,6 +1,6 @@
 use mathlib.Core.Path.{_≡_, sym, ap, _∙_}
 use mathlib.Core.List.{[], _∷_}
-use Rattle.whole.proofs.Bounds.{exact, sfits, exactly, within}
+use Rattle.whole.proofs.Bounds.{exact, sfits, exactly, within, back-id}
 use lib.IntN.{ℤ, _-ℤ_}
 use mir.Syntax.{w64}
 use mir.Val.{toZ, ofZ}
@@ -9,7 +9,6 @@ use native.Mathlib.Omega.{arith}
 use borrow.Author.Needs.{needs}
 use lib.ListN.{length-set}
 use Rattle.whole.specs.Lists.{over}
-use Rattle.whole.proofs.Bounds.{back-id}
 use Rattle.whole.proofs.Lists.{over-three}
 use Rattle.cells.proofs.write_cells.Statement.{statement}
 use Rattle.cells.proofs.write_cells.Tie as tie

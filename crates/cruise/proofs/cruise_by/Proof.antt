@@ -10,7 +10,7 @@ use Rattle.whole.proofs.Tests.{T-true, left, true-T}
 use Rattle.whole.proofs.Laws.{natAbs-iff}
 use Rattle.profile.proofs.FeasibleParts.{feasible-parts}
 use Rattle.model.specs.planning.Leg.{sumAt, required, cruise}
-use Rattle.model.proofs.legs.FeasibleTests.{feasible-cruise}
+use Rattle.theorems.proofs.legs.FeasibleTests.{feasible-cruise}
 use Rattle.profile.specs.Profiles.{legOf, Joinable, endsAllowed}
 use borrow.Author.Needs.{needs}
 use Rattle.cruise.proofs.cruise_by.Statement.{statement}

@@ -2,7 +2,7 @@ use Prim.Native.Nat.{_≤_}
 use native.Mathlib.Omega.{arith}
 use mathlib.Core.Path.{_≡_, refl, sym, ap, _∙_}
 use Rattle.model.specs.planning.Damping.{largestTo, ratioWeight}
-use Rattle.model.proofs.jobs.MeasuredWeight.{largest-none, largest-here, largest-lower}
+use Rattle.theorems.proofs.jobs.MeasuredWeight.{largest-none, largest-here, largest-lower}
 use Rattle.damping.proofs.ratio_weight.Statement.{statement}
 use Rattle.damping.proofs.ratio_weight.Tie as tie
 

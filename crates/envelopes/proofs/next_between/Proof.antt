@@ -9,7 +9,7 @@ use mir.Val.{toZ, ofZ}
 use Rattle.whole.specs.Ranges.{Within}
 use Rattle.whole.proofs.Bounds.{sfits, within, exactly, exact, computed, back-id}
 use Rattle.whole.proofs.Laws.{natAbs-+}
-use Rattle.model.proofs.legs.Envelopes.{Joined}
+use Rattle.theorems.proofs.legs.Envelopes.{Joined}
 use Rattle.profile.specs.Profiles.{legOf}
 use Rattle.whole.specs.Candidates.{Next}
 use Rattle.envelopes.specs.Sums.{envelopeSumsAt, stepped, SumsRanged, withTicks, betweenAt}

@@ -7,4 +7,7 @@ use Rattle.model.specs.cases.LongCases.{LongCasesHold}
 
 pub long-cases : LongCasesHold
 unfolding cruise finer flatten
-long-cases = refl
+long-cases = (
+  (refl, (refl, (refl, (refl, tt)))),
+  (refl, (refl, (refl, (refl, (refl, (refl, (refl, (refl, (refl, tt))))))))),
+)

@@ -14,15 +14,22 @@ use Rattle.model.specs.cases.ConverterCases.{ConversionsHold}
 
 pub starred : Starred
 unfolding cruise finer flatten
-starred = refl
+starred = (
+  (refl, (refl, (refl, (refl, (refl, (refl, tt)))))),
+  (refl, (refl, (refl, (refl, (refl, (refl, (refl, (refl, (refl, tt))))))))),
+  (refl, (refl, (refl, (refl, (refl, (refl, tt)))))),
+)
 
 pub window-cases : WindowCasesHold
 unfolding cruise finer
-window-cases = refl
+window-cases = (
+  (refl, (refl, (refl, (refl, (refl, (refl, (refl, (refl, tt)))))))),
+  (refl, (refl, (refl, (refl, (refl, (refl, (refl, tt))))))),
+)
 
 pub sway-cases : SwayCasesHold
 unfolding cruise finer flatten
-sway-cases = refl
+sway-cases = (refl, (refl, (refl, (refl, (refl, (refl, (refl, (refl, (refl, (refl, (refl, tt)))))))))))
 
 pub raises-cases : RaisesCasesHold
 unfolding finer answerOf raiseOf raisesCall
@@ -34,4 +41,4 @@ conversions = refl
 -- reach is not a threshold
 pub no-threshold : RunCasesHold
 unfolding cruise finer
-no-threshold = refl
+no-threshold = (refl, (refl, (refl, (refl, (refl, tt)))))

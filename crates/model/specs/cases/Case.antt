@@ -1,6 +1,7 @@
 -- What a case is: the input of a call, how many cells are lent, and what the method says of the
 -- outcome; and the axes and words that cases share.
 use Prim.Native.Nat.{ℕ}
+use mathlib.Core.Path.{_≡_}
 use mathlib.Core.Bool.{true}
 use mathlib.Core.List.{List, [], _∷_, _++_, map}
 use lib.IntN.{ℤ, pos}
@@ -12,7 +13,7 @@ use Rattle.model.specs.declared.Target.the-variants.{Fixed}
 use Rattle.model.specs.declared.Weight.the-variants.{Given}
 use Rattle.model.specs.declared.Window.{Window}
 use Rattle.model.specs.planning.Windows.{noWindows}
-use Rattle.model.specs.theorems.Spelling.{word}
+use Rattle.model.specs.planning.Words.{word}
 use Rattle.model.specs.planning.Outcome.{Outcome, Input, typed, call}
 
 -- ---- what a case is
@@ -62,6 +63,11 @@ found c =
       arrival = o .arrival;
       shown = map (seen (o .cells)) (c .views);
     }
+
+-- each case of a list gives what the method says
+abbrev pub Hold : List Case → Type 0
+Hold [] = Unit
+Hold (c ∷ cs) = (found c ≡ c .says) × Hold cs
 
 -- ---- axes, words and answers from which cases are made
 

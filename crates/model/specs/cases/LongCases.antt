@@ -2,12 +2,11 @@
 -- which arrives at tick 1 (docs/METHOD.md, 6.3). The theorem `long-cases` proves them
 -- all, by computing the definitions.
 use Prim.Native.Nat.{ℕ, _*_, _-_, _^_}
-use mathlib.Core.Path.{_≡_}
-use mathlib.Core.List.{List, [], _∷_, _++_, map}
+use mathlib.Core.List.{List, [], _∷_, _++_}
 use lib.IntN.{pos, negsuc}
 use Rattle.model.specs.planning.Outcome.{Input, words}
-use Rattle.model.specs.theorems.Spelling.{word}
-use Rattle.model.specs.cases.Case.{Case, case, positions, found, accepted, refused}
+use Rattle.model.specs.planning.Words.{word}
+use Rattle.model.specs.cases.Case.{Case, case, positions, Hold, accepted, refused}
 
 -- one axis, from its words of kinds 3 and 9 and the words after kind 10
 abbrev pub rail : ℕ → List ℕ → List ℕ → List ℕ → Input
@@ -41,8 +40,12 @@ longCases =
     (accepted 1 1 ((pos (256 * 17179869183) ∷ pos (256 * 17179869183) ∷ []) ∷ []))
     ∷ case (stay (negative 64) 0) 6 (positions ∷ [])
     (accepted 1 1 ((negsuc (256 * 17179869184 - 1) ∷ negsuc (256 * 17179869184 - 1) ∷ []) ∷ []))
+    ∷ []
+
+abbrev pub longRefusals : List Case
+longRefusals =
     -- 14: a position that fits a single word, a payload outside −64 to 63
-    ∷ case (stay 0 (2 ^ 27 - 1)) 6 [] (refused 14 2 0 0)
+    case (stay 0 (2 ^ 27 - 1)) 6 [] (refused 14 2 0 0)
     ∷ case (stay (negative 1) (2 ^ 27)) 6 [] (refused 14 2 0 0)
     ∷ case (stay 64 0) 6 [] (refused 14 2 0 0)
     ∷ case (stay (negative 65) 0) 6 [] (refused 14 2 0 0)
@@ -57,4 +60,4 @@ longCases =
 
 -- each call gives what the method says
 abbrev pub LongCasesHold : Type 0
-LongCasesHold = map found longCases ≡ map (λ (c : Case). c .says) longCases
+LongCasesHold = Hold longCases × Hold longRefusals

@@ -1,7 +1,6 @@
 -- Cases of a second sway.
 use Prim.Native.Nat.{ℕ, _+_}
-use mathlib.Core.Path.{_≡_}
-use mathlib.Core.List.{List, [], _∷_, map}
+use mathlib.Core.List.{List, [], _∷_}
 use lib.IntN.{ℤ, pos, negsuc}
 use Rattle.model.specs.declared.Axis.{Axis}
 use Rattle.model.specs.declared.SecondSway.{SecondSway}
@@ -10,7 +9,7 @@ use Rattle.model.specs.declared.Target.{Target}
 use Rattle.model.specs.declared.Target.the-variants.{Moving}
 use Rattle.model.specs.declared.Weight.the-variants.{Given}
 use Rattle.model.specs.planning.Outcome.{words}
-use Rattle.model.specs.cases.Case.{positions, velocities, accelerations, Case, found, fixed, oneAxis, twoAxes}
+use Rattle.model.specs.cases.Case.{positions, velocities, accelerations, Case, Hold, fixed, oneAxis, twoAxes}
 use Rattle.model.specs.cases.Case.{accepted, refused, case}
 
 -- ---- a second sway (docs/METHOD.md, 2.5), on one axis from rest at 0 with L = 10, M = 1
@@ -80,4 +79,4 @@ swayCases =
         ∷ []
 
 abbrev pub SwayCasesHold : Type 0
-SwayCasesHold = map found swayCases ≡ map (λ (c : Case). c .says) swayCases
+SwayCasesHold = Hold swayCases

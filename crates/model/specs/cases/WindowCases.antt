@@ -1,12 +1,11 @@
 -- Cases of windows, and of arrivals that end: reach is no threshold where a target becomes
 -- too fast, and windows have gaps.
-use mathlib.Core.Path.{_≡_}
-use mathlib.Core.List.{List, [], _∷_, map}
+use mathlib.Core.List.{List, [], _∷_}
 use lib.IntN.{pos, negsuc}
 use lib.ListN.{replicate}
 use Rattle.model.specs.declared.Axis.{Axis}
 use Rattle.model.specs.declared.Target.the-variants.{Moving}
-use Rattle.model.specs.cases.Case.{Case, found, axis, oneAxis, accepted, refused, case, inside, window}
+use Rattle.model.specs.cases.Case.{Case, Hold, axis, oneAxis, accepted, refused, case, inside, window}
 
 -- ---- reach is not a threshold: a target that accelerates can be met in a run of ticks
 -- that ends, and windows have gaps
@@ -28,7 +27,7 @@ runCases =
     ∷ []
 
 abbrev pub RunCasesHold : Type 0
-RunCasesHold = map found runCases ≡ map (λ (c : Case). c .says) runCases
+RunCasesHold = Hold runCases
 
 -- ---- laser windows (docs/METHOD.md, 3.8), on field case B, whose axis reaches tick 4 and every
 -- later one
@@ -47,8 +46,12 @@ windowCases =
     -- 8 names the axes that do not reach the asked arrival, and none where all do
     ∷ case (inside 3 0 (window 7 9 ∷ [])) 24 [] (refused 8 0 1 0)
     ∷ case (inside 4 0 (window 7 9 ∷ [])) 24 [] (refused 8 0 0 0)
+    ∷ []
+
+abbrev pub windowRefusals : List Case
+windowRefusals =
     -- 9 where no arrival fits; its mask is of the axes alone
-    ∷ case (inside 0 0 (window 1 2 ∷ [])) 24 [] (refused 9 0 0 0)
+    case (inside 0 0 (window 1 2 ∷ [])) 24 [] (refused 9 0 0 0)
     -- 13: empty, too many, the dwell, the first wrong window; after 3 and before 8
     ∷ case (inside 3 0 []) 24 [] (refused 13 0 0 0)
     ∷ case (inside 0 0 (replicate 33 (window 0 5))) 24 [] (refused 13 32 0 0)
@@ -59,4 +62,4 @@ windowCases =
     ∷ []
 
 abbrev pub WindowCasesHold : Type 0
-WindowCasesHold = map found windowCases ≡ map (λ (c : Case). c .says) windowCases
+WindowCasesHold = Hold windowCases × Hold windowRefusals

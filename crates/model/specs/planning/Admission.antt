@@ -2,11 +2,9 @@
 -- arrival is looked for, or the job. Which job a call is given, the tests of its axes in checking
 -- order, refusals 1, 2 and 14 of words, 3 and 13.
 use Prim.Native.Nat.{ℕ}
-use mathlib.Core.Path.{_≡_}
 use mathlib.Core.Bool.{Bool, true, false}
 use mathlib.Core.Option.{Option, none, some}
 use mathlib.Core.List.{List, [], _∷_}
-use mathlib.Core.Logic.{_⊎_}
 use lib.Dec.{leb}
 use Rattle.model.specs.declared.Axis.{Axis}
 use Rattle.model.specs.declared.Job as Typed
@@ -62,15 +60,6 @@ axisRefusals =
     ∷ (16, accelerationRefused)
     ∷ (17, flyingRefused)
     ∷ []
-
--- their numbers, and 13
-abbrev pub numbersOf : Tests → List ℕ
-numbersOf [] = 13 ∷ []
-numbersOf (t ∷ ts) = t .0 ∷ numbersOf ts
-
-abbrev pub OneOf : List ℕ → ℕ → Type 0
-OneOf [] n = ⊥
-OneOf (k ∷ ks) n = (n ≡ k) ⊎ OneOf ks n
 
 -- ---- the first refusal, or the job
 

@@ -9,13 +9,11 @@ use lib.ListN.{length, getD, take, getElem?}
 use Rattle.model.specs.declared.Axis.{Axis}
 use Rattle.model.specs.declared.SecondSway.the-variants.{HalfPeriod}
 use Rattle.model.specs.declared.Order.{Order}
-use Rattle.model.specs.declared.Order.the-variants.{Forwards, Backwards}
 use Rattle.model.specs.planning.Quantities.{speedLimit, accelerationLimit, halfPeriod, secondWeight, asMoving}
 use Rattle.model.specs.planning.Quantities.{twicePositionAt, velocityAt}
 use Rattle.whole.specs.Integers.{nearestQuotient}
-use Rattle.model.specs.planning.Rows.{plannedAxis, blend, divisor, rowAt, fromLanding}
-use Rattle.model.specs.planning.Refusals.{Plannable}
-use Rattle.model.specs.planning.Outcome.{Input, call, callIn, inputAxes, cellsNeeded}
+use Rattle.model.specs.planning.Rows.{plannedAxis, blend, divisor, rowAt}
+use Rattle.model.specs.planning.Outcome.{Input, callIn, inputAxes, cellsNeeded}
 
 -- ---- the cells of a table of `axes` axes, with the rows of ticks 0 to `last` in an
 -- order: axis i of row k, by tick
@@ -84,13 +82,17 @@ pub record Carries (i k : ℕ) (g : CellTable) : Type 0 where
       -ℤ pos 2 *ℤ positionCell g i (suc k)) ≤ 3
   pub velocity : natAbs (pos 2 *ℤ (velocityCell g i k +ℤ accelerationCell g i k -ℤ velocityCell g i (suc k))) ≤ 3
 
--- Each acceleration cell is an exact blend over the divisor, rounded once. The divisor times the
--- sway left before that rounding is 0, and as rounded it is at most N × G.
+-- the acceleration of row k before it is rounded, times the divisor
+abbrev pub exactAcceleration : Axis → ℕ → ℕ → ℤ
+exactAcceleration x n k = blend (plannedAxis n x) k (λ s. s .acceleration)
+
+-- Each acceleration cell is the exact one, rounded once. The divisor times the sway left before
+-- that rounding is 0, and as rounded it is at most N × G.
 pub record SwayCancelled (x : Axis) (i n : ℕ) (g : CellTable) : Type 0 where
   pub once : (k : ℕ) → k ≤ n
-      → accelerationCell g i k ≡ nearestQuotient (blend (plannedAxis n x) k (λ s. s .acceleration)) (divisor x)
+      → accelerationCell g i k ≡ nearestQuotient (exactAcceleration x n k) (divisor x)
   pub exact : (m : ℕ) (w : ℕ → ℤ) → n ≤ m → Swing x m w
-      → sway (λ k. blend (plannedAxis n x) k (λ s. s .acceleration)) w m n ≡ pos 0
+      → sway (exactAcceleration x n) w m n ≡ pos 0
   pub rounded : (m G : ℕ) (w : ℕ → ℤ) → n ≤ m → Swing x m w → Bounded m G w
       → natAbs (sway (accelerationCell g i) w m n) ≤ n * G
 
@@ -136,27 +138,3 @@ abbrev pub ExactStartHolds : Type 0
 ExactStartHolds =
     (o : Order) (q : Input) (lent : List ℤ) → callIn o q lent .number ≡ 0
     → ExactStart o (inputAxes q) (callIn o q lent .arrival) (callIn o q lent .cells)
-
--- ---- and each row is the forward call's row for that tick
-
-abbrev pub SameRows : Type 0
-SameRows =
-    (q : Input) (lent : List ℤ) → call q lent .number ≡ 0 → (i j k : ℕ) → i < length (inputAxes q)
-    → j < 3 → k ≤ call q lent .arrival
-    → cellAt (tableIn Backwards (inputAxes q) (call q lent .arrival) (callIn Backwards q lent .cells)) i j k
-    ≡ cellAt (tableIn Forwards (inputAxes q) (call q lent .arrival) (call q lent .cells)) i j k
-
--- ---- the position sums taken from the landing end are those taken from the start, of every axis
--- that can be planned for arrival n and every row
-
-abbrev pub SumsFromLanding : Type 0
-SumsFromLanding = (x : Axis) (n : ℕ) → Plannable x n → (i : ℕ) → i ≤ n
-    → fromLanding x n i ≡ blend (plannedAxis n x) (n - i) (λ s. s .position)
-
--- so each position cell, in either order, is the sum from the landing end rounded once
-abbrev pub CellsFromLanding : Type 0
-CellsFromLanding =
-    (o : Order) (q : Input) (lent : List ℤ) → callIn o q lent .number ≡ 0
-    → (i k : ℕ) (x : Axis) → getElem? (inputAxes q) i ≡ some x → k ≤ callIn o q lent .arrival
-    → positionCell (tableIn o (inputAxes q) (callIn o q lent .arrival) (callIn o q lent .cells)) i k
-    ≡ nearestQuotient (fromLanding x (callIn o q lent .arrival) (callIn o q lent .arrival - k)) (2 * divisor x)

@@ -9,7 +9,6 @@ use Rattle.model.specs.declared.Axis.{Axis}
 use Rattle.model.specs.declared.SecondSway.the-variants.{Absent}
 use Rattle.model.specs.declared.Target.the-variants.{Fixed}
 use Rattle.model.specs.declared.Weight.the-variants.{Given}
-use Rattle.model.specs.planning.Quantities.{secondWeight}
 use Rattle.model.specs.declared.Windows.{Windows}
 use Rattle.model.specs.declared.Job as Typed
 use Rattle.model.specs.planning.Windows.{noWindows}
@@ -65,30 +64,6 @@ jobOf t = jobWith (t .mask) (t .asked) (t .axes) (t .windows)
 -- a job without windows
 abbrev pub typedJob : ℕ → ℕ → List Axis → Job
 typedJob m asked six = jobWith m asked six noWindows
-
--- the same axis with the number B given
-abbrev pub withWeight : Axis → Axis
-withWeight x =
-    record {
-      start = x .start;
-      «speed_limit» = x .«speed_limit»;
-      «acceleration_limit» = x .«acceleration_limit»;
-      «half_period» = x .«half_period»;
-      «second_weight» = Given (secondWeight x);
-      «second_sway» = x .«second_sway»;
-      target = x .target;
-    }
-
--- the same job with the number B of each axis given
-abbrev pub axesWithWeight : List JobAxis → List JobAxis
-axesWithWeight xs = map (λ x. record { number = x .number; axis = withWeight (x .axis) }) xs
-
-abbrev pub jobWithWeight : Job → Job
-jobWithWeight j = record { mask = j .mask; asked = j .asked; axes = axesWithWeight (j .axes); windows = j .windows }
-
--- the same job of typed values
-abbrev pub typedWithWeight : Typed.Job → Typed.Job
-typedWithWeight t = record { mask = t .mask; asked = t .asked; axes = map withWeight (t .axes); windows = t .windows }
 
 -- what stands where the mask names no axis: zero in every field, and no second sway
 abbrev pub unsetAxis : Axis

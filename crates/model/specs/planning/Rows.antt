@@ -2,7 +2,7 @@
 use Prim.Native.Nat.{ℕ, zero, suc, _+_, _-_, _*_}
 use mathlib.Core.Bool.{true, false}
 use mathlib.Core.List.{List, [], _∷_, map, flatten}
-use lib.IntN.{ℤ, pos, _+ℤ_, _-ℤ_, _*ℤ_}
+use lib.IntN.{ℤ, pos, _+ℤ_, _*ℤ_}
 use lib.Dec.{ltb}
 use lib.ListN.{getD}
 use Rattle.model.specs.declared.Axis.{Axis}
@@ -11,7 +11,7 @@ use Rattle.model.specs.declared.SecondSway.the-variants.{Absent, HalfPer
 use Rattle.model.specs.declared.Order.{Order}
 use Rattle.model.specs.declared.Order.the-variants.{Forwards, Backwards}
 use Rattle.whole.specs.Integers.{nearestQuotient}
-use Rattle.model.specs.planning.Quantities.{halfPeriod, secondWeight, finer, asMoving, twicePositionAt}
+use Rattle.model.specs.planning.Quantities.{halfPeriod, secondWeight, finer}
 use Rattle.model.specs.planning.Motion.{Tick, planned, earlier}
 
 -- an axis with its planned motion
@@ -84,16 +84,3 @@ part o xs n j c =
 -- all of them
 abbrev pub table : Order → List Axis → ℕ → List ℤ
 table o xs n = part o xs n 0 (suc n)
-
--- ---- the position sums taken from the landing end (docs/METHOD.md, 4.7), for the rows that begin
--- there
-
--- The exact position of row n − i, times 2 × divisor as in `cells`: at the arrival it is
--- the target's, 256 times which is 128 times twice it; each tick back takes off the
--- velocities at the tick's two ends. The theorem `sums-from-landing` says that these are
--- the positions that are summed from the start.
-abbrev pub fromLanding : Axis → ℕ → ℕ → ℤ
-fromLanding x n zero = pos (2 * divisor x) *ℤ (pos 128 *ℤ twicePositionAt (asMoving (x .target) n) (pos n))
-fromLanding x n (suc i) =
-    fromLanding x n i -ℤ blend (plannedAxis n x) (n - i) (λ s. s .velocity)
-    -ℤ blend (plannedAxis n x) (n - suc i) (λ s. s .velocity)

@@ -1,5 +1,5 @@
 -- The job words (docs/METHOD.md, section 6, and refusals 1 and 2; 6.3 and 2.5, with refusal 14).
-use Prim.Native.Nat.{ℕ, suc, _-_, _/_, _%_, _^_}
+use Prim.Native.Nat.{ℕ, suc, _-_, _/_, _%_, _^_, _+_, _*_}
 use mathlib.Core.Bool.{Bool, true, false, not, _&&_}
 use mathlib.Core.Option.{Option, none, some}
 use mathlib.Core.List.{List, [], _∷_}
@@ -14,6 +14,9 @@ use Rattle.model.specs.declared.Target.the-variants.{Fixed, Moving}
 use Rattle.model.specs.declared.Weight.the-variants.{Given}
 use Rattle.model.specs.planning.Windows.{noWindows}
 use Rattle.model.specs.planning.Job.{Job, JobAxis, setBits}
+
+abbrev pub word : ℕ → ℕ → ℕ
+word k n = k * 2 ^ 28 + n
 
 abbrev pub kind : ℕ → ℕ
 kind w = w / 2 ^ 28

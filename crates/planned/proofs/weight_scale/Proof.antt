@@ -1,7 +1,7 @@
 use Prim.Native.Nat.{ℕ, _/_}
 use mathlib.Core.Path.{ap₂}
 use native.Mathlib.Omega.{arith}
-use Rattle.model.proofs.motions.Grid.{finer-range}
+use Rattle.theorems.proofs.motions.Grid.{finer-range}
 use Rattle.planned.proofs.PlannedRanges.{blends-some}
 use borrow.Author.Needs.{needs}
 use Rattle.planned.proofs.weight_scale.Statement.{statement}

@@ -3,8 +3,8 @@ use mathlib.Core.Logic.{⊎-elim}
 use Rattle.model.specs.planning.Job.{setAxes}
 use Rattle.model.specs.planning.Admission.{typed, planningRules}
 use Rattle.model.specs.planning.Outcome.{outcomeAfter}
-use Rattle.model.proofs.jobs.CheckingOrder.{clear-passed}
-use Rattle.model.proofs.jobs.BeforeTen.{planning-numbered}
+use Rattle.theorems.proofs.jobs.CheckingOrder.{clear-passed}
+use Rattle.theorems.proofs.jobs.BeforeTen.{planning-numbered}
 use Rattle.admission.specs.Admitting.{namedWithWeight}
 use Rattle.admission.proofs.Weights.{given-are, given-passed}
 use Rattle.admission.proofs.Admitted.{refused, passed, good-mask}

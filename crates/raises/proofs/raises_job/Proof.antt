@@ -2,7 +2,7 @@ use mathlib.Core.Path.{sym, ap, _∙_}
 use borrow.Author.Needs.{needs}
 use Rattle.model.specs.declared.Answer.{Answer}
 use Rattle.model.specs.planning.Outcome.{typed}
-use Rattle.model.proofs.calls.RaisesHold.{eight}
+use Rattle.theorems.proofs.calls.RaisesHold.{eight}
 use Rattle.raises.proofs.Calls.{beside, with-raises, without-raises, promise}
 use Rattle.raises.proofs.raises_job.Statement.{statement}
 use Rattle.raises.proofs.raises_job.Tie as tie

@@ -8,11 +8,11 @@ use Rattle.model.specs.declared.Axis.{Axis}
 use Rattle.model.specs.declared.Limit.{Limit}
 use Rattle.model.specs.declared.Limit.the-variants.{Acceleration, Speed}
 use Rattle.model.specs.planning.Quantities.{delay, finer}
-use Rattle.model.specs.planning.Job.{withWeight}
+use Rattle.theorems.specs.GivenWeights.{withWeight}
 use Rattle.model.specs.planning.Refusals.{Passed}
 use Rattle.model.specs.calls.Raises.{raiseOf, inOrder}
-use Rattle.model.proofs.jobs.GivenWeights.{passed-with-weight}
-use Rattle.model.proofs.calls.LeastRaise.{raise-with-weight}
+use Rattle.theorems.proofs.jobs.GivenWeights.{passed-with-weight}
+use Rattle.theorems.proofs.calls.LeastRaise.{raise-with-weight}
 use Rattle.motion.proofs.PassedRanges.{ranges-of}
 use Rattle.raises.proofs.LeastRaises.{too-early, of-task}
 use Rattle.raises.proofs.raises_of.Statement.{statement}

@@ -6,8 +6,8 @@ use mir.Syntax.{w64}
 use mir.Val.{toZ, ofZ}
 use Rattle.whole.proofs.Bounds.{within, exactly, computed}
 use Rattle.model.specs.planning.Motion.{landingAcceleration, arrivalVelocity}
-use Rattle.model.proofs.motions.Grid.{speed-range}
-use Rattle.model.proofs.jobs.PassedAxis.{speed-limit}
+use Rattle.theorems.proofs.motions.Grid.{speed-range}
+use Rattle.theorems.proofs.jobs.PassedAxis.{speed-limit}
 use Rattle.motion.specs.declared.Landing.{Landing}
 use Rattle.motion.proofs.PassedRanges.{ranges-of}
 use Rattle.reach.proofs.Halves.{last-passing-of}

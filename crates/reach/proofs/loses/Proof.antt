@@ -3,7 +3,7 @@ use mathlib.Core.Path.{refl, sym, _∙_}
 use native.Mathlib.Omega.{arith}
 use borrow.Author.Tests.{not-true, not-false}
 use borrow.Author.Needs.{needs}
-use Rattle.model.proofs.motions.Threshold.{reached-later}
+use Rattle.theorems.proofs.motions.Threshold.{reached-later}
 use Rattle.reach.proofs.Steady.{always-slow}
 use Rattle.reach.proofs.loses.Statement.{statement}
 use Rattle.reach.proofs.loses.Tie as tie

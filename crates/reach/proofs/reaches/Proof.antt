@@ -12,7 +12,7 @@ use Rattle.model.specs.planning.Leg.{feasible, sumIsWhole}
 use Rattle.model.specs.declared.Axis.{Axis}
 use Rattle.model.specs.planning.Quantities.{delay, speedSteps}
 use Rattle.model.specs.planning.Motion.{startPosition, landingVelocity, arrivalVelocity, leg, displacement}
-use Rattle.model.proofs.legs.WholeSum.{sum-is-whole}
+use Rattle.theorems.proofs.legs.WholeSum.{sum-is-whole}
 use Rattle.profile.specs.declared.Profile.{Profile}
 use Rattle.profile.specs.Profiles.{legOf}
 use Rattle.motion.specs.declared.Landing.{Landing}

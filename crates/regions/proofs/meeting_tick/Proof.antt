@@ -5,7 +5,7 @@ use lib.Signed.{_≤ℤ_, _<ℤ_}
 use mir.Syntax.{w64}
 use mir.Val.{toZ, ofZ}
 use Rattle.whole.proofs.Bounds.{sfits, exactly, computed, loose, back-id, cast-up, le-taken, le-left}
-use Rattle.model.proofs.legs.Envelopes.{Joined}
+use Rattle.theorems.proofs.legs.Envelopes.{Joined}
 use Rattle.profile.specs.Profiles.{legOf}
 use Rattle.profile.proofs.FeasibleParts.{ends-joined}
 use Rattle.regions.proofs.ThreeRegions.{meets-up, meets-down, up-some, down-some, up-late, down-late}

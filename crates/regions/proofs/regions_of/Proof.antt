@@ -4,7 +4,7 @@ use native.Mathlib.Omega.{arith}
 use mir.Syntax.{w64}
 use mir.Val.{toZ, ofZ}
 use Rattle.whole.proofs.Bounds.{exactly, computed}
-use Rattle.model.proofs.legs.Envelopes.{Joined}
+use Rattle.theorems.proofs.legs.Envelopes.{Joined}
 use Rattle.profile.specs.Profiles.{legOf}
 use Rattle.regions.specs.Regions.{rampTicks, meetingTick, bothRamps, withRamps}
 use Rattle.profile.proofs.FeasibleParts.{ends-joined}

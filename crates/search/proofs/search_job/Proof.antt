@@ -6,7 +6,7 @@ use borrow.Author.Tests.{not-true, not-false}
 use Rattle.model.specs.planning.Job.{setAxes}
 use Rattle.model.specs.planning.Admission.{typed}
 use Rattle.model.specs.calls.Search.{searchAnswer}
-use Rattle.model.proofs.jobs.CheckingOrder.{clear-passed}
+use Rattle.theorems.proofs.jobs.CheckingOrder.{clear-passed}
 use Rattle.admission.specs.Admitting.{namedWithWeight}
 use Rattle.admission.proofs.Weights.{given-are, given-passed}
 use Rattle.search.proofs.Ways.{promise, job-refused, goes, first-range, first-refused, searched}

@@ -30,14 +30,12 @@ use prog.Wp.{Heap, Out, Env, afterSeq, afterBlock, afterTurn, Calls, Loops, Wp, 
 use ghost.Atoms.{Atoms, sem}
 use contract.Monad.{Fun, fact}
 use contract.Running.{givenOf, tables, tablesOf}
-use types.Kit.{Given, Item, ‵, raw, _⊛_, ⋆, some, later, runs, anyQ, atRet, Sq}
-use types.Kit.{_$_, _∵_, !, qed, by, move, keep, drop, use0, use1, split, join, pick, rewrite, fsplit, fjoin, suffices}
-use types.Kit.{frame, await, done}
+use types.Kit.{Given, Item, ‵, raw, _⊛_, ⋆, some, later, runs, anyQ, atRet, Sq, _$_, _∵_, !, qed, by, move, keep, drop}
+use types.Kit.{use0, use1, split, join, pick, rewrite, fsplit, fjoin, suffices, frame, await, done}
 use types.Part.{whole, sub}
 use types.Run.{look, look-raw, store, init, forget, stop, hop, from, load, lit, of-opd, bin, and-then, no-more, assigns}
-use types.Run.{assigns-last}
-use types.Run.{land, first, skips, jumps, blocks, branches, returns, enter, alloc1, alloc0, params1, pass1, pass0}
-use types.Run.{free0, exec, Below, again, loops}
+use types.Run.{assigns-last, land, first, skips, jumps, blocks, branches, returns, enter, alloc1, alloc0, params1}
+use types.Run.{pass1, pass0, free0, exec, Below, again, loops}
 use sound.WpLaws.{FmC, fmOf, WpFn-mono}
 use denote.RattleType.{owns}
 use denote.Laws.{Is, shows}

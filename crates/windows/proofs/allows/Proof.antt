@@ -2,7 +2,7 @@ use mathlib.Core.Bool.{true}
 use mathlib.Core.Path.{_∙_}
 use Rattle.whole.proofs.Tests.{choice-yes, choice-no}
 use Rattle.model.specs.planning.Windows.{fitsOne, brought}
-use Rattle.model.proofs.jobs.WindowsInWords.{windows-right}
+use Rattle.theorems.proofs.jobs.WindowsInWords.{windows-right}
 use Rattle.windows.proofs.allows.Statement.{statement}
 use Rattle.windows.proofs.allows.Tie as tie
 

@@ -6,14 +6,13 @@ use borrow.Author.Needs.{needs}
 use Rattle.model.specs.planning.Outcome.{allReach, leastFrom}
 use Rattle.model.specs.planning.Job.{setAxes}
 use Rattle.model.specs.planning.Windows.{inWindows}
-use Rattle.model.proofs.jobs.LeastTick.{Least, least-is, none-is}
-use Rattle.model.proofs.jobs.WindowsInWords.{windows-right}
+use Rattle.theorems.proofs.jobs.LeastTick.{Least, least-is, none-is}
+use Rattle.theorems.proofs.jobs.WindowsInWords.{windows-right}
 use Rattle.whole.specs.Candidates.{Next}
 use Rattle.arrival.specs.Arrivals.{arrivesIn, tickOf}
 use Rattle.arrival.proofs.WindowSearch.{with-windows}
-use Rattle.model.proofs.motions.ArrivalRuns.{all-between}
-use Rattle.arrival.proofs.Fitting.{LedTo, at-first, no-reach, nothing-fits, led-fitting}
-use Rattle.arrival.proofs.Fitting.{nowhere-else}
+use Rattle.theorems.proofs.motions.ArrivalRuns.{all-between}
+use Rattle.arrival.proofs.Fitting.{LedTo, at-first, no-reach, nothing-fits, led-fitting, nowhere-else}
 use Rattle.arrival.proofs.Search.{none-passes, first-passes}
 use Rattle.arrival.proofs.least.least_fitting.Statement.{statement}
 use Rattle.arrival.proofs.least.least_fitting.Tie as tie

@@ -13,7 +13,7 @@ use Rattle.whole.proofs.Bounds.{sfits, within, exactly, exact, computed, cast-s
 use Rattle.whole.proofs.Laws.{natAbs-neg}
 use Rattle.whole.proofs.Tests.{true-T}
 use Rattle.model.specs.planning.Leg.{upper, required}
-use Rattle.model.proofs.legs.Envelopes.{Joined}
+use Rattle.theorems.proofs.legs.Envelopes.{Joined}
 use Rattle.profile.specs.Profiles.{legOf, Joinable}
 use Rattle.profile.proofs.FeasibleParts.{joined-ends}
 use Rattle.envelopes.specs.Skips.{turnedAbout}

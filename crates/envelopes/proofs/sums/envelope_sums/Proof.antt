@@ -9,7 +9,7 @@ use Rattle.whole.specs.Ranges.{Within}
 use Rattle.whole.proofs.Bounds.{within, exactly, computed}
 use Rattle.whole.proofs.Laws.{natAbs-negpos}
 use Rattle.model.specs.planning.Leg.{sumAt}
-use Rattle.model.proofs.legs.Envelopes.{Joined, lowest-sum, highest-sum}
+use Rattle.theorems.proofs.legs.Envelopes.{Joined, lowest-sum, highest-sum}
 use Rattle.profile.specs.Profiles.{legOf}
 use Rattle.envelopes.specs.Sums.{peakOf, troughOf}
 use Rattle.profile.proofs.FeasibleParts.{ends-joined}

@@ -9,7 +9,7 @@ use mir.Val.{toZ, ofZ}
 use Rattle.whole.specs.Integers.{least}
 use Rattle.whole.proofs.Bounds.{sfits, exactly, computed, back-id, cast-up, is-of, then-is}
 use Rattle.model.specs.planning.Leg.{Leg}
-use Rattle.model.proofs.legs.Envelopes.{Joined}
+use Rattle.theorems.proofs.legs.Envelopes.{Joined}
 use Rattle.envelopes.specs.Sums.{crossing, peakOf}
 use Rattle.regions.proofs.ThreeRegions.{up-some}
 use Rattle.envelopes.proofs.EnvelopeSums.{m-late}

@@ -4,7 +4,7 @@ use lib.IntN.{pos}
 use native.Mathlib.Omega.{arith}
 use Rattle.whole.proofs.Bounds.{cast-small, then-is}
 use Rattle.model.specs.planning.Quantities.{finer}
-use Rattle.model.proofs.motions.Grid.{finer-range}
+use Rattle.theorems.proofs.motions.Grid.{finer-range}
 use borrow.Author.Needs.{needs}
 use Rattle.motion.proofs.grid.grid_steps.Statement.{statement}
 use Rattle.motion.proofs.grid.grid_steps.Tie as tie

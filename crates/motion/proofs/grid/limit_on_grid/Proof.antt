@@ -3,7 +3,7 @@ use mathlib.Core.Path.{sym, ap, subst}
 use native.Mathlib.Omega.{arith}
 use native.Mathlib.Nat.{mul-le-mul}
 use Rattle.model.specs.planning.Quantities.{fineSteps, finer}
-use Rattle.model.proofs.motions.Grid.{finer-range}
+use Rattle.theorems.proofs.motions.Grid.{finer-range}
 use borrow.Author.Needs.{needs}
 use Rattle.motion.proofs.grid.limit_on_grid.Statement.{statement}
 use Rattle.motion.proofs.grid.limit_on_grid.Tie as tie

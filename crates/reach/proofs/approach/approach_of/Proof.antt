@@ -9,8 +9,8 @@ use Rattle.whole.proofs.Bounds.{within, exactly, computed}
 use Rattle.model.specs.planning.Quantities.{delay}
 use Rattle.model.specs.planning.Motion.{startPosition, startVelocity, landingVelocity, landingAcceleration}
 use Rattle.model.specs.planning.Motion.{displacement}
-use Rattle.model.proofs.jobs.PassedAxis.{some-acceleration}
-use Rattle.model.proofs.motions.Grid.{speed-range, acceleration-range, acceleration-some}
+use Rattle.theorems.proofs.jobs.PassedAxis.{some-acceleration}
+use Rattle.theorems.proofs.motions.Grid.{speed-range, acceleration-range, acceleration-some}
 use Rattle.motion.proofs.PassedRanges.{ranges-of}
 use Rattle.reach.proofs.Approaching.{approach-is}
 use Rattle.reach.proofs.Steady.{start-slow}

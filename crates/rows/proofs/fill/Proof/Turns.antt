@@ -6,7 +6,7 @@ use mathlib.Core.Logic.{⊎-elim}
 use Rattle.whole.proofs.Tests.{T-true, not-false-T}
 use lib.ListN.{length, getD, take, length-map}
 use Rattle.model.specs.declared.Order.{Order}
-use Rattle.model.proofs.tables.CellPlaces.{row-place}
+use Rattle.theorems.proofs.tables.CellPlaces.{row-place}
 use Rattle.planned.specs.declared.AxisPlan.{AxisPlan}
 use Rattle.rows.specs.Plans.{unsetPlan}
 use Rattle.planned.specs.Plans.{arrivalOf, PlanRanges}
