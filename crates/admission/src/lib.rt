@@ -8,8 +8,10 @@
 //                     refusals::check        refusals 4, 12, 5, 15, 6, 16, 17 and 13
 // A caller then has the weights worked out where `any_measured` says so: `with_weight` copies the
 // axes, which most jobs need not pay for.
+use model::AXES;
 use model::Axis;
 use model::Checked;
+use model::LAST_TICK;
 use model::Windows;
 ghost use mathlib.Core.Path.{_≡_};
 ghost use Rattle.model.specs.planning.Job.{setAxes};
@@ -27,7 +29,13 @@ pub enum Purpose {
 
 // The first refusal of a job, by its parts, before its arrival is looked for, or none. Axes that
 // the mask does not name are not looked at.
-pub fn check(mask: u32, asked: u32, axes: [Axis; 6], windows: Windows, purpose: Purpose) -> Checked
+pub fn check(
+    mask: u32,
+    asked: u32,
+    axes: [Axis; AXES],
+    windows: Windows,
+    purpose: Purpose,
+) -> Checked
     ensures { λ r. ⌜ r ≡ withoutJob (admission (rulesFor purpose)
         (typed (record { mask = mask; asked = asked; axes = axes; windows = windows }))) ⌝ }
 {
@@ -35,7 +43,7 @@ pub fn check(mask: u32, asked: u32, axes: [Axis; 6], windows: Windows, purpose: 
         return Checked::Refused(1, 0);
     }
     let read = asked_read(purpose, asked);
-    if 4096 < read {
+    if LAST_TICK < read {
         return Checked::Refused(3, 1);
     }
     refusals::check(mask, axes, windows, must_rest(purpose, read))
@@ -65,12 +73,12 @@ fn must_rest(purpose: Purpose, asked: u32) -> bool
 
 // Whether the number B of an axis that the mask names is to be worked out from damping as
 // measured. The other axes are not read.
-pub fn any_measured(mask: u32, axes: [Axis; 6]) -> bool
+pub fn any_measured(mask: u32, axes: [Axis; AXES]) -> bool
     ensures { λ r. ⌜ r ≡ anyMeasured (setAxes 0 mask axes) ⌝ }
 {
     let mut bits = mask;
     let mut i: usize = 0;
-    while i < 6 {
+    while i < AXES {
         if bits % 2 == 1 {
             let x = axes[i];
             if motion::measured(x) {
@@ -85,13 +93,13 @@ pub fn any_measured(mask: u32, axes: [Axis; 6]) -> bool
 
 // The axes with the number B of each that the mask names given, so that it is worked out once. The
 // other axes are not read, and stay.
-pub fn with_weight(mask: u32, axes: [Axis; 6]) -> [Axis; 6]
+pub fn with_weight(mask: u32, axes: [Axis; AXES]) -> [Axis; AXES]
     ensures { λ r. ⌜ r ≡ namedWithWeight mask axes ⌝ }
 {
     let mut given = axes;
     let mut bits = mask;
     let mut i: usize = 0;
-    while i < 6 {
+    while i < AXES {
         if bits % 2 == 1 {
             let x = given[i];
             let with_weight = motion::with_weight(x);

@@ -1,4 +1,5 @@
 // The axes of a mask lead each other on, to the least tick that all of them reach.
+use model::AXES;
 use model::Axis;
 ghost use mathlib.Core.Path.{_≡_};
 ghost use Prim.Native.Nat.{suc, _%_, _<_, _≤_};
@@ -13,7 +14,7 @@ ghost use Rattle.arrival.specs.Arrivals.{reachedBy, Again, After};
 // last. Each axis in turn leads on to the next candidate that it does not rule out. Those before
 // the one that led on last are asked again: an axis that reached an earlier tick and does not reach
 // this one reaches no later one.
-pub fn least_reached(mask: u32, axes: [Axis; 6], first: u32, last: u32) -> u32
+pub fn least_reached(mask: u32, axes: [Axis; AXES], first: u32, last: u32) -> u32
     requires { ⌜ AllPassed (setAxes 0 mask axes) ⌝ }
     requires { ⌜ first ≤ suc last ⌝ }
     requires { ⌜ last ≤ lastTick ⌝ }
@@ -23,7 +24,7 @@ pub fn least_reached(mask: u32, axes: [Axis; 6], first: u32, last: u32) -> u32
     let mut bits = mask;
     let mut number: usize = 0;
     let mut again: usize = 0;
-    while number < 6 {
+    while number < AXES {
         let axis = axes[number];
         let next = next_for(bits, axis, n, last);
         again = again_after(again, number, n, next);

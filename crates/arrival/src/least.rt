@@ -3,7 +3,9 @@
 use crate::Tick;
 use crate::lead_on::least_reached;
 use crate::reached::all_reach;
+use model::AXES;
 use model::Axis;
+use model::MAX_WINDOWS;
 use model::Window;
 use model::Windows;
 ghost use mathlib.Core.Path.{_≡_};
@@ -20,7 +22,7 @@ ghost use Rattle.arrival.specs.Arrivals.{tickOf, arrivesIn, searched};
 // The least tick from `first` on and before `after` that every axis of the mask reaches and that
 // fits a window where there are some, or none. It is the least that fits one from the least tick on
 // that every axis reaches, or there is none: every axis reaches one run of ticks.
-pub fn least_common(mask: u32, axes: [Axis; 6], windows: Windows, first: u32, after: u32) -> Tick
+pub fn least_common(mask: u32, axes: [Axis; AXES], windows: Windows, first: u32, after: u32) -> Tick
     requires { ⌜ AllPassed (setAxes 0 mask axes) ⌝ }
     requires { ⌜ refused13 windows ≡ none ⌝ }
     requires { ⌜ after ≤ lastTick + 1 ⌝ }
@@ -41,7 +43,7 @@ pub fn least_common(mask: u32, axes: [Axis; 6], windows: Windows, first: u32, af
 
 // The same from a tick on that every axis reaches, where there are windows: the first tick
 // that fits one, or there is none.
-fn least_fitting(mask: u32, axes: [Axis; 6], windows: Windows, first: u32, after: u32) -> Tick
+fn least_fitting(mask: u32, axes: [Axis; AXES], windows: Windows, first: u32, after: u32) -> Tick
     requires { ⌜ AllPassed (setAxes 0 mask axes) ⌝ }
     requires { ⌜ refused13 windows ≡ none ⌝ }
     requires { ⌜ windows .given ≡ true ⌝ }
@@ -62,7 +64,7 @@ fn least_fitting(mask: u32, axes: [Axis; 6], windows: Windows, first: u32, after
 }
 
 // The least tick from `first` on and before `after` of the first `count` windows, or none.
-fn least_in(list: [Window; 32], count: usize, dwell: u32, first: u32, after: u32) -> Tick
+fn least_in(list: [Window; MAX_WINDOWS], count: usize, dwell: u32, first: u32, after: u32) -> Tick
     requires { ⌜ count ≤ 32 ⌝ }
     requires { ⌜ dwell ≤ 4096 ⌝ }
     requires { ⌜ after ≤ lastTick + 1 ⌝ }

@@ -1,5 +1,7 @@
 // Which axes of a mask reach a tick.
+use model::AXES;
 use model::Axis;
+use model::LAST_TICK;
 ghost use mathlib.Core.Path.{_≡_};
 ghost use Prim.Native.Nat.{_%_, _≤_};
 ghost use Rattle.model.specs.planning.Job.{setAxes, maskWhere};
@@ -8,14 +10,14 @@ ghost use Rattle.model.specs.planning.Outcome.{allReach};
 ghost use Rattle.arrival.specs.Arrivals.{cannotArrive, missedBy, bitOf};
 
 // Whether every axis of the mask reaches a tick.
-pub fn all_reach(mask: u32, axes: [Axis; 6], tick: u32) -> bool
+pub fn all_reach(mask: u32, axes: [Axis; AXES], tick: u32) -> bool
     requires { ⌜ AllPassed (setAxes 0 mask axes) ⌝ }
     requires { ⌜ tick ≤ lastTick ⌝ }
     ensures { λ r. ⌜ r ≡ allReach (setAxes 0 mask axes) tick ⌝ }
 {
     let mut bits = mask;
     let mut number: usize = 0;
-    while number < 6 {
+    while number < AXES {
         let axis = axes[number];
         if misses(bits, axis, tick) {
             return false;
@@ -39,7 +41,7 @@ pub fn misses(bits: u32, axis: Axis, tick: u32) -> bool
 }
 
 // The mask of those axes of a mask that do not reach the asked arrival or, where 0 is asked, any.
-pub fn unable_axes(mask: u32, axes: [Axis; 6], asked: u32) -> u32
+pub fn unable_axes(mask: u32, axes: [Axis; AXES], asked: u32) -> u32
     requires { ⌜ AllPassed (setAxes 0 mask axes) ⌝ }
     requires { ⌜ asked ≤ lastTick ⌝ }
     ensures { λ r. ⌜ r ≡ maskWhere (cannotArrive asked) (setAxes 0 mask axes) ⌝ }
@@ -48,7 +50,7 @@ pub fn unable_axes(mask: u32, axes: [Axis; 6], asked: u32) -> u32
     let mut bit: u32 = 1;
     let mut bits = mask;
     let mut number: usize = 0;
-    while number < 6 {
+    while number < AXES {
         let axis = axes[number];
         let more = unable_bit(bits, axis, asked, bit);
         unable = unable + more;
@@ -82,7 +84,7 @@ fn cannot_arrive(axis: Axis, asked: u32) -> bool
     ensures { λ r. ⌜ r ≡ cannotArrive asked axis ⌝ }
 {
     if asked == 0 {
-        return !reach::reaches_some(axis, 4096);
+        return !reach::reaches_some(axis, LAST_TICK);
     }
     !reach::reaches(axis, asked)
 }

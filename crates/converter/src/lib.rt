@@ -11,6 +11,8 @@
 use admission::Purpose;
 use model::Answer;
 use model::Checked;
+use model::MOVING_WORD;
+use model::TARGET_VELOCITY_WORD;
 ghost use mathlib.Core.Path.{_≡_};
 ghost use Prim.Native.Nat.{_<_, _≤_};
 ghost use lib.ListN.{length};
@@ -123,9 +125,9 @@ fn is_flying(words: &[u32], i: usize) -> bool
     requires { ⌜ i < length (now words) ⌝ }
     ensures { λ r. ⌜ r ≡ flyingAt (now (words .entry)) i ⌝ }
 {
-    if words::is_kind(words, i, 10) {
+    if words::is_kind(words, i, TARGET_VELOCITY_WORD) {
         if words[i] % 268435456 != 0 {
-            return !words::is_kind(words, i + 1, 11);
+            return !words::is_kind(words, i + 1, MOVING_WORD);
         }
     }
     false

@@ -1,6 +1,7 @@
 // The second weight of a blend from damping as measured (docs/METHOD.md, 2.4), in single precision:
 // each division and each product is rounded once, and the weight is found by comparisons.
 use model::Damping;
+use model::HIGHEST_WEIGHT;
 use model::Weight;
 ghost use mathlib.Core.Path.{_≡_};
 ghost use Prim.Native.Nat.{_≤_};
@@ -32,7 +33,7 @@ fn meets(ratio: f32, weight: u32) -> bool
 fn ratio_weight(ratio: f32) -> u32
     ensures { λ r. ⌜ r ≡ ratioWeight ratio ⌝ }
 {
-    let mut weight: u32 = 128;
+    let mut weight: u32 = HIGHEST_WEIGHT;
     while 0 < weight {
         if meets(ratio, weight) {
             return weight;

@@ -5,10 +5,12 @@ pub mod row_parts;
 pub mod searches;
 pub mod tours;
 
+use model::AXES;
 use model::Answer;
 use model::Axis;
 use model::Damping;
 use model::Job;
+use model::MAX_WINDOWS;
 use model::RestPoint;
 use model::SecondSway;
 use model::State;
@@ -60,7 +62,7 @@ pub struct PolgamirWindows {
     pub given: u32,
     pub dwell: u32,
     pub count: usize,
-    pub list: [Window; 32],
+    pub list: [Window; MAX_WINDOWS],
 }
 
 // A job, laid out as the header's `polgamir_job`.
@@ -68,7 +70,7 @@ pub struct PolgamirWindows {
 pub struct PolgamirJob {
     pub mask: u32,
     pub asked: u32,
-    pub axes: [PolgamirAxis; 6],
+    pub axes: [PolgamirAxis; AXES],
     pub windows: PolgamirWindows,
 }
 
@@ -176,14 +178,14 @@ fn axis_of(a: PolgamirAxis) -> Axis
 }
 
 // The axes that the mask names. The others are not read, and unset.
-fn axes_of(mask: u32, list: [PolgamirAxis; 6]) -> [Axis; 6]
+fn axes_of(mask: u32, list: [PolgamirAxis; AXES]) -> [Axis; AXES]
     ensures { λ r. ⌜ r ≡ axesFromC mask list ⌝ }
 {
     let unset = model::unset_axis();
-    let mut axes = [unset; 6];
+    let mut axes = [unset; AXES];
     let mut bits = mask;
     let mut i: usize = 0;
-    while i < 6 {
+    while i < AXES {
         if bits % 2 == 1 {
             let entry = list[i];
             let axis = axis_of(entry);

@@ -1,6 +1,7 @@
 // The raises of limits.
 use crate::PolgamirAnswer;
 use crate::returned;
+use model::AXES;
 use model::AxisRaises;
 use model::Raise;
 use model::RaisesAnswer;
@@ -27,7 +28,7 @@ pub struct PolgamirAxisRaises {
 #[repr(C)]
 pub struct PolgamirRaises {
     pub answer: PolgamirAnswer,
-    pub axes: [PolgamirAxisRaises; 6],
+    pub axes: [PolgamirAxisRaises; AXES],
 }
 
 fn raise(limit: u32, by: u32) -> PolgamirRaise
@@ -60,14 +61,14 @@ fn entry_in_c(r: AxisRaises) -> PolgamirAxisRaises
     }
 }
 
-fn entries_in_c(list: [AxisRaises; 6]) -> [PolgamirAxisRaises; 6]
+fn entries_in_c(list: [AxisRaises; AXES]) -> [PolgamirAxisRaises; AXES]
     ensures { λ c. ⌜ c ≡ map entryInC list ⌝ }
 {
     let front = list[0];
     let first = entry_in_c(front);
-    let mut entries = [first; 6];
+    let mut entries = [first; AXES];
     let mut i: usize = 0;
-    while i < 6 {
+    while i < AXES {
         let entry = list[i];
         let next = entry_in_c(entry);
         entries[i] = next;

@@ -2,6 +2,7 @@
 // which have the header's layout.
 use crate::sway_of;
 use crate::weight_of;
+use model::AXES;
 use model::AxisLimits;
 use model::SecondSway;
 use model::TourSettings;
@@ -29,8 +30,8 @@ pub struct PolgamirLimits {
 #[repr(C)]
 pub struct PolgamirTour {
     pub mask: u32,
-    pub start: [i64; 6],
-    pub limits: [PolgamirLimits; 6],
+    pub start: [i64; AXES],
+    pub limits: [PolgamirLimits; AXES],
 }
 
 fn limits_of(l: PolgamirLimits) -> AxisLimits
@@ -67,14 +68,14 @@ fn unset_limits() -> AxisLimits
 }
 
 // The limits of the axes that the mask names. The others are not read, and unset.
-fn all_limits(mask: u32, list: [PolgamirLimits; 6]) -> [AxisLimits; 6]
+fn all_limits(mask: u32, list: [PolgamirLimits; AXES]) -> [AxisLimits; AXES]
     ensures { λ r. ⌜ r ≡ allLimitsOf mask list ⌝ }
 {
     let unset = unset_limits();
-    let mut limits = [unset; 6];
+    let mut limits = [unset; AXES];
     let mut bits = mask;
     let mut i: usize = 0;
-    while i < 6 {
+    while i < AXES {
         if bits % 2 == 1 {
             let entry = list[i];
             let named = limits_of(entry);

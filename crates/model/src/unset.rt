@@ -1,5 +1,6 @@
 // What stands where a job gives nothing.
 use crate::Axis;
+use crate::MAX_WINDOWS;
 use crate::RestPoint;
 use crate::SecondSway;
 use crate::Target;
@@ -43,6 +44,6 @@ pub fn no_windows() -> Windows
         given: false,
         dwell: 0,
         count: 0,
-        list: [unset; 32],
+        list: [unset; MAX_WINDOWS],
     }
 }

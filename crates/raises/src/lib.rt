@@ -10,6 +10,7 @@
 //     raises_of       task_of               what does not depend on the limits, once an axis
 //                     least_limit::least_limit   by least_raise, for M and for L, in_order
 use least_limit::Task;
+use model::AXES;
 use model::Answer;
 use model::Axis;
 use model::AxisRaises;
@@ -67,7 +68,7 @@ pub fn raises_words(words: &[u32]) -> RaisesAnswer
 }
 
 // An answer and the raises beside it.
-fn answered(planned: Answer, axes: [AxisRaises; 6]) -> RaisesAnswer
+fn answered(planned: Answer, axes: [AxisRaises; AXES]) -> RaisesAnswer
     ensures { λ r. ⌜ r ≡ record { answer = planned; axes = axes } ⌝ }
 {
     RaisesAnswer {
@@ -77,14 +78,14 @@ fn answered(planned: Answer, axes: [AxisRaises; 6]) -> RaisesAnswer
 }
 
 // No raise for any axis.
-fn no_raises() -> [AxisRaises; 6]
+fn no_raises() -> [AxisRaises; AXES]
     ensures { λ r. ⌜ r ≡ noneRaised ⌝ }
 {
-    [pair(Raise::NoRaise, Raise::NoRaise); 6]
+    [pair(Raise::NoRaise, Raise::NoRaise); AXES]
 }
 
 // The raises of each axis of the mask that does not reach the asked arrival, at its number.
-fn raises_for(mask: u32, asked: u32, axes: [Axis; 6]) -> [AxisRaises; 6]
+fn raises_for(mask: u32, asked: u32, axes: [Axis; AXES]) -> [AxisRaises; AXES]
     requires { ⌜ AllPassed (setAxes 0 mask axes) ⌝ }
     requires { ⌜ asked ≤ lastTick ⌝ }
     ensures { λ r. ⌜ r ≡ raisesFrom asked (setAxes 0 mask axes) noneRaised ⌝ }
@@ -92,7 +93,7 @@ fn raises_for(mask: u32, asked: u32, axes: [Axis; 6]) -> [AxisRaises; 6]
     let mut raises = no_raises();
     let mut bits = mask;
     let mut number: usize = 0;
-    while number < 6 {
+    while number < AXES {
         let axis = axes[number];
         if arrival::misses(bits, axis, asked) {
             raises[number] = raises_of(axis, asked);

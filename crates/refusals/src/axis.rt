@@ -1,6 +1,10 @@
 // The refusals that one axis meets by itself (docs/METHOD.md, section 7, numbers 4, 12, 5, 15, 6,
 // 16 and 17), in checking order.
 use model::Axis;
+use model::HIGHEST_ACCELERATION;
+use model::HIGHEST_SPEED;
+use model::HIGHEST_WEIGHT;
+use model::LONGEST_HALF_PERIOD;
 use model::RestPoint;
 use model::SecondSway;
 use model::State;
@@ -26,8 +30,8 @@ fn within(low: u32, high: u32, n: u32) -> bool
 fn limits_refused(x: Axis) -> bool
     ensures { λ r. ⌜ r ≡ limitsRefused x ⌝ }
 {
-    if within(1, 1048576, x.speed_limit) {
-        return !within(1, 65536, x.acceleration_limit);
+    if within(1, HIGHEST_SPEED, x.speed_limit) {
+        return !within(1, HIGHEST_ACCELERATION, x.acceleration_limit);
     }
     true
 }
@@ -44,8 +48,8 @@ fn damping_refused(x: Axis) -> bool
 fn blend_refused(x: Axis) -> bool
     ensures { λ r. ⌜ r ≡ blendRefused x ⌝ }
 {
-    if within(0, 256, x.half_period) {
-        return !within(1, 128, motion::second_weight(x));
+    if within(0, LONGEST_HALF_PERIOD, x.half_period) {
+        return !within(1, HIGHEST_WEIGHT, motion::second_weight(x));
     }
     true
 }
@@ -55,7 +59,7 @@ fn sway_allowed(sway: SecondSway) -> bool
 {
     match sway {
         SecondSway::Absent => true,
-        SecondSway::HalfPeriod(d) => within(1, 256, d),
+        SecondSway::HalfPeriod(d) => within(1, LONGEST_HALF_PERIOD, d),
     }
 }
 

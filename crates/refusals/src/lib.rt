@@ -5,6 +5,7 @@ mod axis;
 use axis::TESTS;
 use axis::TESTS_WITHOUT_FLYING;
 use axis::first_refused;
+use model::AXES;
 use model::Axis;
 use model::Checked;
 use model::Windows;
@@ -20,7 +21,7 @@ ghost use Rattle.refusals.specs.Checks.{numberOf};
 // The first of refusals 4, 12, 5, 15, 6, 16, 17 and 13, or none; 17 only where fixed targets must
 // be at rest. Each number is checked over all axes, lowest first, before the next number: that is
 // the least rank of all axes, at the lowest axis that has it.
-pub fn check(mask: u32, axes: [Axis; 6], windows: Windows, resting: bool) -> Checked
+pub fn check(mask: u32, axes: [Axis; AXES], windows: Windows, resting: bool) -> Checked
     ensures { λ r. ⌜ r ≡ firstRefusal (testsFor resting) (setAxes 0 mask axes) windows ⌝ }
 {
     let rank = least_rank(mask, axes, resting);
@@ -34,13 +35,13 @@ pub fn check(mask: u32, axes: [Axis; 6], windows: Windows, resting: bool) -> Che
 
 // The least rank in checking order of a refusal that meets an axis of the mask, or the number of
 // tests.
-fn least_rank(mask: u32, axes: [Axis; 6], resting: bool) -> usize
+fn least_rank(mask: u32, axes: [Axis; AXES], resting: bool) -> usize
     ensures { λ r. ⌜ r ≡ leastRank (testsFor resting) (setAxes 0 mask axes) ⌝ }
 {
     let mut least = test_count(resting);
     let mut bits = mask;
     let mut i: usize = 0;
-    while i < 6 {
+    while i < AXES {
         if bits % 2 == 1 {
             let x = axes[i];
             least = lower_rank(x, resting, least);
@@ -64,12 +65,12 @@ fn lower_rank(axis: Axis, resting: bool, other: usize) -> usize
 }
 
 // The lowest axis of the mask whose first refusal has a rank, or 0 where none has it.
-fn lowest_axis(mask: u32, axes: [Axis; 6], resting: bool, rank: usize) -> usize
+fn lowest_axis(mask: u32, axes: [Axis; AXES], resting: bool, rank: usize) -> usize
     ensures { λ r. ⌜ r ≡ lowestAxis (testsFor resting) rank (setAxes 0 mask axes) ⌝ }
 {
     let mut bits = mask;
     let mut i: usize = 0;
-    while i < 6 {
+    while i < AXES {
         if bits % 2 == 1 {
             let x = axes[i];
             if has_rank(x, resting, rank) {

@@ -12,6 +12,8 @@
 //                       search_from                 the search
 use admission::Purpose;
 use arrival::Tick;
+use model::AFTER_LAST_TICK;
+use model::AXES;
 use model::Axis;
 use model::Checked;
 use model::Job;
@@ -77,7 +79,7 @@ fn first_allowed(first: u32) -> bool
     ensures { λ r. ⌜ r ≡ firstAllowed first ⌝ }
 {
     if 0 < first {
-        return first <= 4097;
+        return first <= AFTER_LAST_TICK;
     }
     false
 }
@@ -87,7 +89,7 @@ fn first_allowed(first: u32) -> bool
 // that is used up while a candidate is left is spent.
 fn search_from(
     mask: u32,
-    axes: [Axis; 6],
+    axes: [Axis; AXES],
     windows: Windows,
     first: u32,
     budget: u32,
@@ -98,7 +100,7 @@ fn search_from(
     requires { ⌜ first ≤ lastTick + 1 ⌝ }
     ensures { λ r. ⌜ r ≡ searchFrom (arrivesIn windows (setAxes 0 mask axes)) first budget ⌝ }
 {
-    let left = 4097 - first;
+    let left = AFTER_LAST_TICK - first;
     let count = within_budget(budget, left);
     let least = arrival::least_common(mask, axes, windows, first, first + count);
     if let Tick::At(tick) = least {

@@ -1,9 +1,12 @@
 // The stops of a tour by value, the job of each leg, and what a tour promises
 // (docs/METHOD.md, 8.1): all of a tour that asks for no answer of the planner. `stop_row` is the
 // only function here over a slice of structs.
+use model::AXES;
 use model::Axis;
 use model::AxisLimits;
 use model::Job;
+use model::LONGEST_DWELL;
+use model::MAX_STOPS;
 use model::RestPoint;
 use model::Stop;
 use model::Target;
@@ -21,7 +24,7 @@ ghost use Rattle.stops.specs.Parts.{legAxisAt, foundStop};
 // The stops of a tour by value: how many are lent, and the first 64 of them. Places that no stop is
 // stored in have the stop of zeros.
 pub struct StopRow {
-    pub stops: [Stop; 64],
+    pub stops: [Stop; MAX_STOPS],
     pub lent: usize,
 }
 
@@ -30,11 +33,11 @@ pub fn empty_row(lent: usize) -> StopRow
     ensures { λ r. ⌜ r ≡ emptyRow lent ⌝ }
 {
     let none = Stop {
-        positions: [0; 6],
+        positions: [0; AXES],
         dwell: 0,
     };
     StopRow {
-        stops: [none; 64],
+        stops: [none; MAX_STOPS],
         lent: lent,
     }
 }
@@ -43,7 +46,7 @@ pub fn empty_row(lent: usize) -> StopRow
 pub fn with_stop(row: StopRow, index: usize, stop: Stop) -> StopRow
     ensures { λ r. ⌜ r ≡ withStop row index stop ⌝ }
 {
-    if 64 <= index {
+    if MAX_STOPS <= index {
         return row;
     }
     let mut next = row;
@@ -55,10 +58,10 @@ pub fn with_stop(row: StopRow, index: usize, stop: Stop) -> StopRow
 fn stops_held(lent: usize) -> usize
     ensures { λ r. ⌜ r ≡ heldOf lent ⌝ }
 {
-    if lent < 64 {
+    if lent < MAX_STOPS {
         return lent;
     }
-    64
+    MAX_STOPS
 }
 
 // The stops of a lent row by value.
@@ -85,14 +88,14 @@ pub enum FirstStop {
 }
 
 // The first of `count` stops whose dwell is too long.
-pub fn first_long_dwell(stops: [Stop; 64], count: usize) -> FirstStop
+pub fn first_long_dwell(stops: [Stop; MAX_STOPS], count: usize) -> FirstStop
     requires { ⌜ count ≤ 64 ⌝ }
     ensures { λ r. ⌜ foundStop r ≡ firstLongDwell 0 (take count stops) ⌝ }
 {
     let mut i: usize = 0;
     while i < count {
         let stop = stops[i];
-        if 4096 < stop.dwell {
+        if LONGEST_DWELL < stop.dwell {
             return FirstStop::At(i);
         }
         i += 1;
@@ -103,7 +106,7 @@ pub fn first_long_dwell(stops: [Stop; 64], count: usize) -> FirstStop
 // ---- a leg
 
 // The typed job of a leg, without windows.
-pub fn leg_job(settings: TourSettings, here: [i64; 6], there: [i64; 6]) -> Job
+pub fn leg_job(settings: TourSettings, here: [i64; AXES], there: [i64; AXES]) -> Job
     ensures { λ r. ⌜ r ≡ legJob settings here there ⌝ }
 {
     let axes = leg_axes(settings, here, there);
@@ -117,13 +120,13 @@ pub fn leg_job(settings: TourSettings, here: [i64; 6], there: [i64; 6]) -> Job
 }
 
 // The axes of a leg.
-fn leg_axes(settings: TourSettings, here: [i64; 6], there: [i64; 6]) -> [Axis; 6]
+fn leg_axes(settings: TourSettings, here: [i64; AXES], there: [i64; AXES]) -> [Axis; AXES]
     ensures { λ r. ⌜ r ≡ legAxes (settings .limits) here there ⌝ }
 {
     let first = leg_axis(settings, here, there, 0);
-    let mut axes = [first; 6];
+    let mut axes = [first; AXES];
     let mut i: usize = 0;
-    while i < 6 {
+    while i < AXES {
         let axis = leg_axis(settings, here, there, i);
         axes[i] = axis;
         i += 1;
@@ -132,11 +135,11 @@ fn leg_axes(settings: TourSettings, here: [i64; 6], there: [i64; 6]) -> [Axis; 6
 }
 
 // Axis i of a leg.
-fn leg_axis(settings: TourSettings, here: [i64; 6], there: [i64; 6], i: usize) -> Axis
+fn leg_axis(settings: TourSettings, here: [i64; AXES], there: [i64; AXES], i: usize) -> Axis
     requires { ⌜ i < 6 ⌝ }
     ensures { λ r. ⌜ r ≡ legAxisAt settings here there i ⌝ }
 {
-    let limits: [AxisLimits; 6] = settings.limits;
+    let limits: [AxisLimits; AXES] = settings.limits;
     let limit = limits[i];
     let start = RestPoint {
         position: here[i],
@@ -170,7 +173,7 @@ pub struct LegRow {
     pub mask: u32,
     pub arrival: u32,
     pub total: u32,
-    pub arrivals: [u32; 64],
+    pub arrivals: [u32; MAX_STOPS],
 }
 
 pub fn leg_row(
@@ -179,7 +182,7 @@ pub fn leg_row(
     mask: u32,
     arrival: u32,
     total: u32,
-    arrivals: [u32; 64],
+    arrivals: [u32; MAX_STOPS],
 ) -> LegRow
     ensures { λ r.
         ⌜ r ≡ record {
@@ -202,7 +205,7 @@ pub fn leg_row(
 }
 
 // The first `count` of some ticks over the front of the lent list.
-pub fn write_arrivals(ticks: [u32; 64], count: usize, arrivals: &mut [u32])
+pub fn write_arrivals(ticks: [u32; MAX_STOPS], count: usize, arrivals: &mut [u32])
     requires { ⌜ count ≤ 64 ⌝ }
     requires { ⌜ count ≤ length (now arrivals) ⌝ }
     ensures { λ _. ⌜ now (arrivals .exit) ≡ take count ticks ++ drop count (now (arrivals .entry)) ⌝ }

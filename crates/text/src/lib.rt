@@ -8,6 +8,7 @@ use lines::put_arrival;
 use lines::put_refusal;
 use lines::put_rows;
 use model::Answer;
+use model::LAST_TICK;
 pub use words::words_of;
 ghost use mathlib.Core.Path.{_≡_};
 ghost use lib.ListN.{length};
@@ -54,7 +55,7 @@ fn table_fits(mask: u32, n: u32, cells: usize, bytes: usize) -> bool
     if 64 <= mask {
         return false;
     }
-    if 4096 < n {
+    if LAST_TICK < n {
         return false;
     }
     let width = 3 * model::axis_count(mask);

@@ -12,7 +12,9 @@
 //                    stops::write_arrivals      refusal 10, or the arrivals
 // A caller in Rattle has no slice of stops to lend: it makes a row by `empty_row` and `with_stop`
 // of `stops` and calls `tour_of_row`, which keeps the same promise.
+use model::AXES;
 use model::Answer;
+use model::MAX_STOPS;
 use model::Stop;
 use model::TourAnswer;
 use model::TourSettings;
@@ -51,8 +53,8 @@ pub fn tour_of_row(settings: TourSettings, row: StopRow, arrivals: &mut [u32]) -
     if count == 0 {
         return tour_answer(0, 0, 0, 0, 0);
     }
-    if 64 < count {
-        return tour_answer(11, 64, 0, 0, 0);
+    if MAX_STOPS < count {
+        return tour_answer(11, MAX_STOPS, 0, 0, 0);
     }
     let stops = row.stops;
     let long = first_long_dwell(stops, count);
@@ -74,12 +76,12 @@ pub fn tour_of_row(settings: TourSettings, row: StopRow, arrivals: &mut [u32]) -
 // ---- the legs
 
 // The legs to `count` stops, each from where the last one ended, after its dwell.
-fn legs_of(settings: TourSettings, stops: [Stop; 64], count: usize) -> LegRow
+fn legs_of(settings: TourSettings, stops: [Stop; MAX_STOPS], count: usize) -> LegRow
     requires { ⌜ count ≤ 64 ⌝ }
     requires { ⌜ firstLongDwell 0 (take count stops) ≡ none ⌝ }
     ensures { λ r. ⌜ legsIn r count ≡ legsFrom settings (take count stops) 0 (settings .start) [] ⌝ }
 {
-    let mut arrivals: [u32; 64] = [0; 64];
+    let mut arrivals: [u32; MAX_STOPS] = [0; MAX_STOPS];
     let mut here = settings.start;
     let mut tick: u32 = 0;
     let mut i: usize = 0;
@@ -101,7 +103,7 @@ fn legs_of(settings: TourSettings, stops: [Stop; 64], count: usize) -> LegRow
 
 // The answer to the leg between two positions, from rest to rest: that of the typed job that seeks
 // its least arrival, with no table lent.
-pub fn leg_answer(settings: TourSettings, here: [i64; 6], there: [i64; 6]) -> Answer
+pub fn leg_answer(settings: TourSettings, here: [i64; AXES], there: [i64; AXES]) -> Answer
     ensures { λ r. ⌜ LegIs settings here there r ⌝ }
 {
     let job = leg_job(settings, here, there);

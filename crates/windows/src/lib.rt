@@ -1,4 +1,6 @@
 // The windows of a job (docs/METHOD.md, 3.8): whether an arrival fits one, and refusal 13.
+use model::LONGEST_DWELL;
+use model::MAX_WINDOWS;
 use model::Window;
 use model::Windows;
 ghost use mathlib.Core.Path.{_≡_};
@@ -41,7 +43,7 @@ pub fn allows(windows: Windows, tick: u32) -> bool
 }
 
 // Whether an arrival fits one of the first `count` windows of a list.
-fn fits_one(tick: u32, dwell: u32, list: [Window; 32], count: usize) -> bool
+fn fits_one(tick: u32, dwell: u32, list: [Window; MAX_WINDOWS], count: usize) -> bool
     requires { ⌜ tick ≤ 4096 ⌝ }
     requires { ⌜ dwell ≤ 4096 ⌝ }
     requires { ⌜ count ≤ 32 ⌝ }
@@ -77,7 +79,7 @@ fn in_order_after(closed: u32, window: Window) -> bool
 
 // The first window that does not close after it opens, or that opens before the one before it
 // closes.
-fn first_wrong(list: [Window; 32], count: usize) -> Place
+fn first_wrong(list: [Window; MAX_WINDOWS], count: usize) -> Place
     requires { ⌜ count ≤ 32 ⌝ }
     ensures { λ r. ⌜ placeOf r ≡ firstWrongWindow 0 0 (take count list) ⌝ }
 {
@@ -106,18 +108,18 @@ pub fn refused(windows: Windows) -> Place
 }
 
 // The same of windows that are given.
-fn wrong_place(list: [Window; 32], count: usize, dwell: u32) -> Place
+fn wrong_place(list: [Window; MAX_WINDOWS], count: usize, dwell: u32) -> Place
     ensures { λ r. ⌜ placeOf r ≡ windowsRefused (record { given = true; dwell = dwell; count = count; list = list }) ⌝ }
 {
     if count == 0 {
         return Place::At(0);
     }
-    if count <= 32 {
-        if dwell <= 4096 {
+    if count <= MAX_WINDOWS {
+        if dwell <= LONGEST_DWELL {
             return first_wrong(list, count);
         }
     }
-    Place::At(32)
+    Place::At(MAX_WINDOWS)
 }
 
 // ---- the ticks of a window

@@ -6,9 +6,14 @@ use crate::word::payload;
 use crate::word::signed_payload;
 use crate::word::skip_optional;
 use model::Axis;
+use model::LONG_WORD;
+use model::MOVING_WORD;
 use model::RestPoint;
+use model::SECOND_SWAY_WORD;
+use model::START_WORD;
 use model::SecondSway;
 use model::State;
+use model::TARGET_WORD;
 use model::Target;
 use model::Weight;
 ghost use Prim.Native.Nat.{_+_, _<_, _≤_};
@@ -30,25 +35,25 @@ pub fn read_axis(words: &[u32], at: usize) -> AxisReading
     requires { ⌜ at < 1000 ⌝ }
     ensures { λ r. ⌜ r ≡ axisReading (Words.axis at (drop at (now (words .entry)))) ⌝ }
 {
-    let start = skip_optional(words, at, 14);
-    let first = first_wrong(words, start, 3, 6);
+    let start = skip_optional(words, at, LONG_WORD);
+    let first = first_wrong(words, start, START_WORD, 6);
     let sway_at = start + 6;
     if first < sway_at {
         return AxisReading::Wrong(first);
     }
-    let target_at = skip_optional(words, sway_at, 13);
-    let target = skip_optional(words, target_at, 14);
-    let second = first_wrong(words, target, 9, 2);
+    let target_at = skip_optional(words, sway_at, SECOND_SWAY_WORD);
+    let target = skip_optional(words, target_at, LONG_WORD);
+    let second = first_wrong(words, target, TARGET_WORD, 2);
     let fixed_end = target + 2;
     if second < fixed_end {
         return AxisReading::Wrong(second);
     }
-    if !is_kind(words, fixed_end, 11) {
+    if !is_kind(words, fixed_end, MOVING_WORD) {
         let point = rest_point(words, target_at);
         let axis = axis_to(words, at, Target::Fixed(point));
         return AxisReading::Got(axis, fixed_end);
     }
-    let third = first_wrong(words, fixed_end, 11, 2);
+    let third = first_wrong(words, fixed_end, MOVING_WORD, 2);
     let moving_end = target + 4;
     if third < moving_end {
         return AxisReading::Wrong(third);
@@ -64,7 +69,7 @@ fn axis_to(words: &[u32], at: usize, target: Target) -> Axis
     ensures { λ r. ⌜ r ≡ axisAt (now (words .entry)) at target ⌝ }
 {
     let start = rest_point(words, at);
-    let first = skip_optional(words, at, 14);
+    let first = skip_optional(words, at, LONG_WORD);
     let speed_limit = payload(words, first + 2);
     let acceleration_limit = payload(words, first + 3);
     let half_period = payload(words, first + 4);
@@ -85,7 +90,7 @@ fn axis_to(words: &[u32], at: usize, target: Target) -> Axis
 fn second_sway(words: &[u32], at: usize) -> SecondSway
     ensures { λ r. ⌜ r ≡ swayAt (now (words .entry)) at ⌝ }
 {
-    if is_kind(words, at, 13) {
+    if is_kind(words, at, SECOND_SWAY_WORD) {
         return SecondSway::HalfPeriod(payload(words, at));
     }
     SecondSway::Absent
@@ -96,7 +101,7 @@ fn rest_point(words: &[u32], at: usize) -> RestPoint
     requires { ⌜ skipOptional (now words) at 14 + 2 ≤ length (now words) ⌝ }
     ensures { λ r. ⌜ r ≡ restAt (now (words .entry)) at ⌝ }
 {
-    let first = skip_optional(words, at, 14);
+    let first = skip_optional(words, at, LONG_WORD);
     let position = position_at(words, at);
     let velocity = signed_payload(words, first + 1);
     RestPoint {
@@ -110,7 +115,7 @@ fn state_at(words: &[u32], at: usize) -> State
     requires { ⌜ skipOptional (now words) at 14 + 4 ≤ length (now words) ⌝ }
     ensures { λ r. ⌜ r ≡ stateAt (now (words .entry)) at ⌝ }
 {
-    let first = skip_optional(words, at, 14);
+    let first = skip_optional(words, at, LONG_WORD);
     let position = position_at(words, at);
     let velocity = signed_payload(words, first + 1);
     let acceleration = signed_payload(words, first + 2);

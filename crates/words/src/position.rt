@@ -2,6 +2,7 @@
 use crate::word::is_kind;
 use crate::word::payload;
 use crate::word::signed_payload;
+use model::LONG_WORD;
 ghost use Prim.Native.Nat.{_+_, _^_, _<_};
 ghost use mathlib.Core.Path.{_≡_};
 ghost use lib.ListN.{length};
@@ -14,7 +15,7 @@ pub fn position_at(words: &[u32], at: usize) -> i64
     requires { ⌜ skipOptional (now words) at 14 < length (now words) ⌝ }
     ensures { λ r. ⌜ r ≡ positionAt (now (words .entry)) at ⌝ }
 {
-    if is_kind(words, at, 14) {
+    if is_kind(words, at, LONG_WORD) {
         return long_position(words, at);
     }
     signed_payload(words, at)
@@ -37,7 +38,7 @@ fn is_bad_long(words: &[u32], at: usize) -> bool
     requires { ⌜ at + 1 < length (now words) ⌝ }
     ensures { λ r. ⌜ r ≡ isBadLong (now (words .entry)) at ⌝ }
 {
-    if !is_kind(words, at, 14) {
+    if !is_kind(words, at, LONG_WORD) {
         return false;
     }
     let high = signed_payload(words, at);

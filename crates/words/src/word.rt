@@ -1,4 +1,5 @@
 // One word: its kind is its top four bits, its payload the other 28 (docs/METHOD.md, section 6).
+use model::END_WORD;
 ghost use Prim.Native.Nat.{_^_, _<_};
 ghost use mathlib.Core.Path.{_≡_};
 ghost use lib.ListN.{length};
@@ -39,7 +40,7 @@ pub fn signed_payload(words: &[u32], at: usize) -> i64
 pub fn is_end(words: &[u32], at: usize) -> bool
     ensures { λ r. ⌜ r ≡ isEnd (now (words .entry)) at ⌝ }
 {
-    if !is_kind(words, at, 15) {
+    if !is_kind(words, at, END_WORD) {
         return false;
     }
     payload(words, at) == 0

@@ -49,8 +49,8 @@ fn in_crates() -> BTreeMap<String, Fields> {
 fn in_c(kind: &str) -> (String, String) {
     if let Some((element, count)) = kind.trim_start_matches('[').trim_end_matches(']').split_once("; ") {
         let count = match count {
-            "6" => "POLGAMIR_AXES",
-            "32" => "POLGAMIR_WINDOWS",
+            "AXES" => "POLGAMIR_AXES",
+            "MAX_WINDOWS" => "POLGAMIR_WINDOWS",
             other => other,
         };
         return (in_c(element).0, format!("[{count}]"));
