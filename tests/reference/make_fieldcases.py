@@ -97,20 +97,19 @@ def convert(case: CallCase, _: Case) -> str:
 
 
 def tour(case: CallCase, _: Case) -> str:
-    """Of axis 0 to a position, and back. Beside the answer the total and both arrivals.
-    What the method leaves free is 0, but for the mask."""
-    meant = decode(case.words)
-    one = meant.axes[0]
+    """Of axis 0 of case B from 0 to a position, and back. Beside the answer the total and both
+    arrivals. What the method leaves free is 0, but for the mask."""
+    alone = decode(case.words)
+    one = alone.axes[0]
     shared = TourAxis(one.start.position, *one[1:5], one.second_half_period)
-    stops = [Stop([position, 0, 0, 0, 0, 0], dwell)
-             for position, dwell in ((case.second, case.first), (one.start.position, 0))]
-    answer, arrivals = plan_tour(Tour(meant.mask, [shared] * 6, stops), [0, 0])
-    mask = meant.mask if answer.number == 0 else answer.mask
+    stops = [Stop([position, 0, 0, 0, 0, 0], dwell) for position, dwell in ((case.second, case.first), (0, 0))]
+    answer, arrivals = plan_tour(Tour(alone.mask, [shared] * 6, stops), [0, 0])
+    mask = alone.mask if answer.number == 0 else answer.mask
     full = Answer(answer.number, answer.place or 0, mask, answer.arrival or 0)
     return shown(full, [answer.total or 0, *arrivals], [])
 
 
-# By their place the numbers by which the program knows them; all but the last two are from words.
+# By their place the numbers by which the program knows them.
 CALLS = {'plan': planned, 'back': backwards, 'from': part, 'raises': raises, 'search': search, 'convert': convert,
          'plan by values': planned_values, 'tour': tour}
 
@@ -141,7 +140,7 @@ PARTS = [(C, 6, 2), (C, 24, 5), (L, 24, 0), (SIX, 90, 3)]
 RAISES = [(E, 0), (B, 0), (K, 0), (EQUAL, 0)]
 SEARCHES = [(B, 0, 1, 3), (B, 0, 1, 4), (L, 0, 1, 4096), (K, 0, 1, 1)]
 CONVERSIONS = [(FLYING, 0), (SHORT, 0), (B, 0), (K, 0)]
-TOURS = [(B, 0, 3, 4), (B, 0, 4097, 4), (K, 0, 0, 0), (L, 0, 0, 100000000)]
+TOURS = [(B, 0, 3, 4), (B, 0, 4097, 4), (B, 0, 0, 0), (B, 0, 0, 100000000)]
 
 
 def of(call: str, *chosen) -> List[CallCase]:
