@@ -1,17 +1,16 @@
 """The cases of rows from arrival backwards (request 2.13)."""
 
-import random
 from typing import List
 
 from backwards import backwards_typed, backwards_words
 from builders import Case, Group, axis, by_words, job, to, typed, words_of
 from cases import CHASED, CORRECTED, F, LARGE, LARGE_CORRECTED, SIX_FIXED, SIX_MOVING
 from converter import converted_axis
-from dampingcases import peaks, random_damping, ratio
-from railcases import HIGH, LANDS_FAR, LOW, along, random_offset
+from dampingcases import peaks, ratio
+from railcases import HIGH, LANDS_FAR, LOW
 from reference import Outcome, State
-from swaycases import FAST, ROWS, SIX as SIX_JOINTED, TO_2, damaged_13, jointed, random_jointed
-from windowcases import random_windows, windowed
+from swaycases import FAST, ROWS, SIX as SIX_JOINTED, TO_2, drawn_jobs, jointed
+from windowcases import windowed
 
 
 def turned(case: Case, lent: List[int]) -> Outcome:
@@ -95,20 +94,6 @@ def backward_cases() -> Group:
 # --- Random ones -----------------------------------------------------------
 
 def drawn_backwards(seed: int = 213, count: int = 50) -> Group:
-    """Random jobs of every grid; by words, some damaged, and by typed values,
-    some measured, some with windows."""
-    rng = random.Random(seed)
-    cases = []
-    for k in range(count):
-        axes = {bit: random_jointed(rng) for bit in sorted(rng.sample(range(6), rng.choice([1, 1, 2, 3])))}
-        axes = {bit: one if rng.randrange(4) else along(one, random_offset(rng)) for bit, one in axes.items()}
-        asked, name = rng.choice([0, 0, 0, rng.randint(40, 120)]), 'drawn backwards %d' % k
-        if k % 2:
-            words = words_of(axes, asked)
-            cases.append(by_words(name, damaged_13(rng, words) if k % 8 == 7 else words, lent=8192))
-            continue
-        if rng.randrange(3) == 0:
-            axes = {bit: one._replace(second_weight=random_damping(rng)) for bit, one in axes.items()}
-        windows = random_windows(rng) if rng.randrange(3) == 0 else None
-        cases.append(typed(name, axes, asked, lent=8192)._replace(windows=windows))
-    return Group('drawn backwards', 'Random jobs, rows from arrival backwards.', cases)
+    """Random jobs of every grid."""
+    return Group('drawn backwards', 'Random jobs, rows from arrival backwards.',
+                 drawn_jobs('drawn backwards', [1, 1, 2, 3], seed, count))

@@ -205,14 +205,20 @@ def random_jointed(rng: random.Random) -> Axis:
 
 
 def drawn_sways(seed: int = 29, count: int = 60) -> Group:
+    return Group('drawn sways', 'Random jobs with second half periods.',
+                 drawn_jobs('drawn sway', [1, 1, 1, 2, 3], seed, count))
+
+
+def drawn_jobs(called: str, widths: List[int], seed: int, count: int) -> List[Case]:
     """Random jobs, most axes with a second half period; by words, some damaged,
-    and by typed values, some measured, some with windows."""
+    and by typed values, some measured, some with windows. The number of axes of
+    each is one of `widths`."""
     rng = random.Random(seed)
     cases = []
     for k in range(count):
-        axes = {bit: random_jointed(rng) for bit in sorted(rng.sample(range(6), rng.choice([1, 1, 1, 2, 3])))}
+        axes = {bit: random_jointed(rng) for bit in sorted(rng.sample(range(6), rng.choice(widths)))}
         axes = {bit: one if rng.randrange(4) else along(one, random_offset(rng)) for bit, one in axes.items()}
-        asked, name = rng.choice([0, 0, 0, rng.randint(40, 120)]), 'drawn sway %d' % k
+        asked, name = rng.choice([0, 0, 0, rng.randint(40, 120)]), '%s %d' % (called, k)
         if k % 2:
             words = words_of(axes, asked)
             cases.append(by_words(name, damaged_13(rng, words) if k % 8 == 7 else words, lent=8192))
@@ -221,7 +227,7 @@ def drawn_sways(seed: int = 29, count: int = 60) -> Group:
             axes = {bit: one._replace(second_weight=random_damping(rng)) for bit, one in axes.items()}
         windows = random_windows(rng) if rng.randrange(3) == 0 else None
         cases.append(typed(name, axes, asked, lent=8192)._replace(windows=windows))
-    return Group('drawn sways', 'Random jobs with second half periods.', cases)
+    return cases
 
 
 def damaged_13(rng: random.Random, words: List[int]) -> List[int]:
