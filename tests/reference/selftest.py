@@ -299,6 +299,22 @@ def mirrored(one, n, cells):
          [[-x for x in row] for row in cells])
 
 
+def claims(rng, one, n, cells):
+    """All that is claimed of an accepted axis, given its cells row by row."""
+    demand_3(rng, one, n, cells)
+    on_the_target(one, n)
+    mirrored(one, n, cells)
+
+
+def accepted_alone(rng, one):
+    """Whether the job of one axis is accepted; all that is claimed of it then holds."""
+    answer, cells = plan([one])
+    if answer.number != 0:
+        return False
+    claims(rng, one, answer.arrival, [cells[3 * k:3 * k + 3] for k in range(answer.arrival + 1)])
+    return True
+
+
 def rounding(most=12):
     """Every small quotient: the nearest whole number, and at a half the larger size."""
     for denominator in range(1, most):
@@ -322,9 +338,7 @@ def random_jobs(rng, count=80):
         for rank, bit in enumerate(bits):
             rows = [cells[k * width + 3 * rank:k * width + 3 * rank + 3]
                     for k in range(answer.arrival + 1)]
-            demand_3(rng, axes[bit], answer.arrival, rows)
-            on_the_target(axes[bit], answer.arrival)
-            mirrored(axes[bit], answer.arrival, rows)
+            claims(rng, axes[bit], answer.arrival, rows)
     assert accepted > count // 4, 'too few jobs were accepted to say anything'
 
 
@@ -502,13 +516,7 @@ def corrected_axes(rng, count=60):
                                target=ref.State(rng.randint(-9999, 9999), 7, a, rng.randint(0, 300)))
         if not ref.is_corrected(one):
             continue
-        answer, cells = plan([one])
-        if answer.number == 0:
-            accepted += 1
-            rows = [cells[3 * k:3 * k + 3] for k in range(answer.arrival + 1)]
-            demand_3(rng, one, answer.arrival, rows)
-            on_the_target(one, answer.arrival)
-            mirrored(one, answer.arrival, rows)
+        accepted += accepted_alone(rng, one)
 
 
 # --- Positions past 28 bits (request 2.8) ----------------------------------
@@ -611,13 +619,7 @@ def jointed_axes(rng, count=80):
             one = railcases.along(one, railcases.random_offset(rng))
         if one.second_half_period is None:
             continue
-        answer, cells = plan([one])
-        if answer.number == 0:
-            accepted += 1
-            rows = [cells[3 * k:3 * k + 3] for k in range(answer.arrival + 1)]
-            demand_3(rng, one, answer.arrival, rows)
-            on_the_target(one, answer.arrival)
-            mirrored(one, answer.arrival, rows)
+        accepted += accepted_alone(rng, one)
 
 
 def second_blend_is_a_mean(rng, count=20):
