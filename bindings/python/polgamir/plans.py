@@ -35,30 +35,19 @@ def _row(tick: int, axes: Tuple[int, ...], cells: "array.array[int]") -> Row:
     return Row(tick, {axis: Motion(*cells[3 * rank : 3 * rank + 3]) for rank, axis in enumerate(axes)})
 
 
-class Plan:
-    """An accepted job: its arrival, and its table of rows 0 to arrival.
+class _Rows:
+    """Rows of an accepted job: all of them in a `Plan`, some in a `Part`."""
 
-    `for row in plan` walks the rows, `plan[tick]` is one, `len(plan)` is their count. Where the
-    plan is `backwards`, its cells begin with the row of the arrival; what is asked by tick stays by
-    tick.
-    """
+    __slots__ = ("_arrival", "_mask", "_cells")
 
-    __slots__ = ("_arrival", "_mask", "_cells", "_backwards")
-
-    def __init__(self, arrival: int, mask: int, cells: "array.array[int]", backwards: bool = False) -> None:
+    def __init__(self, arrival: int, mask: int, cells: "array.array[int]") -> None:
         self._arrival = arrival
         self._mask = mask
         self._cells = cells
-        self._backwards = backwards
-
-    @property
-    def backwards(self) -> bool:
-        """Whether the row of the arrival stands first in `cells` and `table`, and row 0 last."""
-        return self._backwards
 
     @property
     def arrival(self) -> int:
-        """The tick at which every axis is on its target."""
+        """The tick at which every axis is on its target, the last of the whole table."""
         return self._arrival
 
     @property
@@ -77,11 +66,31 @@ class Plan:
         copy."""
         return memoryview(self._cells).toreadonly()
 
+
+class Plan(_Rows):
+    """An accepted job: its arrival, and its table of rows 0 to arrival.
+
+    `for row in plan` walks the rows, `plan[tick]` is one, `len(plan)` is their count. Where the
+    plan is `backwards`, its cells begin with the row of the arrival; what is asked by tick stays by
+    tick.
+    """
+
+    __slots__ = ("_backwards",)
+
+    def __init__(self, arrival: int, mask: int, cells: "array.array[int]", backwards: bool = False) -> None:
+        super().__init__(arrival, mask, cells)
+        self._backwards = backwards
+
     @property
     def table(self) -> memoryview:
         """The cells with the shape (arrival + 1, axes, 3): a read-only buffer, which
         `numpy.asarray` takes without a copy."""
         return self.cells.cast("B").cast("q", shape=[self._arrival + 1, len(self.axes), 3])
+
+    @property
+    def backwards(self) -> bool:
+        """Whether the row of the arrival stands first in `cells` and `table`, and row 0 last."""
+        return self._backwards
 
     def positions(self, axis: int) -> memoryview:
         """The positions of an axis by tick, in fine steps: a read-only buffer, no copy.
@@ -146,46 +155,23 @@ class Plan:
         return f"<polgamir.Plan: axes {list(self.axes)}, arrival {self._arrival}>"
 
 
-class Part:
+class Part(_Rows):
     """Some rows of an accepted job, from a first one on: those of its whole table.
 
     `for row in part` walks them, `len(part)` is their count, which is 0 past the arrival.
     """
 
-    __slots__ = ("_arrival", "_mask", "_first", "_rows", "_cells")
+    __slots__ = ("_first", "_rows")
 
     def __init__(self, arrival: int, mask: int, first: int, rows: int, cells: "array.array[int]") -> None:
-        self._arrival = arrival
-        self._mask = mask
+        super().__init__(arrival, mask, cells)
         self._first = first
         self._rows = rows
-        self._cells = cells
-
-    @property
-    def arrival(self) -> int:
-        """The tick at which every axis is on its target: the last row of the whole table."""
-        return self._arrival
-
-    @property
-    def mask(self) -> int:
-        """Bit i is set where axis i takes part."""
-        return self._mask
-
-    @property
-    def axes(self) -> Tuple[int, ...]:
-        """The axes that take part, lowest first."""
-        return axes_of(self._mask)
 
     @property
     def first(self) -> int:
         """The tick of the first row."""
         return self._first
-
-    @property
-    def cells(self) -> memoryview:
-        """The cells one after the other, row by row: a read-only buffer of 64-bit whole numbers, no
-        copy."""
-        return memoryview(self._cells).toreadonly()
 
     def __len__(self) -> int:
         return self._rows
