@@ -10,8 +10,9 @@ mod spelled;
 mod tours;
 mod windows;
 
+use crate::random::Random;
 pub use crate::reference::word;
-use crate::reference::RAIL;
+use crate::reference::{Job, RAIL};
 
 pub use damaged::{damaged_job, with_signed, with_unsigned, SIGNED_ENDS, SINGLE_ENDS, UNSIGNED_ENDS};
 pub use dampings::ratio_ends;
@@ -39,4 +40,19 @@ pub enum Reach {
 /// The nearest position on the rail.
 fn on_rail(position: i64) -> i64 {
     position.clamp(*RAIL.start(), *RAIL.end())
+}
+
+/// A job that passes the checks of its values: in turns 0 to 3 one that chases, at an edge, quick
+/// or with windows, and then near ones.
+pub fn in_turn(random: &mut Random, turn: usize) -> Job {
+    match turn {
+        0 => chasing_job(random),
+        1 => edge_job(random),
+        2 => job(random, Reach::Quick),
+        3 => {
+            let job = job(random, Reach::Near);
+            windowed(random, &job)
+        }
+        _ => job(random, Reach::Near),
+    }
 }

@@ -1,7 +1,7 @@
 //! Request 2.13, rows from arrival backwards: the library's two calls give one answer, and the rows
 //! of the one are those of the other from the last to the first, for every grid.
 
-use outside::jobs::{self, Reach};
+use outside::jobs;
 use outside::library;
 use outside::plain::{after, asked, job, one, to};
 use outside::random::Random;
@@ -48,16 +48,7 @@ fn rows_of_random_jobs_are_reversed() {
     let mut numbers = [0; 19];
     let mut grids = [0; 3];
     for n in 0..6_000 {
-        let job = match n % 6 {
-            0 => jobs::chasing_job(&mut random),
-            1 => jobs::edge_job(&mut random),
-            2 => jobs::job(&mut random, Reach::Quick),
-            3 => {
-                let job = jobs::job(&mut random, Reach::Near);
-                jobs::windowed(&mut random, &job)
-            }
-            _ => jobs::job(&mut random, Reach::Near),
-        };
+        let job = jobs::in_turn(&mut random, n % 6);
         if job.searches_past(200) {
             continue;
         }

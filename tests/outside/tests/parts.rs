@@ -1,7 +1,7 @@
 //! Rows in parts: the library gives what the reference gives, for fuzzed first rows and table
 //! sizes, and parts put together are the whole table.
 
-use outside::jobs::{self, Reach};
+use outside::jobs;
 use outside::library;
 use outside::plain::{after, asked, job};
 use outside::random::Random;
@@ -44,16 +44,7 @@ fn random_jobs_in_parts() {
     let mut numbers = [0; 19];
     let mut rows_seen = 0;
     for n in 0..2_000 {
-        let job = match n % 5 {
-            0 => jobs::chasing_job(&mut random),
-            1 => jobs::edge_job(&mut random),
-            2 => jobs::job(&mut random, Reach::Quick),
-            3 => {
-                let job = jobs::job(&mut random, Reach::Near);
-                jobs::windowed(&mut random, &job)
-            }
-            _ => jobs::job(&mut random, Reach::Near),
-        };
+        let job = jobs::in_turn(&mut random, n % 5);
         if job.searches_past(200) {
             continue;
         }
