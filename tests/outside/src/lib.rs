@@ -2,6 +2,7 @@
 //! reference written from docs/METHOD.md that finds its sums by areas and not tick by tick, and
 //! random jobs with a fixed seed.
 
+pub mod accepted;
 pub mod jobs;
 pub mod leg;
 pub mod library;

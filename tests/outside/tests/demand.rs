@@ -3,17 +3,11 @@
 //! kind of swing list, of either rate, is 0 before rounding and at most N times G as rounded. The
 //! start is exact and the limits on cells hold too.
 
+use outside::accepted;
 use outside::jobs::{self, Reach};
-use outside::library;
 use outside::random::Random;
-use outside::reference::{fits_a_word, Axis, Job, Order, Planned};
+use outside::reference::{fits_a_word, Axis, Job, Planned};
 use outside::swing;
-
-/// The cells of one axis of a table, a row for each tick from 0 on.
-fn rows_of(table: &[i64], order: Order, axes: usize, rank: usize, arrival: usize) -> Vec<[i64; 3]> {
-    let row = |k: usize| table[3 * (axes * order.place(k, arrival) + rank)..][..3].try_into().unwrap();
-    (0..=arrival).map(row).collect()
-}
 
 fn start_is_exact(axis: &Axis, first: [i64; 3]) {
     assert_eq!(first[..2], [256 * axis.start_position, 256 * axis.start_velocity], "{axis:?}");
@@ -130,29 +124,8 @@ impl Tried {
 
 /// Tries `count` jobs.
 fn run(seed: u64, draw: fn(&mut Random) -> Job, count: usize, lists: usize) -> Tried {
-    let mut random = Random::new(seed);
-    let mut table = vec![0; 3 * 6 * 4_097];
     let mut tried = Tried::default();
-    for _ in 0..count {
-        let job = draw(&mut random);
-        if job.searches_past(100) {
-            continue;
-        }
-        let order = random.pick(&[Order::Forwards, Order::Backwards]);
-        let answer = if random.once_in(2) {
-            library::plan_filled_in(order, &job, 0, &mut table)
-        } else {
-            library::plan_words_in(order, &jobs::words(&job), &mut table)
-        };
-        if answer.number != 0 {
-            continue;
-        }
-        let arrival = answer.arrival as usize;
-        for (rank, (_, axis)) in job.by_hand().set().enumerate() {
-            let rows = rows_of(&table, order, job.count(), rank, arrival);
-            tried.axis(&mut random, axis, &rows, lists);
-        }
-    }
+    accepted::each_axis(seed, draw, count, |random, axis, rows| tried.axis(random, axis, rows, lists));
     eprintln!("{tried:?}");
     tried
 }

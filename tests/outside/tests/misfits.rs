@@ -3,10 +3,10 @@
 //! N times its greatest entry more. Lists of any entries, and lists that fit another half period
 //! and another ratio, with several entries to a tick.
 
+use outside::accepted;
 use outside::jobs::{self, Reach};
-use outside::library;
 use outside::random::Random;
-use outside::reference::{Axis, Job, Order, Planned};
+use outside::reference::{Axis, Job, Planned};
 use outside::swing;
 
 /// An axis of an accepted job: the exact accelerations of its rows, its cells, and what its
@@ -136,36 +136,18 @@ impl Tried {
     }
 }
 
-/// Tries `count` jobs, by typed values or words and in either order.
+/// Tries `count` jobs.
 fn run(seed: u64, draw: fn(&mut Random) -> Job, count: usize) -> Tried {
-    let mut random = Random::new(seed);
-    let mut table = vec![0; 3 * 6 * 4_097];
     let mut tried = Tried::default();
-    for _ in 0..count {
-        let job = draw(&mut random);
-        if job.searches_past(100) {
-            continue;
+    accepted::each_axis(seed, draw, count, |random, axis, rows| {
+        let rows = Rows::new(axis, rows.iter().map(|row| row[2]).collect());
+        assert!(rows.changes <= rows.most_changes(), "{axis:?} at {}", rows.arrival);
+        tried.any_list(random, &rows);
+        tried.pole(random, &rows);
+        if axis.delay() == 0 {
+            tried.signs(&rows);
         }
-        let order = random.pick(&[Order::Forwards, Order::Backwards]);
-        let answer = match random.once_in(2) {
-            true => library::plan_filled_in(order, &job, 0, &mut table),
-            false => library::plan_words_in(order, &jobs::words(&job), &mut table),
-        };
-        if answer.number != 0 {
-            continue;
-        }
-        let arrival = answer.arrival as usize;
-        for (rank, (_, axis)) in job.by_hand().set().enumerate() {
-            let cell = |k: usize| table[3 * (job.count() * order.place(k, arrival) + rank) + 2];
-            let rows = Rows::new(axis, (0..=arrival).map(cell).collect());
-            assert!(rows.changes <= rows.most_changes(), "{axis:?} at {arrival}");
-            tried.any_list(&mut random, &rows);
-            tried.pole(&mut random, &rows);
-            if axis.delay() == 0 {
-                tried.signs(&rows);
-            }
-        }
-    }
+    });
     eprintln!("{tried:?}");
     tried
 }
