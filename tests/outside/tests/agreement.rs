@@ -94,88 +94,92 @@ impl Comparison {
         self.compare(got, want, &(order, words));
     }
 
-    /// Prints how many calls gave each number, and asks that there were enough of them.
-    fn report(&self, name: &str, least: usize) {
+    /// A job from typed values or from words.
+    fn either(&mut self, typed: bool, job: &Job, cells: usize) {
+        if typed {
+            self.typed(job, cells);
+        } else {
+            self.words(&jobs::words(job), cells);
+        }
+    }
+
+    /// How many calls gave each number, printed; asks that there were enough of them.
+    fn report(&self, name: &str, least: usize) -> [usize; 19] {
         eprintln!("{name}: calls by number {:?}", self.seen);
         assert!(self.seen.iter().sum::<usize>() >= least, "{name}: {:?}", self.seen);
+        self.seen
+    }
+
+    /// Tries something `count` times.
+    fn rounds(&mut self, count: usize, mut round: impl FnMut(&mut Comparison, usize)) -> &mut Comparison {
+        for n in 0..count {
+            round(self, n);
+        }
+        self
     }
 
     /// `count` jobs of a reach, each from typed values and from words, whole and damaged.
-    fn run(&mut self, reach: Reach, count: usize, most_rows: usize) {
-        for _ in 0..count {
-            let job = jobs::job(&mut self.random, reach);
-            let cells = self.some_cells(&job, most_rows);
-            self.typed(&job, cells);
-            let damaged = jobs::damaged_job(&mut self.random, &job);
-            self.typed(&damaged, cells);
-            let windowed = jobs::windowed(&mut self.random, &job);
-            self.typed(&windowed, cells);
-            let badly_windowed = jobs::badly_windowed(&mut self.random, &job);
-            self.typed(&badly_windowed, cells);
+    fn run(&mut self, reach: Reach, count: usize, most_rows: usize) -> &mut Comparison {
+        self.rounds(count, |all, _| {
+            let job = jobs::job(&mut all.random, reach);
+            let cells = all.some_cells(&job, most_rows);
+            all.typed(&job, cells);
+            let damaged = jobs::damaged_job(&mut all.random, &job);
+            all.typed(&damaged, cells);
+            let windowed = jobs::windowed(&mut all.random, &job);
+            all.typed(&windowed, cells);
+            let badly_windowed = jobs::badly_windowed(&mut all.random, &job);
+            all.typed(&badly_windowed, cells);
             let words = jobs::words(&job);
-            self.words(&words, cells);
-            let damaged = jobs::damaged_words(&mut self.random, &words);
-            self.words(&damaged, cells);
-        }
+            all.words(&words, cells);
+            let damaged = jobs::damaged_words(&mut all.random, &words);
+            all.words(&damaged, cells);
+        })
     }
 }
 
 #[test]
 fn near_jobs_agree() {
-    let mut comparison = Comparison::new(1, 20);
-    comparison.run(Reach::Near, 30_000, 60);
-    comparison.report("near", 145_000);
-    assert!(NUMBERS.iter().all(|&n| comparison.seen[n] > 0), "{:?}", comparison.seen);
+    let seen = Comparison::new(1, 20).run(Reach::Near, 30_000, 60).report("near", 145_000);
+    assert!(NUMBERS.iter().all(|&n| seen[n] > 0), "{seen:?}");
 }
 
 #[test]
 fn quick_jobs_agree() {
-    let mut comparison = Comparison::new(2, 20);
-    comparison.run(Reach::Quick, 8_000, 100);
-    comparison.report("quick", 33_000);
-    assert!(comparison.seen[0] > 1_000);
+    let seen = Comparison::new(2, 20).run(Reach::Quick, 8_000, 100).report("quick", 33_000);
+    assert!(seen[0] > 1_000);
 }
 
 #[test]
 fn asked_jobs_agree() {
-    let mut comparison = Comparison::new(3, 5);
-    comparison.run(Reach::Asked, 1_000, 4_097);
-    comparison.report("asked", 3_500);
-    assert!(comparison.seen[0] > 100);
+    let seen = Comparison::new(3, 5).run(Reach::Asked, 1_000, 4_097).report("asked", 3_500);
+    assert!(seen[0] > 100);
 }
 
 #[test]
 fn far_jobs_agree() {
-    let mut comparison = Comparison::new(4, usize::MAX);
-    comparison.run(Reach::Far, 40, 4_097);
-    comparison.run(Reach::Anywhere, 10, 4_097);
-    comparison.report("far", 200);
-    assert!(comparison.seen[0] > 20 && comparison.seen[9] > 20, "{:?}", comparison.seen);
+    let seen =
+        Comparison::new(4, usize::MAX).run(Reach::Far, 40, 4_097).run(Reach::Anywhere, 10, 4_097).report("far", 200);
+    assert!(seen[0] > 20 && seen[9] > 20, "{seen:?}");
 }
 
 /// Large accelerations of targets and long blends, where no part of the planned target rounds away.
 #[test]
 fn chasing_jobs_agree() {
-    let mut comparison = Comparison::new(8, 0);
-    for n in 0..1_500 {
-        let job = jobs::chasing_job(&mut comparison.random);
+    let round = |all: &mut Comparison, n: usize| {
+        let job = jobs::chasing_job(&mut all.random);
         let cells = 3 * job.count() * 901;
-        if n % 2 == 0 {
-            comparison.typed(&job, cells);
-        } else {
-            comparison.words(&jobs::words(&job), cells);
-        }
-    }
-    comparison.report("chasing", 1_500);
-    assert!(comparison.seen[0] > 500 && comparison.seen[8] > 100, "{:?}", comparison.seen);
+        all.either(n.is_multiple_of(2), &job, cells);
+    };
+    let seen = Comparison::new(8, 0).rounds(1_500, round).report("chasing", 1_500);
+    assert!(seen[0] > 500 && seen[8] > 100, "{seen:?}");
 }
 
 /// Axes that just make their arrival or just miss it, in every case of ramps and flat parts.
 #[test]
 fn edge_jobs_agree() {
-    let mut comparison = Comparison::new(9, 100);
-    for n in 0..8_000 {
-        let asked = jobs::edge_job(&mut comparison.random);
+    let round = |all: &mut Comparison, n: usize| {
+        let asked = jobs::edge_job(&mut all.random);
         // The arrival before is mostly out of reach, and the least one may be as well.
         let job = match n % 4 {
             0 => Job { asked: (asked.asked - 1).max(1), ..asked },
@@ -183,53 +187,47 @@ fn edge_jobs_agree() {
             _ => asked,
         };
         let cells = 3 * job.count() * 601;
-        if n % 8 < 4 {
-            comparison.typed(&job, cells);
-        } else {
-            comparison.words(&jobs::words(&job), cells);
-        }
-    }
-    comparison.report("edge", 6_500);
-    assert!(comparison.seen[0] > 2_500 && comparison.seen[8] > 2_000, "{:?}", comparison.seen);
+        all.either(n % 8 < 4, &job, cells);
+    };
+    let seen = Comparison::new(9, 100).rounds(8_000, round).report("edge", 6_500);
+    assert!(seen[0] > 2_500 && seen[8] > 2_000, "{seen:?}");
 }
 
 /// Searches that end late, or nowhere, for all axes and for each of them.
 #[test]
 fn late_jobs_agree() {
-    let mut comparison = Comparison::new(7, usize::MAX);
-    for n in 0..200 {
-        let job = jobs::late_job(&mut comparison.random);
+    let round = |all: &mut Comparison, n: usize| {
+        let job = jobs::late_job(&mut all.random);
         let cells = 3 * job.count() * 4_097;
         match n % 3 {
-            0 => comparison.typed(&job, cells),
-            1 => comparison.words(&jobs::words(&job), cells),
+            0 => all.typed(&job, cells),
+            1 => all.words(&jobs::words(&job), cells),
             _ => {
-                let windowed = jobs::late_windowed(&mut comparison.random, &job);
-                comparison.typed(&windowed, cells);
+                let windowed = jobs::late_windowed(&mut all.random, &job);
+                all.typed(&windowed, cells);
             }
         }
-    }
-    comparison.report("late", 200);
-    assert!(comparison.seen[0] > 80 && comparison.seen[9] > 30, "{:?}", comparison.seen);
+    };
+    let seen = Comparison::new(7, usize::MAX).rounds(200, round).report("late", 200);
+    assert!(seen[0] > 80 && seen[9] > 30, "{seen:?}");
 }
 
 #[test]
 fn stray_words_agree() {
-    let mut comparison = Comparison::new(5, 5);
-    for _ in 0..20_000 {
-        let words = jobs::stray_words(&mut comparison.random);
-        comparison.words(&words, 2_000);
-    }
-    comparison.report("stray", 19_900);
-    assert!(comparison.seen[2] > 1_000 && comparison.seen[14] > 1_000, "{:?}", comparison.seen);
+    let round = |all: &mut Comparison, _: usize| {
+        let words = jobs::stray_words(&mut all.random);
+        all.words(&words, 2_000);
+    };
+    let seen = Comparison::new(5, 5).rounds(20_000, round).report("stray", 19_900);
+    assert!(seen[2] > 1_000 && seen[14] > 1_000, "{seen:?}");
 }
 
 #[test]
 fn random_words_agree() {
-    let mut comparison = Comparison::new(6, 0);
-    for _ in 0..1_000 {
-        let count = comparison.random.below(14);
-        let words: Vec<u32> = (0..count).map(|_| comparison.random.word() as u32).collect();
-        comparison.words(&words, 40);
-    }
+    let round = |all: &mut Comparison, _: usize| {
+        let count = all.random.below(14);
+        let words: Vec<u32> = (0..count).map(|_| all.random.word() as u32).collect();
+        all.words(&words, 40);
+    };
+    Comparison::new(6, 0).rounds(1_000, round);
 }
