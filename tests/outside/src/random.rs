@@ -1,5 +1,7 @@
 //! A small generator of random numbers (SplitMix64), so that every run sees the same jobs.
 
+use std::fmt::Debug;
+
 pub struct Random {
     state: u64,
 }
@@ -37,4 +39,15 @@ impl Random {
     pub fn pick<T: Copy>(&mut self, from: &[T]) -> T {
         from[self.below(from.len())]
     }
+}
+
+/// What so many rounds with the random numbers of a seed have seen, printed.
+pub fn seen_in_rounds<S: Default + Debug>(seed: u64, rounds: usize, mut round: impl FnMut(&mut Random, &mut S)) -> S {
+    let mut random = Random::new(seed);
+    let mut seen = S::default();
+    for _ in 0..rounds {
+        round(&mut random, &mut seen);
+    }
+    eprintln!("{seen:?}");
+    seen
 }

@@ -5,7 +5,7 @@
 use outside::jobs::{self, Reach, SIGNED_ENDS, UNSIGNED_ENDS};
 use outside::library;
 use outside::plain::{asked, one, to};
-use outside::random::Random;
+use outside::random::{seen_in_rounds, Random};
 use outside::reference::{raises_of_words, Answer, Axis, Job, Raise, Raised, Windows};
 
 /// A search that ends later than this, or nowhere, is a long one, and is left out.
@@ -118,26 +118,23 @@ fn drawn(random: &mut Random) -> Job {
 
 #[test]
 fn random_raises_agree() {
-    let mut random = Random::new(51);
-    let mut seen = Seen::default();
-    for _ in 0..4_000 {
-        let job = drawn(&mut random);
-        let damaged = jobs::damaged_job(&mut random, &job);
-        let windowed = jobs::windowed(&mut random, &job);
-        let badly_windowed = jobs::badly_windowed(&mut random, &job);
+    let seen = seen_in_rounds(51, 4_000, |random, seen: &mut Seen| {
+        let job = drawn(random);
+        let damaged = jobs::damaged_job(random, &job);
+        let windowed = jobs::windowed(random, &job);
+        let badly_windowed = jobs::badly_windowed(random, &job);
         for job in [job, damaged, windowed, badly_windowed] {
             if !job.searches_past(LONG) {
-                agrees(&mut random, &mut seen, &job);
+                agrees(random, seen, &job);
             }
         }
         let words = jobs::words(&job);
-        for words in [jobs::damaged_words(&mut random, &words), words] {
+        for words in [jobs::damaged_words(random, &words), words] {
             if !outside::reference::decode(&words).is_ok_and(|job| job.searches_past(LONG)) {
-                words_agree(&mut seen, &words);
+                words_agree(seen, &words);
             }
         }
-    }
-    eprintln!("{seen:?}");
+    });
     for number in [0, 1, 2, 14, 3, 4, 12, 5, 15, 6, 16, 17, 13, 8] {
         assert!(seen.numbers[number] > 0, "{number}: {seen:?}");
     }

@@ -5,7 +5,7 @@
 use outside::jobs::{self, Reach, UNSIGNED_ENDS};
 use outside::library;
 use outside::plain::{asked, one, to};
-use outside::random::Random;
+use outside::random::{seen_in_rounds, Random};
 use outside::reference::{decode, search_words, Answer, Axis, Job, Report, Search, Searched, Windows};
 
 /// One candidate past the latest.
@@ -78,20 +78,17 @@ impl Seen {
 
 #[test]
 fn random_searches_agree() {
-    let mut random = Random::new(71);
-    let mut seen = Seen::default();
-    for _ in 0..2_500 {
-        let job = drawn(&mut random);
+    let seen = seen_in_rounds(71, 2_500, |random, seen: &mut Seen| {
+        let job = drawn(random);
         let whole = job.search(1, u32::MAX);
         for _ in 0..4 {
-            let first = first(&mut random, &whole);
-            let budget = budget(&mut random, first, &whole);
+            let first = first(random, &whole);
+            let budget = budget(random, first, &whole);
             let got = library::search(&job, random.word(), first, budget);
             assert_eq!(got, job.search(first, budget), "from {first}, budget {budget}: {job:?}");
             seen.count(&got);
         }
-    }
-    eprintln!("{seen:?}");
+    });
     assert!(seen.found > 1_000 && seen.none > 500 && seen.spent > 500, "{seen:?}");
     for number in [1, 4, 12, 5, 15, 6, 16, 17, 13, 18] {
         assert!(seen.numbers[number] > 0, "{number}: {seen:?}");
@@ -103,22 +100,19 @@ fn random_searches_agree() {
 
 #[test]
 fn random_searches_of_words_agree() {
-    let mut random = Random::new(72);
-    let mut seen = Seen::default();
-    for _ in 0..3_000 {
+    let seen = seen_in_rounds(72, 3_000, |random, seen: &mut Seen| {
         let reach = if random.once_in(4) { Reach::Quick } else { Reach::Near };
-        let mut words = jobs::words(&jobs::job(&mut random, reach));
+        let mut words = jobs::words(&jobs::job(random, reach));
         if random.once_in(3) {
-            words = jobs::damaged_words(&mut random, &words);
+            words = jobs::damaged_words(random, &words);
         }
         let whole = search_words(&words, 1, u32::MAX);
-        let first = first(&mut random, &whole);
-        let budget = budget(&mut random, first, &whole);
+        let first = first(random, &whole);
+        let budget = budget(random, first, &whole);
         let got = library::search_words(&words, first, budget);
         assert_eq!(got, search_words(&words, first, budget), "from {first}, budget {budget}: {words:08X?}");
         seen.count(&got);
-    }
-    eprintln!("{seen:?}");
+    });
     assert!(seen.found > 500 && seen.none > 50 && seen.spent > 200, "{seen:?}");
     assert!(seen.numbers[2] > 50 && seen.numbers[14] > 0 && seen.numbers[18] > 100, "{seen:?}");
 }
@@ -140,12 +134,10 @@ fn continued(job: &Job, first: u32, mut budget: impl FnMut() -> u32) -> (Searche
 
 #[test]
 fn continued_searches_end_as_undivided_ones() {
-    let mut random = Random::new(73);
-    let mut seen = Seen::default();
-    for _ in 0..400 {
-        let job = drawn(&mut random);
-        let Ok(whole) = library::search(&job, 0, 1, u32::MAX) else { continue };
-        let first = first(&mut random, &Ok(whole)).clamp(1, BEYOND);
+    let seen = seen_in_rounds(73, 400, |random, seen: &mut Seen| {
+        let job = drawn(random);
+        let Ok(whole) = library::search(&job, 0, 1, u32::MAX) else { return };
+        let first = first(random, &Ok(whole)).clamp(1, BEYOND);
         let undivided = library::search(&job, 0, first, u32::MAX).unwrap();
         assert!(undivided.tried <= 4_096 && !matches!(undivided.report, Report::Spent(_)), "{undivided:?}");
         let most = random.pick(&[1, 7, 100, 5_000]);
@@ -155,7 +147,7 @@ fn continued_searches_end_as_undivided_ones() {
         assert_eq!(last, undivided, "from {first}: {job:?}");
         assert!(calls <= 4_096, "{calls} calls");
         seen.count(&Ok(last));
-    }
+    });
     assert!(seen.found > 100 && seen.none > 30, "{seen:?}");
 }
 
