@@ -344,17 +344,21 @@ fn all_tables() {
     parts::table();
     println!("| velocities and rows, by row and axis | outcome | library, ns | plain Rust, ns | ratio |");
     println!("|---|---|---|---|---|");
-    by_row("one axis, short", &short, short_arrival);
-    by_row("one axis, long", &long, long_arrival);
-    by_row("six axes", &wide, wide_arrival);
-    by_row("one axis, finer grid", &finer, long_arrival);
-    by_row("one axis, second sway", &jointed, jointed_arrival);
-    by_row("six axes, second sways", &wide_jointed, wide_jointed_arrival);
+    let planned = [
+        ("one axis, short", &short, short_arrival),
+        ("one axis, long", &long, long_arrival),
+        ("six axes", &wide, wide_arrival),
+        ("one axis, finer grid", &finer, long_arrival),
+        ("one axis, second sway", &jointed, jointed_arrival),
+        ("six axes, second sways", &wide_jointed, wide_jointed_arrival),
+    ];
+    for (name, job, arrival) in planned {
+        by_row(name, job, arrival);
+    }
     println!();
     println!("| the library's rows, by row and axis | outcome | forwards, ns | backwards, ns | ratio |");
     println!("|---|---|---|---|---|");
-    in_either_order("one axis, short", &short, short_arrival);
-    in_either_order("one axis, long", &long, long_arrival);
-    in_either_order("six axes", &wide, wide_arrival);
-    in_either_order("one axis, finer grid", &finer, long_arrival);
+    for (name, job, arrival) in &planned[..4] {
+        in_either_order(name, job, *arrival);
+    }
 }
