@@ -5,18 +5,8 @@ mod common;
 use std::fs;
 
 use common::command::{printed, run, run_with, scratch, sheet};
-use common::{changed_case_c, CASE_C_TABLE};
+use common::{case_f, changed_case_c, CASE_C_TABLE};
 use polgamir::convert;
-
-/// The words of F with an asked arrival, and as the converter turns them.
-fn case_f(asked: u32) -> [u32; 11] {
-    let words = [0x10000001, 0x20000000, 0x30000000, 0x4000000A, 0x50000014, 0x60000001, 0x70000000, 0x80000080];
-    let mut all = [0; 11];
-    all[..8].copy_from_slice(&words);
-    all[8..].copy_from_slice(&[0x9000000A, 0xA000000A, 0xF0000000]);
-    all[1] += asked;
-    all
-}
 
 /// The command takes words or a sheet, and writes words.
 #[test]

@@ -2,18 +2,8 @@
 
 mod common;
 
-use common::CASE_C_WORDS;
+use common::{case_f, CASE_C_WORDS};
 use polgamir::{convert, convert_into, plan_words, Refusal};
-
-/// The words of F with an asked arrival, and as the converter turns them.
-fn case_f(asked: u32) -> [u32; 11] {
-    let words = [0x10000001, 0x20000000, 0x30000000, 0x4000000A, 0x50000014, 0x60000001, 0x70000000, 0x80000080];
-    let mut all = [0; 11];
-    all[..8].copy_from_slice(&words);
-    all[8..].copy_from_slice(&[0x9000000A, 0xA000000A, 0xF0000000]);
-    all[1] += asked;
-    all
-}
 
 #[test]
 fn a_flying_target_moves_at_the_asked_tick() {

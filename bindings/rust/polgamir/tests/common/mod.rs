@@ -47,6 +47,16 @@ pub const CASE_C_WORDS: [u32; 11] = [
 /// The table of case C as docs/METHOD.md prints it.
 pub const CASE_C_TABLE: &str = "arrival 4\n0 0 0 86\n1 43 86 -1\n2 129 85 0\n3 214 85 -85\n4 256 0 0\n";
 
+/// The words of field case F, whose target flies, with an asked arrival.
+pub fn case_f(asked: u32) -> [u32; 11] {
+    let words = [0x10000001, 0x20000000, 0x30000000, 0x4000000A, 0x50000014, 0x60000001, 0x70000000, 0x80000080];
+    let mut all = [0; 11];
+    all[..8].copy_from_slice(&words);
+    all[8..].copy_from_slice(&[0x9000000A, 0xA000000A, 0xF0000000]);
+    all[1] += asked;
+    all
+}
+
 /// A generator of random numbers (xorshift64*).
 pub struct Random(pub u64);
 
