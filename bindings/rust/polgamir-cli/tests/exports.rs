@@ -4,9 +4,8 @@
 mod common;
 
 use std::fs;
-use std::process::Command;
 
-use common::command::{printed, run, run_with, scratch, sheet, told};
+use common::command::{numbers_of_c, printed, run, run_with, sheet, told};
 use common::json::Json;
 use common::{changed_case_c, Random, CASE_C_TABLE};
 use polgamir::sheet::{Sheet, TourSheet, Unit};
@@ -94,23 +93,13 @@ fn json_reads_back() {
 #[test]
 fn a_c_array_compiles_and_is_the_table() {
     for (index, (job, plan)) in planned_jobs(0xCAFE_0000_3333_0001, 4).into_iter().enumerate() {
-        let source = scratch(&format!("export{index}.c"));
-        let program = scratch(&format!("export{index}"));
         let array = exported(&["--c-array"], "", &job);
         let main = "\n#include <inttypes.h>\n#include <stdio.h>\n#include <string.h>\n\nint main(void)\n{\n\
              \x20   int64_t cells[(PLAN_ARRIVAL + 1) * PLAN_AXES * 3];\n    memcpy(cells, plan_table, sizeof cells);\n\
              \x20   printf(\"%d %d\", PLAN_ARRIVAL, PLAN_MASK);\n\
              \x20   for (size_t i = 0; i < sizeof plan_table / sizeof cells[0]; i++)\n\
              \x20       printf(\" %\" PRId64, cells[i]);\n    return 0;\n}\n";
-        fs::write(&source, array + main).expect("a file");
-        let built = Command::new("cc")
-            .args(["-std=c99", "-Wall", "-Wextra", "-Wpedantic", "-Werror", "-o", &program, &source])
-            .output()
-            .expect("a C compiler");
-        assert!(built.status.success(), "{}", String::from_utf8_lossy(&built.stderr));
-        let said = Command::new(&program).output().expect("the program runs").stdout;
-        let numbers: Vec<i64> =
-            String::from_utf8_lossy(&said).split(' ').map(|number| number.parse().expect("a number")).collect();
+        let numbers = numbers_of_c(&format!("export{index}"), &(array + main));
         assert_eq!(numbers[..2], [i64::from(plan.arrival()), i64::from(plan.axes().0)]);
         assert_eq!(numbers[2..], *plan.cells());
     }

@@ -3,9 +3,8 @@
 mod common;
 
 use std::fs;
-use std::process::Command;
 
-use common::command::{printed, run, run_with, scratch, sheet};
+use common::command::{numbers_of_c, printed, run, run_with, sheet};
 use common::json::Json;
 use polgamir::sheet::TourSheet;
 
@@ -80,7 +79,6 @@ fn json_reads_back() {
 /// The compiled arrays are the tables of the legs, and the list has their times.
 #[test]
 fn c_arrays_compile_and_are_the_tables() {
-    let (source, program) = (scratch("tour-export.c"), scratch("tour-export"));
     let main = "\n#include <inttypes.h>\n#include <stdio.h>\n\nint main(void)\n{\n\
          \x20   for (int stop = 0; stop < PLOT_OF_STEMS_STOPS; stop++)\n\
          \x20       for (uint32_t row = 0; row <= plot_of_stems_legs[stop].last; row++)\n\
@@ -89,15 +87,7 @@ fn c_arrays_compile_and_are_the_tables() {
          \x20   for (int stop = 0; stop < PLOT_OF_STEMS_STOPS; stop++)\n\
          \x20       printf(\"%\" PRIu32 \" \", plot_of_stems_legs[stop].arrival);\n\
          \x20   printf(\"%d\", PLOT_OF_STEMS_TOTAL);\n    return 0;\n}\n";
-    fs::write(&source, exported(&["--c-array"]) + main).expect("a file");
-    let built = Command::new("cc")
-        .args(["-std=c99", "-Wall", "-Wextra", "-Wpedantic", "-Werror", "-o", &program, &source])
-        .output()
-        .expect("a C compiler");
-    assert!(built.status.success(), "{}", String::from_utf8_lossy(&built.stderr));
-    let said = Command::new(&program).output().expect("the program runs").stdout;
-    let numbers: Vec<i64> =
-        String::from_utf8_lossy(&said).split(' ').map(|number| number.parse().expect("a number")).collect();
+    let numbers = numbers_of_c("tour-export", &(exported(&["--c-array"]) + main));
     let cells = cells();
     assert_eq!(numbers[..cells.len()], cells);
     assert_eq!(numbers[cells.len()..], [110, 266, 420, 608, 793, 1032, 1032]);

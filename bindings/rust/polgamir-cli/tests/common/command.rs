@@ -1,5 +1,6 @@
 //! Running the command `polgamir`.
 
+use std::fs;
 use std::io::Write;
 use std::path::Path;
 use std::process::{Command, Output, Stdio};
@@ -49,4 +50,18 @@ pub fn told_with(output: &Output, status: i32) -> String {
 /// What is said on standard error, of a run that ends with 2 and prints nothing.
 pub fn told(output: &Output) -> String {
     told_with(output, 2)
+}
+
+/// The numbers that a C program prints, one space between each two: it is compiled and run by a
+/// name of its own.
+pub fn numbers_of_c(name: &str, text: &str) -> Vec<i64> {
+    let (source, program) = (scratch(&format!("{name}.c")), scratch(name));
+    fs::write(&source, text).expect("a file");
+    let built = Command::new("cc")
+        .args(["-std=c99", "-Wall", "-Wextra", "-Wpedantic", "-Werror", "-o", &program, &source])
+        .output()
+        .expect("a C compiler");
+    assert!(built.status.success(), "{}", String::from_utf8_lossy(&built.stderr));
+    let said = Command::new(&program).output().expect("the program runs").stdout;
+    String::from_utf8_lossy(&said).split(' ').map(|number| number.parse().expect("a number")).collect()
 }
