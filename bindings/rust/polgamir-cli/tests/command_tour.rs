@@ -5,8 +5,9 @@ mod common;
 use std::fs;
 
 use common::command::{printed, run, run_with, sheet, told};
+use common::FIELD_TOUR_AXIS;
 use polgamir::sheet::{Setup, Sheet, TourSheet};
-use polgamir::{Damping, Stop, Tour, TourAxis, WordKind};
+use polgamir::{Stop, Tour, TourAxis, WordKind};
 
 /// The tour of the readings on one axis: stops 4 with dwell 3, and 0 with dwell 5.
 const TOUR: &str = "\
@@ -155,16 +156,8 @@ fn jobs_and_tours_are_told_apart() {
 #[test]
 fn sheets_of_tours_read_back() {
     let sheet: TourSheet = TOUR.parse().expect("a tour");
-    let limits = TourAxis {
-        start: 0,
-        speed_limit: 10,
-        acceleration_limit: 1,
-        half_period: 0,
-        damping: Damping::NONE,
-        second_half_period: None,
-    };
     let stops = [(4, 3), (0, 5)].map(|(pan, dwell)| Stop { positions: [0, pan, 0, 0, 0, 0], dwell });
-    assert_eq!((sheet.tour, &sheet.stops[..]), (Tour::new().with_axis(1, limits), &stops[..]));
+    assert_eq!((sheet.tour, &sheet.stops[..]), (Tour::new().with_axis(1, FIELD_TOUR_AXIS), &stops[..]));
     assert_eq!(
         (sheet.axis_title(1), sheet.line_of_stop(1), sheet.line_of_stop(2)),
         ("axis 1 pan".into(), Some(8), None)
@@ -176,7 +169,7 @@ fn sheets_of_tours_read_back() {
     let again: TourSheet = sheet.to_string().parse().expect("a written tour");
     assert_eq!((again.tour, &again.stops, again.leg(2)), (sheet.tour, &sheet.stops, None));
     let jointed: TourSheet = TOUR.replace("weight 128", "weight 128\nsecond half period 9").parse().expect("a tour");
-    assert_eq!(jointed.tour.axes[1], Some(TourAxis { second_half_period: Some(9), ..limits }));
+    assert_eq!(jointed.tour.axes[1], Some(TourAxis { second_half_period: Some(9), ..FIELD_TOUR_AXIS }));
     assert_eq!(jointed.to_string().parse::<TourSheet>().expect("a written tour").tour, jointed.tour);
     let unnamed = TourSheet::new(sheet.tour, sheet.stops);
     assert_eq!((unnamed.axis_name(1), unnamed.line_of_stop(0)), (None, None));

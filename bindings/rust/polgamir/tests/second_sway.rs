@@ -3,7 +3,7 @@
 
 mod common;
 
-use common::{field_axis, CASE_C_WORDS};
+use common::{field_axis, CASE_C_WORDS, FIELD_TOUR_AXIS};
 use polgamir::{
     plan, plan_words, Axis, Damping, Job, Refusal, RestPoint, Schedule, State, Stop, Target, Tour, TourAxis,
     TourRefusal, Window,
@@ -192,14 +192,7 @@ fn the_longest_job_has_81_words() {
 /// the leg of its planned motion.
 #[test]
 fn tours_take_a_second_half_period() {
-    let limits = TourAxis {
-        start: 0,
-        speed_limit: 10,
-        acceleration_limit: 1,
-        half_period: 0,
-        damping: Damping::NONE,
-        second_half_period: Some(1),
-    };
+    let limits = TourAxis { second_half_period: Some(1), ..FIELD_TOUR_AXIS };
     let stops = [(4, 2), (5, 3)].map(|(position, dwell)| Stop { positions: [position, 0, 0, 0, 0, 0], dwell });
     let tour = Tour::new().with_axis(0, limits);
     assert_eq!(tour.schedule(&stops), Ok(Schedule { arrivals: vec![5, 10], total: 13 }));

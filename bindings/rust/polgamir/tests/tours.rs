@@ -3,18 +3,8 @@
 
 mod common;
 
-use common::{field_axis, Random};
+use common::{field_axis, Random, FIELD_TOUR_AXIS};
 use polgamir::{AxisMask, Damping, Job, Refusal, Schedule, Stop, Target, Tour, TourAxis, TourRefusal, MOST_STOPS};
-
-/// The axis of the field cases, from 0.
-const FIELD_AXIS: TourAxis = TourAxis {
-    start: 0,
-    speed_limit: 10,
-    acceleration_limit: 1,
-    half_period: 0,
-    damping: Damping::NONE,
-    second_half_period: None,
-};
 
 /// A tour of one axis.
 fn tour_of(axis: TourAxis) -> Tour {
@@ -29,16 +19,16 @@ fn stops_of(stops: &[(i64, u32)]) -> Vec<Stop> {
 #[test]
 fn arrivals_count_from_the_tours_start_and_later_entries_stay() {
     let mut arrivals = [7, 7, 7];
-    let total = tour_of(FIELD_AXIS).plan(&stops_of(&[(4, 3), (0, 5)]), &mut arrivals);
+    let total = tour_of(FIELD_TOUR_AXIS).plan(&stops_of(&[(4, 3), (0, 5)]), &mut arrivals);
     assert_eq!((total, arrivals), (Ok(16), [4, 11, 7]));
-    let schedule = tour_of(FIELD_AXIS).schedule(&stops_of(&[(4, 5), (4, 0), (0, 7)]));
+    let schedule = tour_of(FIELD_TOUR_AXIS).schedule(&stops_of(&[(4, 5), (4, 0), (0, 7)]));
     assert_eq!(schedule, Ok(Schedule { arrivals: vec![4, 10, 14], total: 21 }));
 }
 
 #[test]
 fn a_leg_of_no_way_takes_the_half_period_and_a_tick() {
     for half_period in [0, 1, 9, 256] {
-        let tour = tour_of(TourAxis { half_period, ..FIELD_AXIS });
+        let tour = tour_of(TourAxis { half_period, ..FIELD_TOUR_AXIS });
         let schedule = tour.schedule(&stops_of(&[(0, 0)])).expect("a tour");
         assert_eq!(schedule, Schedule { arrivals: vec![half_period + 1], total: half_period + 1 });
     }
@@ -46,7 +36,7 @@ fn a_leg_of_no_way_takes_the_half_period_and_a_tick() {
 
 #[test]
 fn no_stops_take_no_time() {
-    for tour in [Tour::new(), tour_of(TourAxis { speed_limit: 0, ..FIELD_AXIS })] {
+    for tour in [Tour::new(), tour_of(TourAxis { speed_limit: 0, ..FIELD_TOUR_AXIS })] {
         let mut arrivals = [7];
         assert_eq!((tour.plan(&[], &mut arrivals), arrivals), (Ok(0), [7]));
         assert_eq!(tour.plan(&[], &mut []), Ok(0));
@@ -65,11 +55,11 @@ fn refused(tour: Tour, stops: &[(i64, u32)], entries: usize) -> TourRefusal {
 #[test]
 fn stops_are_checked_before_the_legs() {
     let many = vec![(4, 0); MOST_STOPS + 1];
-    assert_eq!(refused(tour_of(FIELD_AXIS), &many, 65), TourRefusal::Stops { stop: 64 });
-    assert!(tour_of(FIELD_AXIS).schedule(&stops_of(&many[..64])).is_ok());
+    assert_eq!(refused(tour_of(FIELD_TOUR_AXIS), &many, 65), TourRefusal::Stops { stop: 64 });
+    assert!(tour_of(FIELD_TOUR_AXIS).schedule(&stops_of(&many[..64])).is_ok());
     let long = [(4, 4096), (0, 4097), (4, 4097)];
-    assert_eq!(refused(tour_of(FIELD_AXIS), &long, 3), TourRefusal::Stops { stop: 1 });
-    assert!(tour_of(FIELD_AXIS).schedule(&stops_of(&long[..1])).is_ok());
+    assert_eq!(refused(tour_of(FIELD_TOUR_AXIS), &long, 3), TourRefusal::Stops { stop: 1 });
+    assert!(tour_of(FIELD_TOUR_AXIS).schedule(&stops_of(&long[..1])).is_ok());
     assert_eq!(refused(Tour::new(), &[(4, 4097)], 1), TourRefusal::Stops { stop: 0 });
 }
 
@@ -77,20 +67,20 @@ fn stops_are_checked_before_the_legs() {
 fn the_first_refused_leg_names_its_stop() {
     let leg = |stop, refusal| TourRefusal::Leg { stop, refusal };
     assert_eq!(refused(Tour::new(), &[(4, 0)], 1), leg(0, Refusal::Mask));
-    let slow = tour_of(TourAxis { speed_limit: 1, ..FIELD_AXIS });
+    let slow = tour_of(TourAxis { speed_limit: 1, ..FIELD_TOUR_AXIS });
     let no_arrival = Refusal::NoCommonArrival { axes: AxisMask(1) };
     assert_eq!(refused(slow, &[(100_000_000, 0), (1 << 40, 0)], 2), leg(0, no_arrival));
     assert_eq!(refused(slow, &[(4, 0), (100_000_000, 0)], 1), leg(1, no_arrival));
     assert_eq!(refused(slow, &[(4, 0), (0, 0), (1 << 40, 0)], 3), leg(2, Refusal::StartOrTarget { axis: 0 }));
-    let unlimited = Tour::new().with_axis(2, TourAxis { speed_limit: 0, ..FIELD_AXIS });
+    let unlimited = Tour::new().with_axis(2, TourAxis { speed_limit: 0, ..FIELD_TOUR_AXIS });
     assert_eq!(refused(unlimited, &[(0, 0)], 1), leg(0, Refusal::Limits { axis: 2 }));
-    let heavy = tour_of(FIELD_AXIS).with_axis(3, TourAxis { damping: Damping::Weight(129), ..FIELD_AXIS });
+    let heavy = tour_of(FIELD_TOUR_AXIS).with_axis(3, TourAxis { damping: Damping::Weight(129), ..FIELD_TOUR_AXIS });
     assert_eq!(refused(heavy, &[(0, 0)], 1), leg(0, Refusal::Blend { axis: 3 }));
 }
 
 #[test]
 fn a_short_list_is_checked_after_the_legs() {
-    let short = refused(tour_of(FIELD_AXIS), &[(4, 3), (0, 5)], 1);
+    let short = refused(tour_of(FIELD_TOUR_AXIS), &[(4, 3), (0, 5)], 1);
     assert_eq!(short, TourRefusal::ListTooShort { stops: 2 });
 }
 
@@ -126,7 +116,7 @@ fn refusals_have_lines_and_sentences() {
 
 #[test]
 fn a_leg_is_the_job_from_the_stop_before() {
-    let tour = tour_of(TourAxis { start: -3, ..FIELD_AXIS });
+    let tour = tour_of(TourAxis { start: -3, ..FIELD_TOUR_AXIS });
     let stops = stops_of(&[(4, 3), (0, 5)]);
     let from = |start: i64, target: i64| {
         let mut axis = field_axis(Target::still(target));

@@ -6,7 +6,7 @@
 use std::fs;
 use std::path::{Path, PathBuf};
 
-use polgamir::{Axis, Damping, Job, RestPoint, State, Target};
+use polgamir::{Axis, Damping, Job, RestPoint, State, Target, TourAxis};
 
 /// The repository's folder of a name.
 pub fn folder(name: &str) -> PathBuf {
@@ -32,6 +32,16 @@ pub fn field_axis(target: Target) -> Axis {
         target,
     }
 }
+
+/// The same axis in a tour.
+pub const FIELD_TOUR_AXIS: TourAxis = TourAxis {
+    start: 0,
+    speed_limit: 10,
+    acceleration_limit: 1,
+    half_period: 0,
+    damping: Damping::NONE,
+    second_half_period: None,
+};
 
 /// Case C: one unit, asked to arrive at tick 4.
 pub fn case_c() -> Job {
