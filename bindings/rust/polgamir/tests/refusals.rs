@@ -6,144 +6,65 @@ use common::{field_axis, Random};
 use polgamir::sheet::SheetLine;
 use polgamir::{Arrival, Axis, AxisMask, Job, Refusal, Target, WordKind};
 
-/// Every refusal in checking order, with its printed line, its sheet line and its sentence.
-fn all() -> Vec<(Refusal, &'static str, SheetLine, &'static str)> {
+/// Every refusal in checking order, with its printed line and its sheet line.
+fn all() -> [(Refusal, &'static str, SheetLine); 20] {
     use SheetLine::{EnterLimits, EnterStartAndTarget, ReadTheArrival, ReadTheRefusal, TapThePole};
-    vec![
-        (
-            Refusal::Mask,
-            "refused 1 place 0 axes 0 arrival 0",
-            EnterLimits,
-            "refused with 1: the axis mask is absent, 0 or above 63: a job has at least one of the axes 0 to 5",
-        ),
-        (
-            Refusal::Words { index: 7 },
-            "refused 2 place 7 axes 0 arrival 0",
-            ReadTheRefusal,
-            "refused with 2: word 7 is of a kind not allowed there, lacking or left over, or it ends the job with a \
-             payload other than 0",
-        ),
-        (
-            Refusal::LongPosition { index: 9 },
-            "refused 14 place 9 axes 0 arrival 0",
-            ReadTheRefusal,
-            "refused with 14: the payload of word 9, of kind 14, is outside -64 to 63, or its position fits a single \
-             word",
-        ),
-        (
-            Refusal::AskedArrival,
-            "refused 3 place 1 axes 0 arrival 0",
-            ReadTheArrival,
-            "refused with 3: `arrival` asks for a tick above 4096",
-        ),
-        (
-            Refusal::Limits { axis: 2 },
-            "refused 4 place 2 axes 0 arrival 0",
-            EnterLimits,
-            "refused with 4: on axis 2 `speed_limit` is outside 1 to 1048576, or `acceleration_limit` outside 1 to \
-             65536",
-        ),
-        (
-            Refusal::Damping { axis: 3 },
-            "refused 12 place 3 axes 0 arrival 0",
-            TapThePole,
-            "refused with 12: on axis 3 the first peak of `damping` is not above 0, or its ratio is not a number above \
-             0 and at most 1",
-        ),
-        (
-            Refusal::Blend { axis: 0 },
-            "refused 5 place 0 axes 0 arrival 0",
-            TapThePole,
-            "refused with 5: on axis 0 `half_period` is outside 0 to 256, or the weight of `damping` outside 1 to 128",
-        ),
-        (
-            Refusal::SecondHalfPeriod { axis: 4 },
-            "refused 15 place 4 axes 0 arrival 0",
-            TapThePole,
-            "refused with 15: on axis 4 `second_half_period` is outside 1 to 256",
-        ),
-        (
-            Refusal::StartOrTarget { axis: 5 },
-            "refused 6 place 5 axes 0 arrival 0",
-            EnterStartAndTarget,
-            "refused with 6: on axis 5 a `velocity` of `start` or `target` exceeds `speed_limit` in size, the target's \
-             `acceleration` exceeds `acceleration_limit`, its `tick` exceeds 4096, or a `position` is outside \
-             -17179869184 to 17179869183",
-        ),
-        (
-            Refusal::Acceleration { axis: 1 },
-            "refused 16 place 1 axes 0 arrival 0",
-            EnterStartAndTarget,
-            "refused with 16: on axis 1 the target has an `acceleration`, and the axis a `second_half_period`",
-        ),
-        (
-            Refusal::FlyingTarget { axis: 3 },
-            "refused 17 place 3 axes 0 arrival 0",
-            EnterStartAndTarget,
-            "refused with 17: on axis 3 `target` is fixed and its `velocity` is not 0: a fixed target is at rest, and \
-             one that moves uniformly is a moving one with `acceleration` 0",
-        ),
-        (
-            Refusal::Windows { place: 0 },
-            "refused 13 place 0 axes 0 arrival 0",
-            ReadTheArrival,
-            "refused with 13: `windows` is an empty list, or window 0 does not close after it opens",
-        ),
-        (
-            Refusal::Windows { place: 2 },
-            "refused 13 place 2 axes 0 arrival 0",
-            ReadTheArrival,
-            "refused with 13: window 2 does not close after it opens, or opens before window 1 closes",
-        ),
-        (
-            Refusal::Windows { place: 32 },
-            "refused 13 place 32 axes 0 arrival 0",
-            ReadTheArrival,
-            "refused with 13: `windows` has more than 32 windows, or its dwell is above 4096",
-        ),
-        (
-            Refusal::FirstCandidate,
-            "refused 18 place 0 axes 0 arrival 0",
-            ReadTheRefusal,
-            "refused with 18: the first candidate of the search is 0 or above 4097",
-        ),
-        (
-            Refusal::NotReachable { axes: AxisMask(0) },
-            "refused 8 place 0 axes 0 arrival 0",
-            ReadTheArrival,
-            "refused with 8: every axis can arrive at the tick that `arrival` asks for, but it fits no window",
-        ),
-        (
-            Refusal::NotReachable { axes: AxisMask(0b100101) },
-            "refused 8 place 0 axes 37 arrival 0",
-            ReadTheArrival,
-            "refused with 8: axes 0, 2 and 5 cannot arrive at the tick that `arrival` asks for",
-        ),
-        (
-            Refusal::NoCommonArrival { axes: AxisMask(0b10) },
-            "refused 9 place 0 axes 2 arrival 0",
-            EnterStartAndTarget,
-            "refused with 9: axis 1 can arrive at no tick from 1 to 4096",
-        ),
-        (
-            Refusal::NoCommonArrival { axes: AxisMask(0) },
-            "refused 9 place 0 axes 0 arrival 0",
-            EnterStartAndTarget,
-            "refused with 9: each axis can arrive, but no tick from 1 to 4096 suits all of them and the windows, if \
-             any",
-        ),
-        (
-            Refusal::TableTooShort { arrival: 4 },
-            "refused 10 place 0 axes 0 arrival 4",
-            ReadTheArrival,
-            "refused with 10: the arrival is 4, and the lent table has fewer than 3 cells for each axis and row",
-        ),
+    [
+        (Refusal::Mask, "refused 1 place 0 axes 0 arrival 0", EnterLimits),
+        (Refusal::Words { index: 7 }, "refused 2 place 7 axes 0 arrival 0", ReadTheRefusal),
+        (Refusal::LongPosition { index: 9 }, "refused 14 place 9 axes 0 arrival 0", ReadTheRefusal),
+        (Refusal::AskedArrival, "refused 3 place 1 axes 0 arrival 0", ReadTheArrival),
+        (Refusal::Limits { axis: 2 }, "refused 4 place 2 axes 0 arrival 0", EnterLimits),
+        (Refusal::Damping { axis: 3 }, "refused 12 place 3 axes 0 arrival 0", TapThePole),
+        (Refusal::Blend { axis: 0 }, "refused 5 place 0 axes 0 arrival 0", TapThePole),
+        (Refusal::SecondHalfPeriod { axis: 4 }, "refused 15 place 4 axes 0 arrival 0", TapThePole),
+        (Refusal::StartOrTarget { axis: 5 }, "refused 6 place 5 axes 0 arrival 0", EnterStartAndTarget),
+        (Refusal::Acceleration { axis: 1 }, "refused 16 place 1 axes 0 arrival 0", EnterStartAndTarget),
+        (Refusal::FlyingTarget { axis: 3 }, "refused 17 place 3 axes 0 arrival 0", EnterStartAndTarget),
+        (Refusal::Windows { place: 0 }, "refused 13 place 0 axes 0 arrival 0", ReadTheArrival),
+        (Refusal::Windows { place: 2 }, "refused 13 place 2 axes 0 arrival 0", ReadTheArrival),
+        (Refusal::Windows { place: 32 }, "refused 13 place 32 axes 0 arrival 0", ReadTheArrival),
+        (Refusal::FirstCandidate, "refused 18 place 0 axes 0 arrival 0", ReadTheRefusal),
+        (Refusal::NotReachable { axes: AxisMask(0) }, "refused 8 place 0 axes 0 arrival 0", ReadTheArrival),
+        (Refusal::NotReachable { axes: AxisMask(0b100101) }, "refused 8 place 0 axes 37 arrival 0", ReadTheArrival),
+        (Refusal::NoCommonArrival { axes: AxisMask(0b10) }, "refused 9 place 0 axes 2 arrival 0", EnterStartAndTarget),
+        (Refusal::NoCommonArrival { axes: AxisMask(0) }, "refused 9 place 0 axes 0 arrival 0", EnterStartAndTarget),
+        (Refusal::TableTooShort { arrival: 4 }, "refused 10 place 0 axes 0 arrival 4", ReadTheArrival),
     ]
 }
 
+/// The sentence of each of them.
+const SENTENCES: [&str; 20] = [
+    "refused with 1: the axis mask is absent, 0 or above 63: a job has at least one of the axes 0 to 5",
+    "refused with 2: word 7 is of a kind not allowed there, lacking or left over, or it ends the job with a payload \
+     other than 0",
+    "refused with 14: the payload of word 9, of kind 14, is outside -64 to 63, or its position fits a single word",
+    "refused with 3: `arrival` asks for a tick above 4096",
+    "refused with 4: on axis 2 `speed_limit` is outside 1 to 1048576, or `acceleration_limit` outside 1 to 65536",
+    "refused with 12: on axis 3 the first peak of `damping` is not above 0, or its ratio is not a number above 0 and \
+     at most 1",
+    "refused with 5: on axis 0 `half_period` is outside 0 to 256, or the weight of `damping` outside 1 to 128",
+    "refused with 15: on axis 4 `second_half_period` is outside 1 to 256",
+    "refused with 6: on axis 5 a `velocity` of `start` or `target` exceeds `speed_limit` in size, the target's \
+     `acceleration` exceeds `acceleration_limit`, its `tick` exceeds 4096, or a `position` is outside -17179869184 to \
+     17179869183",
+    "refused with 16: on axis 1 the target has an `acceleration`, and the axis a `second_half_period`",
+    "refused with 17: on axis 3 `target` is fixed and its `velocity` is not 0: a fixed target is at rest, and one \
+     that moves uniformly is a moving one with `acceleration` 0",
+    "refused with 13: `windows` is an empty list, or window 0 does not close after it opens",
+    "refused with 13: window 2 does not close after it opens, or opens before window 1 closes",
+    "refused with 13: `windows` has more than 32 windows, or its dwell is above 4096",
+    "refused with 18: the first candidate of the search is 0 or above 4097",
+    "refused with 8: every axis can arrive at the tick that `arrival` asks for, but it fits no window",
+    "refused with 8: axes 0, 2 and 5 cannot arrive at the tick that `arrival` asks for",
+    "refused with 9: axis 1 can arrive at no tick from 1 to 4096",
+    "refused with 9: each axis can arrive, but no tick from 1 to 4096 suits all of them and the windows, if any",
+    "refused with 10: the arrival is 4, and the lent table has fewer than 3 cells for each axis and row",
+];
+
 #[test]
 fn sentences_speak_of_fields() {
-    for (refusal, printed, line, sentence) in all() {
+    for ((refusal, printed, line), sentence) in all().into_iter().zip(SENTENCES) {
         assert_eq!(refusal.printed_line(), printed);
         assert_eq!(SheetLine::after(&refusal), line);
         assert_eq!(refusal.to_string(), sentence);
