@@ -3,7 +3,10 @@
 //!
 //!     cargo run --release --example leg_areas > leg-areas.svg
 
-use polgamir::{Axis, Damping, Job, Refusal, RestPoint, State, Target, FINE_STEPS};
+mod drawing;
+
+use drawing::{begin, heading, text, velocities, BLUE as FIRST_RAMP, GREY, INK, ORANGE as LAST_RAMP};
+use polgamir::{Axis, Damping, Refusal, RestPoint, State, Target, FINE_STEPS};
 
 /// The last tick of the leg, and its ends and limits in units.
 const TICKS: i64 = 24;
@@ -11,12 +14,6 @@ const START: i64 = 2;
 const END: i64 = 4;
 const SPEED_LIMIT: i64 = 9;
 const ACCELERATION_LIMIT: i64 = 1;
-
-/// The regions of the velocities of ticks 1 to the last but one, with the colour of each.
-const FIRST_RAMP: &str = "#0072B2";
-const LEVEL: &str = "#7FB8D8";
-const LAST_RAMP: &str = "#D55E00";
-const INK: &str = "#1F2328";
 
 /// The velocities of ticks 0 to the last, in fine steps a tick, as the planner gives them.
 fn planned() -> Result<Vec<i64>, Refusal> {
@@ -30,8 +27,7 @@ fn planned() -> Result<Vec<i64>, Refusal> {
         second_half_period: None,
         target: Target::Moving(target),
     };
-    let plan = Job::arriving_at(TICKS as u32).with_axis(0, axis).plan()?;
-    Ok(plan.rows().map(|row| row.cells()[1]).collect())
+    velocities(axis, TICKS as u32)
 }
 
 /// The ramp from the start and the ramp back from the end at a tick, with changes of
@@ -64,10 +60,6 @@ fn y(velocity: i64) -> f64 {
     222.0 - 15.0 * velocity as f64 / FINE_STEPS as f64
 }
 
-fn text(x: i64, y: f64, colour: &str, anchor: &str, words: &str) {
-    println!(r#"<text x="{x}" y="{y:.1}" font-size="12" text-anchor="{anchor}" fill="{colour}">{words}</text>"#);
-}
-
 fn line(from: (i64, f64), to: (i64, f64), stroke: &str) {
     println!(r#"<path d="M{} {:.1}L{} {:.1}" fill="none" {stroke}/>"#, from.0, from.1, to.0, to.1);
 }
@@ -75,7 +67,7 @@ fn line(from: (i64, f64), to: (i64, f64), stroke: &str) {
 fn envelope(velocity: fn(i64) -> i64) {
     let points: Vec<String> = (0..=TICKS).map(|k| format!("{},{:.1}", x(k), y(velocity(k)))).collect();
     println!(
-        r##"<polyline points="{}" fill="none" stroke="#5A5A5A" stroke-width="1.5" stroke-dasharray="6 3"/>"##,
+        r#"<polyline points="{}" fill="none" stroke="{GREY}" stroke-width="1.5" stroke-dasharray="6 3"/>"#,
         points.join(" ")
     );
 }
@@ -94,9 +86,12 @@ fn frame() {
     text(x(0) - 8, 78.0, INK, "middle", "velocity");
     envelope(upper);
     envelope(lower);
-    text(x(12), y(upper(12)) - 7.0, "#5A5A5A", "middle", "upper envelope");
-    text(x(11), y(lower(8)), "#5A5A5A", "middle", "lower envelope");
+    text(x(12), y(upper(12)) - 7.0, GREY, "middle", "upper envelope");
+    text(x(11), y(lower(8)), GREY, "middle", "lower envelope");
 }
+
+/// The colour of the ticks between the two ramps.
+const LEVEL: &str = "#7FB8D8";
 
 /// The region of a tick, as its colour, given its velocity.
 fn region(tick: i64, velocity: i64) -> &'static str {
@@ -144,15 +139,10 @@ fn captions(inner: &[(i64, i64)]) {
 }
 
 fn main() -> Result<(), Refusal> {
-    let velocities = planned()?;
-    let inner: Vec<(i64, i64)> = (1..TICKS).map(|k| (k, velocities[k as usize])).collect();
-    let size = r#"width="730" height="530" viewBox="0 0 730 530""#;
-    let font = "Helvetica, Arial, 'DejaVu Sans', sans-serif";
-    println!(r#"<svg xmlns="http://www.w3.org/2000/svg" {size} role="img" font-family="{font}">"#);
-    println!("<title>A leg, its two envelopes and its three areas</title>");
-    println!(r##"<rect width="100%" height="100%" fill="#FFFFFF"/>"##);
-    let heading = format!("A leg of {TICKS} ticks: two envelopes, three areas");
-    println!(r#"<text x="24" y="34" font-size="16" font-weight="bold" fill="{INK}">{heading}</text>"#);
+    let planned = planned()?;
+    let inner: Vec<(i64, i64)> = (1..TICKS).map(|k| (k, planned[k as usize])).collect();
+    begin(730, 530, "A leg, its two envelopes and its three areas");
+    heading(34, 16, &format!("A leg of {TICKS} ticks: two envelopes, three areas"));
     let units = "Velocities in units a tick, as the planner gives them; areas in fine steps, 256 to a unit.";
     text(24, 54.0, INK, "start", units);
     for &(k, v) in &inner {

@@ -3,7 +3,10 @@
 //!
 //!     cargo run --release --example method > method.svg
 
-use polgamir::{Axis, Damping, Job, Refusal, RestPoint, Target, FINE_STEPS};
+mod drawing;
+
+use drawing::{begin, heading, text, BLUE as PLANNED, GREY as LIMIT, INK as SUM, ORANGE as SECOND};
+use polgamir::{Axis, Damping, Refusal, RestPoint, Target, FINE_STEPS};
 
 /// The axis of the example.
 const SPEED_LIMIT: i64 = 3;
@@ -11,13 +14,6 @@ const ACCELERATION_LIMIT: i64 = 1;
 const HALF_PERIOD: i64 = 3;
 const SECOND_WEIGHT: i64 = 96;
 const TARGET: i64 = 13;
-
-/// Colours: the planned motion, the blend's two parts, their sum, limits and envelopes.
-const PLANNED: &str = "#0072B2";
-const FIRST: &str = "#007F5F";
-const SECOND: &str = "#D55E00";
-const SUM: &str = "#1F2328";
-const LIMIT: &str = "#5A5A5A";
 
 /// The velocities of a job's rows, in fine steps a tick.
 fn velocities(half_period: i64, asked: u32) -> Result<Vec<i64>, Refusal> {
@@ -30,8 +26,7 @@ fn velocities(half_period: i64, asked: u32) -> Result<Vec<i64>, Refusal> {
         second_half_period: None,
         target: Target::still(TARGET),
     };
-    let plan = Job::arriving_at(asked).with_axis(0, axis).plan()?;
-    Ok(plan.rows().map(|row| row.cells()[1]).collect())
+    drawing::velocities(axis, asked)
 }
 
 /// The upper envelope of a leg from rest to rest.
@@ -83,10 +78,6 @@ impl Plot {
     }
 }
 
-fn text(x: f64, y: f64, colour: &str, anchor: &str, words: &str) {
-    println!(r#"<text x="{x:.1}" y="{y:.1}" font-size="12" text-anchor="{anchor}" fill="{colour}">{words}</text>"#);
-}
-
 /// The planned velocities between their envelopes, with the cruise.
 fn draw_planned(planned: &[i64], landing: i64, arrival: i64) {
     let plot = Plot { zero: 190.0, unit: 34.0 };
@@ -115,6 +106,9 @@ fn draw_planned(planned: &[i64], landing: i64, arrival: i64) {
     text(x(landing as f64) + 6.0, plot.y(-600.0), LIMIT, "start", &format!("landing, T = {landing}"));
 }
 
+/// The colour of the blend's first part.
+const FIRST: &str = "#007F5F";
+
 /// The blend's two parts, and the rows that they add up to.
 fn draw_blend(planned: &[i64], rows: &[i64]) {
     let plot = Plot { zero: 500.0, unit: 44.0 };
@@ -141,18 +135,11 @@ fn main() -> Result<(), Refusal> {
     assert_eq!(rows.len() as i64, arrival + 1, "the arrival of the example");
     let mut planned = velocities(0, landing as u32)?; // without a blend the rows are the planned motion
     planned.resize(rows.len(), 0);
-    let size = r#"width="660" height="560" viewBox="0 0 660 560""#;
-    let font = "Helvetica, Arial, 'DejaVu Sans', sans-serif";
-    println!(r#"<svg xmlns="http://www.w3.org/2000/svg" {size} role="img" font-family="{font}">"#);
-    println!("<title>Planned velocities between their envelopes, and the blend of two parts of them</title>");
-    println!(r##"<rect width="100%" height="100%" fill="#FFFFFF"/>"##);
-    let heading = |y: f64, words: &str| {
-        println!(r#"<text x="24" y="{y}" font-size="14" font-weight="bold" fill="{SUM}">{words}</text>"#);
-    };
-    heading(34.0, "Planned: velocities between two envelopes, level at the cruise");
+    begin(660, 560, "Planned velocities between their envelopes, and the blend of two parts of them");
+    heading(34, 14, "Planned: velocities between two envelopes, level at the cruise");
     text(24.0, 54.0, LIMIT, "start", "fine steps a tick, by tick; speed limit 768, changes of at most 256");
     draw_planned(&planned, landing, arrival);
-    heading(346.0, "Blended: two parts of it, half a period apart");
+    heading(346, 14, "Blended: two parts of it, half a period apart");
     draw_blend(&planned, &rows);
     text(x(arrival as f64) + 6.0, 536.0, LIMIT, "end", "tick");
     println!("</svg>");
