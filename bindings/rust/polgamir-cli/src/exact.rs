@@ -148,6 +148,7 @@ impl Leg {
 #[cfg(test)]
 mod tests {
     use super::*;
+    use crate::test_axis::unblended;
     use polgamir::{Damping, Job, RestPoint};
 
     /// Numbers with no pattern, the same in every run.
@@ -199,10 +200,7 @@ mod tests {
     /// Case C by hand: 256 fine steps in three ticks, 85 1/3 each; the first of them is raised.
     #[test]
     fn case_c() {
-        let start = RestPoint { position: 0, velocity: 0 };
-        let (half_period, damping, second_half_period) = (0, Damping::NONE, None);
-        let (speed_limit, acceleration_limit, target) = (10, 1, Target::still(1));
-        let axis = Axis { start, speed_limit, acceleration_limit, half_period, damping, second_half_period, target };
+        let axis = unblended(10, 1, 0, 1);
         let leg = Leg::of(&axis, 4).expect("a leg");
         assert_eq!(leg.accelerations(4), [86, -1, 0, -85, 0]);
     }

@@ -21,6 +21,8 @@ mod report;
 mod row_range;
 mod standard_output;
 mod tap;
+#[cfg(test)]
+mod test_axis;
 mod verify;
 
 use std::process::ExitCode;

@@ -137,18 +137,12 @@ impl Step {
 mod tests {
     use super::*;
     use crate::picture::swing::{Entered, Swing};
-    use polgamir::{Axis, Damping, RestPoint, Target};
+    use crate::test_axis::unblended;
+    use polgamir::{Axis, Damping};
 
     fn axis(half_period: u32, second_weight: u32, second_half_period: Option<u32>) -> Axis {
-        Axis {
-            start: RestPoint { position: 0, velocity: 0 },
-            speed_limit: 1,
-            acceleration_limit: 1,
-            half_period,
-            damping: Damping::Weight(second_weight),
-            second_half_period,
-            target: Target::still(0),
-        }
+        let damping = Damping::Weight(second_weight);
+        Axis { half_period, damping, second_half_period, ..unblended(1, 1, 0, 0) }
     }
 
     /// The rates of the pole under an axis, each with the name of its sway.

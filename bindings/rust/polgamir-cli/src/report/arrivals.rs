@@ -84,20 +84,8 @@ fn earlier(number: usize, axis: &Axis, tick: u32) -> Earlier {
 #[cfg(test)]
 mod tests {
     use super::*;
-    use polgamir::{Damping, Limit, Raise, RestPoint, Target};
-
-    fn axis(speed_limit: u32, acceleration_limit: u32, velocity: i64, target: i64) -> Axis {
-        let start = RestPoint { position: 0, velocity };
-        Axis {
-            start,
-            speed_limit,
-            acceleration_limit,
-            half_period: 0,
-            damping: Damping::NONE,
-            second_half_period: None,
-            target: Target::still(target),
-        }
-    }
+    use crate::test_axis::unblended as axis;
+    use polgamir::{Limit, Raise};
 
     fn could_not(raises: &[(Limit, u32)]) -> Earlier {
         let raise = |index: usize| raises.get(index).map(|&(limit, by)| Raise { limit, by });

@@ -73,7 +73,7 @@ pub fn worst_misses(rows: &[Motion]) -> [Miss; 2] {
 #[cfg(test)]
 mod tests {
     use super::*;
-    use polgamir::{Damping, RestPoint, Target};
+    use crate::test_axis::unblended;
 
     /// Case C's rows, as they are printed: position, velocity, acceleration.
     const CASE_C: [[i64; 3]; 5] = [[0, 0, 86], [43, 86, -1], [129, 85, 0], [214, 85, -85], [256, 0, 0]];
@@ -90,17 +90,7 @@ mod tests {
 
     #[test]
     fn limits_of_case_c() {
-        let start = RestPoint { position: 0, velocity: 0 };
-        let target = Target::still(1);
-        let axis = Axis {
-            start,
-            speed_limit: 10,
-            acceleration_limit: 1,
-            half_period: 0,
-            damping: Damping::NONE,
-            second_half_period: None,
-            target,
-        };
+        let axis = unblended(10, 1, 0, 1);
         let [velocity, acceleration] = nearest(&axis, &rows());
         assert_eq!(velocity, Nearest { size: 86, tick: 1, limit: 2560, rows_at_limit: 0 });
         assert_eq!(acceleration, Nearest { size: 86, tick: 0, limit: 256, rows_at_limit: 0 });

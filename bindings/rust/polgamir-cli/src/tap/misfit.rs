@@ -97,20 +97,12 @@ fn greatest_misfit(axis: &Axis, list: &[i64]) -> Option<u64> {
 #[cfg(test)]
 mod tests {
     use super::*;
-    use polgamir::{Damping, RestPoint, Target};
+    use crate::test_axis::unblended;
+    use polgamir::{Damping, Target};
 
     fn axis(half_period: u32, weight: u32, second_half_period: Option<u32>) -> Axis {
-        let start = RestPoint { position: 0, velocity: 0 };
         let damping = Damping::Weight(weight);
-        Axis {
-            start,
-            speed_limit: 9,
-            acceleration_limit: 1,
-            half_period,
-            damping,
-            second_half_period,
-            target: Target::still(9),
-        }
+        Axis { half_period, damping, second_half_period, ..unblended(9, 1, 0, 9) }
     }
 
     /// By hand: 128·(w(i+2) + w(i)) of 5, 3, −4, −3, 2 is 128, 0, −256; of a list
