@@ -3,7 +3,7 @@
 
 mod common;
 
-use common::{case_c, field_axis, Random, CASE_C_WORDS};
+use common::{case_c, field_axis, try_jobs, CASE_C_WORDS};
 use polgamir::{plan_part, plan_words_part, AxisMask, Job, Part, Refusal, Target};
 
 /// The rows of case C as docs/METHOD.md prints them.
@@ -52,29 +52,25 @@ fn same_rows(part: Part, whole: &[i64], width: usize, first: u32) {
 
 #[test]
 fn parts_put_together_are_the_table() {
-    let mut random = Random(0x3030_0000_0000_0303);
-    let mut accepted_jobs = 0;
-    for round in 0..900 {
-        let job = if round % 3 == 0 { random.any_job() } else { random.plannable_job() };
+    try_jobs(0x3030_0000_0000_0303, |random, round, job| {
         let width = 3 * job.mask().count_ones() as usize;
         let Ok(plan) = job.plan() else {
             let mut table = [7; 90];
-            assert_eq!(plan_part(&job, 0, &mut table).map(|part| part.len()), job.plan().map(|_| 0));
+            assert_eq!(plan_part(job, 0, &mut table).map(|part| part.len()), job.plan().map(|_| 0));
             assert_eq!(table, [7; 90]);
-            continue;
+            return false;
         };
-        accepted_jobs += 1;
         let mut first = 0;
         while first <= plan.arrival() {
             let mut table = vec![i64::MIN; random.between(width as i64, 20 * width as i64) as usize];
-            let part = plan_part(&job, first, &mut table).expect("the same job");
+            let part = plan_part(job, first, &mut table).expect("the same job");
             assert_eq!((part.arrival(), part.axes()), (plan.arrival(), plan.axes()));
             same_rows(part, plan.cells(), width, first);
             assert!(part.len() > 0);
             first += part.len();
         }
         let mut past = [7; 18];
-        assert_eq!(plan_part(&job, first, &mut past).map(|part| part.len()), Ok(0));
+        assert_eq!(plan_part(job, first, &mut past).map(|part| part.len()), Ok(0));
         assert_eq!(past, [7; 18]);
         let mut buffer = vec![0; width * (1 + round % 17)];
         let rows = job.rows_in_parts(&mut buffer).expect("the same job");
@@ -83,6 +79,6 @@ fn parts_put_together_are_the_table() {
         assert_eq!(job.rows_in_parts(&mut vec![0; width]).expect("the same job").count(), plan.arrival() as usize + 1);
         let none = job.rows_in_parts(&mut vec![0; width - 1]).map(|rows| rows.len());
         assert_eq!(none, Err(Refusal::TableTooShort { arrival: plan.arrival() }));
-    }
-    assert!(accepted_jobs > 400, "{accepted_jobs}");
+        true
+    });
 }

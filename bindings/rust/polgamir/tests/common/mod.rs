@@ -191,3 +191,15 @@ impl Random {
         job
     }
 }
+
+/// Tries a job in each of 900 rounds, one in three of any numbers, and asks that more than 400 of
+/// them are accepted.
+pub fn try_jobs(seed: u64, mut accepts: impl FnMut(&mut Random, usize, &Job) -> bool) {
+    let mut random = Random(seed);
+    let mut accepted = 0;
+    for round in 0..900 {
+        let job = if round % 3 == 0 { random.any_job() } else { random.plannable_job() };
+        accepted += usize::from(accepts(&mut random, round, &job));
+    }
+    assert!(accepted > 400, "{accepted}");
+}
