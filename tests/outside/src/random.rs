@@ -33,7 +33,7 @@ impl Random {
 
     /// True once in `count` times.
     pub fn once_in(&mut self, count: u64) -> bool {
-        self.word().is_multiple_of(count)
+        self.word() % count == 0
     }
 
     pub fn pick<T: Copy>(&mut self, from: &[T]) -> T {

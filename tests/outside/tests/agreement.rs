@@ -169,7 +169,7 @@ fn chasing_jobs_agree() {
     let round = |all: &mut Comparison, n: usize| {
         let job = jobs::chasing_job(&mut all.random);
         let cells = 3 * job.count() * 901;
-        all.either(n.is_multiple_of(2), &job, cells);
+        all.either(n % 2 == 0, &job, cells);
     };
     let seen = Comparison::new(8, 0).rounds(1_500, round).report("chasing", 1_500);
     assert!(seen[0] > 500 && seen[8] > 100, "{seen:?}");
