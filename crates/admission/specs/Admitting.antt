@@ -3,41 +3,41 @@
 use Rattle.std.specs.Prelude.{ℕ, ◌/◌, ◌%◌, Bool, true, false, cond, List, [], ◌∷◌, eqb}
 use Rattle.model.specs.declared.Axis.{Axis}
 use Rattle.model.specs.planning.Job.{JobAxis}
-use Rattle.theorems.specs.GivenWeights.{withWeight}
-use Rattle.model.specs.planning.Admission.{Rules, planningRules}
-use Rattle.model.specs.calls.Search.{searchRules}
-use Rattle.model.specs.calls.Converter.{conversionRules}
+use Rattle.theorems.specs.GivenWeights.{with_weight}
+use Rattle.model.specs.planning.Admission.{Rules, planning_rules}
+use Rattle.model.specs.calls.Search.{search_rules}
+use Rattle.model.specs.calls.Converter.{conversion_rules}
 use Rattle.motion.specs.Motions.{measured}
 -- what admission comes to, without the job
-pub use Rattle.refusals.specs.Checks.{withoutJob}
+pub use Rattle.refusals.specs.Checks.{without_job}
 use Rattle.admission.specs.declared.Purpose.{Purpose}
 use Rattle.admission.specs.declared.Purpose.TheVariants.{Planning, Searching, Converting}
 
-abbrev pub rulesFor : Purpose → Rules
-rulesFor Planning = planningRules
-rulesFor Searching = searchRules
-rulesFor Converting = conversionRules
+abbrev pub rules_for : Purpose → Rules
+rules_for Planning = planning_rules
+rules_for Searching = search_rules
+rules_for Converting = conversion_rules
 
 -- the asked arrival as a call reads it
-abbrev pub askedRead : Purpose → ℕ → ℕ
-askedRead Planning asked = asked
-askedRead Searching asked = 0
-askedRead Converting asked = asked
+abbrev pub asked_read : Purpose → ℕ → ℕ
+asked_read Planning asked = asked
+asked_read Searching asked = 0
+asked_read Converting asked = asked
 
 -- whether fixed targets must be at rest
-abbrev pub mustRest : Purpose → ℕ → Bool
-mustRest Planning asked = true
-mustRest Searching asked = true
-mustRest Converting asked = eqb asked 0
+abbrev pub must_rest : Purpose → ℕ → Bool
+must_rest Planning asked = true
+must_rest Searching asked = true
+must_rest Converting asked = eqb asked 0
 
 -- ---- the weights
 
 -- whether one is to be worked out from damping as measured
-abbrev pub anyMeasured : List JobAxis → Bool
-anyMeasured [] = false
-anyMeasured (x ∷ xs) = cond (measured x.axis) true (anyMeasured xs)
+abbrev pub any_measured : List JobAxis → Bool
+any_measured [] = false
+any_measured (x ∷ xs) = cond (measured x.axis) true (any_measured xs)
 
 -- of six axes, those whose bit is set with the number B given, the others as they are
-abbrev pub namedWithWeight : ℕ → List Axis → List Axis
-namedWithWeight m [] = []
-namedWithWeight m (x ∷ xs) = cond (eqb (m % 2) 1) (withWeight x) x ∷ namedWithWeight (m / 2) xs
+abbrev pub named_with_weight : ℕ → List Axis → List Axis
+named_with_weight m [] = []
+named_with_weight m (x ∷ xs) = cond (eqb (m % 2) 1) (with_weight x) x ∷ named_with_weight (m / 2) xs

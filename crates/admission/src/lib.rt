@@ -8,11 +8,13 @@
 //                     refusals::check        refusals 4, 12, 5, 15, 6, 16, 17 and 13
 // A caller then has the weights worked out where `any_measured` says so: `with_weight` copies the
 // axes, which most jobs need not pay for.
+#![tactic(auto)]
+
 ghost use Rattle.std.specs.Prelude.{◌≡◌};
-ghost use Rattle.model.specs.planning.Job.{setAxes};
+ghost use Rattle.model.specs.planning.Job.{set_axes};
 ghost use Rattle.model.specs.planning.Admission.{typed, admission};
-ghost use Rattle.refusals.specs.Checks.{withoutJob};
-ghost use Rattle.admission.specs.Admitting.{rulesFor, askedRead, mustRest, anyMeasured, namedWithWeight};
+ghost use Rattle.refusals.specs.Checks.{without_job};
+ghost use Rattle.admission.specs.Admitting.{rules_for, asked_read, must_rest, any_measured, named_with_weight};
 
 use model::{AXES, Axis, Checked, LAST_TICK, Windows};
 
@@ -34,7 +36,7 @@ pub fn check(
     windows: Windows,
     purpose: Purpose,
 ) -> Checked
-    ensures { result ≡ withoutJob (admission (rulesFor purpose)
+    ensures { result ≡ without_job (admission (rules_for purpose)
         (typed (record { mask = mask; asked = asked; axes = axes; windows = windows }))) }
 {
     if !model::mask_allowed(mask) {
@@ -49,7 +51,7 @@ pub fn check(
 
 // The asked arrival as a call reads it.
 fn asked_read(purpose: Purpose, asked: u32) -> u32
-    ensures { result ≡ askedRead purpose asked }
+    ensures { result ≡ asked_read purpose asked }
 {
     match purpose {
         Purpose::Planning => asked,
@@ -60,7 +62,7 @@ fn asked_read(purpose: Purpose, asked: u32) -> u32
 
 // Whether fixed targets must be at rest.
 fn must_rest(purpose: Purpose, asked: u32) -> bool
-    ensures { result ≡ mustRest purpose asked }
+    ensures { result ≡ must_rest purpose asked }
 {
     match purpose {
         Purpose::Planning => true,
@@ -72,7 +74,7 @@ fn must_rest(purpose: Purpose, asked: u32) -> bool
 // Whether the number B of an axis that the mask names is to be worked out from damping as
 // measured. The other axes are not read.
 pub fn any_measured(mask: u32, axes: [Axis; AXES]) -> bool
-    ensures { result ≡ anyMeasured (setAxes 0 mask axes) }
+    ensures { result ≡ any_measured (set_axes 0 mask axes) }
 {
     let mut bits = mask;
     let mut i: usize = 0;
@@ -92,7 +94,7 @@ pub fn any_measured(mask: u32, axes: [Axis; AXES]) -> bool
 // The axes with the number B of each that the mask names given, so that it is worked out once. The
 // other axes are not read, and stay.
 pub fn with_weight(mask: u32, axes: [Axis; AXES]) -> [Axis; AXES]
-    ensures { result ≡ namedWithWeight mask axes }
+    ensures { result ≡ named_with_weight mask axes }
 {
     let mut given = axes;
     let mut bits = mask;

@@ -15,9 +15,9 @@ use Rattle.whole.proofs.Tests.{lt-or-le}
 use Rattle.model.specs.planning.Leg.{Leg, clamped, sum_at}
 use Rattle.theorems.proofs.legs.Envelopes.{Joined}
 use Rattle.regions.specs.declared.Regions.{Regions}
-use Rattle.regions.specs.Regions.{regionsOf, velocityIn}
-use Rattle.areas.specs.Areas.{rampArea, areaOf, areaAt, area_to, fallArea, risingTicks, levelTicks, levelTo}
-use Rattle.areas.specs.Areas.{fallingTo}
+use Rattle.regions.specs.Regions.{regions_of, velocity_in}
+use Rattle.areas.specs.Areas.{ramp_area, area_of, area_at, area_to, fall_area, rising_ticks, level_ticks, level_to}
+use Rattle.areas.specs.Areas.{falling_to}
 use Rattle.regions.proofs.ThreeRegions.{on-start, on-end, on-level}
 use Rattle.regions.proofs.ChosenRegions.{in_start, in_end, in-level}
 use Rattle.areas.proofs.PartSums.{area-to-is-sum}
@@ -45,33 +45,33 @@ module _ (a t f : ℕ) where
       left : (x : ℕ) → x - (x - min f x) ≡ min f x
       left x = omega arith
 
-area-all : (r : Regions) → r.raised ≡ 0 → area_to r (r.ticks - 1) ≡ areaOf r
-unfolding areaOf area_to fallArea
+area-all : (r : Regions) → r.raised ≡ 0 → area_to r (r.ticks - 1) ≡ area_of r
+unfolding area_of area_to fall_area
 area-all r e =
     ap (λ (m : ℕ). ramp +ℤ (pos level *ℤ r.cruise +ℤ pos m)
-    +ℤ rampArea (r.end +ℤ pos (t - t) *ℤ r.down) r.down falling)
+    +ℤ ramp_area (r.end +ℤ pos (t - t) *ℤ r.down) r.down falling)
     {x = min r.raised level} {y = 0} (omega arith)
     ∙ ap (λ (m : ℕ). ramp +ℤ (pos level *ℤ r.cruise +ℤ pos 0)
-    +ℤ rampArea (r.end +ℤ pos m *ℤ r.down) r.down falling) {x = t - t} {y = 0} (omega arith)
-    ∙ ap (λ (z : ℤ). ramp +ℤ (pos level *ℤ r.cruise +ℤ pos 0) +ℤ rampArea z r.down falling)
+    +ℤ ramp_area (r.end +ℤ pos m *ℤ r.down) r.down falling) {x = t - t} {y = 0} (omega arith)
+    ∙ ap (λ (z : ℤ). ramp +ℤ (pos level *ℤ r.cruise +ℤ pos 0) +ℤ ramp_area z r.down falling)
     (at-end r.end r.down)
-    ∙ none ramp (pos level *ℤ r.cruise) (rampArea r.end r.down falling)
-    ∙ ap (λ (m : ℕ). ramp +ℤ pos m *ℤ r.cruise +ℤ rampArea r.end r.down falling)
+    ∙ none ramp (pos level *ℤ r.cruise) (ramp_area r.end r.down falling)
+    ∙ ap (λ (m : ℕ). ramp +ℤ pos m *ℤ r.cruise +ℤ ramp_area r.end r.down falling)
     (level_all r.rise t r.fall)
-    ∙ ap (λ (m : ℕ). ramp +ℤ pos (levelTicks r) *ℤ r.cruise +ℤ rampArea r.end r.down m)
+    ∙ ap (λ (m : ℕ). ramp +ℤ pos (level_ticks r) *ℤ r.cruise +ℤ ramp_area r.end r.down m)
     (falling-all r.rise t r.fall)
   where
     t : ℕ
     t = r.ticks - 1
 
     ramp : ℤ
-    ramp = rampArea r.start r.up (risingTicks r)
+    ramp = ramp_area r.start r.up (rising_ticks r)
 
     level : ℕ
-    level = levelTo r t
+    level = level_to r t
 
     falling : ℕ
-    falling = fallingTo r t
+    falling = falling_to r t
 
     at-end : (e d : ℤ) → e +ℤ pos 0 *ℤ d ≡ e
     at-end e d = same (e ∷ d ∷ []) (search pol depth 20 fits 9000) tt
@@ -81,23 +81,23 @@ area-all r e =
 
 -- ---- a cruise
 
-module _ (g : Leg) (joined : Joined g) (some : 0 < g.accelerationLimit) (c : ℤ)
-    (inside : Within g.speedLimit c) where
+module _ (g : Leg) (joined : Joined g) (some : 0 < g.acceleration_limit) (c : ℤ)
+    (inside : Within g.speed_limit c) where
   abbrev R : Regions
-  R = regionsOf g c 0
+  R = regions_of g c 0
 
   -- the velocity of a tick, by its region
-  velocity-is : (k : ℕ) → k ≤ g.ticks → velocityIn R k ≡ clamped g c k
+  velocity-is : (k : ℕ) → k ≤ g.ticks → velocity_in R k ≡ clamped g c k
   velocity-is k h = go (lt-or-le R.rise k) (lt-or-le (k + R.fall) g.ticks)
     where
       go : (R.rise < k) ⊎ (k ≤ R.rise) → (k + R.fall < g.ticks) ⊎ (g.ticks ≤ k + R.fall)
-          → velocityIn R k ≡ clamped g c k
+          → velocity_in R k ≡ clamped g c k
       go (inr p) q = in_start R k p ∙ sym (on-start g joined some c inside k h c (≤ℤ_refl c) (≤ℤ-next c) p)
       go (inl p) (inl q) = in-level R k p q (omega arith) ∙ sym (on-level g joined some c inside k h p q)
       go (inl p) (inr q) = in_end R k p q ∙ sym (on-end g joined some c inside k h c (≤ℤ_refl c) (≤ℤ-next c) p q)
 
-  pub area-is-sum : areaAt g c ≡ sum_at g c
+  pub area-is-sum : area_at g c ≡ sum_at g c
   area-is-sum =
       sym (area-all R refl)
       ∙ area-to-is-sum R (g.ticks - 1) (omega arith)
-      ∙ sum_same (velocityIn R) (clamped g c) (g.ticks - 1) (λ k h. velocity-is k (omega arith))
+      ∙ sum_same (velocity_in R) (clamped g c) (g.ticks - 1) (λ k h. velocity-is k (omega arith))

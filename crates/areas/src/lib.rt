@@ -1,12 +1,14 @@
 // Sums of velocities from the areas under their regions, with no tick visited (docs/METHOD.md,
 // 3.9): of all ticks at a cruise, of the upper envelope, and of the first ticks of a list.
+#![tactic(auto)]
+
 ghost use Rattle.std.specs.Prelude.{◌-◌, ◌*◌, ◌^◌, ◌≤◌, ◌<◌, min, ◌≡◌};
-ghost use Rattle.whole.specs.Integers.{sumTo};
+ghost use Rattle.whole.specs.Integers.{sum_to};
 ghost use Rattle.whole.specs.Ranges.{Within, Is};
 ghost use Rattle.model.specs.planning.Leg.{sum_at};
-ghost use Rattle.areas.specs.Areas.{rampArea, parts_of, areaOf, partsTo, fallArea, UpperAreaIs};
-ghost use Rattle.profile.specs.Profiles.{legOf, Joinable};
-ghost use Rattle.regions.specs.Regions.{velocityIn, RegionsRanged};
+ghost use Rattle.areas.specs.Areas.{ramp_area, parts_of, area_of, parts_to, fall_area, UpperAreaIs};
+ghost use Rattle.profile.specs.Profiles.{leg_of, Joinable};
+ghost use Rattle.regions.specs.Regions.{velocity_in, RegionsRanged};
 
 use profile::Profile;
 use regions::{CruisePlan, Regions};
@@ -34,7 +36,7 @@ pub fn ramp_area(v: i64, u: i64, n: u64) -> i64
     requires within { Within (2 ^ 46) v }
     requires within_2 { Within (2 ^ 33) u }
     requires n_bound { n ≤ 4096 }
-    ensures { Is (3 * 2 ^ 57) result (rampArea v u n) }
+    ensures { Is (3 * 2 ^ 57) result (ramp_area v u n) }
 {
     let ticks = n as i64;
     let steps = (n * (n + 1) / 2) as i64;
@@ -73,7 +75,7 @@ fn parts_of(r: Regions) -> Parts
 fn area_of(r: Regions) -> i64
     requires regions_ranged { RegionsRanged r }
     requires ticks_nonzero { 0 < r.ticks }
-    ensures { Is (2 ^ 60) result (areaOf r) }
+    ensures { Is (2 ^ 60) result (area_of r) }
 {
     let parts = parts_of(r);
     let level = parts.level as i64;
@@ -87,7 +89,7 @@ fn area_of(r: Regions) -> i64
 pub fn area_at(p: Profile, c: i64) -> i64
     requires joinable { Joinable p }
     requires within { Within p.speed_limit c }
-    ensures { Is (2 ^ 60) result (sum_at (legOf p) c) }
+    ensures { Is (2 ^ 60) result (sum_at (leg_of p) c) }
 {
     let cruise = CruisePlan {
         velocity: c,
@@ -99,7 +101,7 @@ pub fn area_at(p: Profile, c: i64) -> i64
 // The area under the upper envelope, which are the velocities at the highest cruise, and its parts.
 pub fn upper_area(p: Profile) -> UpperArea
     requires { Joinable p }
-    ensures { UpperAreaIs (legOf p) result }
+    ensures { UpperAreaIs (leg_of p) result }
 {
     let cruise = CruisePlan {
         velocity: profile::signed(p.speed_limit),
@@ -129,7 +131,7 @@ fn less(n: u64, m: u64) -> u64
 // The parts of the velocities of ticks 1 to k.
 fn parts_to(r: Regions, k: u64) -> Parts
     requires { k < r.ticks }
-    ensures { result ≡ partsTo r k }
+    ensures { result ≡ parts_to r k }
 {
     let rising = at_most(r.rise, k);
     let last = less(r.ticks - 1, r.fall);
@@ -146,7 +148,7 @@ fn fall_area(r: Regions, k: u64, n: u64) -> i64
     requires regions_ranged { RegionsRanged r }
     requires k_lt_ticks { k < r.ticks }
     requires n_bound { n ≤ 4096 }
-    ensures { Is (3 * 2 ^ 57) result (fallArea r k n) }
+    ensures { Is (3 * 2 ^ 57) result (fall_area r k n) }
 {
     let left = (r.ticks - 1 - k) as i64;
     let down = r.down;
@@ -158,7 +160,7 @@ fn fall_area(r: Regions, k: u64, n: u64) -> i64
 pub fn sum_to(r: Regions, k: u64) -> i64
     requires regions_ranged { RegionsRanged r }
     requires k_lt_ticks { k < r.ticks }
-    ensures { Is (2 ^ 60) result (sumTo (velocityIn r) k) }
+    ensures { Is (2 ^ 60) result (sum_to (velocity_in r) k) }
 {
     let parts = parts_to(r, k);
     let raised = at_most(r.raised, parts.level) as i64;

@@ -13,14 +13,14 @@ use Rattle.whole.proofs.Tests.{true-T, either, lt-or-le}
 use Rattle.whole.proofs.Counting.{next_one}
 use Rattle.model.specs.declared.Axis.{Axis}
 use Rattle.model.specs.planning.Motion.{reachable}
-use Rattle.model.specs.planning.Outcome.{allReach}
+use Rattle.model.specs.planning.Outcome.{all_reach}
 use Rattle.whole.specs.Candidates.{Next}
 use Rattle.reach.specs.Halving.{Loses}
-use Rattle.model.specs.planning.Job.{JobAxis, setAxes}
+use Rattle.model.specs.planning.Job.{JobAxis, set_axes}
 use Rattle.model.specs.planning.Refusals.{Passed, AllPassed}
 use Rattle.theorems.proofs.motions.Threshold.{reached-slow, reached-later}
-use Rattle.arrival.specs.Arrivals.{missedBy, reachedBy, Again}
-use Rattle.model.proofs.SetAxes.{from, axisAt, passed-from}
+use Rattle.arrival.specs.Arrivals.{missed_by, reached_by, Again}
+use Rattle.model.proofs.SetAxes.{from, axis_at, passed-from}
 use Rattle.arrival.proofs.Reaching.{missed, not-missed, no_more, later-missed}
 
 -- ---- one axis
@@ -39,17 +39,17 @@ twice-not : (b : Bool) → b ≡ not (not b)
 twice-not true = refl
 twice-not false = refl
 
-named : (m : ℕ) (x : Axis) (k : ℕ) → m % 2 ≡ 1 → reachable x k ≡ reachedBy m x k
-unfolding missedBy
+named : (m : ℕ) (x : Axis) (k : ℕ) → m % 2 ≡ 1 → reachable x k ≡ reached_by m x k
+unfolding missed_by
 named m x k e =
     twice-not (reachable x k) ∙ ap (λ (b : Bool). not (cond b (not (reachable x k)) false)) (sym (eq-eqb (m % 2) 1 e))
 
 pub next-named : (m : ℕ) (x : Axis) (n last r : ℕ) → m % 2 ≡ 1 → Next (reachable x) n last r
-    → Next (reachedBy m x) n last r
+    → Next (reached_by m x) n last r
 next-named m x n last r e w = same_test (λ k. named m x k e) w
 
-pub next-unnamed : (m : ℕ) (x : Axis) (n last : ℕ) → (m % 2 ≡ 1 → ⊥) → n ≤ suc last → Next (reachedBy m x) n last n
-unfolding missedBy
+pub next-unnamed : (m : ℕ) (x : Axis) (n last : ℕ) → (m % 2 ≡ 1 → ⊥) → n ≤ suc last → Next (reached_by m x) n last n
+unfolding missed_by
 next-unnamed m x n last e h =
     record {
       low = omega arith;
@@ -59,14 +59,14 @@ next-unnamed m x n last e h =
     }
 
 pub loses-named : (m : ℕ) (x : Axis) (n : ℕ) (r : Bool) → m % 2 ≡ 1
-    → Loses (reachable x) n r → Loses (reachedBy m x) n r
+    → Loses (reachable x) n r → Loses (reached_by m x) n r
 loses-named m x n r e w =
     record {
       lost = λ h. sym (named m x n e) ∙ w.lost h;
       kept = λ h i p q. sym (named m x n e) ∙ w.kept h i p (named m x i e ∙ q);
     }
 
-pub loses-unnamed : (m : ℕ) (x : Axis) (n : ℕ) → (m % 2 ≡ 1 → ⊥) → Loses (reachedBy m x) n false
+pub loses-unnamed : (m : ℕ) (x : Axis) (n : ℕ) → (m % 2 ≡ 1 → ⊥) → Loses (reached_by m x) n false
 loses-unnamed m x n e =
     record {
       lost = λ h. absurd (subst T (sym h) tt);
@@ -74,11 +74,11 @@ loses-unnamed m x n e =
     }
 
 -- an axis that reaches two candidates reaches every one between them
-between : (m : ℕ) (x : Axis) → (m % 2 ≡ 1 → Passed x) → (j n k : ℕ) → j ≤ n → n ≤ k → reachedBy m x j ≡ true
-    → reachedBy m x k ≡ true → reachedBy m x n ≡ true
+between : (m : ℕ) (x : Axis) → (m % 2 ≡ 1 → Passed x) → (j n k : ℕ) → j ≤ n → n ≤ k → reached_by m x j ≡ true
+    → reached_by m x k ≡ true → reached_by m x n ≡ true
 between m x f j n k p q d e = go (either (eqb (m % 2) 1))
   where
-    go : (eqb (m % 2) 1 ≡ true) ⊎ (eqb (m % 2) 1 ≡ false) → reachedBy m x n ≡ true
+    go : (eqb (m % 2) 1 ≡ true) ⊎ (eqb (m % 2) 1 ≡ false) → reached_by m x n ≡ true
     go (inl t) =
         let h = eqb→eq (m % 2) 1 (true-T t) in
         let y = f h in
@@ -89,107 +89,107 @@ between m x f j n k p q d e = go (either (eqb (m % 2) 1))
 -- ---- the axes by their numbers
 
 -- the bits of a mask from axis i on
-pub bitsFrom : ℕ → ℕ → ℕ
-bitsFrom m zero = m
-bitsFrom m (suc i) = bitsFrom m i / 2
+pub bits_from : ℕ → ℕ → ℕ
+bits_from m zero = m
+bits_from m (suc i) = bits_from m i / 2
 
-pub bits-first : (m : ℕ) → m ≡ bitsFrom m 0
-unfolding bitsFrom
+pub bits-first : (m : ℕ) → m ≡ bits_from m 0
+unfolding bits_from
 bits-first m = refl
 
-pub bits-later : (m i bits : ℕ) → bits ≡ bitsFrom m i → bits / 2 ≡ bitsFrom m (i + 1)
-unfolding bitsFrom
-bits-later m i bits e = ap (λ (k : ℕ). k / 2) e ∙ ap (bitsFrom m) (next_one i)
+pub bits-later : (m i bits : ℕ) → bits ≡ bits_from m i → bits / 2 ≡ bits_from m (i + 1)
+unfolding bits_from
+bits-later m i bits e = ap (λ (k : ℕ). k / 2) e ∙ ap (bits_from m) (next_one i)
 
 -- where no bit is left none comes
-pub bits_none : (m i d : ℕ) → bitsFrom m i ≡ 0 → bitsFrom m (i + d) ≡ 0
-unfolding bitsFrom
+pub bits_none : (m i d : ℕ) → bits_from m i ≡ 0 → bits_from m (i + d) ≡ 0
+unfolding bits_from
 bits_none m i zero e =
     let k : i + 0 ≡ i = omega arith in
-    ap (bitsFrom m) k ∙ e
+    ap (bits_from m) k ∙ e
 bits_none m i (suc d) e =
     let k : i + suc d ≡ suc (i + d) = omega arith in
-    ap (bitsFrom m) k ∙ ap (λ (n : ℕ). n / 2) (bits_none m i d e)
+    ap (bits_from m) k ∙ ap (λ (n : ℕ). n / 2) (bits_none m i d e)
 
 module _ (m : ℕ) (six : List Axis) where
   -- the axis of number i is not named, or reaches n
   pub reach : ℕ → ℕ → Bool
-  reach i n = reachedBy (bitsFrom m i) (axisAt six i) n
+  reach i n = reached_by (bits_from m i) (axis_at six i) n
 
   abbrev on : ℕ → List JobAxis
-  on i = from i (bitsFrom m i) six
+  on i = from i (bits_from m i) six
 
   abbrev all : ℕ → Bool
-  all n = allReach (setAxes 0 m six) n
+  all n = all_reach (set_axes 0 m six) n
 
-  next-on : (i : ℕ) → from (i + 1) (bitsFrom m i / 2) six ≡ on (suc i)
-  unfolding bitsFrom
-  next-on i = ap (λ (k : ℕ). from k (bitsFrom m i / 2) six) (sym (next_one i))
+  next-on : (i : ℕ) → from (i + 1) (bits_from m i / 2) six ≡ on (suc i)
+  unfolding bits_from
+  next-on i = ap (λ (k : ℕ). from k (bits_from m i / 2) six) (sym (next_one i))
 
-  passed_on : AllPassed (setAxes 0 m six) → (i : ℕ) → i ≤ length six → AllPassed (on i)
-  unfolding bitsFrom
+  passed_on : AllPassed (set_axes 0 m six) → (i : ℕ) → i ≤ length six → AllPassed (on i)
+  unfolding bits_from
   passed_on p zero h = p
   passed_on p (suc i) h =
-      subst AllPassed (next-on i) (passed-from i (bitsFrom m i) six (omega arith) (passed_on p i (omega arith))).later
+      subst AllPassed (next-on i) (passed-from i (bits_from m i) six (omega arith) (passed_on p i (omega arith))).later
 
-  pub passed-at : AllPassed (setAxes 0 m six) → (i bits : ℕ) → bits ≡ bitsFrom m i → i < length six
-      → bits % 2 ≡ 1 → Passed (axisAt six i)
+  pub passed-at : AllPassed (set_axes 0 m six) → (i bits : ℕ) → bits ≡ bits_from m i → i < length six
+      → bits % 2 ≡ 1 → Passed (axis_at six i)
   passed-at p i bits e h =
       (passed-from i bits six h (subst (λ (k : ℕ). AllPassed (from i k six)) (sym e) (passed_on p i (omega arith)))).here
 
-  pub reach_of : (i bits n last r : ℕ) → bits ≡ bitsFrom m i
-      → Next (reachedBy bits (axisAt six i)) n last r → Next (reach i) n last r
+  pub reach_of : (i bits n last r : ℕ) → bits ≡ bits_from m i
+      → Next (reached_by bits (axis_at six i)) n last r → Next (reach i) n last r
   unfolding reach
-  reach_of i bits n last r e w = subst (λ (k : ℕ). Next (reachedBy k (axisAt six i)) n last r) e w
+  reach_of i bits n last r e w = subst (λ (k : ℕ). Next (reached_by k (axis_at six i)) n last r) e w
 
   -- what one axis misses is missed
-  one-missed : (i n : ℕ) → i < length six → allReach (on i) n ≡ false → all n ≡ false
-  unfolding bitsFrom
+  one-missed : (i n : ℕ) → i < length six → all_reach (on i) n ≡ false → all n ≡ false
+  unfolding bits_from
   one-missed zero n h e = e
   one-missed (suc i) n h e =
       one-missed i n (omega arith)
-      (later-missed n i (bitsFrom m i) six (omega arith) (ap (λ (l : List JobAxis). allReach l n) (next-on i) ∙ e))
+      (later-missed n i (bits_from m i) six (omega arith) (ap (λ (l : List JobAxis). all_reach l n) (next-on i) ∙ e))
 
   pub axis-misses : (i : ℕ) → i < length six → (n : ℕ) → reach i n ≡ false → all n ≡ false
   unfolding reach
   axis-misses i h n e =
-      one-missed i n h (missed n i (bitsFrom m i) six h (not-false (missedBy (bitsFrom m i) (axisAt six i) n) e))
+      one-missed i n h (missed n i (bits_from m i) six h (not-false (missed_by (bits_from m i) (axis_at six i) n) e))
 
   -- what every axis reaches is reached
-  all-on : (d i n : ℕ) → i + d ≡ length six → ((j : ℕ) → j < length six → reach j n ≡ true) → allReach (on i) n ≡ true
+  all-on : (d i n : ℕ) → i + d ≡ length six → ((j : ℕ) → j < length six → reach j n ≡ true) → all_reach (on i) n ≡ true
   unfolding reach
-  all-on zero i n h e = no_more n i (bitsFrom m i) six (omega arith)
+  all-on zero i n h e = no_more n i (bits_from m i) six (omega arith)
   all-on (suc d) i n h e =
-      not-missed n i (bitsFrom m i) six (omega arith)
-      (not-true (missedBy (bitsFrom m i) (axisAt six i) n) (e i (omega arith)))
-      ∙ ap (λ (l : List JobAxis). allReach l n) (next-on i)
+      not-missed n i (bits_from m i) six (omega arith)
+      (not-true (missed_by (bits_from m i) (axis_at six i) n) (e i (omega arith)))
+      ∙ ap (λ (l : List JobAxis). all_reach l n) (next-on i)
       ∙ all-on d (suc i) n (omega arith) e
 
   pub every-axis : (n : ℕ) → ((j : ℕ) → j < length six → reach j n ≡ true) → all n ≡ true
-  unfolding bitsFrom
+  unfolding bits_from
   every-axis n e = all-on (length six) 0 n (omega arith) e
 
   -- what a test of one axis says
-  pub reach-loses : (i bits n : ℕ) (r : Bool) → bits ≡ bitsFrom m i
-      → Loses (reachedBy bits (axisAt six i)) n r → Loses (reach i) n r
+  pub reach-loses : (i bits n : ℕ) (r : Bool) → bits ≡ bits_from m i
+      → Loses (reached_by bits (axis_at six i)) n r → Loses (reach i) n r
   unfolding reach
-  reach-loses i bits n r e w = subst (λ (k : ℕ). Loses (reachedBy k (axisAt six i)) n r) e w
+  reach-loses i bits n r e w = subst (λ (k : ℕ). Loses (reached_by k (axis_at six i)) n r) e w
 
-  pub reach-unnamed : (i n : ℕ) → bitsFrom m i ≡ 0 → reach i n ≡ true
+  pub reach-unnamed : (i n : ℕ) → bits_from m i ≡ 0 → reach i n ≡ true
   unfolding reach
   reach-unnamed i n e =
-      (next-unnamed (bitsFrom m i) (axisAt six i) n n (λ h. none (subst (λ (k : ℕ). k % 2 ≡ 1) e h))
+      (next-unnamed (bits_from m i) (axis_at six i) n n (λ h. none (subst (λ (k : ℕ). k % 2 ≡ 1) e h))
       (omega arith)).passed (omega arith)
     where
       none : 0 % 2 ≡ 1 → ⊥
       none h = omega arith
 
   -- an axis that reaches two candidates reaches every one between them
-  pub reach-between : AllPassed (setAxes 0 m six) → (i : ℕ) → i < length six → (j n k : ℕ) → j ≤ n → n ≤ k
+  pub reach-between : AllPassed (set_axes 0 m six) → (i : ℕ) → i < length six → (j n k : ℕ) → j ≤ n → n ≤ k
       → reach i j ≡ true → reach i k ≡ true
       → reach i n ≡ true
   unfolding reach
-  reach-between p i h = between (bitsFrom m i) (axisAt six i) (passed-at p i (bitsFrom m i) refl h)
+  reach-between p i h = between (bits_from m i) (axis_at six i) (passed-at p i (bits_from m i) refl h)
 
 -- ---- the axes lead on: the search began at first and has come to n before the turn of axis
 -- `number`

@@ -5,21 +5,21 @@ use native.Mathlib.Omega.{arith}
 use mathlib.Core.Path.{◌≡◌, refl, sym, ap, ◌∙◌}
 use mathlib.Core.Bool.{Bool, true, false}
 use mathlib.Core.Option.{Option, none, some}
-use Rattle.model.specs.planning.Outcome.{leastFrom}
+use Rattle.model.specs.planning.Outcome.{least_from}
 
 -- ---- what a loop over the ticks before `after` has before it
 
 module _ (test : ℕ → Bool) (after : ℕ) where
   -- from tick n on
   pub rest : ℕ → Option ℕ
-  rest n = leastFrom test n (after - n)
+  rest n = least_from test n (after - n)
 
   by : ℕ → Bool → Option ℕ
-  by n b = elim b [ true ↦ some n | false ↦ leastFrom test (suc n) (after - (n + 1)) ]
+  by n b = elim b [ true ↦ some n | false ↦ least_from test (suc n) (after - (n + 1)) ]
 
   opened : (n : ℕ) → n < after → rest n ≡ by n (test n)
   unfolding rest by
-  opened n h = ap (leastFrom test n) (one_less after n h)
+  opened n h = ap (least_from test n) (one_less after n h)
 
   pub here : (n : ℕ) → n < after → test n ≡ true → rest n ≡ some n
   unfolding by
@@ -27,22 +27,22 @@ module _ (test : ℕ → Bool) (after : ℕ) where
 
   pub later : (n : ℕ) → n < after → test n ≡ false → rest n ≡ rest (n + 1)
   unfolding rest by
-  later n h e = opened n h ∙ ap (by n) e ∙ ap (λ (k : ℕ). leastFrom test k (after - (n + 1))) (next_one n)
+  later n h e = opened n h ∙ ap (by n) e ∙ ap (λ (k : ℕ). least_from test k (after - (n + 1))) (next_one n)
 
   -- past d candidates that fail
   pub skip : (d n : ℕ) → n + d ≤ after → ((k : ℕ) → n ≤ k → k < n + d → test k ≡ false) → rest n ≡ rest (n + d)
   unfolding rest
-  skip zero n h e = ap (λ (k : ℕ). leastFrom test k (after - k)) {x = n} {y = n + zero} (omega arith)
+  skip zero n h e = ap (λ (k : ℕ). least_from test k (after - k)) {x = n} {y = n + zero} (omega arith)
   skip (suc d) n h e =
       later n (omega arith) (e n (omega arith) (omega arith))
       ∙ skip d (n + 1) (omega arith) (λ k p q. e k (omega arith) (omega arith))
-      ∙ ap (λ (k : ℕ). leastFrom test k (after - k)) {x = n + 1 + d} {y = n + suc d} (omega arith)
+      ∙ ap (λ (k : ℕ). least_from test k (after - k)) {x = n + 1 + d} {y = n + suc d} (omega arith)
 
   pub nowhere : (n : ℕ) → after ≤ n → rest n ≡ none
   unfolding rest
-  nowhere n h = ap (leastFrom test n) (none_left after n h)
+  nowhere n h = ap (least_from test n) (none_left after n h)
 
-  pub begun : (n : ℕ) → rest n ≡ leastFrom test n (after - n)
+  pub begun : (n : ℕ) → rest n ≡ least_from test n (after - n)
   unfolding rest
   begun n = refl
 
@@ -50,7 +50,7 @@ module _ (test : ℕ → Bool) (after : ℕ) where
 
 module _ (test : ℕ → Bool) (first after : ℕ) where
   past : (n : ℕ) → first ≤ n → n ≤ after → ((k : ℕ) → first ≤ k → k < n → test k ≡ false)
-      → leastFrom test first (after - first) ≡ rest test after n
+      → least_from test first (after - first) ≡ rest test after n
   past n h l e =
       let there : first + (n - first) ≡ n = omega arith in
       sym (begun test after first)
@@ -59,16 +59,16 @@ module _ (test : ℕ → Bool) (first after : ℕ) where
 
   -- the same from a later candidate on
   pub from-later : (n : ℕ) → first ≤ n → n ≤ after → ((k : ℕ) → first ≤ k → k < n → test k ≡ false)
-      → leastFrom test n (after - n) ≡ leastFrom test first (after - first)
+      → least_from test n (after - n) ≡ least_from test first (after - first)
   from-later n h l e = sym (past n h l e ∙ begun test after n)
 
   pub none_passes : ((k : ℕ) → first ≤ k → k < after → test k ≡ false) → first ≤ after
-      → none ≡ leastFrom test first (after - first)
+      → none ≡ least_from test first (after - first)
   none_passes e h = sym (past after h (omega arith) e ∙ nowhere test after after (omega arith))
 
-  pub none-to-try : after ≤ first → none ≡ leastFrom test first (after - first)
+  pub none-to-try : after ≤ first → none ≡ least_from test first (after - first)
   none-to-try h = sym (sym (begun test after first) ∙ nowhere test after first h)
 
   pub first_passes : (n : ℕ) → first ≤ n → n < after → ((k : ℕ) → first ≤ k → k < n → test k ≡ false) → test n ≡ true
-      → some n ≡ leastFrom test first (after - first)
+      → some n ≡ least_from test first (after - first)
   first_passes n h l e t = sym (past n h (omega arith) e ∙ here test after n l t)

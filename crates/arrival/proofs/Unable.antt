@@ -10,10 +10,10 @@ use lib.Dec.{eqb}
 use Rattle.reach.specs.Halving.{ReachesSome}
 use Rattle.model.specs.declared.Axis.{Axis}
 use Rattle.model.specs.planning.Motion.{reachable}
-use Rattle.model.specs.planning.Job.{JobAxis, setAxes, maskWhere}
-use Rattle.model.specs.planning.Outcome.{allReach, leastArrival}
-use Rattle.arrival.specs.Arrivals.{cannotArrive, bit_of}
-use Rattle.model.proofs.SetAxes.{pick, from, axisAt, from_more, from-none}
+use Rattle.model.specs.planning.Job.{JobAxis, set_axes, mask_where}
+use Rattle.model.specs.planning.Outcome.{all_reach, least_arrival}
+use Rattle.arrival.specs.Arrivals.{cannot_arrive, bit_of}
+use Rattle.model.proofs.SetAxes.{pick, from, axis_at, from_more, from-none}
 use Rattle.theorems.proofs.jobs.LeastTick.{Result, result}
 
 -- ---- one axis
@@ -22,14 +22,14 @@ module _ (x : Axis) where
   abbrev alone : List JobAxis
   alone = record { number = 0; axis = x } ∷ []
 
-  alone-is : (k : ℕ) → allReach alone k ≡ reachable x k
+  alone-is : (k : ℕ) → all_reach alone k ≡ reachable x k
   alone-is k = go (reachable x k)
     where
       go : (b : Bool) → (elim b as (λ _. Bool) [ true ↦ true | false ↦ false ]) ≡ b
       go true = refl
       go false = refl
 
-  none-reached : (r : Bool) (o : Option ℕ) → ReachesSome (reachable x) 4096 r → Result (allReach alone) 1 4096 o
+  none-reached : (r : Bool) (o : Option ℕ) → ReachesSome (reachable x) 4096 r → Result (all_reach alone) 1 4096 o
       → not r ≡ elim o as (λ _. Bool) [ some n ↦ false | none ↦ true ]
   none-reached true none w h =
       let k = w.some refl in
@@ -40,24 +40,24 @@ module _ (x : Axis) where
       absurd (false≢true (sym (w.none refl m (omega (arith, h.last))) ∙ sym (alone-is m) ∙ h.passes))
 
   pub reaches-none : (r : Bool) (asked : ℕ) → asked ≡ 0 → ReachesSome (reachable x) 4096 r
-      → not r ≡ cannotArrive asked x
-  unfolding cannotArrive
+      → not r ≡ cannot_arrive asked x
+  unfolding cannot_arrive
   reaches-none r asked z w =
-      none-reached r (leastArrival alone) w (result (allReach alone) 1 4096) ∙ sym (ap (λ (k : ℕ). cannotArrive k x) z)
+      none-reached r (least_arrival alone) w (result (all_reach alone) 1 4096) ∙ sym (ap (λ (k : ℕ). cannot_arrive k x) z)
 
-pub misses-asked : (asked : ℕ) (x : Axis) → (asked ≡ 0 → ⊥) → not (reachable x asked) ≡ cannotArrive asked x
-unfolding cannotArrive
+pub misses-asked : (asked : ℕ) (x : Axis) → (asked ≡ 0 → ⊥) → not (reachable x asked) ≡ cannot_arrive asked x
+unfolding cannot_arrive
 misses-asked zero x h = absurd (h refl)
 misses-asked (suc n) x h = refl
 
 -- ---- the axes of a mask
 
 weighed : (f : Axis → Bool) (b : Bool) (i : ℕ) (x : Axis) (xs : List JobAxis)
-    → maskWhere f (pick b i x xs) ≡ cond (cond b (f x) false) (2 ^ i) 0 + maskWhere f xs
+    → mask_where f (pick b i x xs) ≡ cond (cond b (f x) false) (2 ^ i) 0 + mask_where f xs
 weighed f true i x xs = go (f x)
   where
-    go : (t : Bool) → elim t as (λ _. ℕ) [ true ↦ 2 ^ i + maskWhere f xs | false ↦ maskWhere f xs ]
-        ≡ cond t (2 ^ i) 0 + maskWhere f xs
+    go : (t : Bool) → elim t as (λ _. ℕ) [ true ↦ 2 ^ i + mask_where f xs | false ↦ mask_where f xs ]
+        ≡ cond t (2 ^ i) 0 + mask_where f xs
     go true = refl
     go false = omega arith
 weighed f false i x xs = omega arith
@@ -65,26 +65,26 @@ weighed f false i x xs = omega arith
 module _ (asked i m : ℕ) (six : List Axis) where
   -- the mask from axis i on
   pub rest : ℕ
-  rest = maskWhere (cannotArrive asked) (from i m six)
+  rest = mask_where (cannot_arrive asked) (from i m six)
 
   pub none_more : length six ≤ i → rest ≡ 0
   unfolding rest
-  none_more h = ap (maskWhere (cannotArrive asked)) (from-none i m six h)
+  none_more h = ap (mask_where (cannot_arrive asked)) (from-none i m six h)
 
 pub one_more : (asked i m : ℕ) (six : List Axis) → i < length six
-    → rest asked i m six ≡ bit_of m (axisAt six i) asked (2 ^ i) + rest asked (i + 1) (m / 2) six
+    → rest asked i m six ≡ bit_of m (axis_at six i) asked (2 ^ i) + rest asked (i + 1) (m / 2) six
 unfolding rest bit_of
 one_more asked i m six h =
-    ap (maskWhere (cannotArrive asked)) (from_more i m six h)
-    ∙ weighed (cannotArrive asked) (eqb (m % 2) 1) i (axisAt six i) (from (i + 1) (m / 2) six)
+    ap (mask_where (cannot_arrive asked)) (from_more i m six h)
+    ∙ weighed (cannot_arrive asked) (eqb (m % 2) 1) i (axis_at six i) (from (i + 1) (m / 2) six)
 
-pub all : (asked m : ℕ) (six : List Axis) → rest asked 0 m six ≡ maskWhere (cannotArrive asked) (setAxes 0 m six)
+pub all : (asked m : ℕ) (six : List Axis) → rest asked 0 m six ≡ mask_where (cannot_arrive asked) (set_axes 0 m six)
 unfolding rest
 all asked m six = refl
 
 pub bit-at-most : (m : ℕ) (x : Axis) (asked bit : ℕ) → bit_of m x asked bit ≤ bit
 unfolding bit_of
-bit-at-most m x asked bit = go (cond (eqb (m % 2) 1) (cannotArrive asked x) false)
+bit-at-most m x asked bit = go (cond (eqb (m % 2) 1) (cannot_arrive asked x) false)
   where
     go : (b : Bool) → cond b bit 0 ≤ bit
     go true = omega arith

@@ -13,13 +13,13 @@ use lib.ListN.{length, get_or, take, drop}
 use Rattle.whole.proofs.Elements.{none-some}
 use Rattle.model.specs.declared.Window.{Window}
 use Rattle.model.specs.declared.Windows.{Windows}
-use Rattle.model.specs.planning.Windows.{brought, fitsWindow, fitsOne, inOrderAfter, firstWrongWindow, windowsRefused}
-use Rattle.model.specs.planning.Windows.{refused13, inWindows}
-use Rattle.model.specs.planning.Outcome.{leastFrom}
+use Rattle.model.specs.planning.Windows.{brought, fits_window, fits_one, in_order_after, first_wrong_window, windows_refused}
+use Rattle.model.specs.planning.Windows.{refused13, in_windows}
+use Rattle.model.specs.planning.Outcome.{least_from}
 use Rattle.theorems.proofs.jobs.WindowsInWords.{none-wrong}
-use Rattle.windows.specs.Ticks.{firstTick, afterLast}
+use Rattle.windows.specs.Ticks.{first_tick, after_last}
 use Rattle.windows.proofs.Ticks.{Fit, fit_is, fit-ticks, ticks-fit, first_above}
-use Rattle.windows.proofs.Listed.{noWindow, split}
+use Rattle.windows.proofs.Listed.{no_window, split}
 use Rattle.theorems.proofs.jobs.LeastTick.{Least, Result, result, one-result}
 use Rattle.arrival.specs.Arrivals.{searched}
 
@@ -28,72 +28,72 @@ use Rattle.arrival.specs.Arrivals.{searched}
 pub record Ordered (i c : ℕ) (w : Window) (l : List Window) : Type 0 where
   pub closes : w.opening < w.closing
   pub follows : c ≤ w.opening
-  pub later : firstWrongWindow (suc i) w.closing l ≡ none
+  pub later : first_wrong_window (suc i) w.closing l ≡ none
 
-ordered : (i c : ℕ) (w : Window) (l : List Window) → firstWrongWindow i c (w ∷ l) ≡ none → Ordered i c w l
+ordered : (i c : ℕ) (w : Window) (l : List Window) → first_wrong_window i c (w ∷ l) ≡ none → Ordered i c w l
 ordered i c w l e =
     let r = none-wrong i c (w ∷ l) e 0 w refl in
-    record { closes = r.closes; follows = r.follows; later = go (inOrderAfter c w) e }
+    record { closes = r.closes; follows = r.follows; later = go (in_order_after c w) e }
   where
     go : (b : Bool) → ◌≡◌ {A = Option ℕ}
-        (elim b as (λ _. Option ℕ) [ true ↦ firstWrongWindow (suc i) w.closing l | false ↦ some i ]) none
-        → firstWrongWindow (suc i) w.closing l ≡ none
+        (elim b as (λ _. Option ℕ) [ true ↦ first_wrong_window (suc i) w.closing l | false ↦ some i ]) none
+        → first_wrong_window (suc i) w.closing l ≡ none
     go true e = e
     go false e = absurd (none-some (sym e))
 
 module _ (test : ℕ → Bool) (first end dwell : ℕ) where
   -- a tick that fits one of them is at c or later
-  after : (i c : ℕ) (l : List Window) → firstWrongWindow i c l ≡ none → (n : ℕ) → fitsOne n dwell l ≡ true → c ≤ n
+  after : (i c : ℕ) (l : List Window) → first_wrong_window i c l ≡ none → (n : ℕ) → fits_one n dwell l ≡ true → c ≤ n
   after i c [] e n f = absurd (false≢true f)
   after i c (w ∷ l) e n f =
       let o = ordered i c w l e in
-      go (fitsWindow n dwell w) (fit_is n dwell w) o f (after (suc i) w.closing l o.later n)
+      go (fits_window n dwell w) (fit_is n dwell w) o f (after (suc i) w.closing l o.later n)
     where
       go : (b : Bool) → (b ≡ true → Fit n dwell w) → Ordered i c w l
-          → (elim b as (λ _. Bool) [ true ↦ true | false ↦ fitsOne n dwell l ]) ≡ true
-          → (fitsOne n dwell l ≡ true → w.closing ≤ n) → c ≤ n
+          → (elim b as (λ _. Bool) [ true ↦ true | false ↦ fits_one n dwell l ]) ≡ true
+          → (fits_one n dwell l ≡ true → w.closing ≤ n) → c ≤ n
       go true g o f h = let k = g refl in omega (arith, k.opened, o.follows)
       go false g o f h = let k = h f in omega (arith, o.closes, o.follows)
 
   abbrev both : List Window → ℕ → Bool
-  both l n = fitsOne n dwell l && test n
+  both l n = fits_one n dwell l && test n
 
   -- ---- the first window, and those after it
 
   module _ (w : Window) (l : List Window) where
     -- a tick that fits one of them and passes: in the first window, or in one of the later ones
-    of-first : (Q : Type 0) (n : ℕ) → both (w ∷ l) n ≡ true → (fitsWindow n dwell w ≡ true → test n ≡ true → Q)
-        → (fitsWindow n dwell w ≡ false → both l n ≡ true → Q) → Q
-    of-first Q n e f g = go (fitsWindow n dwell w) refl e
+    of-first : (Q : Type 0) (n : ℕ) → both (w ∷ l) n ≡ true → (fits_window n dwell w ≡ true → test n ≡ true → Q)
+        → (fits_window n dwell w ≡ false → both l n ≡ true → Q) → Q
+    of-first Q n e f g = go (fits_window n dwell w) refl e
       where
-        go : (b : Bool) → fitsWindow n dwell w ≡ b
-            → (elim b as (λ _. Bool) [ true ↦ true | false ↦ fitsOne n dwell l ]) && test n ≡ true → Q
+        go : (b : Bool) → fits_window n dwell w ≡ b
+            → (elim b as (λ _. Bool) [ true ↦ true | false ↦ fits_one n dwell l ]) && test n ≡ true → Q
         go true p e = f p e
         go false p e = g p e
 
-    in-first : (n : ℕ) → fitsWindow n dwell w ≡ true → test n ≡ true → both (w ∷ l) n ≡ true
-    in-first n e t = λ i. (elim (e i) as (λ _. Bool) [ true ↦ true | false ↦ fitsOne n dwell l ]) && t i
+    in-first : (n : ℕ) → fits_window n dwell w ≡ true → test n ≡ true → both (w ∷ l) n ≡ true
+    in-first n e t = λ i. (elim (e i) as (λ _. Bool) [ true ↦ true | false ↦ fits_one n dwell l ]) && t i
 
     in-later : (n : ℕ) → both l n ≡ true → both (w ∷ l) n ≡ true
-    in-later n e = go (fitsWindow n dwell w) (fitsOne n dwell l) (test n) e
+    in-later n e = go (fits_window n dwell w) (fits_one n dwell l) (test n) e
       where
         go : (b c t : Bool) → c && t ≡ true → (elim b as (λ _. Bool) [ true ↦ true | false ↦ c ]) && t ≡ true
         go true true t e = e
         go true false t e = absurd (false≢true e)
         go false c t e = e
 
-    fits-of : (n : ℕ) → both l n ≡ true → fitsOne n dwell l ≡ true
-    fits-of n e = go (fitsOne n dwell l) e
+    fits-of : (n : ℕ) → both l n ≡ true → fits_one n dwell l ≡ true
+    fits-of n e = go (fits_one n dwell l) e
       where
         go : (c : Bool) → c && test n ≡ true → c ≡ true
         go true e = refl
         go false e = absurd (false≢true e)
 
     abbrev count : ℕ
-    count = afterLast dwell end w - firstTick first w
+    count = after_last dwell end w - first_tick first w
 
     -- found in the first window
-    found : (n : ℕ) → ((k : ℕ) → both l k ≡ true → w.closing ≤ k) → Least test (firstTick first w) count n
+    found : (n : ℕ) → ((k : ℕ) → both l k ≡ true → w.closing ≤ k) → Least test (first_tick first w) count n
         → Least (both (w ∷ l)) first (end - first) n
     found n far r =
         let t = ticks-fit first end n dwell w r.first (omega (arith, r.last, r.first)) in
@@ -108,12 +108,12 @@ module _ (test : ℕ → Bool) (first end dwell : ℕ) where
               (λ p q. let s = far k q in omega (arith, f.within));
         }
 
-    missed : Result test (firstTick first w) count none → (k : ℕ) → first ≤ k → k < end
-        → fitsWindow k dwell w ≡ true → test k ≡ true → ⊥
+    missed : Result test (first_tick first w) count none → (k : ℕ) → first ≤ k → k < end
+        → fits_window k dwell w ≡ true → test k ≡ true → ⊥
     missed r k a b p q = let s = fit-ticks first end k dwell w a b p in r k s.0 (omega (arith, s.1, s.0)) q
 
     -- not found there
-    onward : (o : Option ℕ) → Result test (firstTick first w) count none → Result (both l) first (end - first) o
+    onward : (o : Option ℕ) → Result test (first_tick first w) count none → Result (both l) first (end - first) o
         → Result (both (w ∷ l)) first (end - first) o
     onward none none_here h = λ k a b e. of-first ⊥ k e (missed none_here k a (omega arith)) (λ p q. h k a b q)
     onward (some n) none_here h =
@@ -127,27 +127,27 @@ module _ (test : ℕ → Bool) (first end dwell : ℕ) where
 
   -- ---- all windows
 
-  searched-least : (i c : ℕ) (l : List Window) → firstWrongWindow i c l ≡ none
+  searched-least : (i c : ℕ) (l : List Window) → first_wrong_window i c l ≡ none
       → Result (both l) first (end - first) (searched test first end dwell l)
   searched-least i c [] e = λ k a b f. absurd (false≢true f)
   searched-least i c (w ∷ l) e =
       let o = ordered i c w l e in
-      go (leastFrom test (firstTick first w) (count w l)) (result test (firstTick first w) (count w l)) o.later
+      go (least_from test (first_tick first w) (count w l)) (result test (first_tick first w) (count w l)) o.later
       (searched-least (suc i) w.closing l o.later)
     where
-      go : (o : Option ℕ) → Result test (firstTick first w) (count w l) o
-          → firstWrongWindow (suc i) w.closing l ≡ none
+      go : (o : Option ℕ) → Result test (first_tick first w) (count w l) o
+          → first_wrong_window (suc i) w.closing l ≡ none
           → Result (both l) first (end - first) (searched test first end dwell l)
           → Result (both (w ∷ l)) first (end - first)
           (elim o as (λ _. Option ℕ) [ some n ↦ some n | none ↦ searched test first end dwell l ])
       go none r s h = onward w l (searched test first end dwell l) r h
       go (some n) r s h = found w l n (λ k q. after (suc i) w.closing l s k (fits-of w l k q)) r
 
-  pub searched-is : (l : List Window) → firstWrongWindow 0 0 l ≡ none
-      → searched test first end dwell l ≡ leastFrom (λ n. fitsOne n dwell l && test n) first (end - first)
+  pub searched-is : (l : List Window) → first_wrong_window 0 0 l ≡ none
+      → searched test first end dwell l ≡ least_from (λ n. fits_one n dwell l && test n) first (end - first)
   searched-is l e =
       let c = end - first in
-      one-result (both l) first c (searched test first end dwell l) (leastFrom (both l) first c)
+      one-result (both l) first c (searched test first end dwell l) (least_from (both l) first c)
       (searched-least 0 0 l e) (result (both l) first c)
 
 -- ---- what a loop over the first `count` windows of a list has before it
@@ -159,47 +159,47 @@ module _ (test : ℕ → Bool) (first end dwell : ℕ) (list : List Window) (cou
   others = drop (i + 1) (take count list)
 
   abbrev window : Window
-  window = get_or list i noWindow
+  window = get_or list i no_window
 
   by-window : Option ℕ → Option ℕ
   by-window o = elim o [ some n ↦ some n | none ↦ searched test first end dwell others ]
 
   -- window i, its first tick being a and the one after its last b
-  module _ (a b : ℕ) (from : a ≡ firstTick first window) (last : b ≡ afterLast dwell end window) where
-    opened : searched test first end dwell (drop i (take count list)) ≡ by-window (leastFrom test a (b - a))
+  module _ (a b : ℕ) (from : a ≡ first_tick first window) (last : b ≡ after_last dwell end window) where
+    opened : searched test first end dwell (drop i (take count list)) ≡ by-window (least_from test a (b - a))
     unfolding by-window
     opened =
         ap (searched test first end dwell) (split list count i inside below)
-        ∙ ap₂ (λ (k m : ℕ). by-window (leastFrom test k (m - k))) (sym from) (sym last)
+        ∙ ap₂ (λ (k m : ℕ). by-window (least_from test k (m - k))) (sym from) (sym last)
 
-    pub in_window : (n : ℕ) → some n ≡ leastFrom test a (b - a)
+    pub in_window : (n : ℕ) → some n ≡ least_from test a (b - a)
         → searched test first end dwell (drop i (take count list)) ≡ some n
     unfolding by-window
     in_window n is = opened ∙ ap by-window (sym is)
 
-    pub past-window : none ≡ leastFrom test a (b - a)
+    pub past-window : none ≡ least_from test a (b - a)
         → searched test first end dwell (drop i (take count list)) ≡ searched test first end dwell others
     unfolding by-window
     past-window is = opened ∙ ap by-window (sym is)
 
 -- ---- with windows and without
 
-in_order : (w : Windows) → refused13 w ≡ none → w.given ≡ true → firstWrongWindow 0 0 (brought w) ≡ none
+in_order : (w : Windows) → refused13 w ≡ none → w.given ≡ true → first_wrong_window 0 0 (brought w) ≡ none
 in_order w e t = by-given w.given t e
   where
     by_count : (a b : Bool)
         → ◌≡◌ {A = Option ℕ} (elim a as (λ _. Option ℕ) [
           | true ↦ some 0
-          | false ↦ elim b as (λ _. Option ℕ) [ true ↦ firstWrongWindow 0 0 (brought w) | false ↦ some 32 ]
+          | false ↦ elim b as (λ _. Option ℕ) [ true ↦ first_wrong_window 0 0 (brought w) | false ↦ some 32 ]
         ]) none
-        → firstWrongWindow 0 0 (brought w) ≡ none
+        → first_wrong_window 0 0 (brought w) ≡ none
     by_count true b e = absurd (none-some (sym e))
     by_count false true e = e
     by_count false false e = absurd (none-some (sym e))
 
     by-given : (b : Bool) → b ≡ true
-        → ◌≡◌ {A = Option ℕ} (elim b as (λ _. Option ℕ) [ true ↦ windowsRefused w | false ↦ none ]) none
-        → firstWrongWindow 0 0 (brought w) ≡ none
+        → ◌≡◌ {A = Option ℕ} (elim b as (λ _. Option ℕ) [ true ↦ windows_refused w | false ↦ none ]) none
+        → first_wrong_window 0 0 (brought w) ≡ none
     by-given true t e = by_count (eqb w.count 0) (leb w.count 32 && leb w.dwell 4096) e
     by-given false t e = absurd (false≢true t)
 
@@ -208,12 +208,12 @@ and-true true = refl
 and-true false = refl
 
 pub with-windows : (w : Windows) (first end : ℕ) → refused13 w ≡ none → w.given ≡ true
-    → searched (λ n. true) first end w.dwell (brought w) ≡ leastFrom (inWindows w) first (end - first)
+    → searched (λ n. true) first end w.dwell (brought w) ≡ least_from (in_windows w) first (end - first)
 with-windows w first end e t =
     searched-is (λ n. true) first end w.dwell (brought w) (in_order w e t)
-    ∙ (λ i. leastFrom (λ n. and-true (fitsOne n w.dwell (brought w)) i) first (end - first))
-    ∙ ap (λ (b : Bool). leastFrom
-    (λ n. elim b as (λ _. Bool) [ true ↦ fitsOne n w.dwell (brought w) | false ↦ true ]) first (end - first)) (sym t)
+    ∙ (λ i. least_from (λ n. and-true (fits_one n w.dwell (brought w)) i) first (end - first))
+    ∙ ap (λ (b : Bool). least_from
+    (λ n. elim b as (λ _. Bool) [ true ↦ fits_one n w.dwell (brought w) | false ↦ true ]) first (end - first)) (sym t)
 
-pub no-windows : (w : Windows) (n : ℕ) → w.given ≡ false → inWindows w n ≡ true
-no-windows w n t = ap (λ (b : Bool). elim b as (λ _. Bool) [ true ↦ fitsOne n w.dwell (brought w) | false ↦ true ]) t
+pub no-windows : (w : Windows) (n : ℕ) → w.given ≡ false → in_windows w n ≡ true
+no-windows w n t = ap (λ (b : Bool). elim b as (λ _. Bool) [ true ↦ fits_one n w.dwell (brought w) | false ↦ true ]) t

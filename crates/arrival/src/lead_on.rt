@@ -1,11 +1,11 @@
 // The axes of a mask lead each other on, to the least tick that all of them reach.
 ghost use Rattle.std.specs.Prelude.{◌≡◌, suc, ◌%◌, ◌<◌, ◌≤◌};
-ghost use Rattle.model.specs.planning.Job.{setAxes};
-ghost use Rattle.model.specs.planning.Refusals.{Passed, AllPassed, lastTick};
-ghost use Rattle.model.specs.planning.Outcome.{allReach};
+ghost use Rattle.model.specs.planning.Job.{set_axes};
+ghost use Rattle.model.specs.planning.Refusals.{Passed, AllPassed, last_tick};
+ghost use Rattle.model.specs.planning.Outcome.{all_reach};
 ghost use Rattle.whole.specs.Candidates.{Next};
 ghost use Rattle.reach.specs.Halving.{Loses};
-ghost use Rattle.arrival.specs.Arrivals.{reachedBy, Again, After};
+ghost use Rattle.arrival.specs.Arrivals.{reached_by, Again, After};
 
 use model::{AXES, Axis};
 
@@ -14,10 +14,10 @@ use model::{AXES, Axis};
 // the one that led on last are asked again: an axis that reached an earlier tick and does not reach
 // this one reaches no later one.
 pub fn least_reached(mask: u32, axes: [Axis; AXES], first: u32, last: u32) -> u32
-    requires all_passed { AllPassed (setAxes 0 mask axes) }
+    requires all_passed { AllPassed (set_axes 0 mask axes) }
     requires first_bound { first ≤ suc last }
-    requires last_le_last_tick { last ≤ lastTick }
-    ensures { Next (allReach (setAxes 0 mask axes)) first last result }
+    requires last_le_last_tick { last ≤ last_tick }
+    ensures { Next (all_reach (set_axes 0 mask axes)) first last result }
 {
     let mut n = first;
     let mut bits = mask;
@@ -73,8 +73,8 @@ fn again_after(again: usize, number: usize, n: u32, next: u32) -> usize
 fn next_for(bits: u32, axis: Axis, k: u32, last: u32) -> u32
     requires passed { bits % 2 ≡ 1 → Passed axis }
     requires k_bound { k ≤ suc last }
-    requires last_le_last_tick { last ≤ lastTick }
-    ensures { Next (reachedBy bits axis) k last result }
+    requires last_le_last_tick { last ≤ last_tick }
+    ensures { Next (reached_by bits axis) k last result }
 {
     if bits % 2 != 1 {
         return k;
@@ -86,8 +86,8 @@ fn next_for(bits: u32, axis: Axis, k: u32, last: u32) -> u32
 // tick, does not reach this one.
 fn drops_out(bits: u32, axis: Axis, tick: u32) -> bool
     requires passed { bits % 2 ≡ 1 → Passed axis }
-    requires tick_le_last_tick { tick ≤ lastTick }
-    ensures { Loses (reachedBy bits axis) tick result }
+    requires tick_le_last_tick { tick ≤ last_tick }
+    ensures { Loses (reached_by bits axis) tick result }
 {
     if bits % 2 == 1 {
         return reach::loses(axis, tick);

@@ -2,11 +2,11 @@
 // there are some.
 ghost use Rattle.std.specs.Prelude.{◌≡◌, true, ◌+◌, ◌-◌, ◌<◌, ◌≤◌, take};
 ghost use Rattle.std.proofs.Math.Option.{none};
-ghost use Rattle.model.specs.planning.Job.{setAxes};
-ghost use Rattle.model.specs.planning.Refusals.{AllPassed, lastTick};
+ghost use Rattle.model.specs.planning.Job.{set_axes};
+ghost use Rattle.model.specs.planning.Refusals.{AllPassed, last_tick};
 ghost use Rattle.model.specs.planning.Windows.{refused13};
-ghost use Rattle.model.specs.planning.Outcome.{allReach, leastFrom};
-ghost use Rattle.arrival.specs.Arrivals.{tickOf, arrivesIn, searched};
+ghost use Rattle.model.specs.planning.Outcome.{all_reach, least_from};
+ghost use Rattle.arrival.specs.Arrivals.{tick_of, arrives_in, searched};
 
 use crate::Tick;
 use crate::lead_on::least_reached;
@@ -17,10 +17,10 @@ use model::{AXES, Axis, MAX_WINDOWS, Window, Windows};
 // fits a window where there are some, or none. It is the least that fits one from the least tick on
 // that every axis reaches, or there is none: every axis reaches one run of ticks.
 pub fn least_common(mask: u32, axes: [Axis; AXES], windows: Windows, first: u32, after: u32) -> Tick
-    requires all_passed { AllPassed (setAxes 0 mask axes) }
+    requires all_passed { AllPassed (set_axes 0 mask axes) }
     requires windows_value { refused13 windows ≡ none }
-    requires after_bound { after ≤ lastTick + 1 }
-    ensures { tickOf result ≡ leastFrom (arrivesIn windows (setAxes 0 mask axes)) first (after - first) }
+    requires after_bound { after ≤ last_tick + 1 }
+    ensures { tick_of result ≡ least_from (arrives_in windows (set_axes 0 mask axes)) first (after - first) }
 {
     if after <= first {
         return Tick::Never;
@@ -38,14 +38,14 @@ pub fn least_common(mask: u32, axes: [Axis; AXES], windows: Windows, first: u32,
 // The same from a tick on that every axis reaches, where there are windows: the first tick
 // that fits one, or there is none.
 fn least_fitting(mask: u32, axes: [Axis; AXES], windows: Windows, first: u32, after: u32) -> Tick
-    requires all_passed { AllPassed (setAxes 0 mask axes) }
+    requires all_passed { AllPassed (set_axes 0 mask axes) }
     requires windows_value { refused13 windows ≡ none }
     requires given_value { windows.given ≡ true }
     requires le_after { 1 ≤ after }
-    requires after_bound { after ≤ lastTick + 1 }
+    requires after_bound { after ≤ last_tick + 1 }
     requires first_le_after { first ≤ after }
-    requires first_value { first < after → allReach (setAxes 0 mask axes) first ≡ true }
-    ensures { tickOf result ≡ leastFrom (arrivesIn windows (setAxes 0 mask axes)) first (after - first) }
+    requires first_value { first < after → all_reach (set_axes 0 mask axes) first ≡ true }
+    ensures { tick_of result ≡ least_from (arrives_in windows (set_axes 0 mask axes)) first (after - first) }
 {
     let list = windows.list;
     let fitting = least_in(list, windows.count, windows.dwell, first, after);
@@ -61,8 +61,8 @@ fn least_fitting(mask: u32, axes: [Axis; AXES], windows: Windows, first: u32, af
 fn least_in(list: [Window; MAX_WINDOWS], count: usize, dwell: u32, first: u32, after: u32) -> Tick
     requires count_bound { count ≤ 32 }
     requires dwell_bound { dwell ≤ 4096 }
-    requires after_bound { after ≤ lastTick + 1 }
-    ensures { tickOf result ≡ searched (λ n. true) first after dwell (take count list) }
+    requires after_bound { after ≤ last_tick + 1 }
+    ensures { tick_of result ≡ searched (λ n. true) first after dwell (take count list) }
 {
     let mut i: usize = 0;
     while i < count {

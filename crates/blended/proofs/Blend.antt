@@ -8,9 +8,9 @@ use Prim.Native.Nat.{ℕ, ◌+◌, ◌*◌}
 use lib.IntN.{ℤ, pos, ◌+ℤ◌, ◌-ℤ◌, ◌*ℤ◌}
 use Rattle.model.specs.declared.SecondSway.{SecondSway}
 use Rattle.model.specs.declared.SecondSway.TheVariants.{Absent, HalfPeriod}
-use Rattle.model.specs.planning.Quantities.{swayDelay}
+use Rattle.model.specs.planning.Quantities.{sway_delay}
 use Rattle.blended.specs.BlendedStates.{mix, added}
-use Rattle.planned.specs.Plans.{blendsBy}
+use Rattle.planned.specs.Plans.{blends_by}
 
 pub mix-same : (a b : ℕ) (x : ℤ) → mix a b x x ≡ pos (a + b) *ℤ x
 mix-same a b x = sym (+ℤ-*ℤ (pos a) (pos b) x)
@@ -50,7 +50,7 @@ mix-times s a b = ring (pos s) (pos a) (pos b)
 
 -- ---- the blends added up
 
-pub added-same : (s : SecondSway) (w : ℕ) (v : ℤ) → added s (λ d. pos w *ℤ v) ≡ pos (blendsBy s * w) *ℤ v
+pub added-same : (s : SecondSway) (w : ℕ) (v : ℤ) → added s (λ d. pos w *ℤ v) ≡ pos (blends_by s * w) *ℤ v
 added-same Absent w = ring (pos w)
   where
     ring : (w v : ℤ) → w *ℤ v ≡ (pos 1 *ℤ w) *ℤ v
@@ -85,7 +85,7 @@ added-times (HalfPeriod d) c f = ring c (f 0) (f d)
 -- at tick 0: w is both weights together, l the second times h
 pub added-start : (s : SecondSway) (w l : ℕ) (q v : ℤ)
     → added s (λ d. pos w *ℤ q -ℤ pos 2 *ℤ (pos (l + w * d) *ℤ v))
-    ≡ pos (blendsBy s * w) *ℤ q -ℤ pos 2 *ℤ (pos (blendsBy s * l + w * swayDelay s) *ℤ v)
+    ≡ pos (blends_by s * w) *ℤ q -ℤ pos 2 *ℤ (pos (blends_by s * l + w * sway_delay s) *ℤ v)
 added-start Absent w l = ring (pos w) (pos l)
   where
     ring : (w l q v : ℤ)

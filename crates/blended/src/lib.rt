@@ -1,11 +1,13 @@
 // One axis of a job after the blends (docs/METHOD.md, section 3): its velocity at a tick, and its
 // state from the start on or from the landing back, with no tick before visited.
+#![tactic(auto)]
+
 ghost use Rattle.std.specs.Prelude.{suc, ◌^◌, ◌≤◌, ◌≡◌};
-ghost use Rattle.whole.specs.Integers.{sumTo};
+ghost use Rattle.whole.specs.Integers.{sum_to};
 ghost use Rattle.whole.specs.Ranges.{Within, Is};
-ghost use Rattle.blended.specs.BlendedStates.{mix, blendedBack, blendedVelocity, lagOf, blendedStateAt, comesTo};
+ghost use Rattle.blended.specs.BlendedStates.{mix, blended_back, blended_velocity, lag_of, blended_state_at, comes_to};
 ghost use Rattle.blended.specs.BlendedStates.{LandsAt};
-ghost use Rattle.planned.specs.Plans.{arrivalOf, PlanRanges, totalWeight};
+ghost use Rattle.planned.specs.Plans.{arrival_of, PlanRanges, total_weight};
 
 use model::{Order, SecondSway};
 use planned::AxisPlan;
@@ -35,8 +37,8 @@ pub fn mix(first_weight: u32, second_weight: u32, ahead: i64, behind: i64) -> i6
 fn blended_back(p: AxisPlan, d: u32, k: u32) -> i64
     requires plan_ranges { PlanRanges p }
     requires d_bound { d ≤ 256 }
-    requires k_bound { k ≤ suc (arrivalOf p) }
-    ensures { Is (2 ^ 46) result (blendedBack p d k) }
+    requires k_bound { k ≤ suc (arrival_of p) }
+    ensures { Is (2 ^ 46) result (blended_back p d k) }
 {
     let ahead = planned::velocity_back(p, d, k);
     let behind = planned::velocity_back(p, d + p.half_period, k);
@@ -46,8 +48,8 @@ fn blended_back(p: AxisPlan, d: u32, k: u32) -> i64
 // The velocity of tick k after the blends.
 fn blended_velocity(p: AxisPlan, k: u32) -> i64
     requires plan_ranges { PlanRanges p }
-    requires k_bound { k ≤ suc (arrivalOf p) }
-    ensures { Is (2 ^ 46) result (blendedVelocity p k) }
+    requires k_bound { k ≤ suc (arrival_of p) }
+    ensures { Is (2 ^ 46) result (blended_velocity p k) }
 {
     let sway = p.second_sway;
     let once = blended_back(p, 0, k);
@@ -60,7 +62,7 @@ fn blended_velocity(p: AxisPlan, k: u32) -> i64
 // All weights together.
 fn total_weight(p: AxisPlan) -> u32
     requires { PlanRanges p }
-    ensures { result ≡ totalWeight p }
+    ensures { result ≡ total_weight p }
 {
     let sway = p.second_sway;
     planned::blends(sway) * (p.first_weight + p.second_weight)
@@ -69,7 +71,7 @@ fn total_weight(p: AxisPlan) -> u32
 // Each weight times its delay, together.
 fn lag_of(p: AxisPlan) -> u32
     requires { PlanRanges p }
-    ensures { result ≡ lagOf p }
+    ensures { result ≡ lag_of p }
 {
     let sway = p.second_sway;
     let second_delay = motion::sway_delay(sway);
@@ -83,8 +85,8 @@ fn lag_of(p: AxisPlan) -> u32
 fn blended_sum_back(p: AxisPlan, d: u32, k: u32) -> i64
     requires plan_ranges { PlanRanges p }
     requires d_bound { d ≤ 256 }
-    requires k_bound { k ≤ suc (arrivalOf p) }
-    ensures { Is (2 ^ 59) result (sumTo (blendedBack p d) k) }
+    requires k_bound { k ≤ suc (arrival_of p) }
+    ensures { Is (2 ^ 59) result (sum_to (blended_back p d) k) }
 {
     let ahead = planned::sum_back(p, d, k);
     let behind = planned::sum_back(p, d + p.half_period, k);
@@ -94,8 +96,8 @@ fn blended_sum_back(p: AxisPlan, d: u32, k: u32) -> i64
 // Of the velocities after the blends.
 fn blended_sum(p: AxisPlan, k: u32) -> i64
     requires plan_ranges { PlanRanges p }
-    requires k_bound { k ≤ suc (arrivalOf p) }
-    ensures { Is (2 ^ 59) result (sumTo (blendedVelocity p) k) }
+    requires k_bound { k ≤ suc (arrival_of p) }
+    ensures { Is (2 ^ 59) result (sum_to (blended_velocity p) k) }
 {
     let sway = p.second_sway;
     let once = blended_sum_back(p, 0, k);
@@ -110,7 +112,7 @@ fn blended_sum(p: AxisPlan, k: u32) -> i64
 // The state at tick 0.
 fn started(p: AxisPlan) -> BlendedState
     requires { PlanRanges p }
-    ensures { result ≡ blendedStateAt p 0 }
+    ensures { result ≡ blended_state_at p 0 }
 {
     let regions = p.regions;
     let start = regions.start;
@@ -125,8 +127,8 @@ fn started(p: AxisPlan) -> BlendedState
 // The state at tick k: from that at tick 0 on, each tick goes on by the velocities at its two ends.
 fn blended_state_at(p: AxisPlan, k: u32) -> BlendedState
     requires plan_ranges { PlanRanges p }
-    requires k_bound { k ≤ suc (arrivalOf p) }
-    ensures { result ≡ blendedStateAt p k }
+    requires k_bound { k ≤ suc (arrival_of p) }
+    ensures { result ≡ blended_state_at p k }
 {
     let first = started(p);
     if k == 0 {
@@ -147,9 +149,9 @@ fn blended_state_at(p: AxisPlan, k: u32) -> BlendedState
 // The state one tick on from tick k.
 fn next_state(p: AxisPlan, k: u32, t: BlendedState) -> BlendedState
     requires plan_ranges { PlanRanges p }
-    requires k_bound { k ≤ arrivalOf p }
-    requires t_value { t ≡ blendedStateAt p k }
-    ensures { result ≡ blendedStateAt p (suc k) }
+    requires k_bound { k ≤ arrival_of p }
+    requires t_value { t ≡ blended_state_at p k }
+    ensures { result ≡ blended_state_at p (suc k) }
 {
     let next = blended_velocity(p, k + 1);
     let velocity = t.velocity;
@@ -163,9 +165,9 @@ fn next_state(p: AxisPlan, k: u32, t: BlendedState) -> BlendedState
 // The state at the arrival n: the landing is exact.
 fn arrived(p: AxisPlan, n: u32) -> BlendedState
     requires plan_ranges { PlanRanges p }
-    requires n_bound { n ≤ arrivalOf p }
+    requires n_bound { n ≤ arrival_of p }
     requires lands_at { LandsAt n p }
-    ensures { result ≡ blendedStateAt p n }
+    ensures { result ≡ blended_state_at p n }
 {
     let destination = p.destination;
     let velocity = blended_velocity(p, n);
@@ -182,10 +184,10 @@ fn arrived(p: AxisPlan, n: u32) -> BlendedState
 // the landing and forwards at the start.
 pub fn first_state(p: AxisPlan, order: Order, n: u32, place: u32) -> BlendedState
     requires plan_ranges { PlanRanges p }
-    requires n_bound { n ≤ arrivalOf p }
+    requires n_bound { n ≤ arrival_of p }
     requires lands_at { LandsAt n p }
     requires place_bound { place ≤ suc n }
-    ensures { result ≡ blendedStateAt p (comesTo order n place) }
+    ensures { result ≡ blended_state_at p (comes_to order n place) }
 {
     match order {
         Order::Forwards => blended_state_at(p, place),

@@ -9,13 +9,13 @@ use Rattle.model.specs.declared.Job.{Job}
 use Rattle.model.specs.declared.Order.{Order}
 use Rattle.model.specs.declared.PartAnswer.{PartAnswer}
 use Rattle.model.specs.declared.RaisesAnswer.{RaisesAnswer}
-use Rattle.model.specs.planning.Outcome.{Input, typed, inputJob}
+use Rattle.model.specs.planning.Outcome.{Input, typed, input_job}
 use Rattle.theorems.specs.Raises.{RaisesHold, RaisesCallVerdict}
 use Rattle.planner.specs.Promise.{Promise}
 use Rattle.parts.specs.Promise.{PartPromise}
 use Rattle.raises.specs.Promise.{RaisesPromise}
 use Rattle.layout.specs.declared.limit_raises.PolgamirRaises.{PolgamirRaises}
-use Rattle.layout.specs.Raises.{raisesInC}
+use Rattle.layout.specs.Raises.{raises_in_c}
 use Rattle.capi.specs.Raises.{RaisesReturned}
 
 pub for-answer : {o : Order} {q : Input} {entry exit : List ℤ} {r s : Answer} → s ≡ r
@@ -36,13 +36,13 @@ pub part-for-job : {k : ℕ} {entry exit : List ℤ} {r : PartAnswer} {i j : Job
 part-for-job {k} {entry} {exit} {r} same kept = subst (λ (t : Job). PartPromise (typed t) k entry r exit) same kept
 
 -- the same of raises
-pub in_c : {q : Input} {r : RaisesAnswer} {c : PolgamirRaises} → c ≡ raisesInC r
+pub in_c : {q : Input} {r : RaisesAnswer} {c : PolgamirRaises} → c ≡ raises_in_c r
     → RaisesPromise q r → RaisesReturned q c
 in_c {q} same kept =
     record {
-      is = same ∙ ap raisesInC kept.is;
+      is = same ∙ ap raises_in_c kept.is;
       verdict = subst (RaisesCallVerdict q) kept.is kept.verdict;
-      holds = subst (RaisesHold (inputJob q)) kept.is kept.holds;
+      holds = subst (RaisesHold (input_job q)) kept.is kept.holds;
     }
 
 pub for-typed : {c : PolgamirRaises} {j k : Job} → j ≡ k → RaisesReturned (typed j) c → RaisesReturned (typed k) c

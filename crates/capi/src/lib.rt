@@ -1,6 +1,8 @@
 // The planner's calls for programs in C and Rust, as include/polgamir.h declares them. Each keeps
 // the promise of the planner's call that it makes, whatever it is given. A slice is a pointer and a
 // count to C; a struct passes by value, and `layout` says what it stands for.
+#![tactic(auto)]
+
 mod limit_raises;
 mod row_parts;
 mod searches;
@@ -11,7 +13,7 @@ ghost use Rattle.model.specs.declared.Order.TheVariants.{Forwards, Backwards};
 ghost use Rattle.model.specs.planning.Outcome as Input;
 ghost use Rattle.planner.specs.Promise.{Promise};
 ghost use Rattle.converter.specs.Promise.{Converts};
-ghost use Rattle.layout.specs.Jobs.{jobFromC, answerForC};
+ghost use Rattle.layout.specs.Jobs.{job_from_c, answer_for_c};
 
 use layout::{PolgamirAnswer, PolgamirJob, job_of, returned};
 
@@ -31,7 +33,7 @@ pub extern "C" fn polgamir_version() -> u32
 #[unsafe(no_mangle)]
 pub extern "C" fn polgamir_plan_words(words: &[u32], table: &mut [i64]) -> PolgamirAnswer
     ensures { Promise Forwards (Input.words words.now) table.old
-        (answerForC result) table.new }
+        (answer_for_c result) table.new }
 {
     returned(planner::plan_words(words, table))
 }
@@ -42,7 +44,7 @@ pub extern "C" fn polgamir_plan_words(words: &[u32], table: &mut [i64]) -> Polga
 // words gives; its refusals are 1, 3 to 6, 8 to 10, 12, 13, 15, 16 and 17.
 #[unsafe(no_mangle)]
 pub extern "C" fn polgamir_plan_job(job: PolgamirJob, table: &mut [i64]) -> PolgamirAnswer
-    ensures { Promise Forwards (Input.typed (jobFromC job)) table.old (answerForC result) table.new }
+    ensures { Promise Forwards (Input.typed (job_from_c job)) table.old (answer_for_c result) table.new }
 {
     let typed = job_of(job);
     returned(planner::plan_job(typed, table))
@@ -54,7 +56,7 @@ pub extern "C" fn polgamir_plan_job(job: PolgamirJob, table: &mut [i64]) -> Polg
 // place, and then no word is written. Mask and arrival are 0.
 #[unsafe(no_mangle)]
 pub extern "C" fn polgamir_convert(words: &[u32], lent: &mut [u32]) -> PolgamirAnswer
-    ensures { Converts words.now lent.old (answerForC result) lent.new }
+    ensures { Converts words.now lent.old (answer_for_c result) lent.new }
 {
     returned(converter::convert(words, lent))
 }
@@ -65,7 +67,7 @@ pub extern "C" fn polgamir_convert(words: &[u32], lent: &mut [u32]) -> PolgamirA
 #[unsafe(no_mangle)]
 pub extern "C" fn polgamir_plan_words_backwards(words: &[u32], table: &mut [i64]) -> PolgamirAnswer
     ensures { Promise Backwards (Input.words words.now) table.old
-        (answerForC result) table.new }
+        (answer_for_c result) table.new }
 {
     returned(planner::plan_words_backwards(words, table))
 }
@@ -73,7 +75,7 @@ pub extern "C" fn polgamir_plan_words_backwards(words: &[u32], table: &mut [i64]
 // The answer of `polgamir_plan_job`, and the same rows with the arrival's first and row 0 last.
 #[unsafe(no_mangle)]
 pub extern "C" fn polgamir_plan_job_backwards(job: PolgamirJob, table: &mut [i64]) -> PolgamirAnswer
-    ensures { Promise Backwards (Input.typed (jobFromC job)) table.old (answerForC result) table.new }
+    ensures { Promise Backwards (Input.typed (job_from_c job)) table.old (answer_for_c result) table.new }
 {
     let typed = job_of(job);
     returned(planner::plan_job_backwards(typed, table))

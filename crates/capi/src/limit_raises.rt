@@ -1,7 +1,7 @@
 // The calls for the least raise of a limit that makes an asked arrival, as
 // include/polgamir.h declares them.
 ghost use Rattle.model.specs.planning.Outcome as Input;
-ghost use Rattle.layout.specs.Jobs.{jobFromC};
+ghost use Rattle.layout.specs.Jobs.{job_from_c};
 ghost use Rattle.capi.specs.Raises.{RaisesReturned};
 
 use layout::limit_raises::{PolgamirRaises, raises_in_c};
@@ -20,7 +20,7 @@ pub extern "C" fn polgamir_raises_words(words: &[u32]) -> PolgamirRaises
 // The same for a job of typed values.
 #[unsafe(no_mangle)]
 pub extern "C" fn polgamir_raises_job(job: PolgamirJob) -> PolgamirRaises
-    ensures { RaisesReturned (Input.typed (jobFromC job)) result }
+    ensures { RaisesReturned (Input.typed (job_from_c job)) result }
 {
     let typed = job_of(job);
     raises_in_c(raises::raises_job(typed))

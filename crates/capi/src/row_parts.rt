@@ -1,7 +1,7 @@
 // The calls for rows in parts, as include/polgamir.h declares them.
 ghost use Rattle.model.specs.planning.Outcome as Input;
 ghost use Rattle.parts.specs.Promise.{PartPromise};
-ghost use Rattle.layout.specs.Jobs.{jobFromC};
+ghost use Rattle.layout.specs.Jobs.{job_from_c};
 ghost use Rattle.layout.specs.Parts.{part_of};
 
 use layout::row_parts::{PolgamirPartAnswer, part_returned};
@@ -16,7 +16,7 @@ pub extern "C" fn polgamir_plan_job_part(
     first: u32,
     table: &mut [i64],
 ) -> PolgamirPartAnswer
-    ensures { PartPromise (Input.typed (jobFromC job)) first table.old (part_of result) table.new }
+    ensures { PartPromise (Input.typed (job_from_c job)) first table.old (part_of result) table.new }
 {
     let typed = job_of(job);
     part_returned(parts::plan_job_part(typed, first, table))

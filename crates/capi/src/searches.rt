@@ -1,6 +1,6 @@
 // The calls for a search with a budget, as include/polgamir.h declares them.
 ghost use Rattle.model.specs.planning.Outcome as Input;
-ghost use Rattle.layout.specs.Jobs.{jobFromC};
+ghost use Rattle.layout.specs.Jobs.{job_from_c};
 ghost use Rattle.capi.specs.Searches.{SearchReturned};
 
 use layout::searches::{PolgamirSearchAnswer, searched};
@@ -17,7 +17,7 @@ pub extern "C" fn polgamir_search_job(
     first: u32,
     budget: u32,
 ) -> PolgamirSearchAnswer
-    ensures { SearchReturned (Input.typed (jobFromC job)) first budget result }
+    ensures { SearchReturned (Input.typed (job_from_c job)) first budget result }
 {
     let typed = job_of(job);
     searched(search::search_job(typed, first, budget))

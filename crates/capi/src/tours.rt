@@ -1,7 +1,7 @@
 // The call for a tour of stops, as include/polgamir.h declares it.
 ghost use Rattle.stops.specs.Promise.{TourPromise};
-ghost use Rattle.stops.specs.Rows.{rowStops};
-ghost use Rattle.layout.specs.Tours.{settingsOf};
+ghost use Rattle.stops.specs.Rows.{row_stops};
+ghost use Rattle.layout.specs.Tours.{settings_of};
 
 use layout::tours::{PolgamirTour, settings_of};
 use model::{Stop, TourAnswer};
@@ -18,7 +18,7 @@ pub extern "C" fn polgamir_plan_tour(
     stops: &[Stop],
     arrivals: &mut [u32],
 ) -> TourAnswer
-    ensures { TourPromise (settingsOf tour) stops.now arrivals.old result arrivals.new }
+    ensures { TourPromise (settings_of tour) stops.now arrivals.old result arrivals.new }
 {
     let row = stop_row(stops);
     tour_by_value(tour, row, arrivals)
@@ -27,7 +27,7 @@ pub extern "C" fn polgamir_plan_tour(
 // The same for stops by value. The stops are looked at first: where there is
 // none, no field of the tour is read.
 fn tour_by_value(tour: PolgamirTour, row: StopRow, arrivals: &mut [u32]) -> TourAnswer
-    ensures { TourPromise (settingsOf tour) (rowStops row) arrivals.old result arrivals.new }
+    ensures { TourPromise (settings_of tour) (row_stops row) arrivals.old result arrivals.new }
 {
     if row.lent == 0 {
         return TourAnswer {

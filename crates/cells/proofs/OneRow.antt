@@ -16,9 +16,9 @@ use Rattle.planned.specs.declared.AxisPlan.{AxisPlan}
 use Rattle.segments.specs.declared.Segment.{Segment}
 use Rattle.blended.specs.declared.BlendedState.{BlendedState}
 use Rattle.cells.specs.declared.RowStates.{RowStates}
-use Rattle.planned.specs.Plans.{arrivalOf, PlanRanges}
-use Rattle.blended.specs.BlendedStates.{blendedVelocity, blendedPosition, blendedStateAt}
-use Rattle.cells.specs.Rows.{comesAt, rowStates, kept_at, changed}
+use Rattle.planned.specs.Plans.{arrival_of, PlanRanges}
+use Rattle.blended.specs.BlendedStates.{blended_velocity, blended_position, blended_state_at}
+use Rattle.cells.specs.Rows.{comes_at, row_states, kept_at, changed}
 use Rattle.segments.specs.Segments.{SegmentOf}
 use Rattle.blended.proofs.BlendedSteps.{state-next, state-before}
 use Rattle.blended.proofs.BlendedRanges.{velocity-within}
@@ -28,45 +28,45 @@ back v c = same (v ∷ c ∷ []) (search pol depth 20 fits 9000) tt
 
 -- a segment of the velocity after the blends that has tick k
 pub record Kept (p : AxisPlan) (k : ℕ) (q : Segment) : Type 0 where
-  pub segment : SegmentOf (blendedVelocity p) q
+  pub segment : SegmentOf (blended_velocity p) q
   pub from : q.from ≤ k
   pub until : k < q.until
 
 module _ {p : AxisPlan} {k : ℕ} {q : Segment} (a : Kept p k q) where
   -- the change of tick k
-  pub changes : blendedVelocity p (suc k) ≡ blendedVelocity p k +ℤ q.change
+  pub changes : blended_velocity p (suc k) ≡ blended_velocity p k +ℤ q.change
   changes = a.segment.even k a.from a.until
 
-  pub change-within : PlanRanges p → k ≤ arrivalOf p → Within (2 ^ 47) q.change
+  pub change-within : PlanRanges p → k ≤ arrival_of p → Within (2 ^ 47) q.change
   change-within s h =
       let v = velocity-within p s k (omega arith) in
       let w = velocity-within p s (suc k) (omega arith) in
       subst (Within (2 ^ 47))
-      (ap (λ (z : ℤ). z -ℤ blendedVelocity p k) changes ∙ back (blendedVelocity p k) q.change)
+      (ap (λ (z : ℤ). z -ℤ blended_velocity p k) changes ∙ back (blended_velocity p k) q.change)
       (within (search exact depth 9) tt)
 
   -- the states of the row of tick k, from the one that comes to it
-  pub row_is : (o : Order) (t : BlendedState) → t ≡ blendedStateAt p (comesAt o k)
-      → changed o t q.change ≡ rowStates o p k
+  pub row_is : (o : Order) (t : BlendedState) → t ≡ blended_state_at p (comes_at o k)
+      → changed o t q.change ≡ row_states o p k
   row_is Forwards t e = ap (λ (u : BlendedState). changed Forwards u q.change) e
-      ∙ (λ i. record { now = blendedStateAt p k; next = next i; onward = next i })
+      ∙ (λ i. record { now = blended_state_at p k; next = next i; onward = next i })
     where
-      next : ◌≡◌ {A = BlendedState} (changed Forwards (blendedStateAt p k) q.change).next (blendedStateAt p (suc k))
+      next : ◌≡◌ {A = BlendedState} (changed Forwards (blended_state_at p k) q.change).next (blended_state_at p (suc k))
       next = state-next p k _ _
-          (ap (λ (v : ℤ). blendedPosition p k +ℤ blendedVelocity p k +ℤ v) (sym changes)) (sym changes)
+          (ap (λ (v : ℤ). blended_position p k +ℤ blended_velocity p k +ℤ v) (sym changes)) (sym changes)
   row_is Backwards t e =
       ap (λ (u : BlendedState). changed Backwards u q.change) e
-      ∙ (λ i. record { now = now i; next = blendedStateAt p (suc k); onward = now i })
+      ∙ (λ i. record { now = now i; next = blended_state_at p (suc k); onward = now i })
     where
       undone : (v c : ℤ) → v +ℤ c -ℤ c ≡ v
       undone v c = same (v ∷ c ∷ []) (search pol depth 20 fits 9000) tt
 
-      slower : blendedVelocity p (suc k) -ℤ q.change ≡ blendedVelocity p k
-      slower = ap (λ (v : ℤ). v -ℤ q.change) changes ∙ undone (blendedVelocity p k) q.change
+      slower : blended_velocity p (suc k) -ℤ q.change ≡ blended_velocity p k
+      slower = ap (λ (v : ℤ). v -ℤ q.change) changes ∙ undone (blended_velocity p k) q.change
 
-      now : ◌≡◌ {A = BlendedState} (changed Backwards (blendedStateAt p (suc k)) q.change).now (blendedStateAt p k)
+      now : ◌≡◌ {A = BlendedState} (changed Backwards (blended_state_at p (suc k)) q.change).now (blended_state_at p k)
       now = state-before p k _ _
-          (ap (λ (v : ℤ). blendedPosition p (suc k) -ℤ blendedVelocity p (suc k) -ℤ v) slower) slower
+          (ap (λ (v : ℤ). blended_position p (suc k) -ℤ blended_velocity p (suc k) -ℤ v) slower) slower
 
 -- ---- the states of a row, written out
 
@@ -93,7 +93,7 @@ backwards-is t c x y e f =
     }
 
 -- a segment that is held has tick k where its test says so
-pub kept : (p : AxisPlan) (k : ℕ) (q : Segment) → SegmentOf (blendedVelocity p) q → kept_at q k ≡ true → Kept p k q
+pub kept : (p : AxisPlan) (k : ℕ) (q : Segment) → SegmentOf (blended_velocity p) q → kept_at q k ≡ true → Kept p k q
 kept p k q e t =
     let b : T (kept_at q k) = true-T t in
     record {

@@ -4,7 +4,7 @@ use Rattle.std.specs.Prelude.{ℕ, suc, Bool, ◌&&◌, leb, ltb, ℤ, ◌+ℤ�
 use Rattle.model.specs.declared.Order.{Order}
 use Rattle.model.specs.declared.Order.TheVariants.{Forwards, Backwards}
 use Rattle.planned.specs.declared.AxisPlan.{AxisPlan}
-use Rattle.blended.specs.BlendedStates.{blendedStateAt}
+use Rattle.blended.specs.BlendedStates.{blended_state_at}
 use Rattle.segments.specs.declared.Segment.{Segment}
 use Rattle.blended.specs.declared.BlendedState.{BlendedState}
 use Rattle.cells.specs.declared.RowStates.{RowStates}
@@ -12,17 +12,17 @@ use Rattle.cells.specs.declared.RowStates.{RowStates}
 -- ---- a row, in an order: forwards the state at tick k comes to the row of tick k, and that one
 -- tick on goes on to the next row; backwards that one tick on comes, and that at tick k goes on
 
-abbrev pub comesAt : Order → ℕ → ℕ
-comesAt Forwards k = k
-comesAt Backwards k = suc k
+abbrev pub comes_at : Order → ℕ → ℕ
+comes_at Forwards k = k
+comes_at Backwards k = suc k
 
-abbrev pub goesOnAt : Order → ℕ → ℕ
-goesOnAt Forwards k = suc k
-goesOnAt Backwards k = k
+abbrev pub goes_on_at : Order → ℕ → ℕ
+goes_on_at Forwards k = suc k
+goes_on_at Backwards k = k
 
-abbrev pub rowStates : Order → AxisPlan → ℕ → RowStates
-rowStates o p k =
-    record { now = blendedStateAt p k; next = blendedStateAt p (suc k); onward = blendedStateAt p (goesOnAt o k) }
+abbrev pub row_states : Order → AxisPlan → ℕ → RowStates
+row_states o p k =
+    record { now = blended_state_at p k; next = blended_state_at p (suc k); onward = blended_state_at p (goes_on_at o k) }
 
 -- whether tick k is one of a segment's
 abbrev pub kept_at : Segment → ℕ → Bool

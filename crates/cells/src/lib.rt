@@ -1,5 +1,7 @@
 // One axis in a row (docs/METHOD.md, section 4): its states at the row's tick and one tick on, by
 // the segment that the tick is in, and the cells that are written from them.
+#![tactic(auto)]
+
 ghost use Rattle.std.specs.Prelude.{◌+◌, ◌^◌, ◌≤◌, ◌≡◌, length};
 ghost use Rattle.whole.specs.Lists.{over};
 ghost use Rattle.whole.specs.Ranges.{Within};

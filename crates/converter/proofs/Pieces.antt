@@ -10,52 +10,52 @@ use lib.ListN.{length, get_or, set, drop, length-append, drop_of_length-le}
 use lib.Seq.{drop-cons}
 use borrow.Author.Tests.{eq-eqb, ne_eqb}
 use Rattle.whole.specs.Lists.{over, up_to, Room, Written}
-use Rattle.whole.proofs.Lists.{over-three, written-nil, written_one, written_then, room-on, upTo-more}
+use Rattle.whole.proofs.Lists.{over-three, written-nil, written_one, written_then, room-on, up_to-more}
 use Rattle.model.specs.planning.Words.{next, word}
-use Rattle.model.specs.calls.Converter.{begins, flyingWord, converted}
+use Rattle.model.specs.calls.Converter.{begins, flying_word, converted}
 use Rattle.theorems.proofs.words.PositionSpelling.{value_of}
 use Rattle.theorems.proofs.calls.ConvertedWords as C
-use Rattle.words.specs.ByIndex.{isKind, payloadAt}
+use Rattle.words.specs.ByIndex.{is_kind, payload_at}
 use Rattle.words.proofs.Reader as R
-use Rattle.converter.specs.Pieces.{flyingAt, pieceBy, piece_at, neededFor}
+use Rattle.converter.specs.Pieces.{flying_at, piece_by, piece_at, needed_for}
 
 -- ---- one word
 
-kind-begins : (ws : List ℕ) (i k : ℕ) → isKind ws i k ≡ begins k (drop i ws)
+kind-begins : (ws : List ℕ) (i k : ℕ) → is_kind ws i k ≡ begins k (drop i ws)
 kind-begins ws i k = value_of (sym (R.next-is ws i k) ∙ C.next-is k i (drop i ws))
 
-flying-is : (ws : List ℕ) (i : ℕ) → i < length ws → flyingAt ws i ≡ flyingWord (get_or ws i 0) (drop (suc i) ws)
-unfolding flyingAt
+flying-is : (ws : List ℕ) (i : ℕ) → i < length ws → flying_at ws i ≡ flying_word (get_or ws i 0) (drop (suc i) ws)
+unfolding flying_at
 flying-is ws i h =
-    (λ l. R.inside ws i 10 h l && (not (eqb (payloadAt ws i) 0) && not (kind-begins ws (i + 1) 11 l)))
-    ∙ ap (λ (k : ℕ). flyingWord (get_or ws i 0) (drop k ws)) (add-one i)
+    (λ l. R.inside ws i 10 h l && (not (eqb (payload_at ws i) 0) && not (kind-begins ws (i + 1) 11 l)))
+    ∙ ap (λ (k : ℕ). flying_word (get_or ws i 0) (drop k ws)) (add-one i)
 
 -- by the three tests of the code
 abbrev by_tests : Bool → Bool → Bool → Bool
 by_tests k z m = k && (not z && not m)
 
 module _ (ws : List ℕ) (i : ℕ) where
-  pub not-kind : isKind ws i 10 ≡ false → false ≡ flyingAt ws i
-  unfolding flyingAt
-  not-kind e = sym (ap (λ (k : Bool). by_tests k (eqb (payloadAt ws i) 0) (isKind ws (i + 1) 11)) e)
+  pub not-kind : is_kind ws i 10 ≡ false → false ≡ flying_at ws i
+  unfolding flying_at
+  not-kind e = sym (ap (λ (k : Bool). by_tests k (eqb (payload_at ws i) 0) (is_kind ws (i + 1) 11)) e)
 
-  pub at_rest : isKind ws i 10 ≡ true → payloadAt ws i ≡ 0 → false ≡ flyingAt ws i
-  unfolding flyingAt
-  at_rest e z = sym (λ l. by_tests (e l) (eq-eqb (payloadAt ws i) 0 z l) (isKind ws (i + 1) 11))
+  pub at_rest : is_kind ws i 10 ≡ true → payload_at ws i ≡ 0 → false ≡ flying_at ws i
+  unfolding flying_at
+  at_rest e z = sym (λ l. by_tests (e l) (eq-eqb (payload_at ws i) 0 z l) (is_kind ws (i + 1) 11))
 
-  pub by_next : isKind ws i 10 ≡ true → (payloadAt ws i ≡ 0 → ⊥) → {r : Bool}
-      → r ≡ isKind ws (i + 1) 11 → not r ≡ flyingAt ws i
-  unfolding flyingAt
-  by_next e z q = sym (λ l. by_tests (e l) (ne_eqb (payloadAt ws i) 0 z l) (sym q l))
+  pub by_next : is_kind ws i 10 ≡ true → (payload_at ws i ≡ 0 → ⊥) → {r : Bool}
+      → r ≡ is_kind ws (i + 1) 11 → not r ≡ flying_at ws i
+  unfolding flying_at
+  by_next e z q = sym (λ l. by_tests (e l) (ne_eqb (payload_at ws i) 0 z l) (sym q l))
 
 -- the words from word i on
 pub turn : (asked : ℕ) (ws : List ℕ) (i : ℕ) → i < length ws
     → converted asked (drop i ws) ≡ piece_at ws asked i ++ converted asked (drop (i + 1) ws)
-unfolding pieceBy
+unfolding piece_by
 turn asked ws i h =
     ap (converted asked) (drop-cons ws i 0 h)
     ∙ ap by (sym (flying-is ws i h))
-    ∙ parts (flyingAt ws i)
+    ∙ parts (flying_at ws i)
     ∙ ap (λ (k : ℕ). piece_at ws asked i ++ converted asked (drop k ws)) (sym (add-one i))
   where
     w : ℕ
@@ -71,7 +71,7 @@ turn asked ws i h =
     parts : (b : Bool) → (elim b as (λ _. List ℕ) [
       | true ↦ get_or ws i 0 ∷ word 11 0 ∷ word 12 asked ∷ converted asked (drop (suc i) ws)
       | false ↦ get_or ws i 0 ∷ converted asked (drop (suc i) ws)
-    ]) ≡ pieceBy b asked (get_or ws i 0) ++ converted asked (drop (suc i) ws)
+    ]) ≡ piece_by b asked (get_or ws i 0) ++ converted asked (drop (suc i) ws)
     parts true = refl
     parts false = refl
 
@@ -79,7 +79,7 @@ turn asked ws i h =
 
 pub same_length : (a b : ℕ) (ws : List ℕ) → length (converted a ws) ≡ length (converted b ws)
 same_length a b [] = refl
-same_length a b (w ∷ ws) = go (flyingWord w ws) (same_length a b ws)
+same_length a b (w ∷ ws) = go (flying_word w ws) (same_length a b ws)
   where
     go : (f : Bool) → length (converted a ws) ≡ length (converted b ws)
         → length {A = ℕ}
@@ -89,24 +89,24 @@ same_length a b (w ∷ ws) = go (flyingWord w ws) (same_length a b ws)
     go true e = ap (λ (n : ℕ). suc (suc (suc n))) e
     go false e = ap suc e
 
-pub piece-flying : (ws : List ℕ) (i : ℕ) → true ≡ flyingAt ws i → 3 ≡ length (piece_at ws 0 i)
-unfolding pieceBy
-piece-flying ws i e = ap (λ (b : Bool). length (pieceBy b 0 (get_or ws i 0))) e
+pub piece-flying : (ws : List ℕ) (i : ℕ) → true ≡ flying_at ws i → 3 ≡ length (piece_at ws 0 i)
+unfolding piece_by
+piece-flying ws i e = ap (λ (b : Bool). length (piece_by b 0 (get_or ws i 0))) e
 
-pub piece-copied : (ws : List ℕ) (i : ℕ) → false ≡ flyingAt ws i → 1 ≡ length (piece_at ws 0 i)
-unfolding pieceBy
-piece-copied ws i e = ap (λ (b : Bool). length (pieceBy b 0 (get_or ws i 0))) e
+pub piece-copied : (ws : List ℕ) (i : ℕ) → false ≡ flying_at ws i → 1 ≡ length (piece_at ws 0 i)
+unfolding piece_by
+piece-copied ws i e = ap (λ (b : Bool). length (piece_by b 0 (get_or ws i 0))) e
 
 -- a count of the words before word i
 pub count-more : (ws : List ℕ) (i n p : ℕ) → i < length ws → p ≡ length (piece_at ws 0 i)
-    → n + length (converted 0 (drop i ws)) ≡ neededFor ws
-    → n + p + length (converted 0 (drop (i + 1) ws)) ≡ neededFor ws
+    → n + length (converted 0 (drop i ws)) ≡ needed_for ws
+    → n + p + length (converted 0 (drop (i + 1) ws)) ≡ needed_for ws
 count-more ws i n p h e q =
     let t = ap length (turn 0 ws i h) ∙ length-append (piece_at ws 0 i) (converted 0 (drop (i + 1) ws)) in
     omega (arith, t, q)
 
 pub count-all : (ws : List ℕ) (i n : ℕ) → length ws ≤ i
-    → n + length (converted 0 (drop i ws)) ≡ neededFor ws → n ≡ neededFor ws
+    → n + length (converted 0 (drop i ws)) ≡ needed_for ws → n ≡ needed_for ws
 count-all ws i n h q =
     let none : length (converted 0 (drop i ws)) ≡ 0 =
     ap (λ (l : List ℕ). length (converted 0 l)) (drop_of_length-le ws {i = i} h) in
@@ -120,33 +120,33 @@ module _ (t : List ℕ) (at asked : ℕ) (ws : List ℕ) (i : ℕ) (room : Room 
   w = get_or ws i 0
 
   pub one-fits : at < length t
-  unfolding pieceBy
-  one-fits = go (flyingAt ws i) room
+  unfolding piece_by
+  one-fits = go (flying_at ws i) room
     where
-      go : (b : Bool) → Room t at (pieceBy b asked w) → at < length t
+      go : (b : Bool) → Room t at (piece_by b asked w) → at < length t
       go true h = omega (arith, h.room)
       go false h = omega (arith, h.room)
 
-  module _ (e : flyingAt ws i ≡ true) where
-    three-room : Room t at (pieceBy true asked w)
-    three-room = subst (λ (b : Bool). Room t at (pieceBy b asked w)) e room
+  module _ (e : flying_at ws i ≡ true) where
+    three-room : Room t at (piece_by true asked w)
+    three-room = subst (λ (b : Bool). Room t at (piece_by b asked w)) e room
 
     pub three-fit : at + 3 ≤ length t
-    unfolding pieceBy
+    unfolding piece_by
     three-fit = three-room.room
 
     pub three-written : Written t at (piece_at ws asked i)
         (set (set (set t at w) (at + 1) (word 11 0)) (at + 2) (word 12 asked)) (at + 3)
-    unfolding pieceBy
+    unfolding piece_by
     three-written =
-        subst (λ (b : Bool). Written t at (pieceBy b asked w)
+        subst (λ (b : Bool). Written t at (piece_by b asked w)
         (set (set (set t at w) (at + 1) (word 11 0)) (at + 2) (word 12 asked)) (at + 3)) (sym e)
         (record { list = sym (over-three t at w (word 11 0) (word 12 asked) three-fit); next = refl })
 
-  pub one_written : flyingAt ws i ≡ false → Written t at (piece_at ws asked i) (set t at w) (at + 1)
-  unfolding pieceBy
+  pub one_written : flying_at ws i ≡ false → Written t at (piece_at ws asked i) (set t at w) (at + 1)
+  unfolding piece_by
   one_written e =
-      subst (λ (b : Bool). Written t at (pieceBy b asked w) (set t at w) (at + 1)) (sym e) (written_one one-fits)
+      subst (λ (b : Bool). Written t at (piece_by b asked w) (set t at w) (at + 1)) (sym e) (written_one one-fits)
 
 module _ (asked : ℕ) (ws : List ℕ) where
   abbrev pub pieces : ℕ → List ℕ
@@ -162,7 +162,7 @@ module _ (asked : ℕ) (ws : List ℕ) where
 
   pub parts_more : (i : ℕ) → i < length ws → Parts i → Parts (i + 1)
   parts_more i h e =
-      ap (λ (l : List ℕ). l ++ converted asked (drop (i + 1) ws)) (upTo-more (piece_at ws asked) i)
+      ap (λ (l : List ℕ). l ++ converted asked (drop (i + 1) ws)) (up_to-more (piece_at ws asked) i)
       ∙ append_assoc (pieces i) (piece_at ws asked i) (converted asked (drop (i + 1) ws))
       ∙ ap (λ (l : List ℕ). pieces i ++ l) (sym (turn asked ws i h))
       ∙ e
@@ -194,7 +194,7 @@ module _ (asked : ℕ) (ws : List ℕ) where
         }
       where
         more : pieces (i + 1) ≡ pieces i ++ piece_at ws asked i
-        more = upTo-more (piece_at ws asked) i
+        more = up_to-more (piece_at ws asked) i
 
   pub nothing_written : (t : List ℕ) → Written t 0 (pieces 0) t 0
   unfolding up_to

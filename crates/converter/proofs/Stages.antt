@@ -11,16 +11,16 @@ use Rattle.whole.proofs.Lists.{over-front}
 use Rattle.model.specs.declared.Answer.{Answer}
 use Rattle.model.specs.declared.Checked.{Checked}
 use Rattle.model.specs.declared.Checked.TheVariants.{Passed, Refused}
-use Rattle.model.specs.planning.Refusals.{lastTick}
+use Rattle.model.specs.planning.Refusals.{last_tick}
 use Rattle.model.specs.planning.Admission.{words, typed, admission}
 use Rattle.model.specs.planning.Outcome.{call}
-use Rattle.model.specs.calls.Converter.{oldOutcome, converted, Conversion, unconverted, written, conversionRules}
-use Rattle.model.specs.calls.Converter.{conversionAfter, conversion}
+use Rattle.model.specs.calls.Converter.{old_outcome, converted, Conversion, unconverted, written, conversion_rules}
+use Rattle.model.specs.calls.Converter.{conversion_after, conversion}
 use Rattle.theorems.specs.Converter.{ConversionVerdict}
 use Rattle.theorems.proofs.calls.Conversion.{conversion-kept, conversion-plans, conversion-verdict, conversion-numbered}
 use Rattle.words.specs.declared.DecodedJob.{DecodedJob}
 use Rattle.words.specs.Decoding.{Decodes}
-use Rattle.admission.specs.Admitting.{withoutJob}
+use Rattle.admission.specs.Admitting.{without_job}
 use Rattle.admission.proofs.Admitted.{Goes, refused, passed}
 use Rattle.words.proofs.ReadWords.{words-refused, words-passed}
 use Rattle.converter.specs.Promise.{Converts, Answers}
@@ -76,7 +76,7 @@ promised ws lent r exit g =
       mask = g.mask;
       arrival = g.arrival;
       kept = λ z cells.
-          ap (λ (q : Conversion). oldOutcome (take q.place q.words) cells) g.conversion
+          ap (λ (q : Conversion). old_outcome (take q.place q.words) cells) g.conversion
           ∙ conversion-kept ws lent (sym (ap (λ (q : Conversion). q.number) g.conversion) ∙ z) cells;
       plans = λ z cells.
           ap (λ (q : Conversion). call (words (take q.place q.words)) cells) g.conversion
@@ -91,30 +91,30 @@ module _ (ws lent : List ℕ) (r : DecodedJob) (d : Decodes ws r) where
       promised ws lent a lent
       (record {
         conversion = ap (λ (q : Answer). unconverted q.number q.place lent) e
-            ∙ sym (ap (conversionAfter ws lent) (words-refused conversionRules ws r d n p z));
+            ∙ sym (ap (conversion_after ws lent) (words-refused conversion_rules ws r d n p z));
         mask = ap (λ (q : Answer). q.mask) e;
         arrival = ap (λ (q : Answer). q.arrival) e;
       })
 
   module _ (z : r.checked ≡ Passed) (c : Checked)
-      (is : c ≡ withoutJob (admission conversionRules (typed r.job))) where
+      (is : c ≡ without_job (admission conversion_rules (typed r.job))) where
     pub ends-at-job : (n p : ℕ) → c ≡ Refused n p → (a : Answer) → a ≡ answered n p → Converts ws lent a lent
     ends-at-job n p e a f =
         promised ws lent a lent
         (record {
           conversion =
               ap (λ (q : Answer). unconverted q.number q.place lent) f
-              ∙ ap (conversionAfter ws lent)
-              (sym (refused conversionRules conversion-numbered (typed r.job) c is n p e).is
-              ∙ words-passed conversionRules ws r d z);
+              ∙ ap (conversion_after ws lent)
+              (sym (refused conversion_rules conversion-numbered (typed r.job) c is n p e).is
+              ∙ words-passed conversion_rules ws r d z);
           mask = ap (λ (q : Answer). q.mask) f;
           arrival = ap (λ (q : Answer). q.arrival) f;
         })
 
-    goes : c ≡ Passed → Goes conversionRules (typed r.job)
-    goes e = passed conversionRules conversion-numbered (typed r.job) c is e
+    goes : c ≡ Passed → Goes conversion_rules (typed r.job)
+    goes e = passed conversion_rules conversion-numbered (typed r.job) c is e
 
-    pub soon : c ≡ Passed → r.job.asked ≤ lastTick
+    pub soon : c ≡ Passed → r.job.asked ≤ last_tick
     soon e = (goes e).asked
 
     pub ends-written : c ≡ Passed → (a : Answer) (exit : List ℕ)
@@ -123,7 +123,7 @@ module _ (ws lent : List ℕ) (r : DecodedJob) (d : Decodes ws r) where
         promised ws lent a exit
         (record {
           conversion =
-              g.conversion ∙ ap (conversionAfter ws lent) (sym (goes e).is ∙ words-passed conversionRules ws r d z);
+              g.conversion ∙ ap (conversion_after ws lent) (sym (goes e).is ∙ words-passed conversion_rules ws r d z);
           mask = g.mask;
           arrival = g.arrival;
         })

@@ -2,7 +2,7 @@
 use Rattle.std.specs.Prelude.{ℕ, ◌≡◌, List, ℤ, take}
 use Rattle.model.specs.declared.Answer.{Answer}
 use Rattle.model.specs.planning.Outcome.{words, call}
-use Rattle.model.specs.calls.Converter.{oldOutcome, Conversion, conversion}
+use Rattle.model.specs.calls.Converter.{old_outcome, Conversion, conversion}
 use Rattle.theorems.specs.Converter.{ConversionVerdict}
 
 -- ws are the words of the job, entry and exit the lent words before and after the call, r is the
@@ -18,8 +18,8 @@ pub record Converts (ws entry : List ℕ) (r : Answer) (exit : List ℕ) : Type 
   pub arrival : r.arrival ≡ 0
   -- number 0: for every lent table the written words have, by the old rules and in planning, the
   -- outcome that the old rules give the old words
-  pub kept : r.number ≡ 0 → (cells : List ℤ) → oldOutcome (take r.place exit) cells ≡ oldOutcome ws cells
-  pub plans : r.number ≡ 0 → (cells : List ℤ) → call (words (take r.place exit)) cells ≡ oldOutcome ws cells
+  pub kept : r.number ≡ 0 → (cells : List ℤ) → old_outcome (take r.place exit) cells ≡ old_outcome ws cells
+  pub plans : r.number ≡ 0 → (cells : List ℤ) → call (words (take r.place exit)) cells ≡ old_outcome ws cells
 
 -- ---- the stages
 

@@ -8,11 +8,13 @@
 //                       admission::check    3, 4, 5, 15, 6, 16, and 17 where the least arrival is
 //                                           sought
 //                       write_converted     10, or the converted words
+#![tactic(auto)]
+
 ghost use Rattle.std.specs.Prelude.{◌≡◌, ◌<◌, ◌≤◌, length};
 ghost use Rattle.whole.specs.Lists.{over, Room, Written};
-ghost use Rattle.model.specs.planning.Refusals.{lastTick};
+ghost use Rattle.model.specs.planning.Refusals.{last_tick};
 ghost use Rattle.model.specs.calls.Converter.{converted, written};
-ghost use Rattle.converter.specs.Pieces.{flyingAt, piece_at, neededFor};
+ghost use Rattle.converter.specs.Pieces.{flying_at, piece_at, needed_for};
 ghost use Rattle.converter.specs.Promise.{Converts, Answers};
 
 use admission::Purpose;
@@ -46,7 +48,7 @@ pub fn convert(words: &[u32], lent: &mut [u32]) -> Answer
 // ---- refusal 10, or the converted words
 
 fn write_converted(words: &[u32], asked: u32, lent: &mut [u32]) -> Answer
-    requires { asked ≤ lastTick }
+    requires { asked ≤ last_tick }
     ensures { Answers (written (converted asked words.now) lent.old) result lent.new }
 {
     let needed = words_needed(words);
@@ -60,7 +62,7 @@ fn write_converted(words: &[u32], asked: u32, lent: &mut [u32]) -> Answer
 // The number of converted words: three for each velocity of a fixed target that
 // flies, one for each other word.
 fn words_needed(words: &[u32]) -> usize
-    ensures { result ≡ neededFor words.now }
+    ensures { result ≡ needed_for words.now }
 {
     let mut needed: usize = 0;
     let mut i: usize = 0;
@@ -84,7 +86,7 @@ fn piece_length(words: &[u32], i: usize) -> usize
 
 // Writes the converted words at the start of the lent ones.
 fn put_words(words: &[u32], asked: u32, lent: &mut [u32])
-    requires asked_le_last_tick { asked ≤ lastTick }
+    requires asked_le_last_tick { asked ≤ last_tick }
     requires words_in_bounds { length (converted asked words.now) ≤ length lent.old }
     ensures { lent.new ≡ over lent.old 0 (converted asked words.now) }
 {
@@ -100,7 +102,7 @@ fn put_words(words: &[u32], asked: u32, lent: &mut [u32])
 // gives back the index after it.
 fn put_word(words: &[u32], i: usize, asked: u32, lent: &mut [u32], at: usize) -> usize
     requires i_in_bounds { i < length words.now }
-    requires asked_le_last_tick { asked ≤ lastTick }
+    requires asked_le_last_tick { asked ≤ last_tick }
     requires room { Room lent.old at (piece_at words.now asked i) }
     ensures { Written lent.old at (piece_at words.now asked i) lent.new result }
 {
@@ -118,7 +120,7 @@ fn put_word(words: &[u32], i: usize, asked: u32, lent: &mut [u32], at: usize) ->
 // with no acceleration after it.
 fn is_flying(words: &[u32], i: usize) -> bool
     requires { i < length words.now }
-    ensures { result ≡ flyingAt words.now i }
+    ensures { result ≡ flying_at words.now i }
 {
     if words::is_kind(words, i, TARGET_VELOCITY_WORD) {
         if words[i] % 268435456 != 0 {

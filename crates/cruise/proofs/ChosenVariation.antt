@@ -19,13 +19,13 @@ use Rattle.whole.proofs.Laws.{≤ℤ-next}
 use Rattle.whole.proofs.Ring.{pol, same}
 use Rattle.whole.proofs.Tests.{lt-or-le}
 use Rattle.model.specs.declared.Axis.{Axis}
-use Rattle.model.specs.planning.Quantities.{accelerationSteps}
+use Rattle.model.specs.planning.Quantities.{acceleration_steps}
 use Rattle.model.specs.planning.Leg.{Leg, Meets, clamped, required, cruise, chosen, feasible}
-use Rattle.model.specs.planning.Motion.{Tick, leg, displacement, landingTick, landingAcceleration}
-use Rattle.model.specs.planning.Rows.{plannedAxis, tickAt}
+use Rattle.model.specs.planning.Motion.{Tick, leg, displacement, landing_tick, landing_acceleration}
+use Rattle.model.specs.planning.Rows.{planned_axis, tick_at}
 use Rattle.model.specs.planning.Refusals.{Plannable}
 use Rattle.model.specs.planning.Demand.{CellTable}
-use Rattle.theorems.specs.Misfit.{variation, plannedVariation, SwayLeft}
+use Rattle.theorems.specs.Misfit.{variation, planned_variation, SwayLeft}
 use Rattle.theorems.proofs.legs.Envelopes.{Joined, clamped-end}
 use Rattle.theorems.proofs.legs.ChosenMeets.{chosen-meets}
 use Rattle.theorems.proofs.legs.FeasibleTests.{feasible-joined}
@@ -35,8 +35,8 @@ use Rattle.theorems.proofs.jobs.PlannableAxis.{after, weight-range, some-acceler
 use Rattle.theorems.proofs.tables.CellLimits.{planned-change, now-acceleration}
 use Rattle.theorems.proofs.tables.Demand.{plannable-axes, sway-left}
 use Rattle.regions.specs.declared.Regions.{Regions}
-use Rattle.cruise.specs.Variation.{mostVariation, MostSwayHolds, MostMeasuredHolds}
-use Rattle.regions.specs.Regions.{rise, fall, chosenRegions, velocityIn}
+use Rattle.cruise.specs.Variation.{most_variation, MostSwayHolds, MostMeasuredHolds}
+use Rattle.regions.specs.Regions.{rise, fall, chosen_regions, velocity_in}
 use Rattle.regions.proofs.ThreeRegions.{Towards, start-towards, end-towards, on-start, on-end}
 use Rattle.regions.proofs.ChosenRegions.{in_start, in_end, in-raised, in-level, cruise-within, chosen-entry}
 use Rattle.cruise.proofs.Variation.{Changes, apart, variation-most}
@@ -100,8 +100,8 @@ no_step = all₃ _ (λ a b c d e f. simp whole (omega arith))
 
 -- ---- of the list chosen
 
-module _ (g : Leg) (δ : ℤ) (some : 0 < g.ticks) (acceleration : 0 < g.accelerationLimit)
-    (range : g.speedLimit ≤ 2 ^ 37)
+module _ (g : Leg) (δ : ℤ) (some : 0 < g.ticks) (acceleration : 0 < g.acceleration_limit)
+    (range : g.speed_limit ≤ 2 ^ 37)
     (t : T (feasible g δ)) where
   abbrev s : ℤ
   s = required g δ
@@ -110,15 +110,15 @@ module _ (g : Leg) (δ : ℤ) (some : 0 < g.ticks) (acceleration : 0 < g.acceler
   c = cruise g s
 
   abbrev μ : ℕ
-  μ = g.accelerationLimit
+  μ = g.acceleration_limit
 
   abbrev R : Regions
-  R = chosenRegions g s
+  R = chosen_regions g s
 
   joined : Joined g
   joined = feasible-joined g δ t
 
-  inside : Within g.speedLimit c
+  inside : Within g.speed_limit c
   inside = cruise-within g δ some acceleration range t
 
   -- the velocities of ticks 0 to T
@@ -129,7 +129,7 @@ module _ (g : Leg) (δ : ℤ) (some : 0 < g.ticks) (acceleration : 0 < g.acceler
   unfolding W
   meets = chosen-meets g δ some acceleration range t
 
-  before : (k : ℕ) → k < g.ticks → W k ≡ velocityIn R k
+  before : (k : ℕ) → k < g.ticks → W k ≡ velocity_in R k
   unfolding W
   before k h = chosen-entry g δ some acceleration range t k h
 
@@ -244,27 +244,27 @@ variation-same a b (suc k) f =
 
 module _ (x : Axis) (n : ℕ) (plannable : Plannable x n) where
   abbrev α : ℕ → ℤ
-  α k = (tickAt (plannedAxis n x) k).acceleration
+  α k = (tick_at (planned_axis n x) k).acceleration
 
-  some-ticks : 0 < landingTick x n
+  some-ticks : 0 < landing_tick x n
   some-ticks = omega (arith, after x n plannable)
 
-  before-landing : (k : ℕ) → k < landingTick x n → variation α k ≤ 3 * accelerationSteps x + 2
+  before-landing : (k : ℕ) → k < landing_tick x n → variation α k ≤ 3 * acceleration_steps x + 2
   before-landing k h =
-      subst (λ (m : ℕ). m ≤ 3 * accelerationSteps x + 2)
+      subst (λ (m : ℕ). m ≤ 3 * acceleration_steps x + 2)
       (sym (variation-same α _ k (λ i l. planned-change x n plannable i (omega arith))))
       (chosen-variation (leg x n) (displacement x n) some-ticks (some-acceleration x n plannable)
       (speed-range x n plannable) (moves x n plannable) k h)
 
-  pub planned-variation : plannedVariation x n ≤ mostVariation x n
-  planned-variation = go (landingTick x n) refl
+  pub planned-variation : planned_variation x n ≤ most_variation x n
+  planned-variation = go (landing_tick x n) refl
     where
-      landed : α (landingTick x n) ≡ landingAcceleration x n
+      landed : α (landing_tick x n) ≡ landing_acceleration x n
       landed =
-          ap α {x = landingTick x n} {y = landingTick x n + 0} (omega arith)
+          ap α {x = landing_tick x n} {y = landing_tick x n + 0} (omega arith)
           ∙ ap (λ (t : Tick). t.acceleration) (tick-landed x n plannable 0 (omega arith))
 
-      go : (k : ℕ) → k ≡ landingTick x n → variation α k ≤ mostVariation x n
+      go : (k : ℕ) → k ≡ landing_tick x n → variation α k ≤ most_variation x n
       go zero e = absurd (omega (arith, some-ticks))
       go (suc k) e =
           omega (
@@ -287,10 +287,10 @@ wider p q x i n g h l =
 
 pub sway-most : MostSwayHolds
 sway-most o q lent z i x e =
-    wider plannedVariation mostVariation x i _ _ (planned-variation x _ (plannable-axes o q lent z i x e))
+    wider planned_variation most_variation x i _ _ (planned-variation x _ (plannable-axes o q lent z i x e))
     (sway-left o q lent z i x e)
 
 pub measured-most : MostMeasuredHolds
 measured-most o q lent z i x e =
-    measured-left mostVariation x (weight-range x _ (plannable-axes o q lent z i x e)) i _ _
+    measured-left most_variation x (weight-range x _ (plannable-axes o q lent z i x e)) i _ _
     (sway-most o q lent z i x e)

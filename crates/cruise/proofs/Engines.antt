@@ -7,11 +7,11 @@ use lib.IntN.{ℤ, pos, neg_ℤ, nat_abs, ◌+ℤ◌, ◌-ℤ◌}
 use lib.Signed.{le_z, le_z_yes}
 use Rattle.whole.specs.Ranges.{Within}
 use Rattle.whole.proofs.Tests.{by_bool, true-T}
-use Rattle.model.specs.planning.Leg.{Leg, sum_at, fitsAt, required, sumIsWhole, climbByBits, climbSteps, cruise}
+use Rattle.model.specs.planning.Leg.{Leg, sum_at, fits_at, required, sum_is_whole, climb_by_bits, climb_steps, cruise}
 use Rattle.model.specs.planning.Leg.{feasible}
-use Rattle.profile.specs.Profiles.{endsAllowed}
-use Rattle.areas.specs.Areas.{areaAt}
-use Rattle.cruise.specs.Engines.{feasibleByAreas, climbByAreas, cruiseByAreas, EnginesAgree}
+use Rattle.profile.specs.Profiles.{ends_allowed}
+use Rattle.areas.specs.Areas.{area_at}
+use Rattle.cruise.specs.Engines.{feasible_by_areas, climb_by_areas, cruise_by_areas, EnginesAgree}
 use Rattle.profile.proofs.FeasibleParts.{feasible-parts}
 use Rattle.cruise.proofs.ClimbSteps.{step-inside}
 use Rattle.areas.proofs.EnvelopeAreas.{area-at, lowest-inside, lowest-area, highest-area}
@@ -28,12 +28,12 @@ stepped : (a : Bool) {b c : Bool} {x y z w : ℤ} → (a ≡ true → b ≡ c) �
 stepped true e f g = λ i. elim (e refl i) as (λ _. ℤ) [ true ↦ f refl i | false ↦ g i ]
 stepped false e f g = g
 
-module _ (g : Leg) (some : 0 < g.accelerationLimit) where
+module _ (g : Leg) (some : 0 < g.acceleration_limit) where
   abbrev L : ℕ
-  L = g.speedLimit
+  L = g.speed_limit
 
-  module _ (ends : endsAllowed g ≡ true) where
-    here : (c : ℤ) → Within L c → areaAt g c ≡ sum_at g c
+  module _ (ends : ends_allowed g ≡ true) where
+    here : (c : ℤ) → Within L c → area_at g c ≡ sum_at g c
     here = area-at g some ends
 
     lowest : Within L (neg_ℤ (pos L))
@@ -43,38 +43,38 @@ module _ (g : Leg) (some : 0 < g.accelerationLimit) where
       higher : (n : ℕ) (c : ℤ) → Within L c → le_z (c +ℤ pos (2 ^ n)) (pos L) ≡ true → Within L (c +ℤ pos (2 ^ n))
       higher n c w e = step-inside (2 ^ n) L c w (le_z_yes (true-T e))
 
-      same-climb : (n : ℕ) (c : ℤ) → Within L c → climbByAreas g s n c ≡ climbByBits g s n c
+      same-climb : (n : ℕ) (c : ℤ) → Within L c → climb_by_areas g s n c ≡ climb_by_bits g s n c
       same-climb zero c w = refl
       same-climb (suc n) c w =
           stepped (le_z (c +ℤ pos (2 ^ n)) (pos L))
           (λ e. ap (λ (z : ℤ). le_z z s) (here (c +ℤ pos (2 ^ n)) (higher n c w e)))
           (λ e. same-climb n (c +ℤ pos (2 ^ n)) (higher n c w e)) (same-climb n c w)
 
-      climb-keeps : (n : ℕ) (c : ℤ) → Within L c → Within L (climbByBits g s n c)
+      climb-keeps : (n : ℕ) (c : ℤ) → Within L c → Within L (climb_by_bits g s n c)
       climb-keeps zero c w = w
       climb-keeps (suc n) c w =
           by_bool (Within L) (le_z (c +ℤ pos (2 ^ n)) (pos L)) _ _
           (λ t.
-          by_bool (Within L) (fitsAt g s (c +ℤ pos (2 ^ n))) _ _
+          by_bool (Within L) (fits_at g s (c +ℤ pos (2 ^ n))) _ _
           (λ u. climb-keeps n (c +ℤ pos (2 ^ n)) (step-inside (2 ^ n) L c w (le_z_yes t))) (λ u. climb-keeps n c w))
           (λ t. climb-keeps n c w)
 
-      same-cruise : cruiseByAreas g s ≡ cruise g s
-      unfolding cruiseByAreas cruise
-      same-cruise = same-climb climbSteps (neg_ℤ (pos L)) lowest
+      same-cruise : cruise_by_areas g s ≡ cruise g s
+      unfolding cruise_by_areas cruise
+      same-cruise = same-climb climb_steps (neg_ℤ (pos L)) lowest
 
       cruise-keeps : Within L (cruise g s)
       unfolding cruise
-      cruise-keeps = climb-keeps climbSteps (neg_ℤ (pos L)) lowest
+      cruise-keeps = climb-keeps climb_steps (neg_ℤ (pos L)) lowest
 
-      same-remainder : nat_abs (s -ℤ areaAt g (cruiseByAreas g s)) ≡ nat_abs (s -ℤ sum_at g (cruise g s))
-      same-remainder = ap (λ (z : ℤ). nat_abs (s -ℤ z)) (ap (areaAt g) same-cruise ∙ here (cruise g s) cruise-keeps)
+      same-remainder : nat_abs (s -ℤ area_at g (cruise_by_areas g s)) ≡ nat_abs (s -ℤ sum_at g (cruise g s))
+      same-remainder = ap (λ (z : ℤ). nat_abs (s -ℤ z)) (ap (area_at g) same-cruise ∙ here (cruise g s) cruise-keeps)
 
-  same-reach : (d : ℤ) → feasibleByAreas g d ≡ feasible g d
+  same-reach : (d : ℤ) → feasible_by_areas g d ≡ feasible g d
   same-reach d =
-      after (endsAllowed g)
+      after (ends_allowed g)
       (λ e.
-      ap₂ (λ (x y : ℤ). sumIsWhole g d && (le_z x (required g d) && le_z (required g d) y))
+      ap₂ (λ (x y : ℤ). sum_is_whole g d && (le_z x (required g d) && le_z (required g d) y))
       (lowest-area g some e) (highest-area g some e))
       ∙ sym (feasible-parts g d)
 

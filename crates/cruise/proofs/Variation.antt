@@ -9,7 +9,7 @@ use native.Mathlib.Omega.{arith}
 use lib.IntN.{ℤ, pos, neg_ℤ, nat_abs, ◌+ℤ◌, ◌-ℤ◌}
 use Rattle.whole.specs.Ranges.{Within}
 use Rattle.whole.proofs.Differences.{whole, all₁, all₂}
-use Rattle.whole.proofs.Laws.{natAbs-negpos, natAbs-+}
+use Rattle.whole.proofs.Laws.{nat_abs-negpos, nat_abs-+}
 use Rattle.whole.proofs.Tests.{lt-or-le}
 use Rattle.theorems.specs.Misfit.{variation}
 
@@ -51,7 +51,7 @@ module _ (μ T rise fall r : ℕ) (u d : ℤ) (a : ℕ → ℤ) (c : Changes μ 
     where
       go : Steep μ u → nat_abs u ≤ μ
       go (inl e) = omega (arith, ap nat_abs e)
-      go (inr e) = omega (arith, ap nat_abs e, natAbs-negpos μ)
+      go (inr e) = omega (arith, ap nat_abs e, nat_abs-negpos μ)
 
   -- on from u
   turn : (y : ℤ) → Within μ y → nat_abs (y -ℤ u) + nat_abs (u +ℤ y) ≤ nat_abs (u +ℤ u)
@@ -150,7 +150,7 @@ module _ (μ T rise fall r : ℕ) (u d : ℤ) (a : ℕ → ℤ) (c : Changes μ 
   left : (k : ℕ) → k < T → Left k
   left zero h =
       record {
-        first = λ p. omega (arith, natAbs-+ u (a 0), size, c.limit 0 h);
+        first = λ p. omega (arith, nat_abs-+ u (a 0), size, c.limit 0 h);
         raised = λ p q s. absurd (omega arith);
         middle = λ p q. absurd (omega arith);
         last = λ p q. absurd (omega arith);

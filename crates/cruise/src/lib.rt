@@ -1,12 +1,14 @@
 // Whether a displacement can be made, and the cruise and the velocities that make it
 // (docs/METHOD.md, section 3, rules 4 and 5). Sums of velocities are taken by one of two engines,
 // tick by tick or from areas; both give one answer (docs/METHOD.md, 3.9).
+#![tactic(auto)]
+
 ghost use Rattle.std.specs.Prelude.{◌^◌, ◌≤◌, ◌<◌, true, ◌≡◌, nat_abs, ◌-ℤ◌, ◌≤ℤ◌};
 ghost use Rattle.whole.specs.Ranges.{Within, Is};
 ghost use Rattle.model.specs.planning.Leg.{sum_at, required, cruise, feasible};
-ghost use Rattle.cruise.specs.Cruise.{climbStep, CruiseIs};
-ghost use Rattle.profile.specs.Profiles.{legOf, Ranged, Joinable, sumBetween};
-ghost use Rattle.regions.specs.Regions.{chosenRegions};
+ghost use Rattle.cruise.specs.Cruise.{climb_step, CruiseIs};
+ghost use Rattle.profile.specs.Profiles.{leg_of, Ranged, Joinable, sum_between};
+ghost use Rattle.regions.specs.Regions.{chosen_regions};
 
 use profile::Profile;
 use regions::{CruisePlan, Regions};
@@ -26,7 +28,7 @@ pub enum Engine {
 fn sum_by(engine: Engine, p: Profile, c: i64) -> i64
     requires joinable { Joinable p }
     requires within { Within p.speed_limit c }
-    ensures { Is (2 ^ 60) result (sum_at (legOf p) c) }
+    ensures { Is (2 ^ 60) result (sum_at (leg_of p) c) }
 {
     match engine {
         Engine::Ticks => profile::sum_at(p, c),
@@ -41,7 +43,7 @@ fn sum_by(engine: Engine, p: Profile, c: i64) -> i64
 fn sum_between(engine: Engine, p: Profile, sum: i64) -> bool
     requires joinable { Joinable p }
     requires within { Within (2 ^ 61) sum }
-    ensures { result ≡ sumBetween (legOf p) sum }
+    ensures { result ≡ sum_between (leg_of p) sum }
 {
     let lowest = sum_by(engine, p, profile::negative(p.speed_limit));
     if lowest <= sum {
@@ -57,7 +59,7 @@ pub fn feasible_by(engine: Engine, p: Profile, displacement: i64) -> bool
     requires acceleration_limit_nonzero { 0 < p.acceleration_limit }
     requires ticks_nonzero { 0 < p.ticks }
     requires within { Within (2 ^ 60) displacement }
-    ensures { result ≡ feasible (legOf p) displacement }
+    ensures { result ≡ feasible (leg_of p) displacement }
 {
     if profile::ends_allowed(p) {
         if profile::sum_is_whole(p, displacement) {
@@ -76,7 +78,7 @@ fn climb_step(engine: Engine, p: Profile, sum: i64, c: i64, step: u64) -> i64
     requires within { Within (2 ^ 61) sum }
     requires within_2 { Within p.speed_limit c }
     requires step_bound { step ≤ 2 ^ 38 }
-    ensures { Is (2 ^ 37) result (climbStep (legOf p) sum c step) }
+    ensures { Is (2 ^ 37) result (climb_step (leg_of p) sum c step) }
 {
     let next = c + profile::signed(step);
     let limit = profile::signed(p.speed_limit);
@@ -93,7 +95,7 @@ fn climb_step(engine: Engine, p: Profile, sum: i64, c: i64, step: u64) -> i64
 fn climb(engine: Engine, p: Profile, sum: i64) -> i64
     requires joinable { Joinable p }
     requires within { Within (2 ^ 61) sum }
-    ensures { Is (2 ^ 37) result (cruise (legOf p) sum) }
+    ensures { Is (2 ^ 37) result (cruise (leg_of p) sum) }
 {
     let mut c = profile::negative(p.speed_limit);
     let mut step: u64 = 1 << 38;
@@ -110,8 +112,8 @@ fn remainder(engine: Engine, p: Profile, sum: i64, c: i64) -> u64
     requires joinable { Joinable p }
     requires within { Within (2 ^ 61) sum }
     requires within_2 { Within p.speed_limit c }
-    requires c_bound { sum_at (legOf p) c ≤ℤ sum }
-    ensures { result ≡ nat_abs (sum -ℤ sum_at (legOf p) c) }
+    requires c_bound { sum_at (leg_of p) c ≤ℤ sum }
+    ensures { result ≡ nat_abs (sum -ℤ sum_at (leg_of p) c) }
 {
     let reached = sum_by(engine, p, c);
     (sum - reached) as u64
@@ -124,8 +126,8 @@ pub fn cruise_by(engine: Engine, p: Profile, displacement: i64) -> CruisePlan
     requires acceleration_limit_nonzero { 0 < p.acceleration_limit }
     requires ticks_nonzero { 0 < p.ticks }
     requires within { Within (2 ^ 60) displacement }
-    requires displacement_value { feasible (legOf p) displacement ≡ true }
-    ensures { CruiseIs (legOf p) (required (legOf p) displacement) result }
+    requires displacement_value { feasible (leg_of p) displacement ≡ true }
+    ensures { CruiseIs (leg_of p) (required (leg_of p) displacement) result }
 {
     let sum = profile::required(p, displacement);
     let c = climb(engine, p, sum);
@@ -144,8 +146,8 @@ pub fn chosen(p: Profile, displacement: i64) -> Regions
     requires acceleration_limit_nonzero { 0 < p.acceleration_limit }
     requires ticks_nonzero { 0 < p.ticks }
     requires within { Within (2 ^ 60) displacement }
-    requires displacement_value { feasible (legOf p) displacement ≡ true }
-    ensures { result ≡ chosenRegions (legOf p) (required (legOf p) displacement) }
+    requires displacement_value { feasible (leg_of p) displacement ≡ true }
+    ensures { result ≡ chosen_regions (leg_of p) (required (leg_of p) displacement) }
 {
     let c = cruise_by(Engine::Areas, p, displacement);
     regions::regions_of(p, c)

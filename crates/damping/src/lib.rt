@@ -1,8 +1,10 @@
 // The second weight of a blend from damping as measured (docs/METHOD.md, 2.4), in single precision:
 // each division and each product is rounded once, and the weight is found by comparisons.
+#![tactic(auto)]
+
 ghost use Rattle.std.specs.Prelude.{◌≡◌, ◌≤◌};
-ghost use Rattle.model.specs.planning.Damping.{ratioOf, meets, ratioWeight, weightOf, aboveZero, ratioAllowed};
-ghost use Rattle.model.specs.planning.Damping.{dampingAllowed, weightAllowed};
+ghost use Rattle.model.specs.planning.Damping.{ratio_of, meets, ratio_weight, weight_of, above_zero, ratio_allowed};
+ghost use Rattle.model.specs.planning.Damping.{damping_allowed, weight_allowed};
 
 use model::{Damping, HIGHEST_WEIGHT, Weight};
 
@@ -10,7 +12,7 @@ use model::{Damping, HIGHEST_WEIGHT, Weight};
 
 // The ratio of swings; of two peaks, the second divided by the first.
 fn ratio_of(damping: Damping) -> f32
-    ensures { result ≡ ratioOf damping }
+    ensures { result ≡ ratio_of damping }
 {
     match damping {
         Damping::Ratio(ratio) => ratio,
@@ -29,7 +31,7 @@ fn meets(ratio: f32, weight: u32) -> bool
 // The largest B from 1 to 128 that is at most the product of the ratio and 256 − B, or 1 if there
 // is none.
 fn ratio_weight(ratio: f32) -> u32
-    ensures { result ≡ ratioWeight ratio }
+    ensures { result ≡ ratio_weight ratio }
 {
     let mut weight: u32 = HIGHEST_WEIGHT;
     while 0 < weight {
@@ -43,7 +45,7 @@ fn ratio_weight(ratio: f32) -> u32
 
 // B: the number given, or that of the damping.
 pub fn weight_of(weight: Weight) -> u32
-    ensures { result ≡ weightOf weight }
+    ensures { result ≡ weight_of weight }
 {
     match weight {
         Weight::Given(b) => b,
@@ -55,7 +57,7 @@ pub fn weight_of(weight: Weight) -> u32
 
 // Whether a ratio is a number above 0 and at most 1.
 fn ratio_allowed(ratio: f32) -> bool
-    ensures { result ≡ ratioAllowed ratio }
+    ensures { result ≡ ratio_allowed ratio }
 {
     if 0.0 < ratio {
         return ratio <= 1.0;
@@ -64,7 +66,7 @@ fn ratio_allowed(ratio: f32) -> bool
 }
 
 fn damping_allowed(damping: Damping) -> bool
-    ensures { result ≡ dampingAllowed damping }
+    ensures { result ≡ damping_allowed damping }
 {
     match damping {
         Damping::Ratio(ratio) => ratio_allowed(ratio),
@@ -80,7 +82,7 @@ fn damping_allowed(damping: Damping) -> bool
 // Whether a weight can be worked out: one that is given always, the damping where its first peak is
 // above zero and its ratio is allowed.
 pub fn weight_allowed(weight: Weight) -> bool
-    ensures { result ≡ weightAllowed weight }
+    ensures { result ≡ weight_allowed weight }
 {
     match weight {
         Weight::Given(_) => true,

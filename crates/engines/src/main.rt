@@ -2,6 +2,8 @@
 // has it, cruise and remainder. It prints for each engine how many legs have it and a
 // sum over the answers. tests/reference/engines.py computes the same from the method's
 // rules 4 and 5 and writes what is expected.
+#![tactic(auto)]
+
 ghost use Rattle.std.specs.Prelude.{◌≤◌, ◌<◌, pos};
 ghost use Rattle.whole.specs.Ranges.{Within, Is};
 ghost use Rattle.engines.specs.Legs.{Drawn};

@@ -2,7 +2,7 @@
 use Prim.Native.Nat.{ℕ, ◌≤◌}
 use native.Mathlib.Omega.{arith}
 use Rattle.profile.specs.declared.Profile.{Profile}
-use Rattle.profile.specs.Profiles.{legOf, Joinable}
+use Rattle.profile.specs.Profiles.{leg_of, Joinable}
 use Rattle.profile.proofs.FeasibleParts.{joined-ends, ends-joined}
 use Rattle.envelopes.specs.Skips.{lengthened}
 use Rattle.envelopes.proofs.EnvelopeSums.{more-ticks}
@@ -20,5 +20,5 @@ longer-joinable p t j low high =
           };
       acceleration = j.acceleration;
       some = omega (arith, j.some);
-      ends = joined-ends (legOf (lengthened p t)) (more-ticks (legOf p) t (ends-joined (legOf p) j.ends) low);
+      ends = joined-ends (leg_of (lengthened p t)) (more-ticks (leg_of p) t (ends-joined (leg_of p) j.ends) low);
     }

@@ -6,7 +6,7 @@ use mathlib.Core.Bool.{Bool, true, false}
 use mathlib.Core.List.{[], ◌∷◌}
 use lib.Dec.{T}
 use lib.IntN.{ℤ, pos, neg_ℤ, nat_abs, ◌+ℤ◌, ◌-ℤ◌, ◌*ℤ◌, neg_ℤ-neg_ℤ}
-use Rattle.whole.proofs.Laws.{natAbs-neg}
+use Rattle.whole.proofs.Laws.{nat_abs-neg}
 use Rattle.whole.proofs.Ring.{pol, same}
 use Rattle.model.specs.planning.Leg.{Leg, Feasible, travelled, feasible}
 use Rattle.theorems.proofs.legs.FeasibleIsExistence.{feasible-is}
@@ -28,7 +28,7 @@ travelled-neg w (suc n) =
     law t x y = same (t ∷ x ∷ y ∷ []) (search pol depth 20 fits 9000) tt
 
 pub apart-neg : (x y : ℤ) → nat_abs (neg_ℤ y -ℤ neg_ℤ x) ≡ nat_abs (y -ℤ x)
-apart-neg x y = ap nat_abs (law x y) ∙ natAbs-neg (y -ℤ x)
+apart-neg x y = ap nat_abs (law x y) ∙ nat_abs-neg (y -ℤ x)
   where
     law : (x y : ℤ) → neg_ℤ y -ℤ neg_ℤ x ≡ neg_ℤ (y -ℤ x)
     law x y = same (x ∷ y ∷ []) (search pol depth 20 fits 9000) tt
@@ -39,8 +39,8 @@ negated g d (w, m) = (
   record {
     starts = ap neg_ℤ m.starts;
     ends = ap neg_ℤ m.ends;
-    speeds = λ k h. subst (λ (n : ℕ). n ≤ g.speedLimit) (sym (natAbs-neg (w k))) (m.speeds k h);
-    changes = λ k h. subst (λ (n : ℕ). n ≤ g.accelerationLimit) (sym (apart-neg (w k) (w (suc k)))) (m.changes k h);
+    speeds = λ k h. subst (λ (n : ℕ). n ≤ g.speed_limit) (sym (nat_abs-neg (w k))) (m.speeds k h);
+    changes = λ k h. subst (λ (n : ℕ). n ≤ g.acceleration_limit) (sym (apart-neg (w k) (w (suc k)))) (m.changes k h);
     travels = travelled-neg w g.ticks ∙ ap neg_ℤ m.travels;
   },
 )
@@ -52,11 +52,11 @@ twice-mirrored g =
       ticks = g.ticks;
       start = neg_ℤ-neg_ℤ g.start i;
       end = neg_ℤ-neg_ℤ g.end i;
-      speedLimit = g.speedLimit;
-      accelerationLimit = g.accelerationLimit;
+      speed_limit = g.speed_limit;
+      acceleration_limit = g.acceleration_limit;
     }
 
-pub feasible-mirrored : (g : Leg) (d : ℤ) → 0 < g.ticks → 0 < g.accelerationLimit → g.speedLimit ≤ 2 ^ 37
+pub feasible-mirrored : (g : Leg) (d : ℤ) → 0 < g.ticks → 0 < g.acceleration_limit → g.speed_limit ≤ 2 ^ 37
     → feasible g d ≡ feasible (mirrored g) (neg_ℤ d)
 feasible-mirrored g d some strong slow =
     same_truth _ _

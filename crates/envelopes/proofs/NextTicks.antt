@@ -12,16 +12,16 @@ use Rattle.whole.proofs.Ring.{pol, same}
 use Rattle.whole.proofs.Tests.{and_yes, and_no, leb_no, lt-or-le}
 use Rattle.model.specs.planning.Leg.{Leg}
 use Rattle.theorems.proofs.legs.Envelopes.{Joined}
-use Rattle.profile.specs.Profiles.{endsAllowed, sumBetween}
+use Rattle.profile.specs.Profiles.{ends_allowed, sum_between}
 use Rattle.envelopes.specs.declared.sums.Sums.{Sums}
 use Rattle.whole.specs.Candidates.{Next}
-use Rattle.envelopes.specs.Sums.{envelopeSumsAt, withinSums, withTicks, betweenAt, NearFrom}
+use Rattle.envelopes.specs.Sums.{envelope_sums_at, within_sums, with_ticks, between_at, NearFrom}
 use Rattle.profile.proofs.FeasibleParts.{joined-ends}
 
 -- the test at t ticks, by the envelope sums there
-pub between_is : (g : Leg) (s c : ℤ) (t : ℕ) → Joined (withTicks g t) → (r : Sums) → r ≡ envelopeSumsAt (withTicks g t)
-    → (w : ℤ) → w ≡ s +ℤ pos (t - g.ticks) *ℤ c → withinSums r w ≡ betweenAt g s c t
-between_is g s c t j r e w q = and_yes _ _ (joined-ends (withTicks g t) j) (λ i. withinSums (e i) (q i))
+pub between_is : (g : Leg) (s c : ℤ) (t : ℕ) → Joined (with_ticks g t) → (r : Sums) → r ≡ envelope_sums_at (with_ticks g t)
+    → (w : ℤ) → w ≡ s +ℤ pos (t - g.ticks) *ℤ c → within_sums r w ≡ between_at g s c t
+between_is g s c t j r e w q = and_yes _ _ (joined-ends (with_ticks g t) j) (λ i. within_sums (e i) (q i))
 
 -- the required sum, at first and one tick on
 pub wanted-first : (s c : ℤ) (t : ℕ) → s ≡ s +ℤ pos (t - t) *ℤ c
@@ -64,19 +64,19 @@ last-fails true false c e = refl
 last-fails false b c e = refl
 
 module _ (g : Leg) (s c : ℤ) (r : ℕ) (n : NearFrom g r) where
-  pub far-missed : (k : ℕ) → g.ticks ≤ k → k < r → betweenAt g s c k ≡ false
+  pub far-missed : (k : ℕ) → g.ticks ≤ k → k < r → between_at g s c k ≡ false
   far-missed k h l =
       sym
-      (and_no (endsAllowed (withTicks g k)) (sumBetween (withTicks g k) (s +ℤ pos (k - g.ticks) *ℤ c))
-      (last-fails (leb (nat_abs g.start) g.speedLimit) (leb (nat_abs g.end) g.speedLimit)
-      (leb (nat_abs (g.end -ℤ g.start)) (g.accelerationLimit * k)) (leb_no (n.far k h l))))
+      (and_no (ends_allowed (with_ticks g k)) (sum_between (with_ticks g k) (s +ℤ pos (k - g.ticks) *ℤ c))
+      (last-fails (leb (nat_abs g.start) g.speed_limit) (leb (nat_abs g.end) g.speed_limit)
+      (leb (nat_abs (g.end -ℤ g.start)) (g.acceleration_limit * k)) (leb_no (n.far k h l))))
 
-  later : (k : ℕ) → r ≤ k → betweenAt (withTicks g r) (s +ℤ pos (r - g.ticks) *ℤ c) c k ≡ betweenAt g s c k
-  later k h = ap (λ (z : ℤ). endsAllowed (withTicks g k) && sumBetween (withTicks g k) z)
+  later : (k : ℕ) → r ≤ k → between_at (with_ticks g r) (s +ℤ pos (r - g.ticks) *ℤ c) c k ≡ between_at g s c k
+  later k h = ap (λ (z : ℤ). ends_allowed (with_ticks g k) && sum_between (with_ticks g k) z)
       (wanted-later s c g.ticks r k n.low h)
 
-  pub next-later : (last q : ℕ) → Next (betweenAt (withTicks g r) (s +ℤ pos (r - g.ticks) *ℤ c) c) r last q
-      → Next (betweenAt g s c) g.ticks last q
+  pub next-later : (last q : ℕ) → Next (between_at (with_ticks g r) (s +ℤ pos (r - g.ticks) *ℤ c) c) r last q
+      → Next (between_at g s c) g.ticks last q
   next-later last q w =
       record {
         low = le_trans n.low w.low;
@@ -85,15 +85,15 @@ module _ (g : Leg) (s c : ℤ) (r : ℕ) (n : NearFrom g r) where
         passed = λ h. sym (later q w.low) ∙ w.passed h;
       }
     where
-      missed : (k : ℕ) → g.ticks ≤ k → k < q → betweenAt g s c k ≡ false
+      missed : (k : ℕ) → g.ticks ≤ k → k < q → between_at g s c k ≡ false
       missed k h l = go (lt-or-le k r)
         where
-          go : (k < r) ⊎ (r ≤ k) → betweenAt g s c k ≡ false
+          go : (k < r) ⊎ (r ≤ k) → between_at g s c k ≡ false
           go (inl p) = far-missed k h p
           go (inr p) = sym (later k p) ∙ w.missed k p l
 
   -- too far for every candidate
-  pub next-none : (last : ℕ) → g.ticks ≤ last → last < r → Next (betweenAt g s c) g.ticks last (last + 1)
+  pub next-none : (last : ℕ) → g.ticks ≤ last → last < r → Next (between_at g s c) g.ticks last (last + 1)
   next-none last h l =
       record {
         low = omega arith;

@@ -7,7 +7,7 @@ use mathlib.Core.List.{[], ◌∷◌}
 use native.Mathlib.Omega.{arith}
 use lib.IntN.{ℤ, pos, ◌+ℤ◌, ◌-ℤ◌, ◌*ℤ◌}
 use lib.Signed.{◌≤ℤ◌, ◌<ℤ◌, ≤ℤ_refl}
-use Rattle.whole.specs.Integers.{sumTo}
+use Rattle.whole.specs.Integers.{sum_to}
 use Rattle.whole.specs.Ranges.{Within}
 use Rattle.whole.proofs.Differences.{whole, all₂, all₄}
 use Rattle.whole.proofs.Laws.{+ℤ-mono}
@@ -19,7 +19,7 @@ use Rattle.theorems.proofs.legs.Envelopes.{Joined, since, until, lowest, apart-a
 
 -- ---- sums
 
-backwards : (f : ℕ → ℤ) (n : ℕ) → sumTo f n ≡ sumTo (λ k. f (suc n - k)) n
+backwards : (f : ℕ → ℤ) (n : ℕ) → sum_to f n ≡ sum_to (λ k. f (suc n - k)) n
 backwards f zero = refl
 backwards f (suc n) =
     sum_first f n
@@ -27,20 +27,20 @@ backwards f (suc n) =
     (backwards (λ k. f (suc k)) n
     ∙ sum_same (λ k. f (suc (suc n - k))) (λ k. f (suc (suc n) - k)) n
     (λ k h. ap f {x = suc (suc n - k)} {y = suc (suc n) - k} (omega arith)))
-    ∙ swap (f 1) (sumTo (λ k. f (suc (suc n) - k)) n)
-    ∙ ap (λ (m : ℕ). sumTo (λ k. f (suc (suc n) - k)) n +ℤ f m) {x = 1} {y = suc (suc n) - suc n} (omega arith)
+    ∙ swap (f 1) (sum_to (λ k. f (suc (suc n) - k)) n)
+    ∙ ap (λ (m : ℕ). sum_to (λ k. f (suc (suc n) - k)) n +ℤ f m) {x = 1} {y = suc (suc n) - suc n} (omega arith)
   where
     swap : (x y : ℤ) → x +ℤ y ≡ y +ℤ x
     swap x y = same (x ∷ y ∷ []) (search pol depth 20 fits 9000) tt
 
 both_below : (f h : ℕ → ℤ) (z : ℤ) (n : ℕ) → ((k : ℕ) → 0 < k → k ≤ n → (f k +ℤ h k) ≤ℤ z)
-    → (sumTo f n +ℤ sumTo h n) ≤ℤ (pos n *ℤ z)
+    → (sum_to f n +ℤ sum_to h n) ≤ℤ (pos n *ℤ z)
 both_below f h z zero e = subst (λ (y : ℤ). pos 0 ≤ℤ y) (none z) (≤ℤ_refl (pos 0))
   where
     none : (z : ℤ) → pos 0 ≡ pos 0 *ℤ z
     none z = same (z ∷ []) (search pol depth 20 fits 9000) tt
 both_below f h z (suc n) e =
-    grouped (sumTo f n) (f (suc n)) (sumTo h n) (h (suc n))
+    grouped (sum_to f n) (f (suc n)) (sum_to h n) (h (suc n))
     (+ℤ-mono (both_below f h z n (λ k p q. e k p (omega arith))) (e (suc n) (omega arith) (omega arith)))
   where
     one_more : (n z : ℤ) → n *ℤ z +ℤ z ≡ (n +ℤ pos 1) *ℤ z
@@ -64,28 +64,28 @@ module _ (g : Leg) (j : Joined g) where
 
   pair-at : (k : ℕ) → k ≤ T → (lower g k +ℤ lower g (T - k)) ≤ℤ (g.start +ℤ g.end)
   pair-at k h =
-      subst (λ (m : ℕ). (lower g k +ℤ lowest g.speedLimit (until g k) (g.accelerationLimit * m) g.start g.end)
+      subst (λ (m : ℕ). (lower g k +ℤ lowest g.speed_limit (until g k) (g.acceleration_limit * m) g.start g.end)
       ≤ℤ (g.start +ℤ g.end)) back
-      (pair g.speedLimit (since g k) (until g k) g.start g.end (record { within = j.start })
+      (pair g.speed_limit (since g k) (until g k) g.start g.end (record { within = j.start })
       (record { within = j.end }) (apart-at g j k h))
     where
       back : k ≡ T - (T - k)
       back = omega arith
 
-  twice-lower : 0 < T → (sumTo (lower g) (T - 1) +ℤ sumTo (lower g) (T - 1)) ≤ℤ (pos (T - 1) *ℤ (g.start +ℤ g.end))
+  twice-lower : 0 < T → (sum_to (lower g) (T - 1) +ℤ sum_to (lower g) (T - 1)) ≤ℤ (pos (T - 1) *ℤ (g.start +ℤ g.end))
   twice-lower some =
-      subst (λ (z : ℤ). (sumTo (lower g) (T - 1) +ℤ z) ≤ℤ (pos (T - 1) *ℤ (g.start +ℤ g.end))) (sym turned)
+      subst (λ (z : ℤ). (sum_to (lower g) (T - 1) +ℤ z) ≤ℤ (pos (T - 1) *ℤ (g.start +ℤ g.end))) (sym turned)
       (both_below (lower g) (λ k. lower g (T - k)) (g.start +ℤ g.end) (T - 1) (λ k h q. pair-at k (omega arith)))
     where
-      turned : sumTo (lower g) (T - 1) ≡ sumTo (λ k. lower g (T - k)) (T - 1)
+      turned : sum_to (lower g) (T - 1) ≡ sum_to (λ k. lower g (T - k)) (T - 1)
       turned =
           backwards (lower g) (T - 1)
           ∙ sum_same (λ k. lower g (suc (T - 1) - k)) (λ k. lower g (T - k)) (T - 1)
           (λ k h. ap (lower g) {x = suc (T - 1) - k} {y = T - k} (omega arith))
 
-  pub above_lower : 0 < T → (d : ℤ) → (pos T *ℤ (g.start +ℤ g.end)) ≤ℤ d → sumTo (lower g) (T - 1) ≤ℤ required g d
+  pub above_lower : 0 < T → (d : ℤ) → (pos T *ℤ (g.start +ℤ g.end)) ≤ℤ d → sum_to (lower g) (T - 1) ≤ℤ required g d
   above_lower some d far =
-      half (sumTo (lower g) (T - 1)) (pos (T - 1) *ℤ z) (d -ℤ g.start -ℤ g.end) (required g d) (twice-lower some) room
+      half (sum_to (lower g) (T - 1)) (pos (T - 1) *ℤ z) (d -ℤ g.start -ℤ g.end) (required g d) (twice-lower some) room
       (shr-floor (d -ℤ g.start -ℤ g.end) 2 (omega arith)).high
     where
       z : ℤ

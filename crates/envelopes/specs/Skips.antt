@@ -3,12 +3,12 @@
 -- envelope (`split-above`). Where that is less than the required sum, the leg cannot be made, and
 -- by `reach-goes-on` no shorter one can.
 use Rattle.std.specs.Prelude.{ℕ, suc, ◌+◌, ◌-◌, ◌≤◌, ◌<◌, ◌≡◌, Bool, true, false, ◌⊎◌, ℤ, pos, neg_ℤ, ◌+ℤ◌, ◌*ℤ◌, ◌<ℤ◌}
-use Rattle.whole.specs.Integers.{sumTo}
+use Rattle.whole.specs.Integers.{sum_to}
 use Rattle.model.specs.planning.Leg.{Leg, upper}
 use Rattle.areas.specs.declared.Parts.{Parts}
 use Rattle.profile.specs.declared.Profile.{Profile}
 use Rattle.envelopes.specs.declared.skips.Ramps.{Ramps}
-use Rattle.envelopes.specs.Sums.{withTicks}
+use Rattle.envelopes.specs.Sums.{with_ticks}
 
 -- ---- a test of candidates
 
@@ -41,11 +41,11 @@ pub record Skips (test : ℕ → Bool) (first last r : ℕ) : Type 0 where
 
 -- the upper envelope has less than the sum s
 abbrev pub Short : Leg → ℤ → Type 0
-Short g s = sumTo (upper g) (g.ticks - 1) <ℤ s
+Short g s = sum_to (upper g) (g.ticks - 1) <ℤ s
 
 -- the leg with t ticks falls short of a sum that is s at g.ticks and changes by c a tick
 abbrev pub ShortAt : Leg → ℤ → ℤ → ℕ → Type 0
-ShortAt g s c t = Short (withTicks g t) (s +ℤ pos (t - g.ticks) *ℤ c)
+ShortAt g s c t = Short (with_ticks g t) (s +ℤ pos (t - g.ticks) *ℤ c)
 
 -- t ticks fall short
 pub record GallopsTo (g : Leg) (s c : ℤ) (last t : ℕ) : Type 0 where
@@ -62,8 +62,8 @@ pub record ShortTo (g : Leg) (s c : ℤ) (last r : ℕ) : Type 0 where
 -- ---- profiles
 
 -- some ticks on the first ramp, some on the other one, and the rest level
-abbrev pub splitAt : Profile → ℕ → ℕ → Parts
-splitAt p m n = record { rising = m; level = p.ticks - 1 - m - n; falling = n }
+abbrev pub split_at : Profile → ℕ → ℕ → Parts
+split_at p m n = record { rising = m; level = p.ticks - 1 - m - n; falling = n }
 
 -- with another number of ticks
 abbrev pub lengthened : Profile → ℕ → Profile
@@ -77,8 +77,8 @@ lengthened p t =
     }
 
 -- with every sign turned
-abbrev pub turnedAbout : Profile → Profile
-turnedAbout p =
+abbrev pub turned_about : Profile → Profile
+turned_about p =
     record {
       speed_limit = p.speed_limit;
       acceleration_limit = p.acceleration_limit;

@@ -4,11 +4,11 @@
 -- sums is the theorem `step_is`.
 use Rattle.std.specs.Prelude.{ℕ, suc, ◌-◌, ◌*◌, ◌/◌, ◌^◌, ◌≤◌, ◌<◌, Bool, ◌&&◌, ℤ, pos, neg_ℤ, nat_abs, ◌+ℤ◌, ◌-ℤ◌, ◌*ℤ◌}
 use Rattle.std.specs.Int.Signed.{le_z}
-use Rattle.whole.specs.Integers.{least, greatest, sumTo}
+use Rattle.whole.specs.Integers.{least, greatest, sum_to}
 use Rattle.whole.specs.Ranges.{Within}
 use Rattle.model.specs.planning.Leg.{Leg, upper, lower}
 use Rattle.envelopes.specs.declared.sums.Sums.{Sums}
-use Rattle.profile.specs.Profiles.{endsAllowed, sumBetween}
+use Rattle.profile.specs.Profiles.{ends_allowed, sum_between}
 
 -- the last tick at which the ramp up from s is not above the ramp down to e, of t ticks, at limit a
 -- a tick
@@ -17,23 +17,23 @@ crossing a s e t = nat_abs (e -ℤ s +ℤ pos (a * t)) / (2 * a)
 
 -- the velocity that comes to the upper envelope with one tick more, before the speed limit is
 -- heeded
-unfoldable pub peakOf : ℕ → ℤ → ℤ → ℕ → ℤ
-peakOf a s e t = least (s +ℤ pos (a * suc (crossing a s e t))) (e +ℤ pos (a * (t - crossing a s e t)))
+unfoldable pub peak_of : ℕ → ℤ → ℤ → ℕ → ℤ
+peak_of a s e t = least (s +ℤ pos (a * suc (crossing a s e t))) (e +ℤ pos (a * (t - crossing a s e t)))
 
 -- the same of the lower envelope, which mirrors it
-abbrev pub troughOf : ℕ → ℤ → ℤ → ℕ → ℤ
-troughOf a s e t = neg_ℤ (peakOf a (neg_ℤ s) (neg_ℤ e) t)
+abbrev pub trough_of : ℕ → ℤ → ℤ → ℕ → ℤ
+trough_of a s e t = neg_ℤ (peak_of a (neg_ℤ s) (neg_ℤ e) t)
 
 -- the sums of a leg, and what comes to them with one and with two ticks more
-abbrev pub envelopeSumsAt : Leg → Sums
-envelopeSumsAt g =
+abbrev pub envelope_sums_at : Leg → Sums
+envelope_sums_at g =
     record {
-      lowest = sumTo (lower g) (g.ticks - 1);
-      highest = sumTo (upper g) (g.ticks - 1);
-      trough = troughOf g.accelerationLimit g.start g.end g.ticks;
-      later_trough = troughOf g.accelerationLimit g.start g.end (suc g.ticks);
-      peak = peakOf g.accelerationLimit g.start g.end g.ticks;
-      later_peak = peakOf g.accelerationLimit g.start g.end (suc g.ticks);
+      lowest = sum_to (lower g) (g.ticks - 1);
+      highest = sum_to (upper g) (g.ticks - 1);
+      trough = trough_of g.acceleration_limit g.start g.end g.ticks;
+      later_trough = trough_of g.acceleration_limit g.start g.end (suc g.ticks);
+      peak = peak_of g.acceleration_limit g.start g.end g.ticks;
+      later_peak = peak_of g.acceleration_limit g.start g.end (suc g.ticks);
     }
 
 -- one tick more, at speed limit l and acceleration limit a
@@ -49,8 +49,8 @@ stepped l a r =
     }
 
 -- the sum s is between the two sums
-abbrev pub withinSums : Sums → ℤ → Bool
-withinSums r s = le_z r.lowest s && le_z s r.highest
+abbrev pub within_sums : Sums → ℤ → Bool
+within_sums r s = le_z r.lowest s && le_z s r.highest
 
 -- where its code does not overflow
 pub record SumsRanged (r : Sums) : Type 0 where
@@ -62,25 +62,25 @@ pub record SumsRanged (r : Sums) : Type 0 where
   pub later_peak : Within (2 ^ 47) r.later_peak
 
 -- the leg with t ticks
-abbrev pub withTicks : Leg → ℕ → Leg
-withTicks g t =
+abbrev pub with_ticks : Leg → ℕ → Leg
+with_ticks g t =
     record {
       ticks = t;
       start = g.start;
       end = g.end;
-      speedLimit = g.speedLimit;
-      accelerationLimit = g.accelerationLimit;
+      speed_limit = g.speed_limit;
+      acceleration_limit = g.acceleration_limit;
     }
 
 -- ---- the next number of ticks that will do
 
 -- at t ticks: the ends can be joined, and the required sum, which is s at g.ticks and changes by c
 -- a tick, is between the sums of the envelopes
-abbrev pub betweenAt : Leg → ℤ → ℤ → ℕ → Bool
-betweenAt g s c t = endsAllowed (withTicks g t) && sumBetween (withTicks g t) (s +ℤ pos (t - g.ticks) *ℤ c)
+abbrev pub between_at : Leg → ℤ → ℤ → ℕ → Bool
+between_at g s c t = ends_allowed (with_ticks g t) && sum_between (with_ticks g t) (s +ℤ pos (t - g.ticks) *ℤ c)
 
 -- r is the least number of ticks, from those of g on, for which the ends are near enough
 pub record NearFrom (g : Leg) (r : ℕ) : Type 0 where
   pub low : g.ticks ≤ r
-  pub near : nat_abs (g.end -ℤ g.start) ≤ g.accelerationLimit * r
-  pub far : (k : ℕ) → g.ticks ≤ k → k < r → g.accelerationLimit * k < nat_abs (g.end -ℤ g.start)
+  pub near : nat_abs (g.end -ℤ g.start) ≤ g.acceleration_limit * r
+  pub far : (k : ℕ) → g.ticks ≤ k → k < r → g.acceleration_limit * k < nat_abs (g.end -ℤ g.start)

@@ -3,15 +3,17 @@
 // which a displacement can be made. Numbers of ticks that surely fall short are passed over
 // first, by areas that are no smaller than an envelope's. And whether a displacement can be
 // made in a number of ticks, by one area.
+#![tactic(auto)]
+
 mod one_envelope;
 mod skips;
 mod sums;
 
 ghost use Rattle.std.specs.Prelude.{◌*◌, ◌^◌, ◌≤◌, ◌<◌, ◌≡◌, false, nat_abs};
 ghost use Rattle.whole.specs.Ranges.{Within};
-ghost use Rattle.profile.specs.Profiles.{legOf, Ranged, Joinable};
+ghost use Rattle.profile.specs.Profiles.{leg_of, Ranged, Joinable};
 ghost use Rattle.whole.specs.Candidates.{Next};
-ghost use Rattle.envelopes.specs.Sums.{betweenAt, NearFrom};
+ghost use Rattle.envelopes.specs.Sums.{between_at, NearFrom};
 ghost use Rattle.envelopes.specs.Skips.{Lasting, Further};
 
 pub use one_envelope::makes;
@@ -32,7 +34,7 @@ fn will_do(p: Profile, sum: i64, change: i64, t: u64) -> bool
     requires within_2 { Within (2 ^ 37) change }
     requires ticks_le_t { p.ticks ≤ t }
     requires t_bound { t ≤ 4096 }
-    ensures { result ≡ betweenAt (legOf p) sum change t }
+    ensures { result ≡ between_at (leg_of p) sum change t }
 {
     let later = (t - p.ticks) as i64;
     let longer = with_ticks(p, t);
@@ -48,7 +50,7 @@ fn further(p: Profile, sum: i64, change: i64, last: u64, low: u64, step: u64) ->
     requires ticks_le_low { p.ticks ≤ low }
     requires low_le_last { low ≤ last }
     requires step_bound { step ≤ 4096 }
-    ensures { Further (betweenAt (legOf p) sum change) last low step result }
+    ensures { Further (between_at (leg_of p) sum change) last low step result }
 {
     let next = low + step;
     if next <= last {
@@ -69,9 +71,9 @@ fn next_by_halving(p: Profile, sum: i64, change: i64, missed: u64, last: u64) ->
     requires ticks_le_missed { p.ticks ≤ missed }
     requires missed_le_last { missed ≤ last }
     requires last_bound { last ≤ 4096 }
-    requires lasting { Lasting (betweenAt (legOf p) sum change) p.ticks }
-    requires missed_value { betweenAt (legOf p) sum change missed ≡ false }
-    ensures { Next (betweenAt (legOf p) sum change) p.ticks last result }
+    requires lasting { Lasting (between_at (leg_of p) sum change) p.ticks }
+    requires missed_value { between_at (leg_of p) sum change missed ≡ false }
+    ensures { Next (between_at (leg_of p) sum change) p.ticks last result }
 {
     let mut low = missed;
     let mut width = WIDEST_SPAN;
@@ -96,8 +98,8 @@ fn next_between(p: Profile, sum: i64, change: i64, last: u64) -> u64
     requires within_2 { Within (2 ^ 37) change }
     requires ticks_le_last { p.ticks ≤ last }
     requires last_bound { last ≤ 4096 }
-    requires lasting { Lasting (betweenAt (legOf p) sum change) p.ticks }
-    ensures { Next (betweenAt (legOf p) sum change) p.ticks last result }
+    requires lasting { Lasting (between_at (leg_of p) sum change) p.ticks }
+    ensures { Next (between_at (leg_of p) sum change) p.ticks last result }
 {
     let first = envelope_sums(p);
     if within_sums(first, sum) {
@@ -131,7 +133,7 @@ fn next_between(p: Profile, sum: i64, change: i64, last: u64) -> u64
 fn near_tick(p: Profile) -> u64
     requires ranged { Ranged p }
     requires acceleration_limit_nonzero { 0 < p.acceleration_limit }
-    ensures { NearFrom (legOf p) result }
+    ensures { NearFrom (leg_of p) result }
 {
     let start = p.start;
     let end = p.end;
@@ -154,8 +156,8 @@ fn next_lasting(p: Profile, sum: i64, change: i64, last: u64) -> u64
     requires within_2 { Within (2 ^ 37) change }
     requires ticks_le_last { p.ticks ≤ last }
     requires last_bound { last ≤ 4096 }
-    requires lasting { Lasting (betweenAt (legOf p) sum change) p.ticks }
-    ensures { Next (betweenAt (legOf p) sum change) p.ticks last result }
+    requires lasting { Lasting (between_at (leg_of p) sum change) p.ticks }
+    ensures { Next (between_at (leg_of p) sum change) p.ticks last result }
 {
     let first = skip_missed(p, sum, change, last);
     if last < first {
@@ -177,8 +179,8 @@ pub fn next_feasible(p: Profile, sum: i64, change: i64, last: u64) -> u64
     requires within_2 { Within (2 ^ 37) change }
     requires ticks_le_last { p.ticks ≤ last }
     requires last_bound { last ≤ 4096 }
-    requires lasting { Lasting (betweenAt (legOf p) sum change) p.ticks }
-    ensures { Next (betweenAt (legOf p) sum change) p.ticks last result }
+    requires lasting { Lasting (between_at (leg_of p) sum change) p.ticks }
+    ensures { Next (between_at (leg_of p) sum change) p.ticks last result }
 {
     let first = near_tick(p);
     if last < first {

@@ -2,10 +2,10 @@
 // fall short of the required sum.
 ghost use Rattle.std.specs.Prelude.{◌-◌, ◌^◌, ◌≤◌, ◌<◌, ◌≡◌, true, nat_abs};
 ghost use Rattle.std.specs.Int.Signed.{le_z};
-ghost use Rattle.whole.specs.Integers.{sumTo};
+ghost use Rattle.whole.specs.Integers.{sum_to};
 ghost use Rattle.whole.specs.Ranges.{Within};
-ghost use Rattle.model.specs.planning.Leg.{upper, required, sumIsWhole, feasible};
-ghost use Rattle.profile.specs.Profiles.{legOf, Ranged, Joinable};
+ghost use Rattle.model.specs.planning.Leg.{upper, required, sum_is_whole, feasible};
+ghost use Rattle.profile.specs.Profiles.{leg_of, Ranged, Joinable};
 
 use crate::skips::mirrored;
 use profile::Profile;
@@ -14,7 +14,7 @@ use profile::Profile;
 fn comes_up(p: Profile, displacement: i64) -> bool
     requires joinable { Joinable p }
     requires within { Within (2 ^ 62) displacement }
-    ensures { result ≡ le_z (required (legOf p) displacement) (sumTo (upper (legOf p)) (p.ticks - 1)) }
+    ensures { result ≡ le_z (required (leg_of p) displacement) (sum_to (upper (leg_of p)) (p.ticks - 1)) }
 {
     let start = p.start;
     let end = p.end;
@@ -35,8 +35,8 @@ pub fn makes(p: Profile, displacement: i64) -> bool
     requires start_bound { nat_abs p.start ≤ p.speed_limit }
     requires end_bound { nat_abs p.end ≤ p.speed_limit }
     requires within { Within (2 ^ 62) displacement }
-    requires displacement_value { sumIsWhole (legOf p) displacement ≡ true }
-    ensures { result ≡ feasible (legOf p) displacement }
+    requires displacement_value { sum_is_whole (leg_of p) displacement ≡ true }
+    ensures { result ≡ feasible (leg_of p) displacement }
 {
     let start = p.start;
     let end = p.end;

@@ -2,11 +2,11 @@
 // envelope's.
 ghost use Rattle.std.specs.Prelude.{◌+◌, ◌-◌, ◌*◌, ◌/◌, ◌^◌, ◌≤◌, ◌<◌, min, ◌≡◌, true, pos, ◌+ℤ◌, ◌*ℤ◌};
 ghost use Rattle.whole.specs.Ranges.{Within, Is};
-ghost use Rattle.areas.specs.Areas.{splitArea};
-ghost use Rattle.profile.specs.Profiles.{legOf, Ranged, Joinable};
-ghost use Rattle.envelopes.specs.Sums.{betweenAt, withTicks};
-ghost use Rattle.envelopes.specs.Skips.{Short, ShortTo, GallopsTo, Skips, Lasting, RampsRanged, splitAt};
-ghost use Rattle.envelopes.specs.Skips.{lengthened, turnedAbout};
+ghost use Rattle.areas.specs.Areas.{split_area};
+ghost use Rattle.profile.specs.Profiles.{leg_of, Ranged, Joinable};
+ghost use Rattle.envelopes.specs.Sums.{between_at, with_ticks};
+ghost use Rattle.envelopes.specs.Skips.{Short, ShortTo, GallopsTo, Skips, Lasting, RampsRanged, split_at};
+ghost use Rattle.envelopes.specs.Skips.{lengthened, turned_about};
 
 use profile::Profile;
 
@@ -69,7 +69,7 @@ pub fn with_ticks(p: Profile, ticks: u64) -> Profile
 // The profile with every sign turned: its upper envelope mirrors the lower one.
 pub fn mirrored(p: Profile) -> Profile
     requires { Ranged p }
-    ensures { result ≡ turnedAbout p }
+    ensures { result ≡ turned_about p }
 {
     let start = p.start;
     let end = p.end;
@@ -131,7 +131,7 @@ fn ramps_of(p: Profile) -> Ramps
 fn split_area(p: Profile, rising: u64, falling: u64) -> i64
     requires ranged { Ranged p }
     requires falling_bound { rising + falling < p.ticks }
-    ensures { Is (2 ^ 60) result (splitArea (legOf p) (splitAt p rising falling)) }
+    ensures { Is (2 ^ 60) result (split_area (leg_of p) (split_at p rising falling)) }
 {
     let level = (p.ticks - 1 - rising - falling) as i64;
     let start = p.start;
@@ -149,7 +149,7 @@ fn falls_short(p: Profile, sum: i64, r: Ramps) -> bool
     requires ticks_nonzero { 0 < p.ticks }
     requires within { Within (2 ^ 62) sum }
     requires ramps_ranged { RampsRanged r }
-    ensures { result ≡ true → Short (legOf p) sum }
+    ensures { result ≡ true → Short (leg_of p) sum }
 {
     let inner = p.ticks - 1;
     let half = half_more(p.ticks + r.ahead, r.behind);
@@ -167,7 +167,7 @@ fn short_at(p: Profile, sum: i64, change: i64, t: u64, r: Ramps) -> bool
     requires ticks_le_t { p.ticks ≤ t }
     requires t_bound { t ≤ 4096 }
     requires ramps_ranged { RampsRanged r }
-    ensures { result ≡ true → Short (withTicks (legOf p) t) (sum +ℤ pos (t - p.ticks) *ℤ change) }
+    ensures { result ≡ true → Short (with_ticks (leg_of p) t) (sum +ℤ pos (t - p.ticks) *ℤ change) }
 {
     let later = (t - p.ticks) as i64;
     falls_short(with_ticks(p, t), sum + later * change, r)
@@ -183,8 +183,8 @@ fn leapt(p: Profile, sum: i64, change: i64, last: u64, r: Ramps, t: u64, step: u
     requires last_bound { last ≤ 4096 }
     requires ramps_ranged { RampsRanged r }
     requires step_bound { step ≤ 2048 }
-    requires gallops_to { GallopsTo (legOf p) sum change last t }
-    ensures { GallopsTo (legOf p) sum change last result }
+    requires gallops_to { GallopsTo (leg_of p) sum change last t }
+    ensures { GallopsTo (leg_of p) sum change last result }
 {
     let next = t + step;
     if next <= last {
@@ -203,8 +203,8 @@ fn gallop(p: Profile, sum: i64, change: i64, last: u64, r: Ramps, from: u64) -> 
     requires within_2 { Within (2 ^ 37) change }
     requires last_bound { last ≤ 4096 }
     requires ramps_ranged { RampsRanged r }
-    requires gallops_to { GallopsTo (legOf p) sum change last from }
-    ensures { GallopsTo (legOf p) sum change last result }
+    requires gallops_to { GallopsTo (leg_of p) sum change last from }
+    ensures { GallopsTo (leg_of p) sum change last result }
 {
     let mut t = from;
     let mut step = WIDEST_LEAP;
@@ -225,7 +225,7 @@ fn skip_short(p: Profile, sum: i64, change: i64, last: u64) -> u64
     requires within_2 { Within (2 ^ 37) change }
     requires ticks_bound { p.ticks + 64 ≤ last }
     requires last_bound { last ≤ 4096 }
-    ensures { ShortTo (legOf p) sum change last result }
+    ensures { ShortTo (leg_of p) sum change last result }
 {
     let r = ramps_of(p);
     let far = p.ticks + STRETCH;
@@ -244,8 +244,8 @@ pub fn skip_missed(p: Profile, sum: i64, change: i64, last: u64) -> u64
     requires within_2 { Within (2 ^ 37) change }
     requires ticks_le_last { p.ticks ≤ last }
     requires last_bound { last ≤ 4096 }
-    requires lasting { Lasting (betweenAt (legOf p) sum change) p.ticks }
-    ensures { Skips (betweenAt (legOf p) sum change) p.ticks last result }
+    requires lasting { Lasting (between_at (leg_of p) sum change) p.ticks }
+    ensures { Skips (between_at (leg_of p) sum change) p.ticks last result }
 {
     if last < p.ticks + STRETCH {
         return p.ticks;

@@ -2,8 +2,8 @@
 // more by a step without a loop.
 ghost use Rattle.std.specs.Prelude.{◌*◌, ◌^◌, ◌≤◌, ◌<◌, ◌≡◌, ◌-ℤ◌};
 ghost use Rattle.whole.specs.Ranges.{Within, Is};
-ghost use Rattle.profile.specs.Profiles.{legOf, Joinable};
-ghost use Rattle.envelopes.specs.Sums.{peakOf, troughOf, envelopeSumsAt, stepped, SumsRanged, withinSums};
+ghost use Rattle.profile.specs.Profiles.{leg_of, Joinable};
+ghost use Rattle.envelopes.specs.Sums.{peak_of, trough_of, envelope_sums_at, stepped, SumsRanged, within_sums};
 
 use profile::Profile;
 
@@ -28,7 +28,7 @@ fn peak_of(limit: u64, start: i64, end: i64, ticks: u64) -> i64
     requires within_2 { Within (2 ^ 37) end }
     requires ticks_bound { ticks ≤ 4097 }
     requires within_3 { Within (limit * ticks) (end -ℤ start) }
-    ensures { Is (2 ^ 47) result (peakOf limit start end ticks) }
+    ensures { Is (2 ^ 47) result (peak_of limit start end ticks) }
 {
     let way = end - start + profile::change_after(limit, ticks);
     let crossing = way as u64 / (2 * limit);
@@ -45,7 +45,7 @@ fn trough_of(limit: u64, start: i64, end: i64, ticks: u64) -> i64
     requires within_2 { Within (2 ^ 37) end }
     requires ticks_bound { ticks ≤ 4097 }
     requires within_3 { Within (limit * ticks) (end -ℤ start) }
-    ensures { Is (2 ^ 47) result (troughOf limit start end ticks) }
+    ensures { Is (2 ^ 47) result (trough_of limit start end ticks) }
 {
     let peak = peak_of(limit, -start, -end, ticks);
     -peak
@@ -54,7 +54,7 @@ fn trough_of(limit: u64, start: i64, end: i64, ticks: u64) -> i64
 // The envelope sums of a profile, with no tick visited.
 pub fn envelope_sums(p: Profile) -> Sums
     requires { Joinable p }
-    ensures { result ≡ envelopeSumsAt (legOf p) }
+    ensures { result ≡ envelope_sums_at (leg_of p) }
 {
     let start = p.start;
     let end = p.end;
@@ -100,7 +100,7 @@ pub fn step(r: Sums, limit: i64, change: i64) -> Sums
 
 // Whether a sum is between the sums of the two envelopes.
 pub fn within_sums(r: Sums, sum: i64) -> bool
-    ensures { result ≡ withinSums r sum }
+    ensures { result ≡ within_sums r sum }
 {
     let low = r.lowest;
     let high = r.highest;

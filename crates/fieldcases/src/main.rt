@@ -5,6 +5,8 @@
 // The cases come on standard input, as the words of a job come to the table program:
 // tests/reference/README.md says how they are made, and what the numbers of a case and of its
 // printed line are.
+#![tactic(auto)]
+
 mod calls;
 mod printing;
 

@@ -50,21 +50,21 @@ module _ {A B : Type 0} (f : A → B) (unset : B) (l : List A) where
   named_none i m e = ap (named_of f unset m) (ap (λ (j : ℕ). drop j l) e ∙ drop-length l)
 
   -- the first i of a list, and after them the others that m names
-  abbrev pub namedFrom : ℕ → ℕ → List B → List B
-  namedFrom i m six = take i six ++ named_of f unset m (drop i l)
+  abbrev pub named_from : ℕ → ℕ → List B → List B
+  named_from i m six = take i six ++ named_of f unset m (drop i l)
 
   -- entry i is stored, and its bit taken off
   pub named-next : (i m : ℕ) (six : List B) → i < length l → i < length six
-      → namedFrom (i + 1) (m / 2) (set six i (named_at i m)) ≡ namedFrom i m six
+      → named_from (i + 1) (m / 2) (set six i (named_at i m)) ≡ named_from i m six
   named-next i m six h k =
       let v = named_at i m in
-      ap (λ (j : ℕ). namedFrom j (m / 2) (set six i v)) (add-one i)
+      ap (λ (j : ℕ). named_from j (m / 2) (set six i v)) (add-one i)
       ∙ ap (λ (t : List B). t ++ named_of f unset (m / 2) (drop (suc i) l)) (take-suc-set six i v k)
       ∙ append_assoc (take i six) (v ∷ []) (named_of f unset (m / 2) (drop (suc i) l))
       ∙ ap (λ (t : List B). take i six ++ t) (sym (named_more i m h))
 
   -- all are stored
-  pub named-all : (i m : ℕ) (six : List B) → i ≡ length l → i ≡ length six → namedFrom i m six ≡ six
+  pub named-all : (i m : ℕ) (six : List B) → i ≡ length l → i ≡ length six → named_from i m six ≡ six
   named-all i m six e k =
       ap (λ (t : List B). take i six ++ t) (named_none i m e)
       ∙ append-nil (take i six)

@@ -13,8 +13,8 @@ use Rattle.model.specs.declared.Target.TheVariants.{Fixed, Moving}
 use Rattle.model.specs.declared.Weight.{Weight}
 use Rattle.model.specs.declared.Weight.TheVariants.{Given, Measured}
 use Rattle.model.specs.declared.Windows.{Windows}
-use Rattle.model.specs.planning.Job.{unsetAxis}
-use Rattle.model.specs.planning.Windows.{noWindows}
+use Rattle.model.specs.planning.Job.{unset_axis}
+use Rattle.model.specs.planning.Windows.{no_windows}
 use Rattle.layout.specs.declared.PolgamirAnswer.{PolgamirAnswer}
 use Rattle.layout.specs.declared.PolgamirAxis.{PolgamirAxis}
 use Rattle.layout.specs.declared.PolgamirJob.{PolgamirJob}
@@ -25,11 +25,11 @@ use Rattle.layout.specs.declared.PolgamirWindows.{PolgamirWindows}
 abbrev pub start_of : PolgamirAxis → RestPoint
 start_of a = record { position = a.start_position; velocity = a.start_velocity }
 
-abbrev pub fixedOf : PolgamirAxis → RestPoint
-fixedOf a = record { position = a.target_position; velocity = a.target_velocity }
+abbrev pub fixed_of : PolgamirAxis → RestPoint
+fixed_of a = record { position = a.target_position; velocity = a.target_velocity }
 
-abbrev pub movingOf : PolgamirAxis → State
-movingOf a =
+abbrev pub moving_of : PolgamirAxis → State
+moving_of a =
     record {
       position = a.target_position;
       velocity = a.target_velocity;
@@ -39,29 +39,29 @@ movingOf a =
 
 -- fixed where its kind is 0, moving where it is any other number
 unfoldable pub target_of : PolgamirAxis → Target
-target_of a = cond (eqb a.target_kind 0) (Fixed (fixedOf a)) (Moving (movingOf a))
+target_of a = cond (eqb a.target_kind 0) (Fixed (fixed_of a)) (Moving (moving_of a))
 
 -- of an axis or of a tour's limits: the number given where the kind is 0, of a ratio where it is 1,
 -- of two peaks where it is any other number
-unfoldable pub weightFromC : ℕ → ℕ → Float → Float → Float → Weight
-weightFromC kind weight ratio first second =
+unfoldable pub weight_from_c : ℕ → ℕ → Float → Float → Float → Weight
+weight_from_c kind weight ratio first second =
     cond (eqb kind 0) (Given weight) (cond (eqb kind 1) (Measured (Ratio ratio)) (Measured (Peaks first second)))
 
 -- of an axis or of a tour's limits: none where it is given by 0, and by any
 -- other number of the half period
-unfoldable pub swayOf : ℕ → ℕ → SecondSway
-swayOf given period = cond (eqb given 0) Absent (HalfPeriod period)
+unfoldable pub sway_of : ℕ → ℕ → SecondSway
+sway_of given period = cond (eqb given 0) Absent (HalfPeriod period)
 
-unfoldable pub axisFromC : PolgamirAxis → Axis
-axisFromC a =
+unfoldable pub axis_from_c : PolgamirAxis → Axis
+axis_from_c a =
     record {
       start = start_of a;
       speed_limit = a.speed_limit;
       acceleration_limit = a.acceleration_limit;
       half_period = a.half_period;
       second_weight =
-          weightFromC a.damping_kind a.second_weight a.swing_ratio a.first_peak a.second_peak;
-      second_sway = swayOf a.second_sway_given a.second_half_period;
+          weight_from_c a.damping_kind a.second_weight a.swing_ratio a.first_peak a.second_peak;
+      second_sway = sway_of a.second_sway_given a.second_half_period;
       target = target_of a;
     }
 
@@ -73,21 +73,21 @@ unfoldable pub named_of : {A B : Type 0} → (A → B) → B → ℕ → List A 
 named_of f unset m [] = []
 named_of f unset m (x ∷ xs) = cond (eqb (m % 2) 1) (f x) unset ∷ named_of f unset (m / 2) xs
 
-abbrev pub axesFromC : ℕ → List PolgamirAxis → List Axis
-axesFromC m l = named_of axisFromC unsetAxis m l
+abbrev pub axes_from_c : ℕ → List PolgamirAxis → List Axis
+axes_from_c m l = named_of axis_from_c unset_axis m l
 
 -- none where they are given by 0: what follows is then not looked at; by any other number as they
 -- stand
-unfoldable pub windowsOf : PolgamirWindows → Windows
-windowsOf w =
-    cond (eqb w.given 0) noWindows (record { given = true; dwell = w.dwell; count = w.count; list = w.list })
+unfoldable pub windows_of : PolgamirWindows → Windows
+windows_of w =
+    cond (eqb w.given 0) no_windows (record { given = true; dwell = w.dwell; count = w.count; list = w.list })
 
-abbrev pub jobFromC : PolgamirJob → Job
-jobFromC j =
-    record { mask = j.mask; asked = j.asked; axes = axesFromC j.mask j.axes; windows = windowsOf j.windows }
+abbrev pub job_from_c : PolgamirJob → Job
+job_from_c j =
+    record { mask = j.mask; asked = j.asked; axes = axes_from_c j.mask j.axes; windows = windows_of j.windows }
 
 -- ---- an answer
 
 -- the planner's answer that C's holds
-abbrev pub answerForC : PolgamirAnswer → Answer
-answerForC r = record { number = r.number; place = r.place; mask = r.mask; arrival = r.arrival }
+abbrev pub answer_for_c : PolgamirAnswer → Answer
+answer_for_c r = record { number = r.number; place = r.place; mask = r.mask; arrival = r.arrival }

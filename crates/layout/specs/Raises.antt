@@ -10,17 +10,17 @@ use Rattle.layout.specs.declared.limit_raises.PolgamirRaise.{PolgamirRaise}
 use Rattle.layout.specs.declared.limit_raises.PolgamirAxisRaises.{PolgamirAxisRaises}
 use Rattle.layout.specs.declared.limit_raises.PolgamirRaises.{PolgamirRaises}
 
-abbrev pub answerInC : Answer → PolgamirAnswer
-answerInC r = record { number = r.number; mask = r.mask; place = r.place; arrival = r.arrival }
+abbrev pub answer_in_c : Answer → PolgamirAnswer
+answer_in_c r = record { number = r.number; mask = r.mask; place = r.place; arrival = r.arrival }
 
 -- limit 1 is M, limit 2 is L, and none is 0 in both fields
-abbrev pub raiseInC : Raise → PolgamirRaise
-raiseInC (AccelerationBy m) = record { limit = 1; by = m }
-raiseInC (SpeedBy l) = record { limit = 2; by = l }
-raiseInC NoRaise = record { limit = 0; by = 0 }
+abbrev pub raise_in_c : Raise → PolgamirRaise
+raise_in_c (AccelerationBy m) = record { limit = 1; by = m }
+raise_in_c (SpeedBy l) = record { limit = 2; by = l }
+raise_in_c NoRaise = record { limit = 0; by = 0 }
 
-abbrev pub entryInC : AxisRaises → PolgamirAxisRaises
-entryInC r = record { first = raiseInC r.first; second = raiseInC r.second }
+abbrev pub entry_in_c : AxisRaises → PolgamirAxisRaises
+entry_in_c r = record { first = raise_in_c r.first; second = raise_in_c r.second }
 
-abbrev pub raisesInC : RaisesAnswer → PolgamirRaises
-raisesInC r = record { answer = answerInC r.answer; axes = map entryInC r.axes }
+abbrev pub raises_in_c : RaisesAnswer → PolgamirRaises
+raises_in_c r = record { answer = answer_in_c r.answer; axes = map entry_in_c r.axes }

@@ -6,25 +6,25 @@ use Rattle.model.specs.declared.SearchAnswer.{SearchAnswer}
 use Rattle.layout.specs.declared.searches.PolgamirSearchAnswer.{PolgamirSearchAnswer}
 
 -- 0 for none, 1 for found, 2 for spent
-abbrev pub reportNumber : Report → ℕ
-reportNumber (Found n) = 1
-reportNumber (Spent next) = 2
-reportNumber Nothing = 0
+abbrev pub report_number : Report → ℕ
+report_number (Found n) = 1
+report_number (Spent next) = 2
+report_number Nothing = 0
 
-abbrev pub nextCandidate : Report → ℕ
-nextCandidate (Found n) = 0
-nextCandidate (Spent next) = next
-nextCandidate Nothing = 0
+abbrev pub next_candidate : Report → ℕ
+next_candidate (Found n) = 0
+next_candidate (Spent next) = next
+next_candidate Nothing = 0
 
 -- an answer in C's layout
-abbrev pub searchedOf : SearchAnswer → PolgamirSearchAnswer
-searchedOf r =
+abbrev pub searched_of : SearchAnswer → PolgamirSearchAnswer
+searched_of r =
     record {
       number = r.number;
       mask = r.mask;
       place = r.place;
       arrival = r.arrival;
-      report = reportNumber r.report;
-      next = nextCandidate r.report;
+      report = report_number r.report;
+      next = next_candidate r.report;
       tried = r.tried;
     }

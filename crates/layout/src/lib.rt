@@ -1,13 +1,15 @@
 // The structs of include/polgamir.h, and what they stand for: C's jobs, tours and settings to the
 // model's, the model's answers to C's.
+#![tactic(auto)]
+
 pub mod limit_raises;
 pub mod row_parts;
 pub mod searches;
 pub mod tours;
 
 ghost use Rattle.std.specs.Prelude.{◌≡◌};
-ghost use Rattle.layout.specs.Jobs.{start_of, fixedOf, movingOf, target_of, weightFromC, swayOf, axisFromC};
-ghost use Rattle.layout.specs.Jobs.{axesFromC, windowsOf, jobFromC, answerForC};
+ghost use Rattle.layout.specs.Jobs.{start_of, fixed_of, moving_of, target_of, weight_from_c, sway_of, axis_from_c};
+ghost use Rattle.layout.specs.Jobs.{axes_from_c, windows_of, job_from_c, answer_for_c};
 
 use model::{
     AXES, Answer, Axis, Damping, Job, MAX_WINDOWS, RestPoint, SecondSway, State, Target, Weight,
@@ -72,7 +74,7 @@ pub struct PolgamirJob {
 
 // The planner's answer in the header's layout.
 pub fn returned(r: Answer) -> PolgamirAnswer
-    ensures { answerForC result ≡ r }
+    ensures { answer_for_c result ≡ r }
 {
     PolgamirAnswer {
         number: r.number,
@@ -94,7 +96,7 @@ fn start_of(a: PolgamirAxis) -> RestPoint
 }
 
 fn fixed_of(a: PolgamirAxis) -> RestPoint
-    ensures { result ≡ fixedOf a }
+    ensures { result ≡ fixed_of a }
 {
     RestPoint {
         position: a.target_position,
@@ -103,7 +105,7 @@ fn fixed_of(a: PolgamirAxis) -> RestPoint
 }
 
 fn moving_of(a: PolgamirAxis) -> State
-    ensures { result ≡ movingOf a }
+    ensures { result ≡ moving_of a }
 {
     State {
         position: a.target_position,
@@ -126,7 +128,7 @@ fn target_of(a: PolgamirAxis) -> Target
 
 // The second weight of an axis or of a tour's limits, from its five fields.
 fn weight_of(kind: u32, weight: u32, ratio: f32, first: f32, second: f32) -> Weight
-    ensures { result ≡ weightFromC kind weight ratio first second }
+    ensures { result ≡ weight_from_c kind weight ratio first second }
 {
     if kind == 0 {
         return Weight::Given(weight);
@@ -141,7 +143,7 @@ fn weight_of(kind: u32, weight: u32, ratio: f32, first: f32, second: f32) -> Wei
 
 // The second sway of an axis or of a tour's limits, from its two fields.
 fn sway_of(given: u32, half_period: u32) -> SecondSway
-    ensures { result ≡ swayOf given half_period }
+    ensures { result ≡ sway_of given half_period }
 {
     if given == 0 {
         return SecondSway::Absent;
@@ -150,7 +152,7 @@ fn sway_of(given: u32, half_period: u32) -> SecondSway
 }
 
 fn axis_of(a: PolgamirAxis) -> Axis
-    ensures { result ≡ axisFromC a }
+    ensures { result ≡ axis_from_c a }
 {
     let start = start_of(a);
     let weight = weight_of(
@@ -175,7 +177,7 @@ fn axis_of(a: PolgamirAxis) -> Axis
 
 // The axes that the mask names. The others are not read, and unset.
 fn axes_of(mask: u32, list: [PolgamirAxis; AXES]) -> [Axis; AXES]
-    ensures { result ≡ axesFromC mask list }
+    ensures { result ≡ axes_from_c mask list }
 {
     let unset = model::unset_axis();
     let mut axes = [unset; AXES];
@@ -197,7 +199,7 @@ fn axes_of(mask: u32, list: [PolgamirAxis; AXES]) -> [Axis; AXES]
 
 // The windows where they are given. Where they are not, nothing else of them is read.
 fn windows_of(w: PolgamirWindows) -> Windows
-    ensures { result ≡ windowsOf w }
+    ensures { result ≡ windows_of w }
 {
     if w.given == 0 {
         return model::no_windows();
@@ -212,7 +214,7 @@ fn windows_of(w: PolgamirWindows) -> Windows
 }
 
 pub fn job_of(job: PolgamirJob) -> Job
-    ensures { result ≡ jobFromC job }
+    ensures { result ≡ job_from_c job }
 {
     let list = job.axes;
     let axes = axes_of(job.mask, list);

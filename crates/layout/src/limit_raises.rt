@@ -1,6 +1,6 @@
 // The raises of limits.
 ghost use Rattle.std.specs.Prelude.{◌≡◌, map};
-ghost use Rattle.layout.specs.Raises.{raiseInC, entryInC, raisesInC};
+ghost use Rattle.layout.specs.Raises.{raise_in_c, entry_in_c, raises_in_c};
 
 use crate::{PolgamirAnswer, returned};
 use model::{AXES, AxisRaises, Raise, RaisesAnswer};
@@ -40,7 +40,7 @@ fn raise(limit: u32, by: u32) -> PolgamirRaise
 }
 
 fn raise_in_c(r: Raise) -> PolgamirRaise
-    ensures { result ≡ raiseInC r }
+    ensures { result ≡ raise_in_c r }
 {
     match r {
         Raise::AccelerationBy(m) => raise(1, m),
@@ -50,7 +50,7 @@ fn raise_in_c(r: Raise) -> PolgamirRaise
 }
 
 fn entry_in_c(r: AxisRaises) -> PolgamirAxisRaises
-    ensures { result ≡ entryInC r }
+    ensures { result ≡ entry_in_c r }
 {
     let first = r.first;
     let second = r.second;
@@ -61,7 +61,7 @@ fn entry_in_c(r: AxisRaises) -> PolgamirAxisRaises
 }
 
 fn entries_in_c(list: [AxisRaises; AXES]) -> [PolgamirAxisRaises; AXES]
-    ensures { result ≡ map entryInC list }
+    ensures { result ≡ map entry_in_c list }
 {
     let front = list[0];
     let first = entry_in_c(front);
@@ -78,7 +78,7 @@ fn entries_in_c(list: [AxisRaises; AXES]) -> [PolgamirAxisRaises; AXES]
 
 // An answer and its raises in the header's layout.
 pub fn raises_in_c(r: RaisesAnswer) -> PolgamirRaises
-    ensures { result ≡ raisesInC r }
+    ensures { result ≡ raises_in_c r }
 {
     let planned = r.answer;
     let list = r.axes;

@@ -1,6 +1,6 @@
 // The answer of a search.
 ghost use Rattle.std.specs.Prelude.{◌≡◌};
-ghost use Rattle.layout.specs.Searches.{reportNumber, nextCandidate, searchedOf};
+ghost use Rattle.layout.specs.Searches.{report_number, next_candidate, searched_of};
 
 use model::{Report, SearchAnswer};
 
@@ -19,7 +19,7 @@ pub struct PolgamirSearchAnswer {
 }
 
 fn report_number(report: Report) -> u32
-    ensures { result ≡ reportNumber report }
+    ensures { result ≡ report_number report }
 {
     match report {
         Report::Found(_) => 1,
@@ -30,7 +30,7 @@ fn report_number(report: Report) -> u32
 
 // The next candidate where the budget is spent, or 0.
 fn next_candidate(report: Report) -> u32
-    ensures { result ≡ nextCandidate report }
+    ensures { result ≡ next_candidate report }
 {
     match report {
         Report::Found(_) => 0,
@@ -41,7 +41,7 @@ fn next_candidate(report: Report) -> u32
 
 // The answer in the header's layout.
 pub fn searched(r: SearchAnswer) -> PolgamirSearchAnswer
-    ensures { result ≡ searchedOf r }
+    ensures { result ≡ searched_of r }
 {
     let report = r.report;
     PolgamirSearchAnswer {

@@ -1,7 +1,7 @@
 // What a tour has besides its stops. Stops and answer are the model's own,
 // which have the header's layout.
 ghost use Rattle.std.specs.Prelude.{◌≡◌};
-ghost use Rattle.layout.specs.Tours.{limitsOf, unsetLimits, allLimitsOf, settingsOf};
+ghost use Rattle.layout.specs.Tours.{limits_of, unset_limits, all_limits_of, settings_of};
 
 use crate::{sway_of, weight_of};
 use model::{AXES, AxisLimits, SecondSway, TourSettings, Weight};
@@ -33,7 +33,7 @@ pub struct PolgamirTour {
 }
 
 fn limits_of(l: PolgamirLimits) -> AxisLimits
-    ensures { result ≡ limitsOf l }
+    ensures { result ≡ limits_of l }
 {
     let weight = weight_of(
         l.damping_kind,
@@ -54,7 +54,7 @@ fn limits_of(l: PolgamirLimits) -> AxisLimits
 
 // What stands where the mask names no axis.
 fn unset_limits() -> AxisLimits
-    ensures { result ≡ unsetLimits }
+    ensures { result ≡ unset_limits }
 {
     AxisLimits {
         speed_limit: 0,
@@ -67,7 +67,7 @@ fn unset_limits() -> AxisLimits
 
 // The limits of the axes that the mask names. The others are not read, and unset.
 fn all_limits(mask: u32, list: [PolgamirLimits; AXES]) -> [AxisLimits; AXES]
-    ensures { result ≡ allLimitsOf mask list }
+    ensures { result ≡ all_limits_of mask list }
 {
     let unset = unset_limits();
     let mut limits = [unset; AXES];
@@ -86,7 +86,7 @@ fn all_limits(mask: u32, list: [PolgamirLimits; AXES]) -> [AxisLimits; AXES]
 }
 
 pub fn settings_of(t: PolgamirTour) -> TourSettings
-    ensures { result ≡ settingsOf t }
+    ensures { result ≡ settings_of t }
 {
     let start = t.start;
     let list = t.limits;

@@ -11,9 +11,9 @@ use native.Mathlib.Nat.{mul-le-mul, mul-le-mul_left, le_trans}
 use lib.Dec.{leb, leb→le}
 use lib.IntN.{ℤ, pos, neg_ℤ, ◌+ℤ◌, ◌*ℤ◌}
 use lib.Signed.{le_z, ◌≤ℤ◌, ◌<ℤ◌}
-use Rattle.whole.specs.Integers.{sumTo}
+use Rattle.whole.specs.Integers.{sum_to}
 use Rattle.whole.proofs.Differences.{whole, all₃}
-use Rattle.whole.proofs.Laws.{natAbs-neg, natAbs-+}
+use Rattle.whole.proofs.Laws.{nat_abs-neg, nat_abs-+}
 use Rattle.whole.proofs.Order.{le-no}
 use Rattle.whole.proofs.Ring.{pol, same}
 use Rattle.whole.proofs.Tests.{and_yes, and_no, leb_yes, leb_no, true-T}
@@ -23,47 +23,47 @@ use Rattle.model.specs.planning.Leg.{Leg, upper}
 use Rattle.model.specs.calls.Raises.{highest}
 use Rattle.theorems.proofs.legs.Envelopes.{Joined}
 use Rattle.areas.specs.declared.Parts.{Parts}
-use Rattle.profile.specs.Profiles.{legOf, Joinable}
-use Rattle.areas.specs.Areas.{triangle, rampArea, splitArea, upperParts}
+use Rattle.profile.specs.Profiles.{leg_of, Joinable}
+use Rattle.areas.specs.Areas.{triangle, ramp_area, split_area, upper_parts}
 use Rattle.profile.proofs.FeasibleParts.{joined-ends}
 use Rattle.areas.proofs.UpperSplits.{split-above, split-is, parts_all}
 use Rattle.least_limit.specs.declared.Task.{Task}
-use Rattle.least_limit.specs.Limits.{profileAt, speedWith, accelerationWith, other, limitIn, need, unit, enough}
-use Rattle.least_limit.specs.Limits.{enoughWith, gainOf, TaskRanged, Allowed, PartsRanged}
+use Rattle.least_limit.specs.Limits.{profile_at, speed_with, acceleration_with, other, limit_in, need, unit, enough}
+use Rattle.least_limit.specs.Limits.{enough_with, gain_of, TaskRanged, Allowed, PartsRanged}
 
 module _ (t : Task) where
-  abbrev pub legWith : Limit → ℕ → Leg
-  legWith q v = legOf (profileAt t (speedWith q t v) (accelerationWith q t v))
+  abbrev pub leg_with : Limit → ℕ → Leg
+  leg_with q v = leg_of (profile_at t (speed_with q t v) (acceleration_with q t v))
 
-  abbrev pub upperSum : Limit → ℕ → ℤ
-  upperSum q v = sumTo (upper (legWith q v)) (t.ticks - 1)
+  abbrev pub upper_sum : Limit → ℕ → ℤ
+  upper_sum q v = sum_to (upper (leg_with q v)) (t.ticks - 1)
 
   -- ---- the area of a split is linear in the limit
 
   -- what it is at the limit 0
-  atZero : Limit → Parts → ℤ
-  atZero Acceleration p =
+  at_zero : Limit → Parts → ℤ
+  at_zero Acceleration p =
       pos p.rising *ℤ t.start +ℤ pos p.level *ℤ pos (t.steps * t.speed) +ℤ pos p.falling *ℤ t.end
-  atZero Speed p =
-      rampArea t.start (pos (t.steps * t.acceleration)) p.rising
-      +ℤ rampArea t.end (pos (t.steps * t.acceleration)) p.falling
+  at_zero Speed p =
+      ramp_area t.start (pos (t.steps * t.acceleration)) p.rising
+      +ℤ ramp_area t.end (pos (t.steps * t.acceleration)) p.falling
 
-  linear : (q : Limit) (p : Parts) (v : ℕ) → splitArea (legWith q v) p ≡ atZero q p +ℤ pos (v * (t.steps * gainOf q p))
-  unfolding splitArea rampArea atZero
+  linear : (q : Limit) (p : Parts) (v : ℕ) → split_area (leg_with q v) p ≡ at_zero q p +ℤ pos (v * (t.steps * gain_of q p))
+  unfolding split_area ramp_area at_zero
   linear Acceleration p v =
       apart (pos p.rising *ℤ t.start) (pos (triangle p.rising))
       (pos p.level *ℤ pos (t.steps * t.speed)) (pos p.falling *ℤ t.end)
       (pos (triangle p.falling)) (pos (t.steps * v))
-      ∙ ap (λ (n : ℕ). atZero Acceleration p +ℤ pos n)
+      ∙ ap (λ (n : ℕ). at_zero Acceleration p +ℤ pos n)
       {x = (triangle p.rising + triangle p.falling) * (t.steps * v)}
       {y = v * (t.steps * (triangle p.rising + triangle p.falling))} (omega arith)
     where
       apart : (a x l b y k : ℤ) → (a +ℤ x *ℤ k) +ℤ l +ℤ (b +ℤ y *ℤ k) ≡ a +ℤ l +ℤ b +ℤ (x +ℤ y) *ℤ k
       apart a x l b y k = same (a ∷ x ∷ l ∷ b ∷ y ∷ k ∷ []) (search pol depth 20 fits 9000) tt
   linear Speed p v =
-      last (rampArea t.start (pos (t.steps * t.acceleration)) p.rising) (pos (p.level * (t.steps * v)))
-      (rampArea t.end (pos (t.steps * t.acceleration)) p.falling)
-      ∙ ap (λ (n : ℕ). atZero Speed p +ℤ pos n) {x = p.level * (t.steps * v)}
+      last (ramp_area t.start (pos (t.steps * t.acceleration)) p.rising) (pos (p.level * (t.steps * v)))
+      (ramp_area t.end (pos (t.steps * t.acceleration)) p.falling)
+      ∙ ap (λ (n : ℕ). at_zero Speed p +ℤ pos n) {x = p.level * (t.steps * v)}
       {y = v * (t.steps * p.level)} (omega arith)
     where
       last : (a l b : ℤ) → a +ℤ l +ℤ b ≡ a +ℤ b +ℤ l
@@ -71,7 +71,7 @@ module _ (t : Task) where
 
   -- ---- the ends
 
-  joined : (q : Limit) (v : ℕ) → TaskRanged t → Allowed q t v → Joined (legWith q v)
+  joined : (q : Limit) (v : ℕ) → TaskRanged t → Allowed q t v → Joined (leg_with q v)
   joined q v r a =
       record {
         start = le_trans r.start a.speed;
@@ -79,7 +79,7 @@ module _ (t : Task) where
         apart = omega (arith, a.near);
       }
 
-  some : (q : Limit) (v : ℕ) → TaskRanged t → Allowed q t v → 0 < t.steps * accelerationWith q t v
+  some : (q : Limit) (v : ℕ) → TaskRanged t → Allowed q t v → 0 < t.steps * acceleration_with q t v
   some Acceleration v r a = le_trans (omega arith) (mul-le-mul r.one a.low)
   some Speed v r a = le_trans (omega arith) (mul-le-mul r.one r.stronger)
 
@@ -116,7 +116,7 @@ module _ (t : Task) where
   near m = leb (need Acceleration t) (unit Acceleration t * m)
 
   abbrev up : ℕ → ℕ → Bool
-  up l m = le_z t.sum (sumTo (upper (legOf (profileAt t l m))) (t.ticks - 1))
+  up l m = le_z t.sum (sum_to (upper (leg_of (profile_at t l m))) (t.ticks - 1))
 
   last-no : (a b : Bool) {c : Bool} → c ≡ false → (a && (b && c)) ≡ false
   last-no true true e = e
@@ -124,30 +124,30 @@ module _ (t : Task) where
   last-no false b e = refl
 
   -- `missing` is what the sum at v falls short by
-  pub falls-short : (q : Limit) (v missing k : ℕ) → TaskRanged t → Allowed q t v → t.sum ≡ upperSum q v +ℤ pos missing
-      → k * (t.steps * gainOf q (upperParts (legWith q v)))
-      < v * (t.steps * gainOf q (upperParts (legWith q v))) + missing
-      → enoughWith q t k ≡ false
+  pub falls-short : (q : Limit) (v missing k : ℕ) → TaskRanged t → Allowed q t v → t.sum ≡ upper_sum q v +ℤ pos missing
+      → k * (t.steps * gain_of q (upper_parts (leg_with q v)))
+      < v * (t.steps * gain_of q (upper_parts (leg_with q v))) + missing
+      → enough_with q t k ≡ false
   unfolding enough
   falls-short q v missing k r a e h =
-      last-no (fast (speedWith q t k)) (near (accelerationWith q t k))
-      (le-no t.sum (upperSum q k) (subst (λ (z : ℤ). upperSum q k <ℤ z) (sym e) less))
+      last-no (fast (speed_with q t k)) (near (acceleration_with q t k))
+      (le-no t.sum (upper_sum q k) (subst (λ (z : ℤ). upper_sum q k <ℤ z) (sym e) less))
     where
       p : Parts
-      p = upperParts (legWith q v)
+      p = upper_parts (leg_with q v)
 
-      here : upperSum q v ≡ atZero q p +ℤ pos (v * (t.steps * gainOf q p))
-      here = split-is (legWith q v) (joined q v r a) (some q v r a) ∙ linear q p v
+      here : upper_sum q v ≡ at_zero q p +ℤ pos (v * (t.steps * gain_of q p))
+      here = split-is (leg_with q v) (joined q v r a) (some q v r a) ∙ linear q p v
 
-      there : upperSum q k ≤ℤ (atZero q p +ℤ pos (k * (t.steps * gainOf q p)))
-      there = subst (λ (z : ℤ). upperSum q k ≤ℤ z) (linear q p k)
-          (split-above (legWith q k) p (parts_all (legWith q v)))
+      there : upper_sum q k ≤ℤ (at_zero q p +ℤ pos (k * (t.steps * gain_of q p)))
+      there = subst (λ (z : ℤ). upper_sum q k ≤ℤ z) (linear q p k)
+          (split-above (leg_with q k) p (parts_all (leg_with q v)))
 
-      less : upperSum q k <ℤ (upperSum q v +ℤ pos missing)
-      less = above (upperSum q v) (atZero q p) (upperSum q k) (v * (t.steps * gainOf q p))
-          (k * (t.steps * gainOf q p)) missing here there h
+      less : upper_sum q k <ℤ (upper_sum q v +ℤ pos missing)
+      less = above (upper_sum q v) (at_zero q p) (upper_sum q k) (v * (t.steps * gain_of q p))
+          (k * (t.steps * gain_of q p)) missing here there h
 
-  pub comes-up : (q : Limit) (v : ℕ) → Allowed q t v → le_z t.sum (upperSum q v) ≡ true → enoughWith q t v ≡ true
+  pub comes-up : (q : Limit) (v : ℕ) → Allowed q t v → le_z t.sum (upper_sum q v) ≡ true → enough_with q t v ≡ true
   unfolding enough
   comes-up q v a e = sym (and_yes _ _ (leb_yes a.speed) (and_yes _ _ (leb_yes a.near) (sym e)))
 
@@ -166,16 +166,16 @@ module _ (t : Task) where
       second false = refl
 
   -- the value itself, or the other limit
-  pub not-allowed : (q : Limit) (v : ℕ) → unit q t * v < need q t → enoughWith q t v ≡ false
+  pub not-allowed : (q : Limit) (v : ℕ) → unit q t * v < need q t → enough_with q t v ≡ false
   not-allowed Acceleration v h = by-acceleration t.speed v (leb_no h)
   not-allowed Speed v h = by-speed v t.acceleration (leb_no h)
 
-  pub other-short : (q : Limit) (v : ℕ) → leb (need (other q) t) (unit (other q) t * limitIn (other q) t) ≡ false
-      → enoughWith q t v ≡ false
+  pub other-short : (q : Limit) (v : ℕ) → leb (need (other q) t) (unit (other q) t * limit_in (other q) t) ≡ false
+      → enough_with q t v ≡ false
   other-short Acceleration v e = by-speed t.speed v e
   other-short Speed v e = by-acceleration v t.acceleration e
 
-  pub both-allow : (q : Limit) (v : ℕ) → leb (need (other q) t) (unit (other q) t * limitIn (other q) t) ≡ true
+  pub both-allow : (q : Limit) (v : ℕ) → leb (need (other q) t) (unit (other q) t * limit_in (other q) t) ≡ true
       → need q t ≤ unit q t * v → 0 < v
       → v ≤ highest q → Allowed q t v
   both-allow Acceleration v e h l m =
@@ -191,7 +191,7 @@ module _ (t : Task) where
   -- ---- ranges
 
   pub profile-joinable : (q : Limit) (v : ℕ) → TaskRanged t → Allowed q t v
-      → Joinable (profileAt t (speedWith q t v) (accelerationWith q t v))
+      → Joinable (profile_at t (speed_with q t v) (acceleration_with q t v))
   profile-joinable q v r a =
       record {
         ranged =
@@ -204,25 +204,25 @@ module _ (t : Task) where
             };
         acceleration = some q v r a;
         some = r.some;
-        ends = joined-ends (legWith q v) (joined q v r a);
+        ends = joined-ends (leg_with q v) (joined q v r a);
       }
     where
-      highest-speed : (q : Limit) → Allowed q t v → speedWith q t v ≤ 1048576
+      highest-speed : (q : Limit) → Allowed q t v → speed_with q t v ≤ 1048576
       highest-speed Acceleration a = r.speed
       highest-speed Speed a = a.high
 
-      accelerations : (q : Limit) → Allowed q t v → accelerationWith q t v ≤ 65536
+      accelerations : (q : Limit) → Allowed q t v → acceleration_with q t v ≤ 65536
       accelerations Acceleration a = a.high
       accelerations Speed a = r.acceleration
 
-      speeds : t.steps * speedWith q t v ≤ 2 ^ 37
+      speeds : t.steps * speed_with q t v ≤ 2 ^ 37
       speeds = le_trans (mul-le-mul r.steps (highest-speed q a)) (omega arith)
 
 pub highest-small : (q : Limit) → highest q ≤ 1048576
 highest-small Acceleration = omega arith
 highest-small Speed = omega arith
 
-pub parts-few : (g : Leg) → g.ticks ≤ 4096 → PartsRanged (upperParts g)
+pub parts-few : (g : Leg) → g.ticks ≤ 4096 → PartsRanged (upper_parts g)
 parts-few g h = record { rising = omega arith; level = omega arith; falling = omega arith }
 
 module _ (t : Task) where
@@ -236,9 +236,9 @@ module _ (t : Task) where
 
   pub need-small : (q : Limit) → TaskRanged t → need q t ≤ 2 ^ 49
   need-small Acceleration r =
-      omega (arith, natAbs-+ t.end (neg_ℤ t.start), natAbs-neg t.start, r.start, r.end, r.fastest)
+      omega (arith, nat_abs-+ t.end (neg_ℤ t.start), nat_abs-neg t.start, r.start, r.end, r.fastest)
   need-small Speed r = omega (arith, r.fastest)
 
-  pub limit-range : (q : Limit) → TaskRanged t → limitIn q t ≤ highest q
+  pub limit-range : (q : Limit) → TaskRanged t → limit_in q t ≤ highest q
   limit-range Acceleration r = r.acceleration
   limit-range Speed r = r.speed

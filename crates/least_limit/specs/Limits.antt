@@ -1,7 +1,7 @@
 -- What a task asks of its two limits, and what the functions of this crate give back.
 use Rattle.std.specs.Prelude.{ℕ, ◌+◌, ◌-◌, ◌*◌, ◌^◌, ◌≤◌, ◌<◌, ◌≡◌, Bool, true, false, ◌&&◌, leb, nat_abs, ◌-ℤ◌}
 use Rattle.std.specs.Int.Signed.{le_z}
-use Rattle.whole.specs.Integers.{sumTo}
+use Rattle.whole.specs.Integers.{sum_to}
 use Rattle.whole.specs.Ranges.{Within}
 use Rattle.model.specs.declared.Limit.{Limit}
 use Rattle.model.specs.declared.Limit.TheVariants.{Acceleration, Speed}
@@ -9,15 +9,15 @@ use Rattle.model.specs.planning.Leg.{upper}
 use Rattle.model.specs.calls.Raises.{highest}
 use Rattle.areas.specs.declared.Parts.{Parts}
 use Rattle.profile.specs.declared.Profile.{Profile}
-use Rattle.profile.specs.Profiles.{legOf, Joinable}
+use Rattle.profile.specs.Profiles.{leg_of, Joinable}
 use Rattle.areas.specs.Areas.{triangle}
 use Rattle.least_limit.specs.declared.Task.{Task}
 
 -- ---- a task with other limits
 
 -- with the limits l and m, in units
-abbrev pub profileAt : Task → ℕ → ℕ → Profile
-profileAt t l m =
+abbrev pub profile_at : Task → ℕ → ℕ → Profile
+profile_at t l m =
     record {
       speed_limit = t.steps * l;
       acceleration_limit = t.steps * m;
@@ -27,17 +27,17 @@ profileAt t l m =
     }
 
 -- with one limit set, the other being as it is
-abbrev pub speedWith : Limit → Task → ℕ → ℕ
-speedWith Acceleration t v = t.speed
-speedWith Speed t v = v
+abbrev pub speed_with : Limit → Task → ℕ → ℕ
+speed_with Acceleration t v = t.speed
+speed_with Speed t v = v
 
-abbrev pub accelerationWith : Limit → Task → ℕ → ℕ
-accelerationWith Acceleration t v = v
-accelerationWith Speed t v = t.acceleration
+abbrev pub acceleration_with : Limit → Task → ℕ → ℕ
+acceleration_with Acceleration t v = v
+acceleration_with Speed t v = t.acceleration
 
-abbrev pub limitIn : Limit → Task → ℕ
-limitIn Acceleration t = t.acceleration
-limitIn Speed t = t.speed
+abbrev pub limit_in : Limit → Task → ℕ
+limit_in Acceleration t = t.acceleration
+limit_in Speed t = t.speed
 
 abbrev pub other : Limit → Limit
 other Acceleration = Speed
@@ -59,10 +59,10 @@ unfoldable pub enough : Task → ℕ → ℕ → Bool
 enough t l m =
     leb (need Speed t) (unit Speed t * l)
     && (leb (need Acceleration t) (unit Acceleration t * m)
-    && le_z t.sum (sumTo (upper (legOf (profileAt t l m))) (t.ticks - 1)))
+    && le_z t.sum (sum_to (upper (leg_of (profile_at t l m))) (t.ticks - 1)))
 
-abbrev pub enoughWith : Limit → Task → ℕ → Bool
-enoughWith q t v = enough t (speedWith q t v) (accelerationWith q t v)
+abbrev pub enough_with : Limit → Task → ℕ → Bool
+enough_with q t v = enough t (speed_with q t v) (acceleration_with q t v)
 
 -- ---- ranges, in which the code does not overflow
 
@@ -83,8 +83,8 @@ pub record TaskRanged (t : Task) : Type 0 where
 pub record Allowed (q : Limit) (t : Task) (v : ℕ) : Type 0 where
   pub low : 0 < v
   pub high : v ≤ highest q
-  pub speed : need Speed t ≤ unit Speed t * speedWith q t v
-  pub near : need Acceleration t ≤ unit Acceleration t * accelerationWith q t v
+  pub speed : need Speed t ≤ unit Speed t * speed_with q t v
+  pub near : need Acceleration t ≤ unit Acceleration t * acceleration_with q t v
 
 pub record PartsRanged (p : Parts) : Type 0 where
   pub rising : p.rising ≤ 4096
@@ -95,20 +95,20 @@ pub record PartsRanged (p : Parts) : Type 0 where
 
 -- the profile with one limit set, whose ends can be joined
 pub record ProfileFor (q : Limit) (t : Task) (v : ℕ) (r : Profile) : Type 0 where
-  pub is : r ≡ profileAt t (speedWith q t v) (accelerationWith q t v)
+  pub is : r ≡ profile_at t (speed_with q t v) (acceleration_with q t v)
   pub joinable : Joinable r
 
 -- r is the least value above the limit as it is that allows the ends, or `after`
 pub record FirstAllowed (q : Limit) (t : Task) (after r : ℕ) : Type 0 where
-  pub low : limitIn q t < r
+  pub low : limit_in q t < r
   pub high : r ≤ after
   pub enough : r < after → need q t ≤ unit q t * r
-  pub short : (k : ℕ) → limitIn q t < k → k < r → unit q t * k < need q t
+  pub short : (k : ℕ) → limit_in q t < k → k < r → unit q t * k < need q t
 
 -- how much of a grid step's raise of a limit an area of three parts gains
-abbrev pub gainOf : Limit → Parts → ℕ
-gainOf Acceleration p = triangle p.rising + triangle p.falling
-gainOf Speed p = p.level
+abbrev pub gain_of : Limit → Parts → ℕ
+gain_of Acceleration p = triangle p.rising + triangle p.falling
+gain_of Speed p = p.level
 
 -- with a gain of so much for each, no value below r makes up for what is missing at v
 pub record Led (v missing gain after r : ℕ) : Type 0 where

@@ -6,11 +6,13 @@
 // it also says how much each unit more can gain at most, so that every value is passed over
 // at which the area still falls short. After ten tests that lead on from below, each
 // further one halves what is left.
+#![tactic(auto)]
+
 ghost use Rattle.std.specs.Prelude.{suc, ◌-◌, ◌*◌, ◌^◌, ◌≤◌, ◌<◌, ◌≡◌, leb};
 ghost use Rattle.model.specs.calls.Raises.{highest};
 ghost use Rattle.whole.specs.Candidates.{Next};
 ghost use Rattle.areas.specs.Areas.{triangle};
-ghost use Rattle.least_limit.specs.Limits.{profileAt, other, limitIn, need, unit, gainOf, enoughWith};
+ghost use Rattle.least_limit.specs.Limits.{profile_at, other, limit_in, need, unit, gain_of, enough_with};
 ghost use Rattle.least_limit.specs.Limits.{TaskRanged, Allowed, PartsRanged, ProfileFor, FirstAllowed, Leads};
 ghost use Rattle.least_limit.specs.Limits.{Led};
 
@@ -37,9 +39,9 @@ pub struct Task {
 // be made; or one past the last.
 pub fn least_limit(t: Task, limit: Limit, last: u64) -> u64
     requires task_ranged { TaskRanged t }
-    requires t_bound { limitIn limit t ≤ last }
+    requires t_bound { limit_in limit t ≤ last }
     requires last_bound { last ≤ highest limit }
-    ensures { Next (enoughWith limit t) (suc (limitIn limit t)) last result }
+    ensures { Next (enough_with limit t) (suc (limit_in limit t)) last result }
 {
     let after = last + 1;
     if !allows(t, other(limit)) {
@@ -61,7 +63,7 @@ fn other(limit: Limit) -> Limit
 }
 
 pub fn limit_in(t: Task, limit: Limit) -> u64
-    ensures { result ≡ limitIn limit t }
+    ensures { result ≡ limit_in limit t }
 {
     match limit {
         Limit::Acceleration => t.acceleration,
@@ -97,7 +99,7 @@ fn unit(t: Task, limit: Limit) -> u64
 // Whether a limit as it is allows the ends.
 fn allows(t: Task, limit: Limit) -> bool
     requires { TaskRanged t }
-    ensures { result ≡ leb (need limit t) (unit limit t * limitIn limit t) }
+    ensures { result ≡ leb (need limit t) (unit limit t * limit_in limit t) }
 {
     need(t, limit) <= unit(t, limit) * limit_in(t, limit)
 }
@@ -106,7 +108,7 @@ fn allows(t: Task, limit: Limit) -> bool
 // `after`, where that is not higher.
 fn first_allowed(t: Task, limit: Limit, after: u64) -> u64
     requires task_ranged { TaskRanged t }
-    requires t_bound { limitIn limit t < after }
+    requires t_bound { limit_in limit t < after }
     ensures { FirstAllowed limit t after result }
 {
     let each = unit(t, limit);
@@ -139,7 +141,7 @@ fn profile_at(t: Task, speed: u64, acceleration: u64) -> Profile
     requires task_ranged { TaskRanged t }
     requires speed_bound { speed ≤ 1048576 }
     requires acceleration_bound { acceleration ≤ 65536 }
-    ensures { result ≡ profileAt t speed acceleration }
+    ensures { result ≡ profile_at t speed acceleration }
 {
     let start = t.start;
     let end = t.end;
@@ -164,7 +166,7 @@ fn triangle(n: u64) -> u64
 // by as many steps as it is from the end, L every level tick.
 fn gain(parts: Parts, limit: Limit) -> u64
     requires { PartsRanged parts }
-    ensures { (result ≡ gainOf limit parts) × (result ≤ 2 ^ 25) }
+    ensures { (result ≡ gain_of limit parts) × (result ≤ 2 ^ 25) }
 {
     match limit {
         Limit::Acceleration => triangle(parts.rising) + triangle(parts.falling),
@@ -197,7 +199,7 @@ fn lead(t: Task, limit: Limit, value: u64, after: u64) -> u64
     requires allowed { Allowed limit t value }
     requires value_lt_after { value < after }
     requires after_bound { after ≤ 2 ^ 32 }
-    ensures { Leads (enoughWith limit t) value after result }
+    ensures { Leads (enough_with limit t) value after result }
 {
     let p = profile_with(t, limit, value);
     let area = areas::upper_area(p);
@@ -234,7 +236,7 @@ fn least_from(t: Task, limit: Limit, first: u64, after: u64) -> u64
     requires first_le_after { first ≤ after }
     requires after_bound { after ≤ suc (highest limit) }
     requires allowed { first < after → Allowed limit t first }
-    ensures { Next (enoughWith limit t) first (after - 1) result }
+    ensures { Next (enough_with limit t) first (after - 1) result }
 {
     let mut low = first;
     let mut high = after;

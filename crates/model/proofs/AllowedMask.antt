@@ -3,17 +3,17 @@ use mathlib.Core.Path.{◌≡◌, ap}
 use mathlib.Core.Bool.{Bool, true, false}
 use Rattle.model.specs.declared.Job as Typed
 use Rattle.model.specs.planning.Job.{job_of}
-use Rattle.model.specs.planning.Words.{goodMask}
-use Rattle.model.specs.planning.Admission.{typed, Admission, refusedAt, Rules, jobAdmission, admission}
+use Rattle.model.specs.planning.Words.{good_mask}
+use Rattle.model.specs.planning.Admission.{typed, Admission, refused_at, Rules, job_admission, admission}
 
 module _ (r : Rules) (t : Typed.Job) where
   by_mask : Bool → Admission
-  by_mask b = elim b [ true ↦ jobAdmission r (job_of t) | false ↦ refusedAt 1 0 ]
+  by_mask b = elim b [ true ↦ job_admission r (job_of t) | false ↦ refused_at 1 0 ]
 
-  pub mask-refused : goodMask t.mask ≡ false → admission r (typed t) ≡ refusedAt 1 0
+  pub mask-refused : good_mask t.mask ≡ false → admission r (typed t) ≡ refused_at 1 0
   unfolding by_mask
   mask-refused e = ap by_mask e
 
-  pub mask-passed : goodMask t.mask ≡ true → admission r (typed t) ≡ jobAdmission r (job_of t)
+  pub mask-passed : good_mask t.mask ≡ true → admission r (typed t) ≡ job_admission r (job_of t)
   unfolding by_mask
   mask-passed e = ap by_mask e

@@ -1,13 +1,13 @@
 // What stands where a job gives nothing.
 ghost use Rattle.std.specs.Prelude.{◌≡◌};
-ghost use Rattle.model.specs.planning.Job.{unsetAxis};
-ghost use Rattle.model.specs.planning.Windows.{noWindows};
+ghost use Rattle.model.specs.planning.Job.{unset_axis};
+ghost use Rattle.model.specs.planning.Windows.{no_windows};
 
 use crate::{Axis, MAX_WINDOWS, RestPoint, SecondSway, Target, Weight, Window, Windows};
 
 // What stands where the mask names no axis: zero in every field, and no second sway.
 pub fn unset_axis() -> Axis
-    ensures { result ≡ unsetAxis }
+    ensures { result ≡ unset_axis }
 {
     Axis {
         start: RestPoint {
@@ -28,7 +28,7 @@ pub fn unset_axis() -> Axis
 
 // What a job brings that brings no windows: zero in every field.
 pub fn no_windows() -> Windows
-    ensures { result ≡ noWindows }
+    ensures { result ≡ no_windows }
 {
     let unset = Window {
         opening: 0,

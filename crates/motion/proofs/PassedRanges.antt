@@ -13,13 +13,13 @@ use Rattle.model.specs.declared.RestPoint.{RestPoint}
 use Rattle.model.specs.declared.State.{State}
 use Rattle.model.specs.declared.Target.{Target}
 use Rattle.model.specs.declared.Target.TheVariants.{Fixed, Moving}
-use Rattle.model.specs.planning.Quantities.{speedLimit, accelerationLimit, asMoving}
-use Rattle.model.specs.planning.Refusals.{lastTick, within, positionAllowed, velocityAllowed, restAllowed}
-use Rattle.model.specs.planning.Refusals.{motionAllowed, targetAllowed, Passed}
+use Rattle.model.specs.planning.Quantities.{speed_limit, acceleration_limit, as_moving}
+use Rattle.model.specs.planning.Refusals.{last_tick, within, position_allowed, velocity_allowed, rest_allowed}
+use Rattle.model.specs.planning.Refusals.{motion_allowed, target_allowed, Passed}
 use Rattle.theorems.proofs.jobs.PassedAxis.{speed-limit, half-period, second-weight, second-half-period}
 use Rattle.motion.specs.Motions.{StateRanges, Ranges}
 
-position-within : (p : ℤ) → T (positionAllowed p) → Within (2 ^ 34) p
+position-within : (p : ℤ) → T (position_allowed p) → Within (2 ^ 34) p
 position-within p t =
     go p (le_z_yes (left (le_z (negsuc 17179869183) p) (le_z p (pos 17179869183)) t))
     (le_z_yes (right (le_z (negsuc 17179869183) p) (le_z p (pos 17179869183)) t))
@@ -32,41 +32,41 @@ size-within l m v h t = record { within = omega (arith, leb→le (nat_abs v) l t
 
 -- the limits: what is within them has a range
 record Limited (x : Axis) : Type 0 where
-  speed_limit : speedLimit x ≤ 2 ^ 20
-  acceleration_limit : accelerationLimit x ≤ 2 ^ 16
+  speed_limit : speed_limit x ≤ 2 ^ 20
+  acceleration_limit : acceleration_limit x ≤ 2 ^ 16
 
 limited : {x : Axis} → Passed x → Limited x
 limited {x} k =
-    let s : Bool = within 1 1048576 (speedLimit x) in
-    let a : Bool = within 1 65536 (accelerationLimit x) in
+    let s : Bool = within 1 1048576 (speed_limit x) in
+    let a : Bool = within 1 65536 (acceleration_limit x) in
     let t : T a = right s a (not-false-T (s && a) k.limits) in
     record {
       speed_limit = speed-limit x k;
       acceleration_limit =
-          leb→le (accelerationLimit x) 65536 (right (leb 1 (accelerationLimit x)) (leb (accelerationLimit x) 65536) t);
+          leb→le (acceleration_limit x) 65536 (right (leb 1 (acceleration_limit x)) (leb (acceleration_limit x) 65536) t);
     }
 
-rest-within : (x : Axis) (r : RestPoint) → Limited x → T (restAllowed x r)
+rest-within : (x : Axis) (r : RestPoint) → Limited x → T (rest_allowed x r)
     → Within (2 ^ 34) r.position × Within (2 ^ 20) r.velocity
 rest-within x r l t =
-    let p : Bool = positionAllowed r.position in
-    let v : Bool = velocityAllowed x r.velocity in (
+    let p : Bool = position_allowed r.position in
+    let v : Bool = velocity_allowed x r.velocity in (
       position-within r.position (left p v t),
-      size-within (speedLimit x) (2 ^ 20) r.velocity
+      size-within (speed_limit x) (2 ^ 20) r.velocity
           l.speed_limit (right p v t),
     )
 
-motion-within : (x : Axis) (m : State) → Limited x → T (motionAllowed x m)
-    → Within (2 ^ 16) m.acceleration × Within lastTick m.tick
+motion-within : (x : Axis) (m : State) → Limited x → T (motion_allowed x m)
+    → Within (2 ^ 16) m.acceleration × Within last_tick m.tick
 motion-within x m l t =
-    let a : Bool = leb (nat_abs m.acceleration) (accelerationLimit x) in
-    let k : Bool = leb (nat_abs m.tick) lastTick in (
-      size-within (accelerationLimit x) (2 ^ 16) m.acceleration l.acceleration_limit (left a k t),
-      size-within lastTick lastTick m.tick (omega arith) (right a k t),
+    let a : Bool = leb (nat_abs m.acceleration) (acceleration_limit x) in
+    let k : Bool = leb (nat_abs m.tick) last_tick in (
+      size-within (acceleration_limit x) (2 ^ 16) m.acceleration l.acceleration_limit (left a k t),
+      size-within last_tick last_tick m.tick (omega arith) (right a k t),
     )
 
-target-within : (x : Axis) (g : Target) → Limited x → T (targetAllowed x g) → (n : ℕ)
-    → n ≤ lastTick → StateRanges (asMoving g n)
+target-within : (x : Axis) (g : Target) → Limited x → T (target_allowed x g) → (n : ℕ)
+    → n ≤ last_tick → StateRanges (as_moving g n)
 target-within x (Fixed r) l t n h =
     let rest = rest-within x r l t in
     record {
@@ -77,14 +77,14 @@ target-within x (Fixed r) l t n h =
     }
 target-within x (Moving m) l t n h =
     let r : RestPoint = record { position = m.position; velocity = m.velocity } in
-    let rest = rest-within x r l (left (restAllowed x r) (motionAllowed x m) t) in
-    let motion = motion-within x m l (right (restAllowed x r) (motionAllowed x m) t) in
+    let rest = rest-within x r l (left (rest_allowed x r) (motion_allowed x m) t) in
+    let motion = motion-within x m l (right (rest_allowed x r) (motion_allowed x m) t) in
     record { position = rest.0; velocity = rest.1; acceleration = motion.0; tick = motion.1 }
 
 pub ranges-of : {x : Axis} → Passed x → Ranges x
 ranges-of {x} k =
-    let s : Bool = restAllowed x x.start in
-    let g : Bool = targetAllowed x x.target in
+    let s : Bool = rest_allowed x x.start in
+    let g : Bool = target_allowed x x.target in
     let values : T (s && g) = not-false-T (s && g) k.values in
     let start = rest-within x x.start (limited k) (left s g values) in
     record {

@@ -12,21 +12,21 @@ use Rattle.whole.proofs.Tests.{T_true, true-T}
 use Rattle.whole.proofs.Bounds.{exact, within, mul_holds}
 use Rattle.model.specs.declared.Axis.{Axis}
 use Rattle.model.specs.planning.Leg.{feasible}
-use Rattle.model.specs.planning.Quantities.{fineSteps, delay, asMoving, finer, speedSteps}
-use Rattle.model.specs.planning.Motion.{reachable, shift, leg, displacement, startPosition, startVelocity}
-use Rattle.model.specs.planning.Motion.{landingVelocity, landingAcceleration, arrivalVelocity}
+use Rattle.model.specs.planning.Quantities.{fine_steps, delay, as_moving, finer, speed_steps}
+use Rattle.model.specs.planning.Motion.{reachable, shift, leg, displacement, start_position, start_velocity}
+use Rattle.model.specs.planning.Motion.{landing_velocity, landing_acceleration, arrival_velocity}
 use Rattle.model.specs.planning.Refusals.{Plannable}
 use Rattle.theorems.proofs.motions.Reaches.{reach-after, reach-lands, reach-arrives, reach-feasible}
 use Rattle.theorems.proofs.motions.Grid.{finer-range, speed-range, acceleration-range}
 use Rattle.profile.specs.Profiles.{Ranged}
-use Rattle.motion.specs.Motions.{Ranges, profileFor}
+use Rattle.motion.specs.Motions.{Ranges, profile_for}
 use Rattle.motion.proofs.PassedRanges.{ranges-of}
 
 start-within : (s p v : ℤ) → Within (2 ^ 16) s → Within (2 ^ 34) p → Within (2 ^ 20) v
-    → Within (2 ^ 44) (pos (2 * fineSteps) *ℤ p +ℤ pos 2 *ℤ (s *ℤ v))
+    → Within (2 ^ 44) (pos (2 * fine_steps) *ℤ p +ℤ pos 2 *ℤ (s *ℤ v))
 start-within s p v h k l = within (search exact depth 20) tt
 
-start-fast : (f v : ℤ) → Within 256 f → Within (2 ^ 20) v → Within (2 ^ 37) (f *ℤ (pos fineSteps *ℤ v))
+start-fast : (f v : ℤ) → Within 256 f → Within (2 ^ 20) v → Within (2 ^ 37) (f *ℤ (pos fine_steps *ℤ v))
 start-fast f v g h = within (search exact depth 20) tt
 
 module _ {x : Axis} {n : ℕ} (r : Plannable x n) where
@@ -38,10 +38,10 @@ module _ {x : Axis} {n : ℕ} (r : Plannable x n) where
   pub plannable-after : delay x < n
   plannable-after = reach-after x n reached
 
-  pub plannable-landed : nat_abs (landingVelocity x n) ≤ speedSteps x
+  pub plannable-landed : nat_abs (landing_velocity x n) ≤ speed_steps x
   plannable-landed = reach-lands x n reached
 
-  pub plannable-arrived : nat_abs (arrivalVelocity x n) ≤ speedSteps x
+  pub plannable-arrived : nat_abs (arrival_velocity x n) ≤ speed_steps x
   plannable-arrived = reach-arrives x n reached
 
   pub plannable-feasible : feasible (leg x n) (displacement x n) ≡ true
@@ -55,26 +55,26 @@ module _ {x : Axis} {n : ℕ} (r : Plannable x n) where
   grid-steps : Within 256 (pos (finer x))
   grid-steps = record { within = (finer-range x).1 }
 
-  pub start-position-size : nat_abs (startPosition x) ≤ finer x * 2 ^ 44
+  pub start-position-size : nat_abs (start_position x) ≤ finer x * 2 ^ 44
   start-position-size =
       let h = plannable-ranges in
       let s : Within (2 ^ 16) (shift x) =
       record { within = omega (arith, mul-le-mul h.second_weight h.half_period, h.second_half_period) } in
-      mul_holds (pos (finer x)) (pos (2 * fineSteps) *ℤ x.start.position +ℤ pos 2 *ℤ (shift x *ℤ x.start.velocity))
+      mul_holds (pos (finer x)) (pos (2 * fine_steps) *ℤ x.start.position +ℤ pos 2 *ℤ (shift x *ℤ x.start.velocity))
       (finer x) (2 ^ 44) (omega arith)
       (start-within (shift x) x.start.position x.start.velocity s h.position h.velocity).within
 
-  start-velocity-within : Within (2 ^ 37) (startVelocity x)
+  start-velocity-within : Within (2 ^ 37) (start_velocity x)
   start-velocity-within = start-fast (pos (finer x)) x.start.velocity grid-steps plannable-ranges.velocity
 
-  pub landing-acceleration-size : nat_abs (landingAcceleration x n) ≤ finer x * 2 ^ 24
+  pub landing-acceleration-size : nat_abs (landing_acceleration x n) ≤ finer x * 2 ^ 24
   landing-acceleration-size =
       let h = plannable-ranges.target n r.tick in
-      mul_holds (pos (finer x)) (pos fineSteps *ℤ (asMoving x.target n).acceleration) (finer x) (2 ^ 24) (omega arith)
-      (mul_holds (pos fineSteps) (asMoving x.target n).acceleration fineSteps (2 ^ 16)
+      mul_holds (pos (finer x)) (pos fine_steps *ℤ (as_moving x.target n).acceleration) (finer x) (2 ^ 24) (omega arith)
+      (mul_holds (pos fine_steps) (as_moving x.target n).acceleration fine_steps (2 ^ 16)
       (omega arith) h.acceleration.within)
 
-  pub profile-ranged : Ranged (profileFor x n)
+  pub profile-ranged : Ranged (profile_for x n)
   profile-ranged =
       let h = plannable-ranges in
       record {

@@ -4,15 +4,15 @@ use mathlib.Core.Bool.{false, false≢true}
 use Rattle.model.specs.declared.Axis.{Axis}
 use Rattle.model.specs.declared.Weight.{Weight}
 use Rattle.model.specs.declared.Weight.TheVariants.{Given, Measured}
-use Rattle.model.specs.planning.Damping.{weightOf}
-use Rattle.theorems.specs.GivenWeights.{withWeight}
-use Rattle.motion.specs.Motions.{measuredBy, measured}
+use Rattle.model.specs.planning.Damping.{weight_of}
+use Rattle.theorems.specs.GivenWeights.{with_weight}
+use Rattle.motion.specs.Motions.{measured_by, measured}
 
-given-weight : (w : Weight) → measuredBy w ≡ false → w ≡ Given (weightOf w)
+given-weight : (w : Weight) → measured_by w ≡ false → w ≡ Given (weight_of w)
 given-weight (Given b) e = refl
 given-weight (Measured d) e = absurd (false≢true (sym e))
 
-pub given_is : (x : Axis) → measured x ≡ false → x ≡ withWeight x
+pub given_is : (x : Axis) → measured x ≡ false → x ≡ with_weight x
 given_is x e =
     λ i.
     record {

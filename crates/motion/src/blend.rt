@@ -1,15 +1,15 @@
 // The blend of an axis: its delay and its weights.
 ghost use Rattle.std.specs.Prelude.{◌≡◌, pos};
 ghost use Rattle.whole.specs.Ranges.{Is};
-ghost use Rattle.model.specs.planning.Quantities.{secondWeight, swayDelay, secondHalfPeriod, delay};
-ghost use Rattle.theorems.specs.GivenWeights.{withWeight};
+ghost use Rattle.model.specs.planning.Quantities.{second_weight, sway_delay, second_half_period, delay};
+ghost use Rattle.theorems.specs.GivenWeights.{with_weight};
 ghost use Rattle.motion.specs.Motions.{measured, Ranges};
 
 use model::{Axis, SecondSway, Weight};
 
 // h₂ of a second sway, 0 where there is none.
 pub fn sway_delay(sway: SecondSway) -> u32
-    ensures { result ≡ swayDelay sway }
+    ensures { result ≡ sway_delay sway }
 {
     match sway {
         SecondSway::Absent => 0,
@@ -19,7 +19,7 @@ pub fn sway_delay(sway: SecondSway) -> u32
 
 // h₂.
 pub fn second_half_period(x: Axis) -> u32
-    ensures { result ≡ secondHalfPeriod x }
+    ensures { result ≡ second_half_period x }
 {
     let sway = x.second_sway;
     sway_delay(sway)
@@ -35,7 +35,7 @@ pub fn delay_of(x: Axis) -> u32
 
 // B.
 pub fn second_weight(x: Axis) -> u32
-    ensures { result ≡ secondWeight x }
+    ensures { result ≡ second_weight x }
 {
     let weight = x.second_weight;
     damping::weight_of(weight)
@@ -44,7 +44,7 @@ pub fn second_weight(x: Axis) -> u32
 // B as a signed number.
 pub fn signed_weight(x: Axis) -> i64
     requires { Ranges x }
-    ensures { Is 128 result (pos (secondWeight x)) }
+    ensures { Is 128 result (pos (second_weight x)) }
 {
     second_weight(x) as i64
 }
@@ -62,7 +62,7 @@ pub fn measured(x: Axis) -> bool
 
 // The same axis with the number B given, so that it is worked out once.
 pub fn with_weight(x: Axis) -> Axis
-    ensures { result ≡ withWeight x }
+    ensures { result ≡ with_weight x }
 {
     let start = x.start;
     let sway = x.second_sway;

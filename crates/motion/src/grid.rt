@@ -1,7 +1,7 @@
 // The grid of an axis: how fine its planned motion is.
 ghost use Rattle.std.specs.Prelude.{◌*◌, ◌&&◌, ◌≡◌, pos};
 ghost use Rattle.whole.specs.Ranges.{Is};
-ghost use Rattle.model.specs.planning.Quantities.{fineSteps, accelerates, damped, finerBy, finer};
+ghost use Rattle.model.specs.planning.Quantities.{fine_steps, accelerates, damped, finer_by, finer};
 ghost use Rattle.model.specs.declared.SecondSway.TheVariants.{Absent};
 
 use crate::blend::second_weight;
@@ -21,7 +21,7 @@ fn damped(x: Axis) -> bool
 // Grid steps in a fine step where the pole has one sway: the grid is finer where the target
 // accelerates and the pole is damped.
 fn finer_by_target(x: Axis) -> u32
-    ensures { result ≡ finerBy Absent (accelerates x.target && damped x) }
+    ensures { result ≡ finer_by Absent (accelerates x.target && damped x) }
 {
     let target = x.target;
     if accelerates(target) {
@@ -52,7 +52,7 @@ pub fn grid_steps(x: Axis) -> i64
 
 // A limit in grid steps.
 pub fn limit_on_grid(x: Axis, limit: u32) -> u64
-    ensures { result ≡ finer x * (fineSteps * limit) }
+    ensures { result ≡ finer x * (fine_steps * limit) }
 {
     let steps = finer(x) as u64;
     steps * ((FINE_STEPS as u64) * (limit as u64))

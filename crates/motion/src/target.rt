@@ -1,8 +1,8 @@
 // The target of an axis, at any tick (docs/METHOD.md, section 2).
 ghost use Rattle.std.specs.Prelude.{◌+◌, ◌^◌, ◌≤◌, ◌≡◌, pos, ◌-ℤ◌};
 ghost use Rattle.whole.specs.Ranges.{Is};
-ghost use Rattle.model.specs.planning.Quantities.{asMoving, twicePositionAt, velocityAt, accelerates};
-ghost use Rattle.model.specs.planning.Refusals.{lastTick};
+ghost use Rattle.model.specs.planning.Quantities.{as_moving, twice_position_at, velocity_at, accelerates};
+ghost use Rattle.model.specs.planning.Refusals.{last_tick};
 ghost use Rattle.motion.specs.Motions.{StateRanges};
 
 use model::{State, Target};
@@ -22,7 +22,7 @@ pub fn accelerates(target: Target) -> bool
 
 // The target as a moving one, for arrival n.
 pub fn as_moving(target: Target, n: u32) -> State
-    ensures { result ≡ asMoving target n }
+    ensures { result ≡ as_moving target n }
 {
     match target {
         Target::Fixed(r) => State {
@@ -36,7 +36,7 @@ pub fn as_moving(target: Target, n: u32) -> State
 }
 
 pub fn signed(k: u32) -> i64
-    requires { k ≤ lastTick }
+    requires { k ≤ last_tick }
     ensures { Is 4096 result (pos k) }
 {
     k as i64
@@ -45,7 +45,7 @@ pub fn signed(k: u32) -> i64
 // Ticks from the target's own tick to tick k.
 fn ticks_since(m: State, k: u32) -> i64
     requires state_ranges { StateRanges m }
-    requires k_le_last_tick { k ≤ lastTick }
+    requires k_le_last_tick { k ≤ last_tick }
     ensures { Is (2 ^ 13) result (pos k -ℤ m.tick) }
 {
     let tick = m.tick;
@@ -55,8 +55,8 @@ fn ticks_since(m: State, k: u32) -> i64
 // The target's velocity at tick k.
 pub fn velocity_at(m: State, k: u32) -> i64
     requires state_ranges { StateRanges m }
-    requires k_le_last_tick { k ≤ lastTick }
-    ensures { Is (2 ^ 30) result (velocityAt m (pos k)) }
+    requires k_le_last_tick { k ≤ last_tick }
+    ensures { Is (2 ^ 30) result (velocity_at m (pos k)) }
 {
     let v = m.velocity;
     let a = m.acceleration;
@@ -67,8 +67,8 @@ pub fn velocity_at(m: State, k: u32) -> i64
 // Twice the target's position at tick k.
 pub fn twice_position_at(m: State, k: u32) -> i64
     requires state_ranges { StateRanges m }
-    requires k_le_last_tick { k ≤ lastTick }
-    ensures { Is (2 ^ 42 + 2 ^ 36) result (twicePositionAt m (pos k)) }
+    requires k_le_last_tick { k ≤ last_tick }
+    ensures { Is (2 ^ 42 + 2 ^ 36) result (twice_position_at m (pos k)) }
 {
     let p = m.position;
     let v = m.velocity;

@@ -6,16 +6,16 @@ use lib.IntN.{ℤ}
 use lib.ListN.{length}
 use Rattle.model.specs.declared.Answer.{Answer}
 use Rattle.model.specs.declared.PartAnswer.{PartAnswer}
-use Rattle.model.specs.planning.Outcome.{Input, call, inputAxes, cellsNeeded, answer_of}
-use Rattle.model.specs.calls.Parts.{PartOutcome, partCall}
+use Rattle.model.specs.planning.Outcome.{Input, call, input_axes, cells_needed, answer_of}
+use Rattle.model.specs.calls.Parts.{PartOutcome, part_call}
 use Rattle.theorems.specs.Parts.{PartOf}
 use Rattle.theorems.proofs.calls.Parts.{parts-hold}
-use Rattle.planner.specs.Promise.{partOutcome}
+use Rattle.planner.specs.Promise.{part_outcome}
 use Rattle.planner.proofs.Answers.{part-answer}
 use Rattle.parts.specs.Promise.{PartPromise}
 
 pub promise : (q : Input) (k : ℕ) (entry : List ℤ) (r : PartAnswer) (exit : List ℤ)
-    → partOutcome r exit ≡ partCall q k entry → PartPromise q k entry r exit
+    → part_outcome r exit ≡ part_call q k entry → PartPromise q k entry r exit
 promise q k entry r exit e =
     let a : r.answer ≡ answer_of q = ap (λ (p : PartOutcome). p.answer) e ∙ part-answer q k entry in
     record {
@@ -28,4 +28,4 @@ promise q k entry r exit e =
     }
   where
     Fits : Answer → List ℤ → Type 0
-    Fits x lent = cellsNeeded (length (inputAxes q)) x.arrival ≤ length lent
+    Fits x lent = cells_needed (length (input_axes q)) x.arrival ≤ length lent

@@ -5,6 +5,8 @@
 // Where it is not 0 all cells are as they were. No row before the first one is worked out. A
 // job goes the way of every call (`planner`). specs/Promise.antt says what both calls promise
 // of any job, any first row and any table.
+#![tactic(auto)]
+
 ghost use Rattle.model.specs.planning.Outcome as Input;
 ghost use Rattle.parts.specs.Promise.{PartPromise};
 

@@ -9,20 +9,20 @@ use lib.Dec.{T}
 use lib.IntN.{ℤ, pos, nat_abs, ◌+ℤ◌, ◌*ℤ◌}
 use native.Mathlib.Decide.{dec_lt}
 use native.Mathlib.Nat.{mul-le-mul_left, mul-le-mul_right}
-use Rattle.whole.proofs.Laws.{natAbs-+}
+use Rattle.whole.proofs.Laws.{nat_abs-+}
 use Rattle.whole.proofs.Ring.{pol, same}
 use Rattle.model.specs.declared.Axis.{Axis}
-use Rattle.model.specs.planning.Quantities.{halfPeriod, secondWeight, delay, finer, speedSteps}
+use Rattle.model.specs.planning.Quantities.{half_period, second_weight, delay, finer, speed_steps}
 use Rattle.model.specs.planning.Leg.{Leg, feasible, required}
-use Rattle.model.specs.planning.Motion.{startPosition, landingVelocity, landingAcceleration, arrivalVelocity, leg}
-use Rattle.model.specs.planning.Motion.{displacement, requiredSum}
+use Rattle.model.specs.planning.Motion.{start_position, landing_velocity, landing_acceleration, arrival_velocity, leg}
+use Rattle.model.specs.planning.Motion.{displacement, required_sum}
 use Rattle.model.specs.planning.Refusals.{Plannable}
 use Rattle.profile.specs.declared.Profile.{Profile}
 use Rattle.regions.specs.declared.Regions.{Regions}
-use Rattle.profile.specs.Profiles.{legOf}
-use Rattle.regions.specs.Regions.{chosenRegions, velocityIn}
+use Rattle.profile.specs.Profiles.{leg_of}
+use Rattle.regions.specs.Regions.{chosen_regions, velocity_in}
 use Rattle.regions.proofs.ChosenRegions.{chosen-within, chosen-ranged}
-use Rattle.motion.specs.Motions.{profileFor, destination}
+use Rattle.motion.specs.Motions.{profile_for, destination}
 use Rattle.theorems.proofs.motions.Grid.{finer-range}
 use Rattle.theorems.proofs.tables.CellLimits.{between}
 use Rattle.theorems.proofs.jobs.PlannableAxis.{some-acceleration, speed-range, moves}
@@ -30,7 +30,7 @@ use Rattle.motion.proofs.PlannableAxis.{plannable-after, plannable-landed, plann
 use Rattle.motion.proofs.PlannableAxis.{plannable-ranges}
 use Rattle.motion.proofs.PlannableAxis.{start-position-size, landing-acceleration-size, profile-ranged}
 use Rattle.planned.specs.declared.AxisPlan.{AxisPlan}
-use Rattle.planned.specs.Plans.{scale, plan_of, arrivalOf, PlanRanges, plannedAt, totalWeight}
+use Rattle.planned.specs.Plans.{scale, plan_of, arrival_of, PlanRanges, planned_at, total_weight}
 use Rattle.planned.proofs.Scale.{weight_is, weighed-within}
 use Rattle.planned.proofs.Velocities.{planned-before, planned-after}
 
@@ -47,10 +47,10 @@ module _ {x : Axis} {n : ℕ} (r : Plannable x n) where
   some : 0 < g.ticks
   some = let after = plannable-after r in omega arith
 
-  steep : 0 < g.accelerationLimit
+  steep : 0 < g.acceleration_limit
   steep = some-acceleration x n r
 
-  slow : g.speedLimit ≤ 2 ^ 37
+  slow : g.speed_limit ≤ 2 ^ 37
   slow = speed-range x n r
 
   can : T (feasible g d)
@@ -62,20 +62,20 @@ module _ {x : Axis} {n : ℕ} (r : Plannable x n) where
   abbrev most : ℕ
   most = 2 ^ 28 + 2 ^ 24
 
-  speed-most : speedSteps x ≤ finer x * 2 ^ 28
+  speed-most : speed_steps x ≤ finer x * 2 ^ 28
   speed-most = mul-le-mul_left (finer x) (omega (arith, (plannable-ranges r).speed_limit))
 
-  within-speed : (v : ℤ) → nat_abs v ≤ speedSteps x → nat_abs v ≤ finer x * most
+  within-speed : (v : ℤ) → nat_abs v ≤ speed_steps x → nat_abs v ≤ finer x * most
   within-speed v h = omega (arith, h, speed-most)
 
   -- one tick after the arrival
-  after-most : nat_abs (landingVelocity x n +ℤ pos (delay x + 1) *ℤ landingAcceleration x n) ≤ finer x * most
+  after-most : nat_abs (landing_velocity x n +ℤ pos (delay x + 1) *ℤ landing_acceleration x n) ≤ finer x * most
   after-most =
       subst (λ (v : ℤ). nat_abs v ≤ finer x * most)
-      (sym (one_more (landingVelocity x n) (pos (delay x)) (landingAcceleration x n)))
+      (sym (one_more (landing_velocity x n) (pos (delay x)) (landing_acceleration x n)))
       (omega (
         arith,
-        natAbs-+ (arrivalVelocity x n) (landingAcceleration x n),
+        nat_abs-+ (arrival_velocity x n) (landing_acceleration x n),
         plannable-arrived r,
         speed-most,
         landing-acceleration-size r,
@@ -84,36 +84,36 @@ module _ {x : Axis} {n : ℕ} (r : Plannable x n) where
       one_more : (v h a : ℤ) → v +ℤ (h +ℤ pos 1) *ℤ a ≡ (v +ℤ h *ℤ a) +ℤ a
       one_more v h a = same (v ∷ h ∷ a ∷ []) (search pol depth 20 fits 9000) tt
 
-  velocity-most : (k : ℕ) → k ≤ suc (arrivalOf p) → nat_abs (plannedAt p k) ≤ finer x * most
+  velocity-most : (k : ℕ) → k ≤ suc (arrival_of p) → nat_abs (planned_at p k) ≤ finer x * most
   velocity-most k h = go (dec_lt k g.ticks)
     where
-      go : Dec (k < g.ticks) → nat_abs (plannedAt p k) ≤ finer x * most
+      go : Dec (k < g.ticks) → nat_abs (planned_at p k) ≤ finer x * most
       go (Dec.yes l) =
           subst (λ (v : ℤ). nat_abs v ≤ finer x * most) (planned-before p k l)
-          (within-speed (velocityIn p.regions k) (chosen-within g d some steep slow can k l))
+          (within-speed (velocity_in p.regions k) (chosen-within g d some steep slow can k l))
       go (Dec.no l) =
           subst (λ (v : ℤ). nat_abs v ≤ finer x * most) (planned-after p k (omega arith))
-          (between (landingVelocity x n) (landingAcceleration x n) (k - g.ticks) (delay x + 1)
+          (between (landing_velocity x n) (landing_acceleration x n) (k - g.ticks) (delay x + 1)
           (finer x * most) (omega arith)
-          (within-speed (landingVelocity x n) (plannable-landed r)) after-most)
+          (within-speed (landing_velocity x n) (plannable-landed r)) after-most)
 
   -- ---- the ranges
 
-  light-weight : secondWeight x ≤ 256
+  light-weight : second_weight x ≤ 256
   light-weight = omega (arith, (plannable-ranges r).second_weight)
 
   pub plan-ranges : PlanRanges p
   plan-ranges =
       let after = plannable-after r in
       record {
-        light = omega (arith, weight_is x n light-weight, mul-le-mul_left (totalWeight p) (finer-range x).0);
-        weighs = omega (arith, weight_is x n light-weight, mul-le-mul_left (totalWeight p) (finer-range x).1);
-        origin = record { within = weighed-within x n (2 ^ 44) (startPosition x) light-weight (start-position-size r) };
+        light = omega (arith, weight_is x n light-weight, mul-le-mul_left (total_weight p) (finer-range x).0);
+        weighs = omega (arith, weight_is x n light-weight, mul-le-mul_left (total_weight p) (finer-range x).1);
+        origin = record { within = weighed-within x n (2 ^ 44) (start_position x) light-weight (start-position-size r) };
         regions =
             chosen-ranged g d some steep slow can (profile-ranged r).ticks (profile-ranged r).acceleration_limit;
         some = some;
         velocities = λ k h.
-            record { within = omega (arith, weighed-within x n most (plannedAt p k) light-weight (velocity-most k h)) };
+            record { within = omega (arith, weighed-within x n most (planned_at p k) light-weight (velocity-most k h)) };
         acceleration =
             record {
               within = omega (arith, landing-acceleration-size r, mul-le-mul_right (2 ^ 24) (finer-range x).1);
@@ -123,34 +123,34 @@ module _ {x : Axis} {n : ℕ} (r : Plannable x n) where
         last = omega (arith, r.tick);
       }
 
-  pub plan-arrives : n ≤ arrivalOf p
+  pub plan-arrives : n ≤ arrival_of p
   plan-arrives = omega arith
 
 -- ---- the plan of one axis, from its parts
 
-module _ (x : Axis) (n : ℕ) (f : Profile) (d : ℤ) (same : f ≡ profileFor x n) (way : d ≡ displacement x n) where
-  pub plan-feasible : Plannable x n → feasible (legOf f) d ≡ true
-  plan-feasible r = ap₂ (λ (g : Profile) (e : ℤ). feasible (legOf g) e) same way ∙ plannable-feasible r
+module _ (x : Axis) (n : ℕ) (f : Profile) (d : ℤ) (same : f ≡ profile_for x n) (way : d ≡ displacement x n) where
+  pub plan-feasible : Plannable x n → feasible (leg_of f) d ≡ true
+  plan-feasible r = ap₂ (λ (g : Profile) (e : ℤ). feasible (leg_of g) e) same way ∙ plannable-feasible r
 
   -- a plan with the blend of the axis: its second weight b, and both weights scaled by k
-  abbrev planWith : ℤ → ℤ → Regions → ℤ → ℕ → ℕ → AxisPlan
-  planWith o e c a b k =
+  abbrev plan_with : ℤ → ℤ → Regions → ℤ → ℕ → ℕ → AxisPlan
+  plan_with o e c a b k =
       record {
         origin = o;
         destination = e;
         regions = c;
         acceleration = a;
-        half_period = halfPeriod x;
+        half_period = half_period x;
         first_weight = k * (256 - b);
         second_weight = k * b;
         second_sway = x.second_sway;
       }
 
-  pub plan-is : (o e : ℤ) (c : Regions) (a : ℤ) (b k : ℕ) → o ≡ startPosition x → e ≡ destination x n
-      → c ≡ chosenRegions (legOf f) (required (legOf f) d) → a ≡ landingAcceleration x n
-      → b ≡ secondWeight x → k ≡ scale x
-      → planWith o e c a b k ≡ plan_of n x
-  plan-is o e c a b k p r q s u t = λ i. planWith (p i) (r i) (velocities i) (s i) (u i) (t i)
+  pub plan-is : (o e : ℤ) (c : Regions) (a : ℤ) (b k : ℕ) → o ≡ start_position x → e ≡ destination x n
+      → c ≡ chosen_regions (leg_of f) (required (leg_of f) d) → a ≡ landing_acceleration x n
+      → b ≡ second_weight x → k ≡ scale x
+      → plan_with o e c a b k ≡ plan_of n x
+  plan-is o e c a b k p r q s u t = λ i. plan_with (p i) (r i) (velocities i) (s i) (u i) (t i)
     where
-      velocities : c ≡ chosenRegions (leg x n) (requiredSum x n)
-      velocities = q ∙ ap₂ (λ (g : Profile) (e : ℤ). chosenRegions (legOf g) (required (legOf g) e)) same way
+      velocities : c ≡ chosen_regions (leg x n) (required_sum x n)
+      velocities = q ∙ ap₂ (λ (g : Profile) (e : ℤ). chosen_regions (leg_of g) (required (leg_of g) e)) same way

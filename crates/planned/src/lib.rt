@@ -1,10 +1,12 @@
 // One axis of a job: its plan for an arrival, and its planned velocities (docs/METHOD.md, section
 // 3), tick by tick, some ticks before, and their sums with no tick visited.
+#![tactic(auto)]
+
 ghost use Rattle.std.specs.Prelude.{suc, ◌^◌, ◌≤◌, ◌≡◌};
-ghost use Rattle.whole.specs.Integers.{sumTo};
+ghost use Rattle.whole.specs.Integers.{sum_to};
 ghost use Rattle.whole.specs.Ranges.{Is};
 ghost use Rattle.model.specs.planning.Refusals.{Plannable};
-ghost use Rattle.planned.specs.Plans.{scale, plan_of, arrivalOf, PlanRanges, blendsBy, plannedAt, velocityBack};
+ghost use Rattle.planned.specs.Plans.{scale, plan_of, arrival_of, PlanRanges, blends_by, planned_at, velocity_back};
 
 use model::{Axis, SecondSway};
 use regions::Regions;
@@ -29,7 +31,7 @@ pub struct AxisPlan {
 
 // How many blends are added up: a second one for a second sway.
 pub fn blends(sway: SecondSway) -> u32
-    ensures { result ≡ blendsBy sway }
+    ensures { result ≡ blends_by sway }
 {
     match sway {
         SecondSway::Absent => 1,
@@ -79,8 +81,8 @@ pub fn axis_plan(x: Axis, n: u32) -> AxisPlan
 // velocity, which the acceleration changes from there on.
 pub fn planned_velocity(p: AxisPlan, k: u32) -> i64
     requires plan_ranges { PlanRanges p }
-    requires k_bound { k ≤ suc (arrivalOf p) }
-    ensures { Is (2 ^ 38) result (plannedAt p k) }
+    requires k_bound { k ≤ suc (arrival_of p) }
+    ensures { Is (2 ^ 38) result (planned_at p k) }
 {
     let regions = p.regions;
     let tick = k as u64;
@@ -94,8 +96,8 @@ pub fn planned_velocity(p: AxisPlan, k: u32) -> i64
 // The planned velocity d ticks before tick k: before tick 0 the planned motion is uniform.
 pub fn velocity_back(p: AxisPlan, d: u32, k: u32) -> i64
     requires plan_ranges { PlanRanges p }
-    requires k_bound { k ≤ suc (arrivalOf p) }
-    ensures { Is (2 ^ 38) result (velocityBack p d k) }
+    requires k_bound { k ≤ suc (arrival_of p) }
+    ensures { Is (2 ^ 38) result (velocity_back p d k) }
 {
     if k < d {
         let regions = p.regions;
@@ -109,8 +111,8 @@ pub fn velocity_back(p: AxisPlan, d: u32, k: u32) -> i64
 // Of the planned velocities.
 fn planned_sum(p: AxisPlan, k: u32) -> i64
     requires plan_ranges { PlanRanges p }
-    requires k_bound { k ≤ suc (arrivalOf p) }
-    ensures { Is (2 ^ 51) result (sumTo (plannedAt p) k) }
+    requires k_bound { k ≤ suc (arrival_of p) }
+    ensures { Is (2 ^ 51) result (sum_to (planned_at p) k) }
 {
     let regions = p.regions;
     let tick = k as u64;
@@ -127,8 +129,8 @@ fn planned_sum(p: AxisPlan, k: u32) -> i64
 pub fn sum_back(p: AxisPlan, d: u32, k: u32) -> i64
     requires plan_ranges { PlanRanges p }
     requires d_bound { d ≤ 512 }
-    requires k_bound { k ≤ suc (arrivalOf p) }
-    ensures { Is (2 ^ 51) result (sumTo (velocityBack p d) k) }
+    requires k_bound { k ≤ suc (arrival_of p) }
+    ensures { Is (2 ^ 51) result (sum_to (velocity_back p d) k) }
 {
     let regions = p.regions;
     let start = regions.start;

@@ -12,14 +12,14 @@ use Rattle.model.specs.declared.Checked.TheVariants.{Passed, Refused}
 use Rattle.model.specs.declared.Job as Typed
 use Rattle.model.specs.declared.Order.TheVariants.{Forwards}
 use Rattle.model.specs.declared.PartAnswer.{PartAnswer}
-use Rattle.model.specs.planning.Job.{Job, job_of, axesOf}
-use Rattle.model.specs.planning.Refusals.{lastTick}
-use Rattle.model.specs.planning.Outcome.{Outcome, Input, call, inputAxes, ordered, outcomeAfter, beforeTen, answer_of}
-use Rattle.model.specs.planning.Admission.{words, typed, jobRead, inputJob, Admission, planningRules}
+use Rattle.model.specs.planning.Job.{Job, job_of, axes_of}
+use Rattle.model.specs.planning.Refusals.{last_tick}
+use Rattle.model.specs.planning.Outcome.{Outcome, Input, call, input_axes, ordered, outcome_after, before_ten, answer_of}
+use Rattle.model.specs.planning.Admission.{words, typed, job_read, input_job, Admission, planning_rules}
 use Rattle.theorems.specs.Verdict.{Verdict, refused3, refused4, refused12, refused5, refused15, refused6}
 use Rattle.theorems.specs.Verdict.{refused16, refused17, refused13, refused8, refused9, refused10}
-use Rattle.theorems.specs.Verdict.{accepted, CallVerdict, words1, words2, words14, wordsJob, typed1, typedJobs}
-use Rattle.model.specs.calls.Parts.{PartOutcome, partAccepted, partRefused, partWith, partCall}
+use Rattle.theorems.specs.Verdict.{accepted, CallVerdict, words1, words2, words14, words_job, typed1, typed_jobs}
+use Rattle.model.specs.calls.Parts.{PartOutcome, part_accepted, part_refused, part_with, part_call}
 use Rattle.theorems.proofs.calls.CallVerdict.{call-verdict}
 use Rattle.theorems.proofs.jobs.BeforeTen.{planning-numbered}
 use Rattle.words.specs.declared.DecodedJob.{DecodedJob}
@@ -28,14 +28,14 @@ use Rattle.admission.proofs.Admitted.{Refusal, refusal}
 use Rattle.words.proofs.ReadWords.{words-refused, words-passed}
 use Rattle.planner.specs.declared.Wanted.{Wanted}
 use Rattle.planner.specs.declared.Wanted.TheVariants.{Whole, From}
-use Rattle.planner.specs.Promise.{PromiseIn, Answered, partOutcome}
+use Rattle.planner.specs.Promise.{PromiseIn, Answered, part_outcome}
 use Rattle.planner.proofs.Stages.{before-ten}
 use Rattle.planner.proofs.Calls.{promise}
 
 -- ---- the answer before 10
 
 -- no call answers with an arrival past 4,096
-of-verdict : (j : Job) (lent : List ℤ) (o : Outcome) → Verdict Forwards j lent o → o.arrival ≤ lastTick
+of-verdict : (j : Job) (lent : List ℤ) (o : Outcome) → Verdict Forwards j lent o → o.arrival ≤ last_tick
 of-verdict j lent o (refused3 a r) = omega (arith, r.arrival)
 of-verdict j lent o (refused4 i a b r) = omega (arith, r.arrival)
 of-verdict j lent o (refused12 i a b c r) = omega (arith, r.arrival)
@@ -50,16 +50,16 @@ of-verdict j lent o (refused9 n a b w c d r) = omega (arith, r.arrival)
 of-verdict j lent o (refused10 n a w b h r) = omega (arith, r.arrival, b.last)
 of-verdict j lent o (accepted n a w b c r) = omega (arith, r.arrival, b.last)
 
-of-call : (lent : List ℤ) (o : Outcome) (q : Input) → CallVerdict Forwards lent o q → o.arrival ≤ lastTick
+of-call : (lent : List ℤ) (o : Outcome) (q : Input) → CallVerdict Forwards lent o q → o.arrival ≤ last_tick
 of-call lent o q (words1 ws a r) = omega (arith, r.arrival)
 of-call lent o q (words2 ws p a r) = omega (arith, r.arrival)
 of-call lent o q (words14 ws p a r) = omega (arith, r.arrival)
-of-call lent o q (wordsJob ws j a v) = of-verdict j lent o v
+of-call lent o q (words_job ws j a v) = of-verdict j lent o v
 of-call lent o q (typed1 t a r) = omega (arith, r.arrival)
-of-call lent o q (typedJobs t a b v) = of-verdict (job_of t) lent o v
+of-call lent o q (typed_jobs t a b v) = of-verdict (job_of t) lent o v
 
 -- nor does the answer before 10
-late : (q : Input) → (answer_of q).arrival ≤ lastTick
+late : (q : Input) → (answer_of q).arrival ≤ last_tick
 unfolding answer_of
 late q = go (eqb o.number 10)
   where
@@ -67,63 +67,63 @@ late q = go (eqb o.number 10)
     o = call q []
 
     go : (b : Bool) → (elim b as (λ _. Answer) [
-      | true ↦ record { number = 0; place = 0; mask = (inputJob q).mask; arrival = o.arrival }
+      | true ↦ record { number = 0; place = 0; mask = (input_job q).mask; arrival = o.arrival }
       | false ↦ record { number = o.number; place = o.place; mask = o.mask; arrival = o.arrival }
-    ]).arrival ≤ lastTick
+    ]).arrival ≤ last_tick
     go true = of-call [] o q (call-verdict q [])
     go false = of-call [] o q (call-verdict q [])
 
 -- the answer of a call for a part
-pub part-answer : (q : Input) (k : ℕ) (entry : List ℤ) → (partCall q k entry).answer ≡ answer_of q
-unfolding partCall
+pub part-answer : (q : Input) (k : ℕ) (entry : List ℤ) → (part_call q k entry).answer ≡ answer_of q
+unfolding part_call
 part-answer q k entry = go (eqb (answer_of q).number 0)
   where
     go : (b : Bool)
         → (elim b as (λ _. PartOutcome) [
-          | true ↦ partAccepted (answer_of q) (inputAxes q) k entry
-          | false ↦ partRefused (answer_of q) entry
+          | true ↦ part_accepted (answer_of q) (input_axes q) k entry
+          | false ↦ part_refused (answer_of q) entry
         ]).answer ≡ answer_of q
     go true = refl
     go false = refl
 
 pub answered : (t : Typed.Job) (k : ℕ) (entry : List ℤ) (r : PartAnswer) (exit : List ℤ)
-    → partOutcome r exit ≡ partCall (typed t) k entry → Answered t r.answer
+    → part_outcome r exit ≡ part_call (typed t) k entry → Answered t r.answer
 answered t k entry r exit e =
     let is = ap (λ (p : PartOutcome). p.answer) e ∙ part-answer (typed t) k entry in
-    record { is = is; last = subst (λ (a : Answer). a.arrival ≤ lastTick) (sym is) (late (typed t)) }
+    record { is = is; last = subst (λ (a : Answer). a.arrival ≤ last_tick) (sym is) (late (typed t)) }
 
 -- ---- words: the answer, and the job, are those of the typed values that the words hold
 
 module _ (ws : List ℕ) (d : DecodedJob) (is : Decodes ws d) where
-  pub job-of-words : d.checked ≡ Passed → job_of d.job ≡ inputJob (words ws)
-  job-of-words z = sym (ap jobRead (is.typed z))
+  pub job-of-words : d.checked ≡ Passed → job_of d.job ≡ input_job (words ws)
+  job-of-words z = sym (ap job_read (is.typed z))
 
   pub answer-of-words : d.checked ≡ Passed → answer_of (typed d.job) ≡ answer_of (words ws)
   unfolding answer_of
-  answer-of-words z = ap₂ (λ (j : Job). beforeTen j.mask) (job-of-words z)
-      (ap (outcomeAfter []) (words-passed planningRules ws d is z))
+  answer-of-words z = ap₂ (λ (j : Job). before_ten j.mask) (job-of-words z)
+      (ap (outcome_after []) (words-passed planning_rules ws d is z))
 
   module _ (n p : ℕ) (e : d.checked ≡ Refused n p) where
-    pub of_words : Refusal planningRules (words ws) n p
-    of_words = refusal planningRules planning-numbered (words ws) n p (words-refused planningRules ws d is n p e)
+    pub of_words : Refusal planning_rules (words ws) n p
+    of_words = refusal planning_rules planning-numbered (words ws) n p (words-refused planning_rules ws d is n p e)
 
     pub refusal-of-words : record { number = n; place = p; mask = 0; arrival = 0 } ≡ answer_of (words ws)
     unfolding answer_of
     refusal-of-words =
-        before-ten (inputJob (words ws)).mask (record { number = n; place = p; mask = 0; arrival = 0 }) []
+        before-ten (input_job (words ws)).mask (record { number = n; place = p; mask = 0; arrival = 0 }) []
         of_words.not-10
-        ∙ sym (ap (λ (a : Admission). beforeTen (inputJob (words ws)).mask (outcomeAfter [] a)) of_words.is)
+        ∙ sym (ap (λ (a : Admission). before_ten (input_job (words ws)).mask (outcome_after [] a)) of_words.is)
 
   -- what is promised of the typed values is promised of the words
   pub words-promise : (w : Wanted) (entry : List ℤ) (r : PartAnswer) (exit : List ℤ) → d.checked ≡ Passed
       → PromiseIn w (typed d.job) entry r exit → PromiseIn w (words ws) entry r exit
-  unfolding partCall
+  unfolding part_call
   words-promise (Whole o) entry r exit z p =
       promise o (words ws) entry r.answer exit
       (record {
-        outcome = p.outcome ∙ ap₂ (λ (j : Job) (r : Outcome). ordered o (axesOf j) entry r) (job-of-words z)
-            (ap (outcomeAfter entry) (words-passed planningRules ws d is z));
+        outcome = p.outcome ∙ ap₂ (λ (j : Job) (r : Outcome). ordered o (axes_of j) entry r) (job-of-words z)
+            (ap (outcome_after entry) (words-passed planning_rules ws d is z));
         fitted = p.fitted;
       })
   words-promise (From k) entry r exit z p =
-      p ∙ ap₂ (λ (a : Answer) (j : Job). partWith a (axesOf j) k entry) (answer-of-words z) (job-of-words z)
+      p ∙ ap₂ (λ (a : Answer) (j : Job). part_with a (axes_of j) k entry) (answer-of-words z) (job-of-words z)

@@ -8,9 +8,9 @@ use lib.IntN.{ℤ}
 use Rattle.model.specs.declared.Answer.{Answer}
 use Rattle.model.specs.declared.Order.{Order}
 use Rattle.model.specs.declared.PartAnswer.{PartAnswer}
-use Rattle.model.specs.planning.Outcome.{Outcome, Input, call, call_in, inputJob, inputAxes}
+use Rattle.model.specs.planning.Outcome.{Outcome, Input, call, call_in, input_job, input_axes}
 use Rattle.theorems.specs.Verdict.{CallVerdict}
-use Rattle.model.specs.calls.Parts.{partWith, partCall}
+use Rattle.model.specs.calls.Parts.{part_with, part_call}
 use Rattle.model.specs.planning.Demand.{Demand3, CellLimits, ExactStart}
 use Rattle.planner.specs.Promise.{Promise, PromiseIn}
 use Rattle.planner.specs.declared.Wanted.{Wanted}
@@ -27,21 +27,21 @@ promise o q entry r exit g =
       outcome = g.outcome;
       verdict = subst (λ (s : Outcome). CallVerdict o entry s q) (sym g.outcome) (verdict-in o q entry);
       demand3 = λ z.
-          subst (λ (s : Outcome). Demand3 o (inputAxes q) s.arrival s.cells) (sym g.outcome)
+          subst (λ (s : Outcome). Demand3 o (input_axes q) s.arrival s.cells) (sym g.outcome)
           (demand3 o q entry (sym number ∙ z));
       limits = λ z.
-          subst (λ (s : Outcome). CellLimits o (inputAxes q) s.arrival s.cells) (sym g.outcome)
+          subst (λ (s : Outcome). CellLimits o (input_axes q) s.arrival s.cells) (sym g.outcome)
           (cell-limits o q entry (sym number ∙ z));
       start = λ z.
-          subst (λ (s : Outcome). ExactStart o (inputAxes q) s.arrival s.cells) (sym g.outcome)
+          subst (λ (s : Outcome). ExactStart o (input_axes q) s.arrival s.cells) (sym g.outcome)
           (exact-start o q entry (sym number ∙ z));
       fitted = g.fitted;
     }
 
 -- the same for what is wanted
 pub promise-in : (w : Wanted) (q : Input) (entry : List ℤ) (r : PartAnswer) (exit : List ℤ)
-    → Gives w (inputJob q).mask (inputAxes q) entry (call q entry) r exit
+    → Gives w (input_job q).mask (input_axes q) entry (call q entry) r exit
     → PromiseIn w q entry r exit
-unfolding partCall
+unfolding part_call
 promise-in (Whole o) q entry r exit g = promise o q entry r.answer exit g
-promise-in (From k) q entry r exit g = g ∙ ap (λ (a : Answer). partWith a (inputAxes q) k entry) (same_answer q entry)
+promise-in (From k) q entry r exit g = g ∙ ap (λ (a : Answer). part_with a (input_axes q) k entry) (same_answer q entry)

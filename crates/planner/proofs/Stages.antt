@@ -16,28 +16,28 @@ use Rattle.model.specs.declared.Answer.{Answer}
 use Rattle.model.specs.declared.Order.TheVariants.{Forwards}
 use Rattle.model.specs.declared.PartAnswer.{PartAnswer}
 use Rattle.model.specs.declared.Windows.{Windows}
-use Rattle.model.specs.planning.Job.{Job, JobAxis, setBits, axesOf, jobWith}
-use Rattle.theorems.specs.GivenWeights.{jobWithWeight}
-use Rattle.model.specs.planning.Refusals.{lastTick}
-use Rattle.model.specs.planning.Outcome.{Outcome, outcomeOf, refuse, leastFrom, arrives, partOver, filled, arrived}
-use Rattle.model.specs.planning.Outcome.{ordered, beforeTen}
-use Rattle.model.specs.calls.Parts.{PartOutcome, partRows, partAccepted, partRefused, partWith}
+use Rattle.model.specs.planning.Job.{Job, JobAxis, set_bits, axes_of, job_with}
+use Rattle.theorems.specs.GivenWeights.{job_with_weight}
+use Rattle.model.specs.planning.Refusals.{last_tick}
+use Rattle.model.specs.planning.Outcome.{Outcome, outcome_of, refuse, least_from, arrives, part_over, filled, arrived}
+use Rattle.model.specs.planning.Outcome.{ordered, before_ten}
+use Rattle.model.specs.calls.Parts.{PartOutcome, part_rows, part_accepted, part_refused, part_with}
 use Rattle.arrival.specs.declared.Arrival.{Arrival}
-use Rattle.arrival.specs.Arrivals.{leastOr, askedOr, arrivalFor}
+use Rattle.arrival.specs.Arrivals.{least_or, asked_or, arrival_for}
 use Rattle.model.proofs.SetAxes.{six-bits}
 use Rattle.theorems.proofs.jobs.Ordered.{refusal-stays}
 use Rattle.theorems.proofs.jobs.GivenWeights.{ordered-with-weight, arrived-with-weight, part-with-weight}
-use Rattle.admission.specs.Admitting.{namedWithWeight}
+use Rattle.admission.specs.Admitting.{named_with_weight}
 use Rattle.planner.specs.declared.Wanted.{Wanted}
 use Rattle.planner.specs.declared.Wanted.TheVariants.{Whole, From}
-use Rattle.planner.specs.Promise.{partOutcome}
+use Rattle.planner.specs.Promise.{part_outcome}
 use Rattle.planner.specs.Stages.{GivesAll, Gives, GivesFrom}
 use Rattle.admission.proofs.Weights.{axes-given}
 
 -- ---- where a stage ends a call
 
 -- an answer that is not 10 is the answer before 10
-pub before-ten : (m : ℕ) (r : Answer) (lent : List ℤ) → (r.number ≡ 10 → ⊥) → r ≡ beforeTen m (outcomeOf r lent)
+pub before-ten : (m : ℕ) (r : Answer) (lent : List ℤ) → (r.number ≡ 10 → ⊥) → r ≡ before_ten m (outcome_of r lent)
 before-ten m r lent h = choice-no (eqb r.number 10)
     (record { number = 0; place = 0; mask = m; arrival = r.arrival }) r (ne_eqb r.number 10 h)
 
@@ -53,62 +53,62 @@ module _ (m : ℕ) (xs : List Axis) (lent : List ℤ) where
   refuses (Whole w) r k p n o e h t q =
       record {
         outcome =
-            ap (λ (s : PartAnswer). outcomeOf s.answer lent) e
+            ap (λ (s : PartAnswer). outcome_of s.answer lent) e
             ∙ refusal-stays xs lent (refuse k p n 0 lent) w h
             ∙ ap (λ (x : Outcome). ordered w xs lent x) q;
         fitted = λ z. absurd (h (sym (ap (λ (s : PartAnswer). s.answer.number) e) ∙ z));
       }
   refuses (From f) r k p n o e h t q =
       let a : Answer = record { number = k; place = p; mask = n; arrival = 0 } in
-      ap (λ (s : PartAnswer). partOutcome s lent) e
-      ∙ choice-no (eqb k 0) (partAccepted a xs f lent) (partRefused a lent) (ne_eqb k 0 h)
-      ∙ ap (λ (x : Answer). partWith x xs f lent) (before-ten m a lent t)
-      ∙ ap (λ (x : Outcome). partWith (beforeTen m x) xs f lent) q
+      ap (λ (s : PartAnswer). part_outcome s lent) e
+      ∙ choice-no (eqb k 0) (part_accepted a xs f lent) (part_refused a lent) (ne_eqb k 0 h)
+      ∙ ap (λ (x : Answer). part_with x xs f lent) (before-ten m a lent t)
+      ∙ ap (λ (x : Outcome). part_with (before_ten m x) xs f lent) q
 
 -- ---- with the weights given
 
 part-with-with-weight : (j : Job) (k : ℕ) (lent : List ℤ) (a : Answer)
-    → partWith a (axesOf (jobWithWeight j)) k lent ≡ partWith a (axesOf j) k lent
+    → part_with a (axes_of (job_with_weight j)) k lent ≡ part_with a (axes_of j) k lent
 part-with-with-weight j k lent a =
-    λ i. elim (eqb a.number 0) as (λ _. PartOutcome) [ true ↦ accepted i | false ↦ partRefused a lent ]
+    λ i. elim (eqb a.number 0) as (λ _. PartOutcome) [ true ↦ accepted i | false ↦ part_refused a lent ]
   where
     xs : List Axis
-    xs = axesOf (jobWithWeight j)
+    xs = axes_of (job_with_weight j)
 
     c : ℕ → ℕ
-    c l = partRows l a.arrival k (length lent)
+    c l = part_rows l a.arrival k (length lent)
 
-    same : length xs ≡ length (axesOf j)
-    same = length-map (jobWithWeight j).axes (λ x. x.axis) ∙ length-map j.axes _
+    same : length xs ≡ length (axes_of j)
+    same = length-map (job_with_weight j).axes (λ x. x.axis) ∙ length-map j.axes _
         ∙ sym (length-map j.axes (λ x. x.axis))
 
-    accepted : partAccepted a xs k lent ≡ partAccepted a (axesOf j) k lent
+    accepted : part_accepted a xs k lent ≡ part_accepted a (axes_of j) k lent
     accepted =
-        ap (λ (l : ℕ). record { answer = a; rows = c l; cells = partOver Forwards xs a.arrival k (c l) lent }) same
-        ∙ ap (λ (l : List ℤ). record { answer = a; rows = c (length (axesOf j)); cells = l })
-        (part-with-weight Forwards j a.arrival k (c (length (axesOf j))) lent)
+        ap (λ (l : ℕ). record { answer = a; rows = c l; cells = part_over Forwards xs a.arrival k (c l) lent }) same
+        ∙ ap (λ (l : List ℤ). record { answer = a; rows = c (length (axes_of j)); cells = l })
+        (part-with-weight Forwards j a.arrival k (c (length (axes_of j))) lent)
 
-module _ (m asked : ℕ) (axes given : List Axis) (v : Windows) (is : given ≡ namedWithWeight m axes) (lent : List ℤ)
+module _ (m asked : ℕ) (axes given : List Axis) (v : Windows) (is : given ≡ named_with_weight m axes) (lent : List ℤ)
     (r : PartAnswer) (exit : List ℤ) where
   Given : Wanted → Job → Type 0
-  Given w j = Gives w j.mask (axesOf j) lent (arrived j asked lent) r exit
+  Given w j = Gives w j.mask (axes_of j) lent (arrived j asked lent) r exit
 
   j : Job
-  j = jobWith m asked axes v
+  j = job_with m asked axes v
 
-  with-weight : (w : Wanted) → Given w (jobWithWeight j) → Given w j
+  with-weight : (w : Wanted) → Given w (job_with_weight j) → Given w j
   unfolding Given j
   with-weight (Whole o) g =
       subst (λ (q : Outcome). GivesAll q r.answer exit)
-      (ordered-with-weight o j lent (arrived (jobWithWeight j) asked lent)
-      ∙ ap (λ (q : Outcome). ordered o (axesOf j) lent q) (arrived-with-weight j asked lent)) g
+      (ordered-with-weight o j lent (arrived (job_with_weight j) asked lent)
+      ∙ ap (λ (q : Outcome). ordered o (axes_of j) lent q) (arrived-with-weight j asked lent)) g
   with-weight (From k) g =
       g
-      ∙ part-with-with-weight j k lent (beforeTen m (arrived (jobWithWeight j) asked lent))
-      ∙ ap (λ (q : Outcome). partWith (beforeTen m q) (axesOf j) k lent) (arrived-with-weight j asked lent)
+      ∙ part-with-with-weight j k lent (before_ten m (arrived (job_with_weight j) asked lent))
+      ∙ ap (λ (q : Outcome). part_with (before_ten m q) (axes_of j) k lent) (arrived-with-weight j asked lent)
 
-  pub given-arrives : (w : Wanted) → GivesFrom w (jobWith m asked given v) (λ j. arrived j asked) lent r exit
-      → GivesFrom w (jobWith m asked axes v) (λ j. arrived j asked) lent r exit
+  pub given-arrives : (w : Wanted) → GivesFrom w (job_with m asked given v) (λ j. arrived j asked) lent r exit
+      → GivesFrom w (job_with m asked axes v) (λ j. arrived j asked) lent r exit
   unfolding Given j
   given-arrives w g =
       with-weight w
@@ -118,33 +118,33 @@ module _ (m asked : ℕ) (axes given : List Axis) (v : Windows) (is : given ≡ 
 -- ---- after the arrival
 
 module _ (j : Job) (lent : List ℤ) where
-  abbrev afterArrival : Arrival → Outcome
-  afterArrival f = cond (eqb f.number 0) (filled j f.tick lent) (refuse f.number 0 f.mask 0 lent)
+  abbrev after_arrival : Arrival → Outcome
+  after_arrival f = cond (eqb f.number 0) (filled j f.tick lent) (refuse f.number 0 f.mask 0 lent)
 
-  arrivals-are : (asked : ℕ) → afterArrival (arrivalFor j.windows j.axes asked) ≡ arrived j asked lent
-  arrivals-are zero = go (leastFrom (arrives j) 1 lastTick)
+  arrivals-are : (asked : ℕ) → after_arrival (arrival_for j.windows j.axes asked) ≡ arrived j asked lent
+  arrivals-are zero = go (least_from (arrives j) 1 last_tick)
     where
-      go : (o : Option ℕ) → afterArrival (leastOr j.axes o)
+      go : (o : Option ℕ) → after_arrival (least_or j.axes o)
           ≡ (elim o as
-          (λ _. Outcome) [ some n ↦ filled j n lent | none ↦ refuse 9 0 (leastOr j.axes none).mask 0 lent ])
+          (λ _. Outcome) [ some n ↦ filled j n lent | none ↦ refuse 9 0 (least_or j.axes none).mask 0 lent ])
       go (some n) = refl
       go none = refl
   arrivals-are (suc n) = go (arrives j (suc n))
     where
-      go : (b : Bool) → afterArrival (askedOr j.axes (suc n) b)
+      go : (b : Bool) → after_arrival (asked_or j.axes (suc n) b)
           ≡ (elim b as (λ _. Outcome) [
             | true ↦ filled j (suc n) lent
-            | false ↦ refuse 8 0 (askedOr j.axes (suc n) false).mask 0 lent
+            | false ↦ refuse 8 0 (asked_or j.axes (suc n) false).mask 0 lent
           ])
       go true = refl
       go false = refl
 
-  module _ (f : Arrival) (is : f ≡ arrivalFor j.windows j.axes j.asked) where
+  module _ (f : Arrival) (is : f ≡ arrival_for j.windows j.axes j.asked) where
     by-arrival : (b : Bool) → eqb f.number 0 ≡ b
         → cond b (filled j f.tick lent) (refuse f.number 0 f.mask 0 lent) ≡ arrived j j.asked lent
     by-arrival b e =
         sym (ap (λ (t : Bool). cond t (filled j f.tick lent) (refuse f.number 0 f.mask 0 lent)) e)
-        ∙ ap afterArrival is
+        ∙ ap after_arrival is
         ∙ arrivals-are j.asked
 
     pub none_found : (f.number ≡ 0 → ⊥) → refuse f.number 0 f.mask 0 lent ≡ arrived j j.asked lent
@@ -153,24 +153,24 @@ module _ (j : Job) (lent : List ℤ) where
     pub found : f.number ≡ 0 → filled j f.tick lent ≡ arrived j j.asked lent
     found h = by-arrival true (eq-eqb f.number 0 h)
 
-arrivals-not-ten : (j : Job) (asked : ℕ) → (arrivalFor j.windows j.axes asked).number ≡ 10 → ⊥
-arrivals-not-ten j zero = go (leastFrom (arrives j) 1 lastTick)
+arrivals-not-ten : (j : Job) (asked : ℕ) → (arrival_for j.windows j.axes asked).number ≡ 10 → ⊥
+arrivals-not-ten j zero = go (least_from (arrives j) 1 last_tick)
   where
-    go : (o : Option ℕ) → (leastOr j.axes o).number ≡ 10 → ⊥
+    go : (o : Option ℕ) → (least_or j.axes o).number ≡ 10 → ⊥
     go (some n) e = omega arith
     go none e = omega arith
 arrivals-not-ten j (suc n) = go (arrives j (suc n))
   where
-    go : (b : Bool) → (askedOr j.axes (suc n) b).number ≡ 10 → ⊥
+    go : (b : Bool) → (asked_or j.axes (suc n) b).number ≡ 10 → ⊥
     go true e = omega arith
     go false e = omega arith
 
-pub found-not-ten : (j : Job) (f : Arrival) → f ≡ arrivalFor j.windows j.axes j.asked → f.number ≡ 10 → ⊥
+pub found-not-ten : (j : Job) (f : Arrival) → f ≡ arrival_for j.windows j.axes j.asked → f.number ≡ 10 → ⊥
 found-not-ten j f is e = arrivals-not-ten j j.asked (sym (ap (λ (a : Arrival). a.number) is) ∙ e)
 
 -- ---- sizes
 
-pub few-axes : (m k : ℕ) → k ≡ length (setBits m) → k ≤ 6
+pub few-axes : (m k : ℕ) → k ≡ length (set_bits m) → k ≤ 6
 few-axes m k e = subst (λ (n : ℕ). n ≤ 6) (sym e) (six-bits m)
 
 -- three cells for each axis of a row, and at most some thousand rows, fit a machine word

@@ -3,19 +3,19 @@
 use Rattle.std.specs.Prelude.{◌-◌, ◌*◌, ◌^◌, ◌≤◌, ◌<◌, ◌≡◌, Bool, true, ◌&&◌, ℤ, nat_abs, ◌-ℤ◌, leb}
 use Rattle.std.specs.Int.Signed.{le_z}
 use Rattle.whole.specs.Ranges.{Within}
-use Rattle.whole.specs.Integers.{sumTo}
+use Rattle.whole.specs.Integers.{sum_to}
 use Rattle.model.specs.planning.Leg.{Leg, upper, lower}
 use Rattle.profile.specs.declared.Profile.{Profile}
 
 -- the velocities, in the model's terms
-abbrev pub legOf : Profile → Leg
-legOf p =
+abbrev pub leg_of : Profile → Leg
+leg_of p =
     record {
       ticks = p.ticks;
       start = p.start;
       end = p.end;
-      speedLimit = p.speed_limit;
-      accelerationLimit = p.acceleration_limit;
+      speed_limit = p.speed_limit;
+      acceleration_limit = p.acceleration_limit;
     }
 
 -- where its code does not overflow; the ends may exceed the speed limit
@@ -29,18 +29,18 @@ pub record Ranged (p : Profile) : Type 0 where
 -- ---- rule 4: `feasible` in parts
 
 -- the ends are within the speed limit and near enough to one another
-abbrev pub endsAllowed : Leg → Bool
-endsAllowed g =
-    leb (nat_abs g.start) g.speedLimit
-    && (leb (nat_abs g.end) g.speedLimit && leb (nat_abs (g.end -ℤ g.start)) (g.accelerationLimit * g.ticks))
+abbrev pub ends_allowed : Leg → Bool
+ends_allowed g =
+    leb (nat_abs g.start) g.speed_limit
+    && (leb (nat_abs g.end) g.speed_limit && leb (nat_abs (g.end -ℤ g.start)) (g.acceleration_limit * g.ticks))
 
 -- a profile whose ends can be joined, in the ranges in which neither engine overflows
 pub record Joinable (p : Profile) : Type 0 where
   pub ranged : Ranged p
   pub acceleration : 0 < p.acceleration_limit
   pub some : 0 < p.ticks
-  pub ends : endsAllowed (legOf p) ≡ true
+  pub ends : ends_allowed (leg_of p) ≡ true
 
 -- the sum s is between the sums of the two envelopes
-abbrev pub sumBetween : Leg → ℤ → Bool
-sumBetween g s = le_z (sumTo (lower g) (g.ticks - 1)) s && le_z s (sumTo (upper g) (g.ticks - 1))
+abbrev pub sum_between : Leg → ℤ → Bool
+sum_between g s = le_z (sum_to (lower g) (g.ticks - 1)) s && le_z s (sum_to (upper g) (g.ticks - 1))

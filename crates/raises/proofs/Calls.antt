@@ -13,13 +13,13 @@ use Rattle.model.specs.declared.Checked.TheVariants.{Passed, Refused}
 use Rattle.model.specs.declared.Job as Typed
 use Rattle.model.specs.declared.RaisesAnswer.{RaisesAnswer}
 use Rattle.model.specs.planning.Job.{Job, job_of}
-use Rattle.model.specs.planning.Words.{Decoded, noMask, badWord, badLong, job, decode}
-use Rattle.model.specs.planning.Outcome.{Input, words, typed, inputJob, answer_of}
-use Rattle.model.specs.calls.Raises.{noRaises, raisesFrom, noneRaised, raisesWith, raisesCall}
+use Rattle.model.specs.planning.Words.{Decoded, no_mask, bad_word, bad_long, job, decode}
+use Rattle.model.specs.planning.Outcome.{Input, words, typed, input_job, answer_of}
+use Rattle.model.specs.calls.Raises.{no_raises, raises_from, none_raised, raises_with, raises_call}
 use Rattle.theorems.specs.Raises.{Named, RaisesHold}
 use Rattle.theorems.proofs.calls.RaisesHold.{raises-hold, none-raised, raises-verdict}
 use Rattle.words.specs.declared.DecodedJob.{DecodedJob}
-use Rattle.words.specs.Decoding.{decodedJob, Decodes}
+use Rattle.words.specs.Decoding.{decoded_job, Decodes}
 use Rattle.planner.proofs.Answers.{job-of-words, answer-of-words, refusal-of-words}
 use Rattle.raises.specs.Promise.{RaisesPromise}
 
@@ -30,25 +30,25 @@ beside a l = record { answer = a; axes = l }
 
 module _ (q : Input) (a : Answer) (e : a ≡ answer_of q) where
   abbrev j : Job
-  j = inputJob q
+  j = input_job q
 
   abbrev list : Bool → RaisesAnswer
   list b =
-      record { answer = a; axes = elim b [ true ↦ raisesFrom j.asked j.axes noneRaised | false ↦ noneRaised ] }
+      record { answer = a; axes = elim b [ true ↦ raises_from j.asked j.axes none_raised | false ↦ none_raised ] }
 
   pub with-raises : a.number ≡ 8
-      → record { answer = a; axes = raisesFrom j.asked j.axes noneRaised } ≡ raisesCall q
-  unfolding raisesCall
-  with-raises z = sym (ap list (eq-eqb a.number 8 z)) ∙ ap (λ (b : Answer). raisesWith b j) e
+      → record { answer = a; axes = raises_from j.asked j.axes none_raised } ≡ raises_call q
+  unfolding raises_call
+  with-raises z = sym (ap list (eq-eqb a.number 8 z)) ∙ ap (λ (b : Answer). raises_with b j) e
 
-  pub without-raises : (a.number ≡ 8 → ⊥) → record { answer = a; axes = noneRaised } ≡ raisesCall q
-  unfolding raisesCall
-  without-raises z = sym (ap list (ne_eqb a.number 8 z)) ∙ ap (λ (b : Answer). raisesWith b j) e
+  pub without-raises : (a.number ≡ 8 → ⊥) → record { answer = a; axes = none_raised } ≡ raises_call q
+  unfolding raises_call
+  without-raises z = sym (ap list (ne_eqb a.number 8 z)) ∙ ap (λ (b : Answer). raises_with b j) e
 
-promised : (q : Input) (r : RaisesAnswer) → r ≡ raisesCall q → RaisesHold (inputJob q) r → RaisesPromise q r
+promised : (q : Input) (r : RaisesAnswer) → r ≡ raises_call q → RaisesHold (input_job q) r → RaisesPromise q r
 promised q r e h = record { is = e; verdict = raises-verdict q r e h; holds = h }
 
-pub promise : (t : Typed.Job) (r : RaisesAnswer) → r ≡ raisesCall (typed t) → RaisesPromise (typed t) r
+pub promise : (t : Typed.Job) (r : RaisesAnswer) → r ≡ raises_call (typed t) → RaisesPromise (typed t) r
 promise t r e = promised (typed t) r e (subst (RaisesHold (job_of t)) (sym e) (raises-hold t))
 
 -- ---- words
@@ -57,20 +57,20 @@ module _ (ws : List ℕ) (d : DecodedJob) (is : Decodes ws d) where
   -- the answer to the words is that to their job
   pub words-promise : (r : RaisesAnswer) → d.checked ≡ Passed → RaisesPromise (typed d.job) r
       → RaisesPromise (words ws) r
-  unfolding raisesCall
+  unfolding raises_call
   words-promise r z p =
-      promised (words ws) r (p.is ∙ ap₂ raisesWith (answer-of-words ws d is z) (job-of-words ws d is z))
+      promised (words ws) r (p.is ∙ ap₂ raises_with (answer-of-words ws d is z) (job-of-words ws d is z))
       (subst (λ (j : Job). RaisesHold j r) (job-of-words ws d is z) p.holds)
 
   -- refusals 1, 2 and 14
   pub refusal-promise : (r : RaisesAnswer) (n p : ℕ) → d.checked ≡ Refused n p
-      → r ≡ record { answer = record { number = n; place = p; mask = 0; arrival = 0 }; axes = noneRaised }
+      → r ≡ record { answer = record { number = n; place = p; mask = 0; arrival = 0 }; axes = none_raised }
       → RaisesPromise (words ws) r
   refusal-promise r n p h e =
       promised (words ws) r (e ∙ without-raises (words ws) _ (refusal-of-words ws d is n p h) no-eight)
       (record {
         named = λ x m k. absurd (eight x.number k);
-        others = λ i k. ap (λ (a : RaisesAnswer). get_or a.axes i noRaises) e ∙ none-raised i;
+        others = λ i k. ap (λ (a : RaisesAnswer). get_or a.axes i no_raises) e ∙ none-raised i;
       })
     where
       number : Checked → ℕ
@@ -79,10 +79,10 @@ module _ (ws : List ℕ) (d : DecodedJob) (is : Decodes ws d) where
       no-eight : n ≡ 8 → ⊥
       no-eight z = go (decode ws) (sym (ap (λ (e : DecodedJob). number e.checked) is.decoded) ∙ ap number h ∙ z)
         where
-          go : (w : Decoded) → number (decodedJob w).checked ≡ 8 → ⊥
-          go noMask e = omega arith
-          go (badWord q) e = omega arith
-          go (badLong q) e = omega arith
+          go : (w : Decoded) → number (decoded_job w).checked ≡ 8 → ⊥
+          go no_mask e = omega arith
+          go (bad_word q) e = omega arith
+          go (bad_long q) e = omega arith
           go (job j) e = omega arith
 
       eight : (i : ℕ) → Named r.answer i → ⊥

@@ -2,17 +2,17 @@
 use Rattle.std.specs.Prelude.{ℕ, ◌+◌, ◌-◌}
 use Rattle.std.proofs.Math.Option.{Option, none, some}
 use Rattle.model.specs.declared.Limit.{Limit}
-use Rattle.model.specs.planning.Outcome.{leastFrom}
+use Rattle.model.specs.planning.Outcome.{least_from}
 use Rattle.model.specs.calls.Raises.{highest}
 use Rattle.least_limit.specs.declared.Task.{Task}
-use Rattle.least_limit.specs.Limits.{limitIn, enoughWith}
+use Rattle.least_limit.specs.Limits.{limit_in, enough_with}
 use Rattle.raises.specs.declared.LeastRaise.{LeastRaise}
 use Rattle.raises.specs.declared.LeastRaise.TheVariants.{By, Missing}
 
-abbrev pub raiseBy : LeastRaise → Option ℕ
-raiseBy (By k) = some k
-raiseBy Missing = none
+abbrev pub raise_by : LeastRaise → Option ℕ
+raise_by (By k) = some k
+raise_by Missing = none
 
 -- the least that is added to a limit of a task, within the limit's range, for which it is enough
-unfoldable pub leastRaise : Limit → Task → Option ℕ
-leastRaise q t = leastFrom (λ r. enoughWith q t (limitIn q t + r)) 1 (highest q - limitIn q t)
+unfoldable pub least_raise : Limit → Task → Option ℕ
+least_raise q t = least_from (λ r. enough_with q t (limit_in q t + r)) 1 (highest q - limit_in q t)

@@ -9,18 +9,20 @@
 //     raises_for      raises_of             the axes that do not reach the asked arrival
 //     raises_of       task_of               what does not depend on the limits, once an axis
 //                     least_limit::least_limit   by least_raise, for M and for L, in_order
+#![tactic(auto)]
+
 ghost use Rattle.std.specs.Prelude.{◌≡◌, ◌^◌, ◌≤◌, ◌<◌, max, pos, ◌+ℤ◌, ◌*ℤ◌};
 ghost use Rattle.std.proofs.Math.Option.{none, some};
 ghost use Rattle.whole.specs.Ranges.{Within};
-ghost use Rattle.model.specs.planning.Job.{setAxes};
+ghost use Rattle.model.specs.planning.Job.{set_axes};
 ghost use Rattle.model.specs.planning.Quantities.{delay};
-ghost use Rattle.model.specs.planning.Refusals.{Passed, AllPassed, lastTick};
+ghost use Rattle.model.specs.planning.Refusals.{Passed, AllPassed, last_tick};
 ghost use Rattle.model.specs.planning.Outcome as Input;
-ghost use Rattle.model.specs.calls.Raises.{highest, inOrder, raisesOf, raisesFrom, noneRaised};
+ghost use Rattle.model.specs.calls.Raises.{highest, in_order, raises_of, raises_from, none_raised};
 ghost use Rattle.least_limit.specs.Limits.{TaskRanged};
-ghost use Rattle.least_limit.specs.Tasks.{taskWith, fastestOf, TaskIs};
+ghost use Rattle.least_limit.specs.Tasks.{task_with, fastest_of, TaskIs};
 ghost use Rattle.raises.specs.Promise.{RaisesPromise};
-ghost use Rattle.raises.specs.LeastRaises.{raiseBy, leastRaise};
+ghost use Rattle.raises.specs.LeastRaises.{raise_by, least_raise};
 
 use least_limit::Task;
 use model::{AXES, Answer, Axis, AxisRaises, Checked, Job, Limit, Raise, RaisesAnswer};
@@ -70,16 +72,16 @@ fn answered(planned: Answer, axes: [AxisRaises; AXES]) -> RaisesAnswer
 
 // No raise for any axis.
 fn no_raises() -> [AxisRaises; AXES]
-    ensures { result ≡ noneRaised }
+    ensures { result ≡ none_raised }
 {
     [pair(Raise::NoRaise, Raise::NoRaise); AXES]
 }
 
 // The raises of each axis of the mask that does not reach the asked arrival, at its number.
 fn raises_for(mask: u32, asked: u32, axes: [Axis; AXES]) -> [AxisRaises; AXES]
-    requires all_passed { AllPassed (setAxes 0 mask axes) }
-    requires asked_le_last_tick { asked ≤ lastTick }
-    ensures { result ≡ raisesFrom asked (setAxes 0 mask axes) noneRaised }
+    requires all_passed { AllPassed (set_axes 0 mask axes) }
+    requires asked_le_last_tick { asked ≤ last_tick }
+    ensures { result ≡ raises_from asked (set_axes 0 mask axes) none_raised }
 {
     let mut raises = no_raises();
     let mut bits = mask;
@@ -100,8 +102,8 @@ fn raises_for(mask: u32, asked: u32, axes: [Axis; AXES]) -> [AxisRaises; AXES]
 // The least raises of an axis for tick n. Damping as measured is turned into the number B once.
 fn raises_of(x: Axis, n: u32) -> AxisRaises
     requires passed { Passed x }
-    requires n_le_last_tick { n ≤ lastTick }
-    ensures { result ≡ raisesOf x n }
+    requires n_le_last_tick { n ≤ last_tick }
+    ensures { result ≡ raises_of x n }
 {
     let given = motion::with_weight(x);
     if n <= motion::delay_of(given) {
@@ -115,7 +117,7 @@ fn raises_of(x: Axis, n: u32) -> AxisRaises
 
 // The raise of M and that of L: the smaller first, M's if they are equal.
 fn in_order(m: LeastRaise, l: LeastRaise) -> AxisRaises
-    ensures { result ≡ inOrder (raiseBy m) (raiseBy l) }
+    ensures { result ≡ in_order (raise_by m) (raise_by l) }
 {
     match m {
         LeastRaise::Missing => speed_alone(l),
@@ -125,7 +127,7 @@ fn in_order(m: LeastRaise, l: LeastRaise) -> AxisRaises
 
 // The raise of L where there is none of M.
 fn speed_alone(l: LeastRaise) -> AxisRaises
-    ensures { result ≡ inOrder none (raiseBy l) }
+    ensures { result ≡ in_order none (raise_by l) }
 {
     match l {
         LeastRaise::Missing => pair(Raise::NoRaise, Raise::NoRaise),
@@ -135,7 +137,7 @@ fn speed_alone(l: LeastRaise) -> AxisRaises
 
 // The raise a of M, and that of L.
 fn acceleration_and(a: u32, l: LeastRaise) -> AxisRaises
-    ensures { result ≡ inOrder (some a) (raiseBy l) }
+    ensures { result ≡ in_order (some a) (raise_by l) }
 {
     match l {
         LeastRaise::Missing => pair(Raise::AccelerationBy(a), Raise::NoRaise),
@@ -145,7 +147,7 @@ fn acceleration_and(a: u32, l: LeastRaise) -> AxisRaises
 
 // The raise a of M and the raise v of L.
 fn both(a: u32, v: u32) -> AxisRaises
-    ensures { result ≡ inOrder (some a) (some v) }
+    ensures { result ≡ in_order (some a) (some v) }
 {
     if a <= v {
         return pair(Raise::AccelerationBy(a), Raise::SpeedBy(v));
@@ -174,7 +176,7 @@ enum LeastRaise {
 // The least raise of a limit, within its range, that is enough for a task.
 fn least_raise(t: Task, limit: Limit) -> LeastRaise
     requires { TaskRanged t }
-    ensures { raiseBy result ≡ leastRaise limit t }
+    ensures { raise_by result ≡ least_raise limit t }
 {
     let current = least_limit::limit_in(t, limit);
     let most = highest(limit);
@@ -203,7 +205,7 @@ fn highest(limit: Limit) -> u64
 // upper envelope can fall short.
 fn task_of(x: Axis, n: u32) -> Task
     requires passed { Passed x }
-    requires n_le_last_tick { n ≤ lastTick }
+    requires n_le_last_tick { n ≤ last_tick }
     requires x_bound { delay x < n }
     ensures { TaskIs x n result }
 {
@@ -225,7 +227,7 @@ fn task_with(x: Axis, start: i64, end: i64, travel: i64, ticks: u32, fastest: u6
     requires within { Within (2 ^ 48) start }
     requires within_2 { Within (2 ^ 48) end }
     requires within_3 { Within (2 ^ 60) travel }
-    ensures { result ≡ taskWith x start end travel ticks fastest }
+    ensures { result ≡ task_with x start end travel ticks fastest }
 {
     let twice = travel - start - end;
     Task {
@@ -246,7 +248,7 @@ fn fastest_of(start: i64, landing: Landing, delay: u32) -> u64
     requires within_2 { Within (2 ^ 47) landing.velocity }
     requires within_3 { Within (2 ^ 32) landing.acceleration }
     requires delay_bound { delay ≤ 512 }
-    ensures { result ≡ fastestOf start landing.velocity (landing.velocity +ℤ pos delay *ℤ landing.acceleration) }
+    ensures { result ≡ fastest_of start landing.velocity (landing.velocity +ℤ pos delay *ℤ landing.acceleration) }
 {
     let end = landing.velocity;
     let arrived = motion::arrival_velocity(landing, delay);

@@ -14,36 +14,36 @@ use Rattle.model.specs.declared.Axis.{Axis}
 use Rattle.model.specs.declared.State.{State}
 use Rattle.model.specs.declared.Target.{Target}
 use Rattle.model.specs.declared.Target.TheVariants.{Fixed, Moving}
-use Rattle.model.specs.planning.Quantities.{halfPeriod, secondWeight, delay, asMoving, accelerates, finer, speedSteps}
-use Rattle.model.specs.planning.Quantities.{accelerationSteps}
-use Rattle.model.specs.planning.Leg.{Leg, sumIsWhole, feasible}
-use Rattle.model.specs.planning.Motion.{shift, startPosition, startVelocity, landingTick, landingPosition}
-use Rattle.model.specs.planning.Motion.{landingVelocity, landingAcceleration, arrivalVelocity}
+use Rattle.model.specs.planning.Quantities.{half_period, second_weight, delay, as_moving, accelerates, finer, speed_steps}
+use Rattle.model.specs.planning.Quantities.{acceleration_steps}
+use Rattle.model.specs.planning.Leg.{Leg, sum_is_whole, feasible}
+use Rattle.model.specs.planning.Motion.{shift, start_position, start_velocity, landing_tick, landing_position}
+use Rattle.model.specs.planning.Motion.{landing_velocity, landing_acceleration, arrival_velocity}
 use Rattle.model.specs.planning.Motion.{leg, displacement, reachable}
-use Rattle.model.specs.planning.Refusals.{lastTick, Passed}
+use Rattle.model.specs.planning.Refusals.{last_tick, Passed}
 use Rattle.theorems.specs.Threshold.{Slow}
 use Rattle.theorems.proofs.motions.Threshold.{landing-later, acceleration-same, slow-ahead, reached-slow, reached-later}
 use Rattle.theorems.proofs.legs.WholeSum.{sum-is-whole}
-use Rattle.profile.specs.Profiles.{legOf}
+use Rattle.profile.specs.Profiles.{leg_of}
 use Rattle.envelopes.specs.Skips.{LastingTo}
 use Rattle.reach.specs.declared.approach.Approach.{Approach}
 use Rattle.reach.specs.Halving.{TicksWithin, LastPassing}
-use Rattle.reach.specs.Approaches.{endLater, arrivedLater, travelLater, profileLater, reachesLater}
+use Rattle.reach.specs.Approaches.{end_later, arrived_later, travel_later, profile_later, reaches_later}
 use Rattle.reach.specs.Approaches.{ApproachRanged, Approaches, ApproachIs}
 
 -- ---- a target in motion: f grid steps in a fine step, the shift s, the correction c, and a target
 -- at p with velocity v and acceleration a, d ticks after its own
 
-abbrev landsAt : ℤ → ℤ → ℤ → ℤ → ℤ → ℤ → ℤ → ℤ
-landsAt f s c p v a d =
+abbrev lands_at : ℤ → ℤ → ℤ → ℤ → ℤ → ℤ → ℤ → ℤ
+lands_at f s c p v a d =
     f *ℤ (pos 256 *ℤ (pos 2 *ℤ p +ℤ pos 2 *ℤ (v *ℤ d) +ℤ a *ℤ (d *ℤ d)) +ℤ pos 2 *ℤ (s *ℤ (v +ℤ a *ℤ d))) +ℤ c
 
-abbrev landsWith : ℤ → ℤ → ℤ → ℤ → ℤ → ℤ
-landsWith f s v a d = f *ℤ (pos 256 *ℤ (v +ℤ a *ℤ d) +ℤ s *ℤ a)
+abbrev lands_with : ℤ → ℤ → ℤ → ℤ → ℤ → ℤ
+lands_with f s v a d = f *ℤ (pos 256 *ℤ (v +ℤ a *ℤ d) +ℤ s *ℤ a)
 
 position-on : (f s c p v a d j : ℤ)
-    → landsAt f s c p v a d +ℤ j *ℤ (pos 2 *ℤ landsWith f s v a d +ℤ j *ℤ (f *ℤ (pos 256 *ℤ a)))
-    ≡ landsAt f s c p v a (d +ℤ j)
+    → lands_at f s c p v a d +ℤ j *ℤ (pos 2 *ℤ lands_with f s v a d +ℤ j *ℤ (f *ℤ (pos 256 *ℤ a)))
+    ≡ lands_at f s c p v a (d +ℤ j)
 position-on f s c p v a d j = same (f ∷ s ∷ c ∷ p ∷ v ∷ a ∷ d ∷ j ∷ []) (search pol depth 30 fits 9000) tt
 
 tick-on : (n i h : ℕ) (t : ℤ) → h ≤ n → (pos (n - h) -ℤ t) +ℤ pos i ≡ pos (n + i - h) -ℤ t
@@ -57,106 +57,106 @@ module _ (x : Axis) where
   abbrev F : ℤ
   F = pos (finer x)
 
-  abbrev correctionOf : ℤ → ℤ
-  correctionOf a =
-      let h : ℤ = pos (halfPeriod x) in
-      let b : ℤ = pos (secondWeight x) in
+  abbrev correction_of : ℤ → ℤ
+  correction_of a =
+      let h : ℤ = pos (half_period x) in
+      let b : ℤ = pos (second_weight x) in
       pos 2 *ℤ (b *ℤ (h *ℤ h) *ℤ (b -ℤ pos 128) *ℤ a)
 
   abbrev position_of : Target → ℕ → ℤ
   position_of t n =
-      let m : State = asMoving t n in
-      landsAt F (shift x) (correctionOf m.acceleration) m.position m.velocity m.acceleration
+      let m : State = as_moving t n in
+      lands_at F (shift x) (correction_of m.acceleration) m.position m.velocity m.acceleration
       (pos (n - delay x) -ℤ m.tick)
 
-  abbrev velocityOf : Target → ℕ → ℤ
-  velocityOf t n =
-      let m : State = asMoving t n in
-      landsWith F (shift x) m.velocity m.acceleration (pos (n - delay x) -ℤ m.tick)
+  abbrev velocity_of : Target → ℕ → ℤ
+  velocity_of t n =
+      let m : State = as_moving t n in
+      lands_with F (shift x) m.velocity m.acceleration (pos (n - delay x) -ℤ m.tick)
 
-  abbrev accelerationOf : Target → ℕ → ℤ
-  accelerationOf t n = F *ℤ (pos 256 *ℤ (asMoving t n).acceleration)
+  abbrev acceleration_of : Target → ℕ → ℤ
+  acceleration_of t n = F *ℤ (pos 256 *ℤ (as_moving t n).acceleration)
 
   position_later : (t : Target) → accelerates t ≡ true → (n i : ℕ) → delay x ≤ n
-      → position_of t n +ℤ pos i *ℤ (pos 2 *ℤ velocityOf t n +ℤ pos i *ℤ accelerationOf t n) ≡ position_of t (n + i)
+      → position_of t n +ℤ pos i *ℤ (pos 2 *ℤ velocity_of t n +ℤ pos i *ℤ acceleration_of t n) ≡ position_of t (n + i)
   position_later (Fixed r) e n i h = absurd (subst T (sym e) tt)
   position_later (Moving m) e n i h =
-      position-on F (shift x) (correctionOf m.acceleration) m.position m.velocity m.acceleration
+      position-on F (shift x) (correction_of m.acceleration) m.position m.velocity m.acceleration
       (pos (n - delay x) -ℤ m.tick) (pos i)
-      ∙ ap (landsAt F (shift x) (correctionOf m.acceleration) m.position m.velocity m.acceleration)
+      ∙ ap (lands_at F (shift x) (correction_of m.acceleration) m.position m.velocity m.acceleration)
       (tick-on n i (delay x) m.tick h)
 
 -- ---- the approach of an axis from arrival n on
 
-abbrev pub approachFor : Axis → ℕ → Approach
-approachFor x n =
+abbrev pub approach_for : Axis → ℕ → Approach
+approach_for x n =
     record {
-      speed_limit = speedSteps x;
-      acceleration_limit = accelerationSteps x;
-      start = startVelocity x;
-      end = landingVelocity x n;
-      change = landingAcceleration x n;
+      speed_limit = speed_steps x;
+      acceleration_limit = acceleration_steps x;
+      start = start_velocity x;
+      end = landing_velocity x n;
+      change = landing_acceleration x n;
       travel = displacement x n;
-      ticks = landingTick x n;
+      ticks = landing_tick x n;
       delay = delay x;
     }
 
 module _ (x : Axis) (passed : Passed x) (moving : accelerates x.target ≡ true) (n : ℕ) (after : delay x < n) where
   abbrev A : Approach
-  A = approachFor x n
+  A = approach_for x n
 
-  end_is : (i : ℕ) → endLater A i ≡ landingVelocity x (n + i)
+  end_is : (i : ℕ) → end_later A i ≡ landing_velocity x (n + i)
   end_is i = sym (landing-later x passed n i (omega arith))
 
-  arrived-is : (i : ℕ) → arrivedLater A i ≡ arrivalVelocity x (n + i)
+  arrived-is : (i : ℕ) → arrived_later A i ≡ arrival_velocity x (n + i)
   arrived-is i = λ j. end_is i j +ℤ pos (delay x) *ℤ acceleration-same x passed n (n + i) j
 
-  travel-is : (i : ℕ) → travelLater A i ≡ displacement x (n + i)
+  travel-is : (i : ℕ) → travel_later A i ≡ displacement x (n + i)
   travel-is i =
-      swap (landingPosition x n) (startPosition x)
-      (pos i *ℤ (pos 2 *ℤ landingVelocity x n +ℤ pos i *ℤ landingAcceleration x n))
-      ∙ ap (λ (z : ℤ). z -ℤ startPosition x) (position_later x x.target moving n i (omega arith))
+      swap (landing_position x n) (start_position x)
+      (pos i *ℤ (pos 2 *ℤ landing_velocity x n +ℤ pos i *ℤ landing_acceleration x n))
+      ∙ ap (λ (z : ℤ). z -ℤ start_position x) (position_later x x.target moving n i (omega arith))
     where
       swap : (p q d : ℤ) → (p -ℤ q) +ℤ d ≡ (p +ℤ d) -ℤ q
       swap p q d = same (p ∷ q ∷ d ∷ []) (search pol depth 20 fits 9000) tt
 
-  leg-is : (i : ℕ) → legOf (profileLater A i) ≡ leg x (n + i)
+  leg-is : (i : ℕ) → leg_of (profile_later A i) ≡ leg x (n + i)
   leg-is i =
       let t : n - delay x + i ≡ n + i - delay x = omega arith in
       λ j. record {
         ticks = t j;
-        start = startVelocity x;
+        start = start_velocity x;
         end = end_is i j;
-        speedLimit = speedSteps x;
-        accelerationLimit = accelerationSteps x;
+        speed_limit = speed_steps x;
+        acceleration_limit = acceleration_steps x;
       }
 
-  same-reach : (i : ℕ) → reachesLater A i ≡ reachable x (n + i)
-  unfolding reachesLater
+  same-reach : (i : ℕ) → reaches_later A i ≡ reachable x (n + i)
+  unfolding reaches_later
   same-reach i =
       and_yes (ltb (delay x) (n + i)) _ (ltb_yes {m = delay x} {n = n + i} (omega arith))
-      (λ j. leb (nat_abs (end_is i j)) (speedSteps x)
-      && (leb (nat_abs (arrived-is i j)) (speedSteps x) && feasible (leg-is i j) (travel-is i j)))
+      (λ j. leb (nat_abs (end_is i j)) (speed_steps x)
+      && (leb (nat_abs (arrived-is i j)) (speed_steps x) && feasible (leg-is i j) (travel-is i j)))
 
-  whole-sums : (i : ℕ) → sumIsWhole (legOf (profileLater A i)) (travelLater A i) ≡ true
-  whole-sums i = (λ j. sumIsWhole (leg-is i j) (travel-is i j)) ∙ sum-is-whole x (n + i)
+  whole-sums : (i : ℕ) → sum_is_whole (leg_of (profile_later A i)) (travel_later A i) ≡ true
+  whole-sums i = (λ j. sum_is_whole (leg-is i j) (travel-is i j)) ∙ sum-is-whole x (n + i)
 
-  goes_on : (i j : ℕ) → i ≤ j → nat_abs (arrivedLater A j) ≤ speedSteps x
-      → reachesLater A i ≡ true → reachesLater A j ≡ true
+  goes_on : (i j : ℕ) → i ≤ j → nat_abs (arrived_later A j) ≤ speed_steps x
+      → reaches_later A i ≡ true → reaches_later A j ≡ true
   goes_on i j h s e =
       let r = sym (same-reach i) ∙ e in
       let slow : Slow x (n + j) =
       slow-ahead x passed (n + i) (n + j) (omega arith) (omega arith) (reached-slow x passed (n + i) r).landed
-      (subst (λ (z : ℤ). nat_abs z ≤ speedSteps x) (arrived-is j) s) in
+      (subst (λ (z : ℤ). nat_abs z ≤ speed_steps x) (arrived-is j) s) in
       same-reach j ∙ reached-later x passed (n + i) (n + j) (n + j) (omega arith) (omega arith) slow r
 
-  one-run : (i j k : ℕ) → i ≤ j → j ≤ k → reachesLater A i ≡ true → reachesLater A k ≡ true → reachesLater A j ≡ true
+  one-run : (i j k : ℕ) → i ≤ j → j ≤ k → reaches_later A i ≡ true → reaches_later A k ≡ true → reaches_later A j ≡ true
   one-run i j k h l d e =
       same-reach j
       ∙ reached-later x passed (n + i) (n + j) (n + k) (omega arith) (omega arith)
       (reached-slow x passed (n + k) (sym (same-reach k) ∙ e)) (sym (same-reach i) ∙ d)
 
-  pub approach-is : (a : Approach) → a ≡ A → n ≤ lastTick → ApproachRanged A → ApproachIs x n a
+  pub approach-is : (a : Approach) → a ≡ A → n ≤ last_tick → ApproachRanged A → ApproachIs x n a
   approach-is a e last ranged =
       subst (ApproachIs x n) (sym e)
       (record {
@@ -183,30 +183,30 @@ nearer a last k h w =
       run = λ i j m p q r. w.run i j m p q (omega arith);
     }
 
-arrives-slowly : (a : Approach) (i : ℕ) → reachesLater a i ≡ true → nat_abs (arrivedLater a i) ≤ a.speed_limit
-unfolding reachesLater
+arrives-slowly : (a : Approach) (i : ℕ) → reaches_later a i ≡ true → nat_abs (arrived_later a i) ≤ a.speed_limit
+unfolding reaches_later
 arrives-slowly a i e =
     leb→le _ _
-    (left (leb (nat_abs (arrivedLater a i)) a.speed_limit) (feasible (legOf (profileLater a i)) (travelLater a i))
-    (right (leb (nat_abs (endLater a i)) a.speed_limit) _ (true-T e)))
+    (left (leb (nat_abs (arrived_later a i)) a.speed_limit) (feasible (leg_of (profile_later a i)) (travel_later a i))
+    (right (leb (nat_abs (end_later a i)) a.speed_limit) _ (true-T e)))
 
 -- none is reached, unless the last at which the target is slow enough is
 pub last-slow : (a : Approach) (last r : ℕ) → Approaches a last
-    → TicksWithin a.speed_limit (arrivedLater a 0) a.change last r
-    → LastPassing (reachesLater a) 0 last r
+    → TicksWithin a.speed_limit (arrived_later a 0) a.change last r
+    → LastPassing (reaches_later a) 0 last r
 last-slow a last r w t = record { low = omega arith; high = t.high; later = later }
   where
     on : (e c d i : ℤ) → ((e +ℤ pos 0 *ℤ c) +ℤ d *ℤ c) +ℤ i *ℤ c ≡ (e +ℤ i *ℤ c) +ℤ d *ℤ c
     on e c d i = same (e ∷ c ∷ d ∷ i ∷ []) (search pol depth 20 fits 9000) tt
 
-    there : (i : ℕ) → arrivedLater a 0 +ℤ pos i *ℤ a.change ≡ arrivedLater a i
+    there : (i : ℕ) → arrived_later a 0 +ℤ pos i *ℤ a.change ≡ arrived_later a i
     there i = on a.end a.change (pos a.delay) (pos i)
 
-    later : (k : ℕ) → 0 ≤ k → k ≤ last → reachesLater a k ≡ true → reachesLater a r ≡ true
+    later : (k : ℕ) → 0 ≤ k → k ≤ last → reaches_later a k ≡ true → reaches_later a r ≡ true
     later k p q e =
         let s = t.later k q (subst (λ (z : ℤ). nat_abs z ≤ a.speed_limit) (sym (there k)) (arrives-slowly a k e)) in
         w.goes k r s.0 t.high (subst (λ (z : ℤ). nat_abs z ≤ a.speed_limit) (there r) s.1) e
 
-pub lasting-to : (a : Approach) (last high : ℕ) → Approaches a last → high ≤ last → reachesLater a high ≡ true
-    → LastingTo (reachesLater a) 0 high
+pub lasting-to : (a : Approach) (last high : ℕ) → Approaches a last → high ≤ last → reaches_later a high ≡ true
+    → LastingTo (reaches_later a) 0 high
 lasting-to a last high w h e j k p q l f = w.run j k high q l h f e

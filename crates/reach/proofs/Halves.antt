@@ -12,21 +12,21 @@ use lib.IntN.{ℤ, pos, negsuc, nat_abs, ◌+ℤ◌, ◌-ℤ◌, ◌*ℤ◌}
 use lib.Signed.{◌≤ℤ◌, ◌<ℤ◌}
 use borrow.Author.Tests.{eq-eqb}
 use Rattle.whole.proofs.Differences.{whole, all₁}
-use Rattle.whole.proofs.Laws.{natAbs-zero}
+use Rattle.whole.proofs.Laws.{nat_abs-zero}
 use Rattle.whole.proofs.Tests.{T_true, T_false, true-T, lt-or-le, ltb_no}
 use Rattle.model.specs.declared.Axis.{Axis}
-use Rattle.model.specs.planning.Quantities.{delay, accelerates, speedSteps}
-use Rattle.model.specs.planning.Motion.{landingAcceleration, arrivalVelocity, reachable}
+use Rattle.model.specs.planning.Quantities.{delay, accelerates, speed_steps}
+use Rattle.model.specs.planning.Motion.{landing_acceleration, arrival_velocity, reachable}
 use Rattle.model.specs.planning.Refusals.{Passed}
 use Rattle.theorems.specs.Threshold.{Slow}
 use Rattle.theorems.proofs.motions.Threshold.{arrival-later, slow-ahead, reached-slow, reached-later}
 use Rattle.whole.specs.Candidates.{Next}
-use Rattle.reach.specs.Halving.{roomToward, TicksWithin, LastPassing, ReachesSome}
+use Rattle.reach.specs.Halving.{room_toward, TicksWithin, LastPassing, ReachesSome}
 use Rattle.reach.proofs.Steady.{reach-after, always-slow}
 
 -- ---- a velocity that changes by the same number each tick
 
-room-up : (l a : ℕ) (v : ℤ) → roomToward l v (pos a) ≡ pos l -ℤ v
+room-up : (l a : ℕ) (v : ℤ) → room_toward l v (pos a) ≡ pos l -ℤ v
 room-up l a v = ap (λ (b : Bool). cond b (pos l +ℤ v) (pos l -ℤ v)) (ltb_no {m = a} {n = 0} (omega arith))
 
 up_room : (l k : ℕ) (v : ℤ) → nat_abs (v +ℤ pos k) ≤ l → pos k ≤ℤ (pos l -ℤ v)
@@ -42,12 +42,12 @@ down-back : (l j k : ℕ) (v : ℤ) → j ≤ k → nat_abs (v -ℤ pos j) ≤ l
 down-back l j k = all₁ _ (λ a b. simp whole (omega arith))
 
 -- within the limit at k there is room for k changes
-room_for : (l k : ℕ) (v α : ℤ) → nat_abs (v +ℤ pos k *ℤ α) ≤ l → pos (k * nat_abs α) ≤ℤ roomToward l v α
+room_for : (l k : ℕ) (v α : ℤ) → nat_abs (v +ℤ pos k *ℤ α) ≤ l → pos (k * nat_abs α) ≤ℤ room_toward l v α
 room_for l k v (pos a) h = subst (λ (z : ℤ). pos (k * a) ≤ℤ z) (sym (room-up l a v)) (up_room l (k * a) v h)
 room_for l k v (negsuc a) h = down-room l (k * suc a) v h
 
 -- and where there is, and it was within the limit before, it is at k
-room_back : (l j k : ℕ) (v α : ℤ) → j ≤ k → nat_abs (v +ℤ pos j *ℤ α) ≤ l → pos (k * nat_abs α) ≤ℤ roomToward l v α
+room_back : (l j k : ℕ) (v α : ℤ) → j ≤ k → nat_abs (v +ℤ pos j *ℤ α) ≤ l → pos (k * nat_abs α) ≤ℤ room_toward l v α
     → nat_abs (v +ℤ pos k *ℤ α) ≤ l
 room_back l j k v (pos a) h p q =
     up-back l (j * a) (k * a) v (mul-le-mul h (omega arith)) p (subst (λ (z : ℤ). pos (k * a) ≤ℤ z) (room-up l a v) q)
@@ -68,16 +68,16 @@ module _ (l : ℕ) (v α : ℤ) (most : ℕ) where
       zeros n = ap pos {x = n * 0} {y = 0} (omega arith)
 
       none : (n : ℕ) → pos n *ℤ α ≡ pos 0
-      none n = ap (λ (z : ℤ). pos n *ℤ z) (natAbs-zero α e) ∙ zeros n
+      none n = ap (λ (z : ℤ). pos n *ℤ z) (nat_abs-zero α e) ∙ zeros n
 
-  pub ticks-none : roomToward l v α <ℤ pos 0 → TicksWithin l v α most 0
+  pub ticks-none : room_toward l v α <ℤ pos 0 → TicksWithin l v α most 0
   ticks-none e =
       record {
         high = omega arith;
-        later = λ k h p. absurd (less-clash (k * nat_abs α) (roomToward l v α) (room_for l k v α p) e);
+        later = λ k h p. absurd (less-clash (k * nat_abs α) (room_toward l v α) (room_for l k v α p) e);
       }
 
-  module _ (some : 0 < nat_abs α) (room : ℕ) (e : roomToward l v α ≡ pos room) where
+  module _ (some : 0 < nat_abs α) (room : ℕ) (e : room_toward l v α ≡ pos room) where
     counted : (k : ℕ) → nat_abs (v +ℤ pos k *ℤ α) ≤ l → k ≤ room / nat_abs α
     counted k p =
         (le-div_iff_mul-le {k = nat_abs α} {x = k} {y = room} some).1
@@ -105,7 +105,7 @@ module _ (l : ℕ) (v α : ℤ) (most : ℕ) where
         whole_le m n = simp whole (omega arith)
 
   -- the same of the numbers that the code has
-  pub ticks-divided : (steps : ℕ) (z : ℤ) → steps ≡ nat_abs α → 0 < steps → z ≡ roomToward l v α → pos 0 ≤ℤ z → (r : ℕ)
+  pub ticks-divided : (steps : ℕ) (z : ℤ) → steps ≡ nat_abs α → 0 < steps → z ≡ room_toward l v α → pos 0 ≤ℤ z → (r : ℕ)
       → r ≤ most → r ≤ nat_abs z / steps
       → ((k : ℕ) → k ≤ most → k ≤ nat_abs z / steps → k ≤ r) → TicksWithin l v α most r
   ticks-divided steps z e some is up r h q f =
@@ -121,11 +121,11 @@ module _ (l : ℕ) (v α : ℤ) (most : ℕ) where
 
 module _ (x : Axis) (passed : Passed x) where
   pub last-passing : (n last t : ℕ) → delay x < n → n ≤ last
-      → TicksWithin (speedSteps x) (arrivalVelocity x n) (landingAcceleration x n) (last - n) t
+      → TicksWithin (speed_steps x) (arrival_velocity x n) (landing_acceleration x n) (last - n) t
       → LastPassing (reachable x) n last (n + t)
   last-passing n last t h l w = record { low = omega arith; high = omega (arith, w.high); later = later }
     where
-      at : (i : ℕ) → arrivalVelocity x (n + i) ≡ arrivalVelocity x n +ℤ pos i *ℤ landingAcceleration x n
+      at : (i : ℕ) → arrival_velocity x (n + i) ≡ arrival_velocity x n +ℤ pos i *ℤ landing_acceleration x n
       at i = arrival-later x passed n i (omega arith)
 
       later : (k : ℕ) → n ≤ k → k ≤ last → reachable x k ≡ true → reachable x (n + t) ≡ true
@@ -133,21 +133,21 @@ module _ (x : Axis) (passed : Passed x) where
           let s : Slow x k = reached-slow x passed k e in
           let k-is : k ≡ n + (k - n) = omega arith in
           let r = w.later (k - n) (omega arith)
-          (subst (λ (z : ℤ). nat_abs z ≤ speedSteps x) (ap (arrivalVelocity x) k-is ∙ at (k - n)) s.arrived) in
+          (subst (λ (z : ℤ). nat_abs z ≤ speed_steps x) (ap (arrival_velocity x) k-is ∙ at (k - n)) s.arrived) in
           let far : k ≤ n + t = omega (arith, r.0) in
           let slow : Slow x (n + t) =
           slow-ahead x passed k (n + t) (omega arith) far s.landed
-          (subst (λ (z : ℤ). nat_abs z ≤ speedSteps x) (sym (at t)) r.1) in
+          (subst (λ (z : ℤ). nat_abs z ≤ speed_steps x) (sym (at t)) r.1) in
           reached-later x passed k (n + t) (n + t) far (omega arith) slow e
 
   -- the same of the numbers that the code has
-  pub last-passing-of : (l : ℕ) (v α : ℤ) (n last t : ℕ) → l ≡ speedSteps x → v ≡ arrivalVelocity x n
-      → α ≡ landingAcceleration x n → delay x < n → n ≤ last
+  pub last-passing-of : (l : ℕ) (v α : ℤ) (n last t : ℕ) → l ≡ speed_steps x → v ≡ arrival_velocity x n
+      → α ≡ landing_acceleration x n → delay x < n → n ≤ last
       → TicksWithin l v α (last - n) t → LastPassing (reachable x) n last (n + t)
   last-passing-of l v α n last t e f g h m w =
       last-passing n last t h m
-      (subst (λ (l : ℕ). TicksWithin l (arrivalVelocity x n) (landingAcceleration x n) (last - n) t) e
-      (subst (λ (v : ℤ). TicksWithin l v (landingAcceleration x n) (last - n) t) f
+      (subst (λ (l : ℕ). TicksWithin l (arrival_velocity x n) (landing_acceleration x n) (last - n) t) e
+      (subst (λ (v : ℤ). TicksWithin l v (landing_acceleration x n) (last - n) t) f
       (subst (λ (α : ℤ). TicksWithin l v α (last - n) t) g w)))
 
 -- ---- a search that starts later

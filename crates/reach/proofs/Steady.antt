@@ -13,7 +13,7 @@ use lib.Dec.{T, leb, ltb, eqb, eqb→eq, leb→le}
 use lib.IntN.{ℤ, pos, neg_ℤ, nat_abs, ◌+ℤ◌, ◌-ℤ◌, ◌*ℤ◌}
 use lib.Signed.{shr_z}
 use Rattle.whole.proofs.Differences.{whole}
-use Rattle.whole.proofs.Laws.{natAbs-zero, natAbs-*}
+use Rattle.whole.proofs.Laws.{nat_abs-zero, nat_abs-*}
 use Rattle.whole.proofs.Ring.{pol, same}
 use Rattle.whole.proofs.Rounding.{half_twice, twice_half}
 use Rattle.whole.proofs.Tests.{left, right, not-false-T, true-T, and_yes, and_no, leb_yes, ltb_yes, ltb_no, lt-or-le}
@@ -22,50 +22,50 @@ use Rattle.model.specs.declared.RestPoint.{RestPoint}
 use Rattle.model.specs.declared.State.{State}
 use Rattle.model.specs.declared.Target.{Target}
 use Rattle.model.specs.declared.Target.TheVariants.{Fixed, Moving}
-use Rattle.model.specs.planning.Quantities.{fineSteps, speedLimit, halfPeriod, secondWeight, delay, asMoving}
-use Rattle.model.specs.planning.Quantities.{velocityAt, accelerates, finer, onGrid, speedSteps}
-use Rattle.model.specs.planning.Leg.{twiceRequired, sumIsWhole, feasible}
-use Rattle.model.specs.planning.Motion.{shift, startPosition, startVelocity, landingVelocity, landingTick}
-use Rattle.model.specs.planning.Motion.{arrivalVelocity, leg, displacement, requiredSum, reachable}
-use Rattle.model.specs.planning.Refusals.{positionAllowed, velocityAllowed, restAllowed, motionAllowed, targetAllowed}
+use Rattle.model.specs.planning.Quantities.{fine_steps, speed_limit, half_period, second_weight, delay, as_moving}
+use Rattle.model.specs.planning.Quantities.{velocity_at, accelerates, finer, on_grid, speed_steps}
+use Rattle.model.specs.planning.Leg.{twice_required, sum_is_whole, feasible}
+use Rattle.model.specs.planning.Motion.{shift, start_position, start_velocity, landing_velocity, landing_tick}
+use Rattle.model.specs.planning.Motion.{arrival_velocity, leg, displacement, required_sum, reachable}
+use Rattle.model.specs.planning.Refusals.{position_allowed, velocity_allowed, rest_allowed, motion_allowed, target_allowed}
 use Rattle.model.specs.planning.Refusals.{Passed}
 use Rattle.theorems.specs.Threshold.{Slow}
 use Rattle.theorems.proofs.motions.Threshold.{reached-later}
 use Rattle.theorems.proofs.legs.WholeSum.{sum-is-whole}
-use Rattle.profile.specs.Profiles.{endsAllowed, sumBetween}
+use Rattle.profile.specs.Profiles.{ends_allowed, sum_between}
 use Rattle.whole.specs.Candidates.{Next}
-use Rattle.envelopes.specs.Sums.{withTicks, betweenAt}
+use Rattle.envelopes.specs.Sums.{with_ticks, between_at}
 use Rattle.envelopes.specs.Skips.{Lasting}
 use Rattle.profile.proofs.FeasibleParts.{feasible-parts}
-use Rattle.reach.specs.Drift.{speedOf, driftOf, drift}
+use Rattle.reach.specs.Drift.{speed_of, drift_of, drift}
 
 -- ---- the target
 
-speed-is : (t : Target) (n : ℕ) → (asMoving t n).velocity ≡ speedOf t
+speed-is : (t : Target) (n : ℕ) → (as_moving t n).velocity ≡ speed_of t
 speed-is (Fixed r) n = refl
 speed-is (Moving m) n = refl
 
-still : (t : Target) (n : ℕ) → accelerates t ≡ false → (asMoving t n).acceleration ≡ pos 0
+still : (t : Target) (n : ℕ) → accelerates t ≡ false → (as_moving t n).acceleration ≡ pos 0
 still (Fixed r) n e = refl
-still (Moving m) n e = natAbs-zero m.acceleration
+still (Moving m) n e = nat_abs-zero m.acceleration
     (eqb→eq (nat_abs m.acceleration) 0 (not-false-T (eqb (nat_abs m.acceleration) 0) e))
 
 -- what refusal 6 leaves of its velocity
-rest-slow : (x : Axis) (r : RestPoint) → T (restAllowed x r) → nat_abs r.velocity ≤ speedLimit x
-rest-slow x r t = leb→le (nat_abs r.velocity) (speedLimit x)
-    (right (positionAllowed r.position) (velocityAllowed x r.velocity) t)
+rest-slow : (x : Axis) (r : RestPoint) → T (rest_allowed x r) → nat_abs r.velocity ≤ speed_limit x
+rest-slow x r t = leb→le (nat_abs r.velocity) (speed_limit x)
+    (right (position_allowed r.position) (velocity_allowed x r.velocity) t)
 
-target-slow : (x : Axis) (t : Target) → T (targetAllowed x t) → nat_abs (speedOf t) ≤ speedLimit x
+target-slow : (x : Axis) (t : Target) → T (target_allowed x t) → nat_abs (speed_of t) ≤ speed_limit x
 target-slow x (Fixed r) p = rest-slow x r p
 target-slow x (Moving m) p =
     let r : RestPoint = record { position = m.position; velocity = m.velocity } in
-    rest-slow x r (left (restAllowed x r) (motionAllowed x m) p)
+    rest-slow x r (left (rest_allowed x r) (motion_allowed x m) p)
 
-grid-slow : (f : ℕ) (v : ℤ) (l : ℕ) → nat_abs v ≤ l → nat_abs (pos f *ℤ (pos fineSteps *ℤ v)) ≤ f * (fineSteps * l)
+grid-slow : (f : ℕ) (v : ℤ) (l : ℕ) → nat_abs v ≤ l → nat_abs (pos f *ℤ (pos fine_steps *ℤ v)) ≤ f * (fine_steps * l)
 grid-slow f v l h =
-    let fine : nat_abs (pos fineSteps *ℤ v) ≤ fineSteps * l = rw natAbs-* (omega arith) in
+    let fine : nat_abs (pos fine_steps *ℤ v) ≤ fine_steps * l = rw nat_abs-* (omega arith) in
     let same-grid : f ≤ f = omega arith in
-    rw natAbs-* (mul-le-mul same-grid fine)
+    rw nat_abs-* (mul-le-mul same-grid fine)
 
 -- ---- twice the required sum: the target at p with velocity v and acceleration a, d ticks
 -- after its own; the shift s; the planned start at q with velocity w; f grid steps in a fine
@@ -98,23 +98,23 @@ module _ (x : Axis) where
   -- half of what the position gains, by the acceleration
   abbrev gained : ℤ
   gained =
-      let b : ℤ = pos (secondWeight x) in
-      b *ℤ (pos (halfPeriod x) *ℤ pos (halfPeriod x)) *ℤ (b -ℤ pos 128)
+      let b : ℤ = pos (second_weight x) in
+      b *ℤ (pos (half_period x) *ℤ pos (half_period x)) *ℤ (b -ℤ pos 128)
 
   -- twice the required sum for a target in motion
   abbrev twice_of : ℤ → ℤ → ℤ → ℤ → ℤ
-  twice_of = twice (pos (finer x)) gained (shift x) (startPosition x) (startVelocity x)
+  twice_of = twice (pos (finer x)) gained (shift x) (start_position x) (start_velocity x)
 
-  abbrev twiceFor : Target → ℕ → ℤ
-  twiceFor t n =
-      let m : State = asMoving t n in
+  abbrev twice_for : Target → ℕ → ℤ
+  twice_for t n =
+      let m : State = as_moving t n in
       twice_of m.position m.velocity m.acceleration (pos (n - h) -ℤ m.tick)
 
   twice-later : (t : Target) → accelerates t ≡ false → (n k : ℕ) → h ≤ n → n ≤ k
-      → twiceFor t k ≡ twiceFor t n +ℤ pos 2 *ℤ (pos (k - n) *ℤ onGrid x (driftOf t))
+      → twice_for t k ≡ twice_for t n +ℤ pos 2 *ℤ (pos (k - n) *ℤ on_grid x (drift_of t))
   twice-later (Fixed r) e n k p q =
       ap (twice_of r.position r.velocity (pos 0)) (before k h (omega arith) ∙ sym (before n h p))
-      ∙ none (twiceFor (Fixed r) n) (pos (k - n)) (pos (finer x))
+      ∙ none (twice_for (Fixed r) n) (pos (k - n)) (pos (finer x))
     where
       none : (y j f : ℤ) → y ≡ y +ℤ pos 2 *ℤ (j *ℤ (f *ℤ pos 0))
       none y j f = same (y ∷ j ∷ f ∷ []) (search pol depth 20 fits 9000) tt
@@ -122,113 +122,113 @@ module _ (x : Axis) where
       let a = still (Moving m) n e in
       ap (λ (z : ℤ). twice_of m.position m.velocity z (pos (k - h) -ℤ m.tick)) a
       ∙ ap (twice_of m.position m.velocity (pos 0)) (since k n h m.tick p q)
-      ∙ later (pos (finer x)) gained (shift x) (startPosition x) (startVelocity x) m.position m.velocity
+      ∙ later (pos (finer x)) gained (shift x) (start_position x) (start_velocity x) m.position m.velocity
       (pos (n - h) -ℤ m.tick) (pos (k - n))
       ∙ ap (λ (z : ℤ). twice_of m.position m.velocity z (pos (n - h) -ℤ m.tick)
-      +ℤ pos 2 *ℤ (pos (k - n) *ℤ onGrid x (driftOf (Moving m)))) (sym a)
+      +ℤ pos 2 *ℤ (pos (k - n) *ℤ on_grid x (drift_of (Moving m)))) (sym a)
 
   -- ---- an axis that passed
 
   module _ (passed : Passed x) where
-    allowed : T (restAllowed x x.start && targetAllowed x x.target)
-    allowed = not-false-T (restAllowed x x.start && targetAllowed x x.target) passed.values
+    allowed : T (rest_allowed x x.start && target_allowed x x.target)
+    allowed = not-false-T (rest_allowed x x.start && target_allowed x x.target) passed.values
 
-    pub start-slow : nat_abs (startVelocity x) ≤ speedSteps x
+    pub start-slow : nat_abs (start_velocity x) ≤ speed_steps x
     start-slow =
-        let rest = left (restAllowed x x.start) (targetAllowed x x.target) allowed in
-        grid-slow (finer x) x.start.velocity (speedLimit x) (rest-slow x x.start rest)
+        let rest = left (rest_allowed x x.start) (target_allowed x x.target) allowed in
+        grid-slow (finer x) x.start.velocity (speed_limit x) (rest-slow x x.start rest)
 
-    pub speed-slow : nat_abs (speedOf x.target) ≤ speedLimit x
-    speed-slow = target-slow x x.target (right (restAllowed x x.start) (targetAllowed x x.target) allowed)
+    pub speed-slow : nat_abs (speed_of x.target) ≤ speed_limit x
+    speed-slow = target-slow x x.target (right (rest_allowed x x.start) (target_allowed x x.target) allowed)
 
   module _ (passed : Passed x) (steady : accelerates x.target ≡ false) where
-    velocity-is : (n : ℕ) → landingVelocity x n ≡ onGrid x (pos fineSteps *ℤ speedOf x.target)
+    velocity-is : (n : ℕ) → landing_velocity x n ≡ on_grid x (pos fine_steps *ℤ speed_of x.target)
     velocity-is n =
-        ap (onGrid x) (law (asMoving x.target n) (still x.target n steady)
-        ∙ ap (λ (z : ℤ). pos fineSteps *ℤ z) (speed-is x.target n))
+        ap (on_grid x) (law (as_moving x.target n) (still x.target n steady)
+        ∙ ap (λ (z : ℤ). pos fine_steps *ℤ z) (speed-is x.target n))
       where
         none : (v s d : ℤ) → pos 256 *ℤ (v +ℤ pos 0 *ℤ d) +ℤ s *ℤ pos 0 ≡ pos 256 *ℤ v
         none v s d = same (v ∷ s ∷ d ∷ []) (search pol depth 20 fits 9000) tt
 
         law : (m : State) → m.acceleration ≡ pos 0
-            → pos fineSteps *ℤ velocityAt m (pos (landingTick x n)) +ℤ shift x *ℤ m.acceleration
-            ≡ pos fineSteps *ℤ m.velocity
+            → pos fine_steps *ℤ velocity_at m (pos (landing_tick x n)) +ℤ shift x *ℤ m.acceleration
+            ≡ pos fine_steps *ℤ m.velocity
         law m e =
-            ap (λ (z : ℤ). pos 256 *ℤ (m.velocity +ℤ z *ℤ (pos (landingTick x n) -ℤ m.tick)) +ℤ shift x *ℤ z) e
-            ∙ none m.velocity (shift x) (pos (landingTick x n) -ℤ m.tick)
+            ap (λ (z : ℤ). pos 256 *ℤ (m.velocity +ℤ z *ℤ (pos (landing_tick x n) -ℤ m.tick)) +ℤ shift x *ℤ z) e
+            ∙ none m.velocity (shift x) (pos (landing_tick x n) -ℤ m.tick)
 
-    pub landing-slow : (n : ℕ) → nat_abs (landingVelocity x n) ≤ speedSteps x
+    pub landing-slow : (n : ℕ) → nat_abs (landing_velocity x n) ≤ speed_steps x
     landing-slow n =
-        subst (λ (z : ℤ). nat_abs z ≤ speedSteps x) (sym (velocity-is n))
-        (grid-slow (finer x) (speedOf x.target) (speedLimit x) (speed-slow passed))
+        subst (λ (z : ℤ). nat_abs z ≤ speed_steps x) (sym (velocity-is n))
+        (grid-slow (finer x) (speed_of x.target) (speed_limit x) (speed-slow passed))
 
-    arrival-is : (n : ℕ) → arrivalVelocity x n ≡ landingVelocity x n
+    arrival-is : (n : ℕ) → arrival_velocity x n ≡ landing_velocity x n
     arrival-is n =
-        ap (λ (z : ℤ). landingVelocity x n +ℤ pos h *ℤ onGrid x (pos 256 *ℤ z)) (still x.target n steady)
-        ∙ none (landingVelocity x n) (pos h) (pos (finer x))
+        ap (λ (z : ℤ). landing_velocity x n +ℤ pos h *ℤ on_grid x (pos 256 *ℤ z)) (still x.target n steady)
+        ∙ none (landing_velocity x n) (pos h) (pos (finer x))
       where
         none : (v h f : ℤ) → v +ℤ h *ℤ (f *ℤ (pos 256 *ℤ pos 0)) ≡ v
         none v h f = same (v ∷ h ∷ f ∷ []) (search pol depth 20 fits 9000) tt
 
-    whole_sum : (n : ℕ) → nat_abs (twiceRequired (leg x n) (displacement x n)) % 2 ≡ 0
-    whole_sum n = eqb→eq (nat_abs (twiceRequired (leg x n) (displacement x n)) % 2) 0 (true-T (sum-is-whole x n))
+    whole_sum : (n : ℕ) → nat_abs (twice_required (leg x n) (displacement x n)) % 2 ≡ 0
+    whole_sum n = eqb→eq (nat_abs (twice_required (leg x n) (displacement x n)) % 2) 0 (true-T (sum-is-whole x n))
 
     module _ (n k : ℕ) (after : h < n) (from : n ≤ k) where
-      leg-later : withTicks (leg x n) (k - h) ≡ leg x k
+      leg-later : with_ticks (leg x n) (k - h) ≡ leg x k
       leg-later =
           λ i. record {
             ticks = k - h;
-            start = startVelocity x;
+            start = start_velocity x;
             end = (velocity-is n ∙ sym (velocity-is k)) i;
-            speedLimit = (leg x k).speedLimit;
-            accelerationLimit = (leg x k).accelerationLimit;
+            speed_limit = (leg x k).speed_limit;
+            acceleration_limit = (leg x k).acceleration_limit;
           }
 
-      sum-later : requiredSum x n +ℤ pos (k - n) *ℤ drift x ≡ requiredSum x k
+      sum-later : required_sum x n +ℤ pos (k - n) *ℤ drift x ≡ required_sum x k
       sum-later =
-          sym (half_twice (requiredSum x n +ℤ pos (k - n) *ℤ drift x))
+          sym (half_twice (required_sum x n +ℤ pos (k - n) *ℤ drift x))
           ∙ ap (λ (z : ℤ). shr_z z 2)
-          (split (requiredSum x n) (pos (k - n) *ℤ drift x)
-          ∙ ap (λ (z : ℤ). z +ℤ pos 2 *ℤ (pos (k - n) *ℤ drift x)) (twice_half (twiceFor x.target n) (whole_sum n))
+          (split (required_sum x n) (pos (k - n) *ℤ drift x)
+          ∙ ap (λ (z : ℤ). z +ℤ pos 2 *ℤ (pos (k - n) *ℤ drift x)) (twice_half (twice_for x.target n) (whole_sum n))
           ∙ sym (twice-later x.target steady n k (omega arith) from))
         where
           split : (a b : ℤ) → pos 2 *ℤ (a +ℤ b) ≡ pos 2 *ℤ a +ℤ pos 2 *ℤ b
           split a b = same (a ∷ b ∷ []) (search pol depth 20 fits 9000) tt
 
-      wanted-is : requiredSum x n +ℤ pos (k - h - (n - h)) *ℤ drift x ≡ requiredSum x k
-      wanted-is = ap (λ (i : ℕ). requiredSum x n +ℤ pos i *ℤ drift x) {x = k - h - (n - h)} {y = k - n} (omega arith)
+      wanted-is : required_sum x n +ℤ pos (k - h - (n - h)) *ℤ drift x ≡ required_sum x k
+      wanted-is = ap (λ (i : ℕ). required_sum x n +ℤ pos i *ℤ drift x) {x = k - h - (n - h)} {y = k - n} (omega arith)
           ∙ sum-later
 
-      moves : betweenAt (leg x n) (requiredSum x n) (drift x) (k - h) ≡ feasible (leg x k) (displacement x k)
+      moves : between_at (leg x n) (required_sum x n) (drift x) (k - h) ≡ feasible (leg x k) (displacement x k)
       moves =
-          (λ i. endsAllowed (leg-later i) && sumBetween (leg-later i) (wanted-is i))
-          ∙ ap (λ (b : Bool). endsAllowed (leg x k) && b)
-          (and_yes (sumIsWhole (leg x k) (displacement x k))
-          (sumBetween (leg x k) (requiredSum x k)) (sum-is-whole x k) refl)
+          (λ i. ends_allowed (leg-later i) && sum_between (leg-later i) (wanted-is i))
+          ∙ ap (λ (b : Bool). ends_allowed (leg x k) && b)
+          (and_yes (sum_is_whole (leg x k) (displacement x k))
+          (sum_between (leg x k) (required_sum x k)) (sum-is-whole x k) refl)
           ∙ sym (feasible-parts (leg x k) (displacement x k))
 
-      pub reach-later : betweenAt (leg x n) (requiredSum x n) (drift x) (k - h) ≡ reachable x k
+      pub reach-later : between_at (leg x n) (required_sum x n) (drift x) (k - h) ≡ reachable x k
       reach-later =
           and_yes (ltb h k) _ (ltb_yes {m = h} {n = k} (omega arith))
-          (and_yes (leb (nat_abs (landingVelocity x k)) (speedSteps x)) _ (leb_yes (landing-slow k))
-          (and_yes (leb (nat_abs (arrivalVelocity x k)) (speedSteps x)) _
-          (leb_yes (subst (λ (z : ℤ). nat_abs z ≤ speedSteps x) (sym (arrival-is k)) (landing-slow k))) moves))
+          (and_yes (leb (nat_abs (landing_velocity x k)) (speed_steps x)) _ (leb_yes (landing-slow k))
+          (and_yes (leb (nat_abs (arrival_velocity x k)) (speed_steps x)) _
+          (leb_yes (subst (λ (z : ℤ). nat_abs z ≤ speed_steps x) (sym (arrival-is k)) (landing-slow k))) moves))
 
     pub always-slow : (n : ℕ) → Slow x n
     always-slow n =
         record {
           landed = landing-slow n;
-          arrived = subst (λ (z : ℤ). nat_abs z ≤ speedSteps x) (sym (arrival-is n)) (landing-slow n);
+          arrived = subst (λ (z : ℤ). nat_abs z ≤ speed_steps x) (sym (arrival-is n)) (landing-slow n);
         }
 
     -- what is reached stays reached
-    pub lasts : (n : ℕ) → h < n → Lasting (betweenAt (leg x n) (requiredSum x n) (drift x)) (n - h)
+    pub lasts : (n : ℕ) → h < n → Lasting (between_at (leg x n) (required_sum x n) (drift x)) (n - h)
     lasts n after j k p q e =
         let here : j + h - h ≡ j = omega arith in
         let there : k + h - h ≡ k = omega arith in
         let reached = sym (reach-later n (j + h) after (omega arith))
-        ∙ ap (betweenAt (leg x n) (requiredSum x n) (drift x)) here ∙ e in
-        sym (ap (betweenAt (leg x n) (requiredSum x n) (drift x)) there)
+        ∙ ap (between_at (leg x n) (required_sum x n) (drift x)) here ∙ e in
+        sym (ap (between_at (leg x n) (required_sum x n) (drift x)) there)
         ∙ reach-later n (k + h) after (omega arith)
         ∙ reached-later x passed (j + h) (k + h) (k + h) (omega arith) (omega arith) (always-slow (k + h)) reached
 
@@ -253,7 +253,7 @@ none_after x n last p q =
 
 pub next-arrival : (x : Axis) → Passed x → accelerates x.target ≡ false → (n last f t : ℕ)
     → f ≡ max n (suc (delay x)) → f ≤ last
-    → Next (betweenAt (leg x f) (requiredSum x f) (drift x)) (f - delay x) (last - delay x) t
+    → Next (between_at (leg x f) (required_sum x f) (drift x)) (f - delay x) (last - delay x) t
     → Next (reachable x) n last (t + delay x)
 next-arrival x passed steady n last f t e h w =
     record { low = omega (arith, w.low); high = omega (arith, w.high); missed = missed; passed = reached }
@@ -271,5 +271,5 @@ next-arrival x passed steady n last f t e h w =
     reached : t + delay x ≤ last → reachable x (t + delay x) ≡ true
     reached l =
         sym (reach-later x passed steady f (t + delay x) after (omega (arith, w.low)))
-        ∙ ap (betweenAt (leg x f) (requiredSum x f) (drift x)) {x = t + delay x - delay x} {y = t} (omega arith)
+        ∙ ap (between_at (leg x f) (required_sum x f) (drift x)) {x = t + delay x - delay x} {y = t} (omega arith)
         ∙ w.passed (omega arith)

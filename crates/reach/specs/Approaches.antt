@@ -3,42 +3,42 @@
 use Rattle.std.specs.Prelude.{ℕ, ◌+◌, ◌-◌, ◌^◌, ◌≤◌, ◌<◌, ◌≡◌, Bool, true, ◌&&◌, leb, ℤ, pos, nat_abs, ◌+ℤ◌, ◌*ℤ◌}
 use Rattle.whole.specs.Ranges.{Within}
 use Rattle.model.specs.declared.Axis.{Axis}
-use Rattle.model.specs.planning.Leg.{sumIsWhole, feasible}
+use Rattle.model.specs.planning.Leg.{sum_is_whole, feasible}
 use Rattle.model.specs.planning.Motion.{reachable}
-use Rattle.model.specs.planning.Refusals.{lastTick}
+use Rattle.model.specs.planning.Refusals.{last_tick}
 use Rattle.profile.specs.declared.Profile.{Profile}
-use Rattle.profile.specs.Profiles.{legOf}
+use Rattle.profile.specs.Profiles.{leg_of}
 use Rattle.reach.specs.declared.approach.Approach.{Approach}
 
 -- ---- i arrivals later than the first
 
 -- the velocity at the landing, and at the arrival
-abbrev pub endLater : Approach → ℕ → ℤ
-endLater a i = a.end +ℤ pos i *ℤ a.change
+abbrev pub end_later : Approach → ℕ → ℤ
+end_later a i = a.end +ℤ pos i *ℤ a.change
 
-abbrev pub arrivedLater : Approach → ℕ → ℤ
-arrivedLater a i = endLater a i +ℤ pos a.delay *ℤ a.change
+abbrev pub arrived_later : Approach → ℕ → ℤ
+arrived_later a i = end_later a i +ℤ pos a.delay *ℤ a.change
 
 -- the displacement
-abbrev pub travelLater : Approach → ℕ → ℤ
-travelLater a i = a.travel +ℤ pos i *ℤ (pos 2 *ℤ a.end +ℤ pos i *ℤ a.change)
+abbrev pub travel_later : Approach → ℕ → ℤ
+travel_later a i = a.travel +ℤ pos i *ℤ (pos 2 *ℤ a.end +ℤ pos i *ℤ a.change)
 
 -- the leg
-abbrev pub profileLater : Approach → ℕ → Profile
-profileLater a i =
+abbrev pub profile_later : Approach → ℕ → Profile
+profile_later a i =
     record {
       speed_limit = a.speed_limit;
       acceleration_limit = a.acceleration_limit;
       start = a.start;
-      end = endLater a i;
+      end = end_later a i;
       ticks = a.ticks + i;
     }
 
 -- whether it is reached: rule 4 after its first test
-unfoldable pub reachesLater : Approach → ℕ → Bool
-reachesLater a i =
-    leb (nat_abs (endLater a i)) a.speed_limit
-    && (leb (nat_abs (arrivedLater a i)) a.speed_limit && feasible (legOf (profileLater a i)) (travelLater a i))
+unfoldable pub reaches_later : Approach → ℕ → Bool
+reaches_later a i =
+    leb (nat_abs (end_later a i)) a.speed_limit
+    && (leb (nat_abs (arrived_later a i)) a.speed_limit && feasible (leg_of (profile_later a i)) (travel_later a i))
 
 -- ---- what the code needs of an approach
 
@@ -59,15 +59,15 @@ pub record ApproachRanged (a : Approach) : Type 0 where
 pub record Approaches (a : Approach) (last : ℕ) : Type 0 where
   pub ranged : ApproachRanged a
   pub few : a.ticks + last ≤ 4096
-  pub whole : (i : ℕ) → i ≤ last → sumIsWhole (legOf (profileLater a i)) (travelLater a i) ≡ true
+  pub whole : (i : ℕ) → i ≤ last → sum_is_whole (leg_of (profile_later a i)) (travel_later a i) ≡ true
   -- what is reached is reached later, where the target is slow enough by then
-  pub goes : (i j : ℕ) → i ≤ j → j ≤ last → nat_abs (arrivedLater a j) ≤ a.speed_limit
-      → reachesLater a i ≡ true → reachesLater a j ≡ true
+  pub goes : (i j : ℕ) → i ≤ j → j ≤ last → nat_abs (arrived_later a j) ≤ a.speed_limit
+      → reaches_later a i ≡ true → reaches_later a j ≡ true
   -- what is reached is one run
-  pub run : (i j k : ℕ) → i ≤ j → j ≤ k → k ≤ last → reachesLater a i ≡ true
-      → reachesLater a k ≡ true → reachesLater a j ≡ true
+  pub run : (i j k : ℕ) → i ≤ j → j ≤ k → k ≤ last → reaches_later a i ≡ true
+      → reaches_later a k ≡ true → reaches_later a j ≡ true
 
 -- the approach of an axis from arrival n on
 pub record ApproachIs (x : Axis) (n : ℕ) (a : Approach) : Type 0 where
-  pub approaches : Approaches a (lastTick - n)
-  pub same : (i : ℕ) → reachesLater a i ≡ reachable x (n + i)
+  pub approaches : Approaches a (last_tick - n)
+  pub same : (i : ℕ) → reaches_later a i ≡ reachable x (n + i)

@@ -6,8 +6,8 @@ use Rattle.std.specs.Int.Signed.{lt_z}
 -- ---- a velocity that changes by the same number each tick
 
 -- how much may come to it until it is past the limit
-abbrev pub roomToward : ℕ → ℤ → ℤ → ℤ
-roomToward limit velocity change = cond (lt_z change (pos 0)) (pos limit +ℤ velocity) (pos limit -ℤ velocity)
+abbrev pub room_toward : ℕ → ℤ → ℤ → ℤ
+room_toward limit velocity change = cond (lt_z change (pos 0)) (pos limit +ℤ velocity) (pos limit -ℤ velocity)
 
 -- the last of the ticks 0 to `most` at which it can be within the limit: where it is at one of them
 -- it is at r too, which is none before that

@@ -3,11 +3,11 @@
 ghost use Rattle.std.specs.Prelude.{◌+◌, ◌-◌, ◌^◌, ◌≤◌, ◌<◌, true, false, ◌≡◌, nat_abs};
 ghost use Rattle.whole.specs.Ranges.{Within, Is};
 ghost use Rattle.model.specs.planning.Quantities.{accelerates, delay};
-ghost use Rattle.model.specs.planning.Refusals.{lastTick, Passed};
+ghost use Rattle.model.specs.planning.Refusals.{last_tick, Passed};
 ghost use Rattle.whole.specs.Candidates.{Next};
 ghost use Rattle.envelopes.specs.Skips.{LastingTo, Further};
-ghost use Rattle.reach.specs.Halving.{roomToward, TicksWithin};
-ghost use Rattle.reach.specs.Approaches.{endLater, arrivedLater, travelLater, profileLater, reachesLater};
+ghost use Rattle.reach.specs.Halving.{room_toward, TicksWithin};
+ghost use Rattle.reach.specs.Approaches.{end_later, arrived_later, travel_later, profile_later, reaches_later};
 ghost use Rattle.reach.specs.Approaches.{ApproachRanged, Approaches, ApproachIs};
 
 use model::Axis;
@@ -34,7 +34,7 @@ pub struct Approach {
 pub fn approach_of(x: Axis, n: u32) -> Approach
     requires passed { Passed x }
     requires target_value { accelerates x.target ≡ true }
-    requires n_le_last_tick { n ≤ lastTick }
+    requires n_le_last_tick { n ≤ last_tick }
     requires x_bound { delay x < n }
     ensures { ApproachIs x n result }
 {
@@ -62,7 +62,7 @@ pub fn approach_of(x: Axis, n: u32) -> Approach
 fn end_later(a: Approach, i: u32) -> i64
     requires approach_ranged { ApproachRanged a }
     requires i_bound { i ≤ 4096 }
-    ensures { Is (2 ^ 48) result (endLater a i) }
+    ensures { Is (2 ^ 48) result (end_later a i) }
 {
     let end = a.end;
     let change = a.change;
@@ -73,7 +73,7 @@ fn end_later(a: Approach, i: u32) -> i64
 fn arrived_later(a: Approach, i: u32) -> i64
     requires approach_ranged { ApproachRanged a }
     requires i_bound { i ≤ 4096 }
-    ensures { Is (2 ^ 49) result (arrivedLater a i) }
+    ensures { Is (2 ^ 49) result (arrived_later a i) }
 {
     let change = a.change;
     end_later(a, i) + (a.delay as i64) * change
@@ -83,7 +83,7 @@ fn arrived_later(a: Approach, i: u32) -> i64
 fn travel_later(a: Approach, i: u32) -> i64
     requires approach_ranged { ApproachRanged a }
     requires i_bound { i ≤ 4096 }
-    ensures { Is (2 ^ 62) result (travelLater a i) }
+    ensures { Is (2 ^ 62) result (travel_later a i) }
 {
     let end = a.end;
     let change = a.change;
@@ -96,7 +96,7 @@ fn travel_later(a: Approach, i: u32) -> i64
 fn profile_later(a: Approach, i: u32) -> Profile
     requires approach_ranged { ApproachRanged a }
     requires i_bound { i ≤ 4096 }
-    ensures { result ≡ profileLater a i }
+    ensures { result ≡ profile_later a i }
 {
     let start = a.start;
     let end = end_later(a, i);
@@ -113,7 +113,7 @@ fn profile_later(a: Approach, i: u32) -> Profile
 fn reaches_later(a: Approach, i: u32, most: u32) -> bool
     requires approaches { Approaches a most }
     requires i_le_most { i ≤ most }
-    ensures { result ≡ reachesLater a i }
+    ensures { result ≡ reaches_later a i }
 {
     let end = end_later(a, i);
     if whole::size_at_most(end, a.speed_limit) {
@@ -131,7 +131,7 @@ fn reaches_later(a: Approach, i: u32, most: u32) -> bool
 pub fn room_toward(limit: u64, velocity: i64, change: i64) -> i64
     requires limit_bound { limit ≤ 2 ^ 37 }
     requires within { Within (2 ^ 49) velocity }
-    ensures { Is (2 ^ 50) result (roomToward limit velocity change) }
+    ensures { Is (2 ^ 50) result (room_toward limit velocity change) }
 {
     let most = limit as i64;
     if change < 0 {
@@ -169,7 +169,7 @@ fn further(a: Approach, last: u32, low: u32, step: u32) -> u32
     requires approaches { Approaches a last }
     requires low_le_last { low ≤ last }
     requires step_bound { step ≤ 4096 }
-    ensures { Further (reachesLater a) last low step result }
+    ensures { Further (reaches_later a) last low step result }
 {
     let next = low + step;
     if next <= last {
@@ -185,9 +185,9 @@ fn further(a: Approach, last: u32, low: u32, step: u32) -> u32
 // each turn halves what is left.
 fn first_reached(a: Approach, last: u32) -> u32
     requires approaches { Approaches a last }
-    requires lasting_to { LastingTo (reachesLater a) 0 last }
-    requires a_value { reachesLater a 0 ≡ false }
-    ensures { Next (reachesLater a) 0 last result }
+    requires lasting_to { LastingTo (reaches_later a) 0 last }
+    requires a_value { reaches_later a 0 ≡ false }
+    ensures { Next (reaches_later a) 0 last result }
 {
     let mut low: u32 = 0;
     let mut width = WIDEST_SPAN;
@@ -204,7 +204,7 @@ fn first_reached(a: Approach, last: u32) -> u32
 // last at which the target is slow enough is.
 pub fn next_later(a: Approach, last: u32) -> u32
     requires { Approaches a last }
-    ensures { Next (reachesLater a) 0 last result }
+    ensures { Next (reaches_later a) 0 last result }
 {
     if reaches_later(a, 0, last) {
         return 0;

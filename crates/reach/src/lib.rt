@@ -1,14 +1,16 @@
 // Whether an axis reaches an arrival, and which it reaches next
 // (docs/METHOD.md, section 3, rule 4, and 3.10).
+#![tactic(auto)]
+
 mod approach;
 
 ghost use Rattle.std.specs.Prelude.{suc, ◌^◌, ◌<◌, ◌≤◌, max, true, false, ◌≡◌};
 ghost use Rattle.whole.specs.Ranges.{Within, Is};
 ghost use Rattle.model.specs.planning.Quantities.{delay, accelerates};
 ghost use Rattle.model.specs.planning.Motion.{reachable};
-ghost use Rattle.model.specs.planning.Refusals.{lastTick, Passed};
+ghost use Rattle.model.specs.planning.Refusals.{last_tick, Passed};
 ghost use Rattle.whole.specs.Candidates.{Next};
-ghost use Rattle.reach.specs.Drift.{driftOf, drift, speedOf};
+ghost use Rattle.reach.specs.Drift.{drift_of, drift, speed_of};
 ghost use Rattle.reach.specs.Halving.{LastPassing, ReachesSome, Loses};
 
 use approach::{approach_of, next_later, ticks_within};
@@ -17,7 +19,7 @@ use model::{Axis, FINE_STEPS, Target};
 // Whether the axis can arrive at tick n.
 pub fn reaches(x: Axis, n: u32) -> bool
     requires passed { Passed x }
-    requires n_le_last_tick { n ≤ lastTick }
+    requires n_le_last_tick { n ≤ last_tick }
     ensures { result ≡ reachable x n }
 {
     let delay = motion::delay_of(x);
@@ -44,7 +46,7 @@ fn last_slow(x: Axis, n: u32, last: u32) -> u32
     requires passed { Passed x }
     requires x_bound { delay x < n }
     requires n_le_last { n ≤ last }
-    requires last_le_last_tick { last ≤ lastTick }
+    requires last_le_last_tick { last ≤ last_tick }
     ensures { LastPassing (reachable x) n last result }
 {
     let delay = motion::delay_of(x);
@@ -59,7 +61,7 @@ fn last_slow(x: Axis, n: u32, last: u32) -> u32
 // which its target is slow enough.
 fn reaches_while_slow(x: Axis, last: u32) -> bool
     requires passed { Passed x }
-    requires last_le_last_tick { last ≤ lastTick }
+    requires last_le_last_tick { last ≤ last_tick }
     ensures { ReachesSome (reachable x) last result }
 {
     let delay = motion::delay_of(x);
@@ -74,7 +76,7 @@ fn reaches_while_slow(x: Axis, last: u32) -> bool
 pub fn reaches_some(x: Axis, last: u32) -> bool
     requires passed { Passed x }
     requires le_last { 1 ≤ last }
-    requires last_le_last_tick { last ≤ lastTick }
+    requires last_le_last_tick { last ≤ last_tick }
     ensures { ReachesSome (reachable x) last result }
 {
     let target = x.target;
@@ -88,7 +90,7 @@ pub fn reaches_some(x: Axis, last: u32) -> bool
 // accelerates can be too fast by then.
 pub fn loses(x: Axis, n: u32) -> bool
     requires passed { Passed x }
-    requires n_le_last_tick { n ≤ lastTick }
+    requires n_le_last_tick { n ≤ last_tick }
     ensures { Loses (reachable x) n result }
 {
     let target = x.target;
@@ -114,8 +116,8 @@ fn first_after(n: u32, delay: u32) -> u32
 // By how much the required sum changes from one arrival to the next, where the target does
 // not accelerate, in fine steps.
 fn drift_of(target: Target) -> i64
-    requires { Within (2 ^ 20) (speedOf target) }
-    ensures { Is (2 ^ 28) result (driftOf target) }
+    requires { Within (2 ^ 20) (speed_of target) }
+    ensures { Is (2 ^ 28) result (drift_of target) }
 {
     match target {
         Target::Fixed(_) => 0,
@@ -128,7 +130,7 @@ fn drift_of(target: Target) -> i64
 
 // The same in grid steps.
 fn drift(x: Axis) -> i64
-    requires { Within (2 ^ 20) (speedOf x.target) }
+    requires { Within (2 ^ 20) (speed_of x.target) }
     ensures { Is (2 ^ 36) result (drift x) }
 {
     let target = x.target;
@@ -142,7 +144,7 @@ fn next_steady(x: Axis, n: u32, last: u32) -> u32
     requires passed { Passed x }
     requires target_value { accelerates x.target ≡ false }
     requires n_bound { n ≤ suc last }
-    requires last_le_last_tick { last ≤ lastTick }
+    requires last_le_last_tick { last ≤ last_tick }
     ensures { Next (reachable x) n last result }
 {
     let delay = motion::delay_of(x);
@@ -162,7 +164,7 @@ fn next_by_halving(x: Axis, n: u32, last: u32) -> u32
     requires passed { Passed x }
     requires target_value { accelerates x.target ≡ true }
     requires n_bound { n ≤ suc last }
-    requires last_le_last_tick { last ≤ lastTick }
+    requires last_le_last_tick { last ≤ last_tick }
     ensures { Next (reachable x) n last result }
 {
     let delay = motion::delay_of(x);
@@ -177,7 +179,7 @@ fn next_by_halving(x: Axis, n: u32, last: u32) -> u32
 pub fn next_reached(x: Axis, n: u32, last: u32) -> u32
     requires passed { Passed x }
     requires n_bound { n ≤ suc last }
-    requires last_le_last_tick { last ≤ lastTick }
+    requires last_le_last_tick { last ≤ last_tick }
     ensures { Next (reachable x) n last result }
 {
     let target = x.target;

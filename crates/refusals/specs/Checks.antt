@@ -7,46 +7,46 @@ use Rattle.model.specs.declared.Checked.TheVariants.{Passed, Refused}
 use Rattle.model.specs.declared.Windows.{Windows}
 use Rattle.model.specs.planning.Windows.{refused13}
 use Rattle.model.specs.planning.Job.{JobAxis}
-use Rattle.model.specs.planning.Admission.{firstAxis, Tests, axisRefusals, Admission, refusedAt, admitted}
-use Rattle.model.specs.calls.Converter.{oldRefusals}
+use Rattle.model.specs.planning.Admission.{first_axis, Tests, axis_refusals, Admission, refused_at, admitted}
+use Rattle.model.specs.calls.Converter.{old_refusals}
 
 -- ---- refusals 4, 12, 5, 15, 6, 16, 17 and 13
 
 -- refusal 13, or none
-abbrev pub windowRefusal : Windows → Checked
-windowRefusal w = elim (refused13 w) [ some p ↦ Refused 13 p | none ↦ Passed ]
+abbrev pub window_refusal : Windows → Checked
+window_refusal w = elim (refused13 w) [ some p ↦ Refused 13 p | none ↦ Passed ]
 
 -- the tests of the axes, where fixed targets must be at rest and where they may fly
-abbrev pub testsFor : Bool → Tests
-testsFor true = axisRefusals
-testsFor false = oldRefusals
+abbrev pub tests_for : Bool → Tests
+tests_for true = axis_refusals
+tests_for false = old_refusals
 
 -- the first refusal of a list of numbered tests, or then 13, or none
-abbrev pub firstRefusal : Tests → List JobAxis → Windows → Checked
-firstRefusal [] xs w = windowRefusal w
-firstRefusal (t ∷ ts) xs w = elim (firstAxis t.1 xs) [ some i ↦ Refused t.0 i | none ↦ firstRefusal ts xs w ]
+abbrev pub first_refusal : Tests → List JobAxis → Windows → Checked
+first_refusal [] xs w = window_refusal w
+first_refusal (t ∷ ts) xs w = elim (first_axis t.1 xs) [ some i ↦ Refused t.0 i | none ↦ first_refusal ts xs w ]
 
 -- admission without its job
-abbrev pub withoutJob : Admission → Checked
-withoutJob (refusedAt n p) = Refused n p
-withoutJob (admitted j) = Passed
+abbrev pub without_job : Admission → Checked
+without_job (refused_at n p) = Refused n p
+without_job (admitted j) = Passed
 
 -- ---- the first refusal by ranks
 
 -- the rank of the first test of a list that holds of an axis, or the number of tests
-abbrev pub firstMet : Tests → Axis → ℕ
-firstMet [] x = 0
-firstMet (t ∷ ts) x = cond (t.1 x) 0 (suc (firstMet ts x))
+abbrev pub first_met : Tests → Axis → ℕ
+first_met [] x = 0
+first_met (t ∷ ts) x = cond (t.1 x) 0 (suc (first_met ts x))
 
 -- the least rank of all axes, or the number of tests
-abbrev pub leastRank : Tests → List JobAxis → ℕ
-leastRank ts [] = length ts
-leastRank ts (x ∷ xs) = min (firstMet ts x.axis) (leastRank ts xs)
+abbrev pub least_rank : Tests → List JobAxis → ℕ
+least_rank ts [] = length ts
+least_rank ts (x ∷ xs) = min (first_met ts x.axis) (least_rank ts xs)
 
 -- the lowest axis that has a rank, or 0
-abbrev pub lowestAxis : Tests → ℕ → List JobAxis → ℕ
-lowestAxis ts rank xs = elim (firstAxis (λ x. eqb (firstMet ts x) rank) xs) [ some i ↦ i | none ↦ 0 ]
+abbrev pub lowest_axis : Tests → ℕ → List JobAxis → ℕ
+lowest_axis ts rank xs = elim (first_axis (λ x. eqb (first_met ts x) rank) xs) [ some i ↦ i | none ↦ 0 ]
 
 -- the number of a rank in checking order
 abbrev pub number_of : ℕ → ℕ
-number_of rank = get_or (map (λ t. t.0) axisRefusals) rank 0
+number_of rank = get_or (map (λ t. t.0) axis_refusals) rank 0

@@ -1,12 +1,12 @@
 // The refusals that one axis meets by itself (docs/METHOD.md, section 7, numbers 4, 12, 5, 15, 6,
 // 16 and 17), in checking order.
 ghost use Rattle.std.specs.Prelude.{◌≡◌};
-ghost use Rattle.model.specs.planning.Refusals.{within, limitsRefused, dampingRefused, blendRefused, swayRefused};
-ghost use Rattle.model.specs.planning.Refusals.{valuesRefused, accelerationRefused, flyingRefused};
-ghost use Rattle.model.specs.planning.Refusals.{swayAllowed, positionAllowed, velocityAllowed, restAllowed};
-ghost use Rattle.model.specs.planning.Refusals.{motionAllowed, targetAllowed, accelerationRefusedBy, flies};
+ghost use Rattle.model.specs.planning.Refusals.{within, limits_refused, damping_refused, blend_refused, sway_refused};
+ghost use Rattle.model.specs.planning.Refusals.{values_refused, acceleration_refused, flying_refused};
+ghost use Rattle.model.specs.planning.Refusals.{sway_allowed, position_allowed, velocity_allowed, rest_allowed};
+ghost use Rattle.model.specs.planning.Refusals.{motion_allowed, target_allowed, acceleration_refused_by, flies};
 ghost use Rattle.model.specs.declared.Target.TheVariants.{Moving};
-ghost use Rattle.refusals.specs.Checks.{testsFor, firstMet};
+ghost use Rattle.refusals.specs.Checks.{tests_for, first_met};
 
 use model::{
     Axis, HIGHEST_ACCELERATION, HIGHEST_SPEED, HIGHEST_WEIGHT, LONGEST_HALF_PERIOD, RestPoint,
@@ -24,7 +24,7 @@ fn within(low: u32, high: u32, n: u32) -> bool
 
 // 4: a limit is outside its range.
 fn limits_refused(x: Axis) -> bool
-    ensures { result ≡ limitsRefused x }
+    ensures { result ≡ limits_refused x }
 {
     if within(1, HIGHEST_SPEED, x.speed_limit) {
         return !within(1, HIGHEST_ACCELERATION, x.acceleration_limit);
@@ -34,7 +34,7 @@ fn limits_refused(x: Axis) -> bool
 
 // 12: the damping cannot be turned into a weight.
 fn damping_refused(x: Axis) -> bool
-    ensures { result ≡ dampingRefused x }
+    ensures { result ≡ damping_refused x }
 {
     let weight = x.second_weight;
     !damping::weight_allowed(weight)
@@ -42,7 +42,7 @@ fn damping_refused(x: Axis) -> bool
 
 // 5: the half period or the second weight is outside its range.
 fn blend_refused(x: Axis) -> bool
-    ensures { result ≡ blendRefused x }
+    ensures { result ≡ blend_refused x }
 {
     if within(0, LONGEST_HALF_PERIOD, x.half_period) {
         return !within(1, HIGHEST_WEIGHT, motion::second_weight(x));
@@ -51,7 +51,7 @@ fn blend_refused(x: Axis) -> bool
 }
 
 fn sway_allowed(sway: SecondSway) -> bool
-    ensures { result ≡ swayAllowed sway }
+    ensures { result ≡ sway_allowed sway }
 {
     match sway {
         SecondSway::Absent => true,
@@ -61,14 +61,14 @@ fn sway_allowed(sway: SecondSway) -> bool
 
 // 15: a second half period is outside its range.
 fn sway_refused(x: Axis) -> bool
-    ensures { result ≡ swayRefused x }
+    ensures { result ≡ sway_refused x }
 {
     let sway = x.second_sway;
     !sway_allowed(sway)
 }
 
 fn position_allowed(p: i64) -> bool
-    ensures { result ≡ positionAllowed p }
+    ensures { result ≡ position_allowed p }
 {
     if -17179869184 <= p {
         return p <= 17179869183;
@@ -77,13 +77,13 @@ fn position_allowed(p: i64) -> bool
 }
 
 fn velocity_allowed(x: Axis, v: i64) -> bool
-    ensures { result ≡ velocityAllowed x v }
+    ensures { result ≡ velocity_allowed x v }
 {
     whole::size_at_most(v, x.speed_limit as u64)
 }
 
 fn rest_allowed(x: Axis, r: RestPoint) -> bool
-    ensures { result ≡ restAllowed x r }
+    ensures { result ≡ rest_allowed x r }
 {
     let p = r.position;
     let v = r.velocity;
@@ -95,7 +95,7 @@ fn rest_allowed(x: Axis, r: RestPoint) -> bool
 
 // The acceleration and the tick of a moving target.
 fn motion_allowed(x: Axis, m: State) -> bool
-    ensures { result ≡ motionAllowed x m }
+    ensures { result ≡ motion_allowed x m }
 {
     let a = m.acceleration;
     let t = m.tick;
@@ -106,7 +106,7 @@ fn motion_allowed(x: Axis, m: State) -> bool
 }
 
 fn moving_allowed(x: Axis, m: State) -> bool
-    ensures { result ≡ targetAllowed x (Moving m) }
+    ensures { result ≡ target_allowed x (Moving m) }
 {
     let p = m.position;
     let v = m.velocity;
@@ -121,7 +121,7 @@ fn moving_allowed(x: Axis, m: State) -> bool
 }
 
 fn target_allowed(x: Axis, target: Target) -> bool
-    ensures { result ≡ targetAllowed x target }
+    ensures { result ≡ target_allowed x target }
 {
     match target {
         Target::Fixed(r) => rest_allowed(x, r),
@@ -131,7 +131,7 @@ fn target_allowed(x: Axis, target: Target) -> bool
 
 // 6: a velocity, the target's acceleration or tick, or a position is out of bounds.
 fn values_refused(x: Axis) -> bool
-    ensures { result ≡ valuesRefused x }
+    ensures { result ≡ values_refused x }
 {
     let start = x.start;
     let target = x.target;
@@ -142,7 +142,7 @@ fn values_refused(x: Axis) -> bool
 }
 
 fn acceleration_refused_by(sway: SecondSway, target: Target) -> bool
-    ensures { result ≡ accelerationRefusedBy sway target }
+    ensures { result ≡ acceleration_refused_by sway target }
 {
     match sway {
         SecondSway::Absent => false,
@@ -152,7 +152,7 @@ fn acceleration_refused_by(sway: SecondSway, target: Target) -> bool
 
 // 16: the target accelerates, and the pole has a second sway.
 fn acceleration_refused(x: Axis) -> bool
-    ensures { result ≡ accelerationRefused x }
+    ensures { result ≡ acceleration_refused x }
 {
     let sway = x.second_sway;
     let target = x.target;
@@ -173,7 +173,7 @@ fn flies(target: Target) -> bool
 }
 
 fn flying_refused(x: Axis) -> bool
-    ensures { result ≡ flyingRefused x }
+    ensures { result ≡ flying_refused x }
 {
     let target = x.target;
     flies(target)
@@ -213,7 +213,7 @@ pub const TESTS: usize = 7;
 // that meets the axis, from 0 on, or one past the last; 17 is one of them only
 // where fixed targets must be at rest.
 pub fn first_refused(x: Axis, resting: bool) -> usize
-    ensures { result ≡ firstMet (testsFor resting) x }
+    ensures { result ≡ first_met (tests_for resting) x }
 {
     if limits_refused(x) {
         return LIMITS_RANK;

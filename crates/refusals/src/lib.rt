@@ -1,10 +1,12 @@
 // The refusals of axes and of windows (docs/METHOD.md, section 7, numbers 4, 12, 5, 15, 6, 16, 17
 // and 13), in checking order. `axis` has those that one axis meets by itself.
+#![tactic(auto)]
+
 mod axis;
 
 ghost use Rattle.std.specs.Prelude.{◌≡◌, ◌<◌, min, eqb, length};
-ghost use Rattle.model.specs.planning.Job.{setAxes};
-ghost use Rattle.refusals.specs.Checks.{windowRefusal, testsFor, firstRefusal, firstMet, leastRank, lowestAxis};
+ghost use Rattle.model.specs.planning.Job.{set_axes};
+ghost use Rattle.refusals.specs.Checks.{window_refusal, tests_for, first_refusal, first_met, least_rank, lowest_axis};
 ghost use Rattle.refusals.specs.Checks.{number_of};
 
 use axis::{TESTS, TESTS_WITHOUT_FLYING, first_refused};
@@ -15,7 +17,7 @@ use windows::Place;
 // be at rest. Each number is checked over all axes, lowest first, before the next number: that is
 // the least rank of all axes, at the lowest axis that has it.
 pub fn check(mask: u32, axes: [Axis; AXES], windows: Windows, resting: bool) -> Checked
-    ensures { result ≡ firstRefusal (testsFor resting) (setAxes 0 mask axes) windows }
+    ensures { result ≡ first_refusal (tests_for resting) (set_axes 0 mask axes) windows }
 {
     let rank = least_rank(mask, axes, resting);
     if rank < test_count(resting) {
@@ -29,7 +31,7 @@ pub fn check(mask: u32, axes: [Axis; AXES], windows: Windows, resting: bool) -> 
 // The least rank in checking order of a refusal that meets an axis of the mask, or the number of
 // tests.
 fn least_rank(mask: u32, axes: [Axis; AXES], resting: bool) -> usize
-    ensures { result ≡ leastRank (testsFor resting) (setAxes 0 mask axes) }
+    ensures { result ≡ least_rank (tests_for resting) (set_axes 0 mask axes) }
 {
     let mut least = test_count(resting);
     let mut bits = mask;
@@ -48,7 +50,7 @@ fn least_rank(mask: u32, axes: [Axis; AXES], resting: bool) -> usize
 // The rank of the first refusal that meets an axis, where it is lower than one of other axes; else
 // that one.
 fn lower_rank(axis: Axis, resting: bool, other: usize) -> usize
-    ensures { result ≡ min (firstMet (testsFor resting) axis) other }
+    ensures { result ≡ min (first_met (tests_for resting) axis) other }
 {
     let rank = first_refused(axis, resting);
     if rank < other {
@@ -59,7 +61,7 @@ fn lower_rank(axis: Axis, resting: bool, other: usize) -> usize
 
 // The lowest axis of the mask whose first refusal has a rank, or 0 where none has it.
 fn lowest_axis(mask: u32, axes: [Axis; AXES], resting: bool, rank: usize) -> usize
-    ensures { result ≡ lowestAxis (testsFor resting) rank (setAxes 0 mask axes) }
+    ensures { result ≡ lowest_axis (tests_for resting) rank (set_axes 0 mask axes) }
 {
     let mut bits = mask;
     let mut i: usize = 0;
@@ -78,7 +80,7 @@ fn lowest_axis(mask: u32, axes: [Axis; AXES], resting: bool, rank: usize) -> usi
 
 // Whether the first refusal that meets an axis has a rank.
 fn has_rank(axis: Axis, resting: bool, rank: usize) -> bool
-    ensures { result ≡ eqb (firstMet (testsFor resting) axis) rank }
+    ensures { result ≡ eqb (first_met (tests_for resting) axis) rank }
 {
     first_refused(axis, resting) == rank
 }
@@ -95,7 +97,7 @@ fn number_of(rank: usize) -> u32
 // How many refusals are about one axis: 17 is the last of them, and only where
 // fixed targets must be at rest.
 fn test_count(resting: bool) -> usize
-    ensures { result ≡ length (testsFor resting) }
+    ensures { result ≡ length (tests_for resting) }
 {
     if resting {
         return TESTS;
@@ -105,7 +107,7 @@ fn test_count(resting: bool) -> usize
 
 // Refusal 13, or none.
 fn window_refusal(windows: Windows) -> Checked
-    ensures { result ≡ windowRefusal windows }
+    ensures { result ≡ window_refusal windows }
 {
     if !windows.given {
         return Checked::Passed;

@@ -14,13 +14,13 @@ use lib.Signed.{le_z, le_z_yes, ◌≤ℤ◌, ◌<ℤ◌, yes_non_neg, pos-nat_a
 use Rattle.whole.specs.Integers.{clamp}
 use Rattle.whole.specs.Ranges.{Within}
 use Rattle.whole.proofs.Differences.{whole, all₁, all₂, all₃, all₄, le-fails}
-use Rattle.whole.proofs.Laws.{≤ℤ-trans, sub-nonneg, natAbs-negpos}
+use Rattle.whole.proofs.Laws.{≤ℤ-trans, sub-nonneg, nat_abs-negpos}
 use Rattle.whole.proofs.Ring.{pol, same}
 use Rattle.whole.proofs.Order.{le_yes, le-no}
 use Rattle.whole.proofs.Tests.{by_bool, choice-yes, choice-no, leb_yes, leb_no, lt-or-le}
 use Rattle.model.specs.planning.Leg.{Leg, clamped}
 use Rattle.theorems.proofs.legs.Envelopes.{Joined, since, until, since-until, highest, lowest, apart-at}
-use Rattle.regions.specs.Regions.{rampTicks, rampChange, meetingTick, bothRamps, rise, fall}
+use Rattle.regions.specs.Regions.{ramp_ticks, ramp_change, meeting_tick, both_ramps, rise, fall}
 
 -- c with every sign turned: x < y exactly where −y ≤ turned x
 abbrev turned : ℤ → ℤ
@@ -60,26 +60,26 @@ level l a b = all₃ _ (λ c d e f g h. simp whole (omega arith))
 
 -- ---- the definitions by the side of c on which a ramp begins
 
-pub ticks-up : (a : ℕ) (v c : ℤ) → v ≤ℤ c → nat_abs (c -ℤ v) / a ≡ rampTicks a v c
-unfolding rampTicks
+pub ticks-up : (a : ℕ) (v c : ℤ) → v ≤ℤ c → nat_abs (c -ℤ v) / a ≡ ramp_ticks a v c
+unfolding ramp_ticks
 ticks-up a v c h = choice-yes (le_z v c) _ _ (le_yes v c h)
 
-pub ticks-down : (a : ℕ) (v c : ℤ) → c <ℤ v → nat_abs (v -ℤ c -ℤ pos 1) / a ≡ rampTicks a v c
-unfolding rampTicks
+pub ticks-down : (a : ℕ) (v c : ℤ) → c <ℤ v → nat_abs (v -ℤ c -ℤ pos 1) / a ≡ ramp_ticks a v c
+unfolding ramp_ticks
 ticks-down a v c h = choice-no (le_z v c) _ _ (le-no v c h)
 
-pub change-up : (a : ℕ) (v c : ℤ) → v ≤ℤ c → pos a ≡ rampChange a v c
-unfolding rampChange
+pub change-up : (a : ℕ) (v c : ℤ) → v ≤ℤ c → pos a ≡ ramp_change a v c
+unfolding ramp_change
 change-up a v c h = choice-yes (le_z v c) _ _ (le_yes v c h)
 
-pub change-down : (a : ℕ) (v c : ℤ) → c <ℤ v → neg_ℤ (pos a) ≡ rampChange a v c
-unfolding rampChange
+pub change-down : (a : ℕ) (v c : ℤ) → c <ℤ v → neg_ℤ (pos a) ≡ ramp_change a v c
+unfolding ramp_change
 change-down a v c h = choice-no (le_z v c) _ _ (le-no v c h)
 
-pub change-within : (a : ℕ) (v c : ℤ) → nat_abs (rampChange a v c) ≤ a
-unfolding rampChange
+pub change-within : (a : ℕ) (v c : ℤ) → nat_abs (ramp_change a v c) ≤ a
+unfolding ramp_change
 change-within a v c =
-    by_bool (λ (z : ℤ). nat_abs z ≤ a) (le_z v c) _ _ (λ t. omega arith) (λ t. omega (arith, natAbs-negpos a))
+    by_bool (λ (z : ℤ). nat_abs z ≤ a) (le_z v c) _ _ (λ t. omega arith) (λ t. omega (arith, nat_abs-negpos a))
 
 -- ---- a ramp alone, at a tick at which it has changed by m
 
@@ -133,16 +133,16 @@ module _ (a : ℕ) (some : 0 < a) where
   rises : (j x : ℕ) (v c : ℤ) → v ≤ℤ c → pos x ≡ c -ℤ v → j ≤ x / a → Under (a * j) v c
   rises j x v c t e h = record { towards = t; under = short-of x (a * j) v c e (changed h) }
 
-  short : (j : ℕ) (v c : ℤ) → j ≤ rampTicks a v c → Short (a * j) v c
-  unfolding rampTicks
+  short : (j : ℕ) (v c : ℤ) → j ≤ ramp_ticks a v c → Short (a * j) v c
+  unfolding ramp_ticks
   short j v c =
       by_bool (λ (n : ℕ). j ≤ n → Short (a * j) v c) (le_z v c) _ _
       (λ t h. inl (rises j (nat_abs (c -ℤ v)) v c (le_z_yes t) (way_up v c (le_z_yes t)) h))
       (λ t h. inr
       (rises j (nat_abs (v -ℤ c -ℤ pos 1)) (neg_ℤ v) (turned c) (turn c v (le-fails t)) (way_down v c (le-fails t)) h))
 
-  past : (j : ℕ) (v c : ℤ) → rampTicks a v c < j → Past (a * j) v c
-  unfolding rampTicks
+  past : (j : ℕ) (v c : ℤ) → ramp_ticks a v c < j → Past (a * j) v c
+  unfolding ramp_ticks
   past j v c =
       by_bool (λ (n : ℕ). n < j → Past (a * j) v c) (le_z v c) _ _
       (λ t h.
@@ -174,11 +174,11 @@ alone a b s e c (inl u) p = inl (record { short = u; nearer = across _ c _ u.und
 alone a b s e c (inr u) p = inr (record { short = u; nearer = across _ (turned c) _ u.under p.below })
 
 -- the velocity of tick k on it, the change being n a tick
-up-value : (a n k : ℕ) (s c : ℤ) → a ≡ n * k → s ≤ℤ c → s +ℤ pos a ≡ s +ℤ pos k *ℤ rampChange n s c
+up-value : (a n k : ℕ) (s c : ℤ) → a ≡ n * k → s ≤ℤ c → s +ℤ pos a ≡ s +ℤ pos k *ℤ ramp_change n s c
 up-value a n k s c w t =
     ap (λ (m : ℕ). s +ℤ pos m) (w ∙ mul_comm n k) ∙ ap (λ (z : ℤ). s +ℤ pos k *ℤ z) (change-up n s c t)
 
-down-value : (a n k : ℕ) (s c : ℤ) → a ≡ n * k → neg_ℤ s ≤ℤ turned c → s -ℤ pos a ≡ s +ℤ pos k *ℤ rampChange n s c
+down-value : (a n k : ℕ) (s c : ℤ) → a ≡ n * k → neg_ℤ s ≤ℤ turned c → s -ℤ pos a ≡ s +ℤ pos k *ℤ ramp_change n s c
 down-value a n k s c w t =
     ap (λ (m : ℕ). s -ℤ pos m) (w ∙ mul_comm n k)
     ∙ ap (λ (z : ℤ). s +ℤ z) (minus (pos k) (pos n))
@@ -189,7 +189,7 @@ down-value a n k s c w t =
 
 ramp-value : (l a b : ℕ) (s e c d : ℤ) (n k : ℕ) → a ≡ n * k → Within l s → Within l c
     → Within (a + b) (e -ℤ s) → c ≤ℤ d → d ≤ℤ (c +ℤ pos 1)
-    → OnRamp a b s e c → clamp (lowest l a b s e) (highest l a b s e) d ≡ s +ℤ pos k *ℤ rampChange n s c
+    → OnRamp a b s e c → clamp (lowest l a b s e) (highest l a b s e) d ≡ s +ℤ pos k *ℤ ramp_change n s c
 ramp-value l a b s e c d n k w hs hc near h q (inl r) =
     rising l a b s e c d hs hc near r.short.under r.nearer h ∙ up-value a n k s c w r.short.towards
 ramp-value l a b s e c d n k w hs hc near h q (inr r) =
@@ -201,7 +201,7 @@ abbrev pub Towards : ℕ → ℤ → ℤ → ℤ → Type 0
 Towards n u v c = ((u ≡ pos n) × (v ≤ℤ c)) ⊎ ((u ≡ neg_ℤ (pos n)) × (c <ℤ v))
 
 ramp-towards : (a b : ℕ) (s e c : ℤ) (n k : ℕ) → a ≡ n * k → OnRamp a b s e c
-    → Towards n (rampChange n s c) (s +ℤ pos k *ℤ rampChange n s c) c
+    → Towards n (ramp_change n s c) (s +ℤ pos k *ℤ ramp_change n s c) c
 ramp-towards a b s e c n k w (inl r) =
     inl (
       sym (change-up n s c r.short.towards),
@@ -273,9 +273,9 @@ meet-before m n s e c t near (inr u) =
 meet-after : (m n : ℕ) (s e c : ℤ) → e ≤ℤ c → (e +ℤ pos n) ≤ℤ (s +ℤ pos m) → Under m s c ⊎ Under n e c → Rises n m e s c
 meet-after m n s e c t near u = meet-before n m e s c t near (⊎_elim (λ v. inr v) (λ v. inl v) u)
 
-module _ (g : Leg) (joined : Joined g) (some : 0 < g.accelerationLimit) (c : ℤ) where
+module _ (g : Leg) (joined : Joined g) (some : 0 < g.acceleration_limit) (c : ℤ) where
   abbrev a : ℕ
-  a = g.accelerationLimit
+  a = g.acceleration_limit
 
   abbrev s : ℤ
   s = g.start
@@ -308,11 +308,11 @@ module _ (g : Leg) (joined : Joined g) (some : 0 < g.accelerationLimit) (c : ℤ
       late q = absurd (omega (arith, before {k = suc g.ticks} {x = x} q, mul-suc a g.ticks))
 
   -- the number that is halved, where the ramps rise and where they fall
-  abbrev upX : ℕ
-  upX = nat_abs (e -ℤ s +ℤ pos apart)
+  abbrev up_x : ℕ
+  up_x = nat_abs (e -ℤ s +ℤ pos apart)
 
-  abbrev downX : ℕ
-  downX = nat_abs (s -ℤ e +ℤ pos apart)
+  abbrev down_x : ℕ
+  down_x = nat_abs (s -ℤ e +ℤ pos apart)
 
   pub up-some : pos 0 ≤ℤ (e -ℤ s +ℤ pos apart)
   up-some = some-half apart s e whole-way
@@ -320,42 +320,42 @@ module _ (g : Leg) (joined : Joined g) (some : 0 < g.accelerationLimit) (c : ℤ
   pub down-some : pos 0 ≤ℤ (s -ℤ e +ℤ pos apart)
   down-some = some-half apart e s (swapped apart s e whole-way)
 
-  pub up-late : upX / (2 * a) ≤ g.ticks
-  up-late = halved upX (far-half upX apart s e (size_is _ up-some) whole-way)
+  pub up-late : up_x / (2 * a) ≤ g.ticks
+  up-late = halved up_x (far-half up_x apart s e (size_is _ up-some) whole-way)
 
-  pub down-late : downX / (2 * a) ≤ g.ticks
-  down-late = halved downX (far-half downX apart e s (size_is _ down-some) (swapped apart s e whole-way))
+  pub down-late : down_x / (2 * a) ≤ g.ticks
+  down-late = halved down_x (far-half down_x apart e s (size_is _ down-some) (swapped apart s e whole-way))
 
-  pub up_is : (k : ℕ) → k ≤ g.ticks → pos upX ≡ e -ℤ s +ℤ pos (since g k + until g k)
+  pub up_is : (k : ℕ) → k ≤ g.ticks → pos up_x ≡ e -ℤ s +ℤ pos (since g k + until g k)
   up_is k h = size_is _ up-some ∙ ap (λ (n : ℕ). e -ℤ s +ℤ pos n) (sym (since-until g k h))
 
-  down_is : (k : ℕ) → k ≤ g.ticks → pos downX ≡ neg_ℤ e -ℤ neg_ℤ s +ℤ pos (since g k + until g k)
+  down_is : (k : ℕ) → k ≤ g.ticks → pos down_x ≡ neg_ℤ e -ℤ neg_ℤ s +ℤ pos (since g k + until g k)
   down_is k h = size_is _ down-some ∙ turns s e (pos apart)
       ∙ ap (λ (n : ℕ). neg_ℤ e -ℤ neg_ℤ s +ℤ pos n) (sym (since-until g k h))
     where
       turns : (s e z : ℤ) → s -ℤ e +ℤ z ≡ neg_ℤ e -ℤ neg_ℤ s +ℤ z
       turns s e z = same (s ∷ e ∷ z ∷ []) (search pol depth 20 fits 9000) tt
 
-  pub meets-up : s ≤ℤ c → upX / (2 * a) ≡ meetingTick g c
-  unfolding meetingTick
+  pub meets-up : s ≤ℤ c → up_x / (2 * a) ≡ meeting_tick g c
+  unfolding meeting_tick
   meets-up h = choice-yes (le_z s c) _ _ (le_yes s c h)
 
-  pub meets-down : c <ℤ s → downX / (2 * a) ≡ meetingTick g c
-  unfolding meetingTick
+  pub meets-down : c <ℤ s → down_x / (2 * a) ≡ meeting_tick g c
+  unfolding meeting_tick
   meets-down h = choice-no (le_z s c) _ _ (le-no s c h)
 
   -- ---- where the ramps have no tick between them
-  module _ (meet : g.ticks ≤ bothRamps g c) where
+  module _ (meet : g.ticks ≤ both_ramps g c) where
     side : OneSide s e c
     side =
-        let k = g.ticks - rampTicks a e c in
+        let k = g.ticks - ramp_ticks a e c in
         one_side (since g k) (until g k) s e c (apart-at g joined k (omega arith))
         (short a some k s c (omega arith)) (short a some (g.ticks - k) e c (omega arith))
 
     -- at each tick one of them is short of c
     one-short : (k : ℕ) → Short (since g k) s c ⊎ Short (until g k) e c
-    one-short k = ⊎_elim (λ (p : rampTicks a s c < k). inr (short a some (g.ticks - k) e c (omega arith)))
-        (λ (p : k ≤ rampTicks a s c). inl (short a some k s c p)) (lt-or-le (rampTicks a s c) k)
+    one-short k = ⊎_elim (λ (p : ramp_ticks a s c < k). inr (short a some (g.ticks - k) e c (omega arith)))
+        (λ (p : k ≤ ramp_ticks a s c). inl (short a some k s c p)) (lt-or-le (ramp_ticks a s c) k)
 
     one_up : (k : ℕ) → s ≤ℤ c → e ≤ℤ c → Under (since g k) s c ⊎ Under (until g k) e c
     one_up k hs he =
@@ -367,67 +367,67 @@ module _ (g : Leg) (joined : Joined g) (some : 0 < g.accelerationLimit) (c : ℤ
         ⊎_elim (λ u. inl (short-down (since g k) s c hs u)) (λ u. inr (short-down (until g k) e c he u)) (one-short k)
 
     module _ (k : ℕ) (h : k ≤ g.ticks) where
-      meet-start : k ≤ meetingTick g c → OnRamp (since g k) (until g k) s e c
+      meet-start : k ≤ meeting_tick g c → OnRamp (since g k) (until g k) s e c
       meet-start l = go side
         where
           go : OneSide s e c → OnRamp (since g k) (until g k) s e c
           go (inl p) =
               let half = before (subst (λ (n : ℕ). k ≤ n) (sym (meets-up p.0)) l) in
               inl (meet-before (since g k) (until g k) s e c p.0
-              (before-half upX _ _ s e (up_is k h) half) (one_up k p.0 p.1))
+              (before-half up_x _ _ s e (up_is k h) half) (one_up k p.0 p.1))
           go (inr p) =
               let half = before (subst (λ (n : ℕ). k ≤ n) (sym (meets-down (turn-back c s p.0))) l) in
               inr
               (meet-before (since g k) (until g k) (neg_ℤ s) (neg_ℤ e) (turned c) p.0
-              (before-half downX _ _ (neg_ℤ s) (neg_ℤ e) (down_is k h) half)
+              (before-half down_x _ _ (neg_ℤ s) (neg_ℤ e) (down_is k h) half)
               (one_down k p.0 p.1))
 
-      meet-end : meetingTick g c < k → OnRamp (until g k) (since g k) e s c
+      meet-end : meeting_tick g c < k → OnRamp (until g k) (since g k) e s c
       meet-end l = go side
         where
           go : OneSide s e c → OnRamp (until g k) (since g k) e s c
           go (inl p) =
               let half = after (subst (λ (n : ℕ). n < k) (sym (meets-up p.0)) l) in
               inl (meet-after (since g k) (until g k) s e c p.1
-              (after-half upX _ _ s e (up_is k h) half) (one_up k p.0 p.1))
+              (after-half up_x _ _ s e (up_is k h) half) (one_up k p.0 p.1))
           go (inr p) =
               let half = after (subst (λ (n : ℕ). n < k) (sym (meets-down (turn-back c s p.0))) l) in
               inr
               (meet-after (since g k) (until g k) (neg_ℤ s) (neg_ℤ e) (turned c) p.1
-              (after-half downX _ _ (neg_ℤ s) (neg_ℤ e) (down_is k h) half)
+              (after-half down_x _ _ (neg_ℤ s) (neg_ℤ e) (down_is k h) half)
               (one_down k p.0 p.1))
 
-    pub rise-meets : meetingTick g c ≡ rise g c
+    pub rise-meets : meeting_tick g c ≡ rise g c
     unfolding rise
-    rise-meets = choice-yes (leb g.ticks (bothRamps g c)) _ _ (leb_yes meet)
+    rise-meets = choice-yes (leb g.ticks (both_ramps g c)) _ _ (leb_yes meet)
 
-    pub fall-meets : g.ticks - meetingTick g c ≡ fall g c
+    pub fall-meets : g.ticks - meeting_tick g c ≡ fall g c
     unfolding fall
-    fall-meets = choice-yes (leb g.ticks (bothRamps g c)) _ _ (leb_yes meet)
+    fall-meets = choice-yes (leb g.ticks (both_ramps g c)) _ _ (leb_yes meet)
 
   -- ---- where they have
-  module _ (apart : bothRamps g c < g.ticks) where
-    pub rise-alone : rampTicks a s c ≡ rise g c
+  module _ (apart : both_ramps g c < g.ticks) where
+    pub rise-alone : ramp_ticks a s c ≡ rise g c
     unfolding rise
-    rise-alone = choice-no (leb g.ticks (bothRamps g c)) _ _ (leb_no apart)
+    rise-alone = choice-no (leb g.ticks (both_ramps g c)) _ _ (leb_no apart)
 
-    pub fall-alone : rampTicks a e c ≡ fall g c
+    pub fall-alone : ramp_ticks a e c ≡ fall g c
     unfolding fall
-    fall-alone = choice-no (leb g.ticks (bothRamps g c)) _ _ (leb_no apart)
+    fall-alone = choice-no (leb g.ticks (both_ramps g c)) _ _ (leb_no apart)
 
   pub fall-late : fall g c ≤ g.ticks
-  fall-late = go (lt-or-le (bothRamps g c) g.ticks)
+  fall-late = go (lt-or-le (both_ramps g c) g.ticks)
     where
-      go : (bothRamps g c < g.ticks) ⊎ (g.ticks ≤ bothRamps g c) → fall g c ≤ g.ticks
+      go : (both_ramps g c < g.ticks) ⊎ (g.ticks ≤ both_ramps g c) → fall g c ≤ g.ticks
       go (inl p) = let f = fall-alone p in omega arith
       go (inr p) = let f = fall-meets p in omega arith
 
   -- ---- the region of a tick
 
   start-region : (k : ℕ) → k ≤ g.ticks → k ≤ rise g c → OnRamp (since g k) (until g k) s e c
-  start-region k h l = go (lt-or-le (bothRamps g c) g.ticks)
+  start-region k h l = go (lt-or-le (both_ramps g c) g.ticks)
     where
-      go : (bothRamps g c < g.ticks) ⊎ (g.ticks ≤ bothRamps g c) → OnRamp (since g k) (until g k) s e c
+      go : (both_ramps g c < g.ticks) ⊎ (g.ticks ≤ both_ramps g c) → OnRamp (since g k) (until g k) s e c
       go (inl p) =
           let r = rise-alone p in
           alone (since g k) (until g k) s e c (short a some k s c (omega arith))
@@ -435,9 +435,9 @@ module _ (g : Leg) (joined : Joined g) (some : 0 < g.accelerationLimit) (c : ℤ
       go (inr p) = let r = rise-meets p in meet-start p k h (omega arith)
 
   end-region : (k : ℕ) → k ≤ g.ticks → rise g c < k → g.ticks ≤ k + fall g c → OnRamp (until g k) (since g k) e s c
-  end-region k h l q = go (lt-or-le (bothRamps g c) g.ticks)
+  end-region k h l q = go (lt-or-le (both_ramps g c) g.ticks)
     where
-      go : (bothRamps g c < g.ticks) ⊎ (g.ticks ≤ bothRamps g c) → OnRamp (until g k) (since g k) e s c
+      go : (both_ramps g c < g.ticks) ⊎ (g.ticks ≤ both_ramps g c) → OnRamp (until g k) (since g k) e s c
       go (inl p) =
           let r = rise-alone p in
           let f = fall-alone p in
@@ -447,9 +447,9 @@ module _ (g : Leg) (joined : Joined g) (some : 0 < g.accelerationLimit) (c : ℤ
 
   level-region : (k : ℕ) → k ≤ g.ticks → rise g c < k → k + fall g c < g.ticks
       → Past (since g k) s c × Past (until g k) e c
-  level-region k h l q = go (lt-or-le (bothRamps g c) g.ticks)
+  level-region k h l q = go (lt-or-le (both_ramps g c) g.ticks)
     where
-      go : (bothRamps g c < g.ticks) ⊎ (g.ticks ≤ bothRamps g c) → Past (since g k) s c × Past (until g k) e c
+      go : (both_ramps g c < g.ticks) ⊎ (g.ticks ≤ both_ramps g c) → Past (since g k) s c × Past (until g k) e c
       go (inl p) =
           let r = rise-alone p in
           let f = fall-alone p in
@@ -457,25 +457,25 @@ module _ (g : Leg) (joined : Joined g) (some : 0 < g.accelerationLimit) (c : ℤ
       go (inr p) = let r = rise-meets p in let f = fall-meets p in absurd (omega arith)
 
   pub start-towards : (k : ℕ) → k ≤ g.ticks → k ≤ rise g c
-      → Towards a (rampChange a s c) (s +ℤ pos k *ℤ rampChange a s c) c
+      → Towards a (ramp_change a s c) (s +ℤ pos k *ℤ ramp_change a s c) c
   start-towards k h l = ramp-towards (since g k) (until g k) s e c a k refl (start-region k h l)
 
   pub end-towards : (k : ℕ) → k ≤ g.ticks → rise g c < k → g.ticks ≤ k + fall g c
-      → Towards a (rampChange a e c) (e +ℤ pos (g.ticks - k) *ℤ rampChange a e c) c
+      → Towards a (ramp_change a e c) (e +ℤ pos (g.ticks - k) *ℤ ramp_change a e c) c
   end-towards k h l q = ramp-towards (until g k) (since g k) e s c a (g.ticks - k) refl (end-region k h l q)
 
   -- ---- its velocity at cruise c and at c + 1
-  module _ (inside : Within g.speedLimit c) (k : ℕ) (h : k ≤ g.ticks) where
+  module _ (inside : Within g.speed_limit c) (k : ℕ) (h : k ≤ g.ticks) where
     abbrev L : ℕ
-    L = g.speedLimit
+    L = g.speed_limit
 
-    pub on-start : (d : ℤ) → c ≤ℤ d → d ≤ℤ (c +ℤ pos 1) → k ≤ rise g c → clamped g d k ≡ s +ℤ pos k *ℤ rampChange a s c
+    pub on-start : (d : ℤ) → c ≤ℤ d → d ≤ℤ (c +ℤ pos 1) → k ≤ rise g c → clamped g d k ≡ s +ℤ pos k *ℤ ramp_change a s c
     on-start d p q l =
         ramp-value L (since g k) (until g k) s e c d a k refl (record { within = joined.start }) inside
         (apart-at g joined k h) p q (start-region k h l)
 
     pub on-end : (d : ℤ) → c ≤ℤ d → d ≤ℤ (c +ℤ pos 1) → rise g c < k → g.ticks ≤ k + fall g c
-        → clamped g d k ≡ e +ℤ pos (g.ticks - k) *ℤ rampChange a e c
+        → clamped g d k ≡ e +ℤ pos (g.ticks - k) *ℤ ramp_change a e c
     on-end d p q l m =
         ap₂ (λ (x y : ℤ). clamp x y d) (lowest-swap L (until g k) (since g k) e s)
         (highest-swap L (until g k) (since g k) e s)

@@ -8,18 +8,18 @@ use Rattle.model.specs.planning.Leg.{Leg, cruise, remainder}
 use Rattle.regions.specs.declared.Regions.{Regions}
 
 -- how many ticks a ramp from velocity v stays short of c, at limit a a tick
-unfoldable pub rampTicks : ℕ → ℤ → ℤ → ℕ
-rampTicks a v c = elim (le_z v c) [ true ↦ nat_abs (c -ℤ v) / a | false ↦ nat_abs (v -ℤ c -ℤ pos 1) / a ]
+unfoldable pub ramp_ticks : ℕ → ℤ → ℤ → ℕ
+ramp_ticks a v c = elim (le_z v c) [ true ↦ nat_abs (c -ℤ v) / a | false ↦ nat_abs (v -ℤ c -ℤ pos 1) / a ]
 
 -- the change of a tick of it
-unfoldable pub rampChange : ℕ → ℤ → ℤ → ℤ
-rampChange a v c = elim (le_z v c) [ true ↦ pos a | false ↦ neg_ℤ (pos a) ]
+unfoldable pub ramp_change : ℕ → ℤ → ℤ → ℤ
+ramp_change a v c = elim (le_z v c) [ true ↦ pos a | false ↦ neg_ℤ (pos a) ]
 
 -- how many ticks the ramp from the start has before it meets the one to the
 -- end, where both stay short of c
-unfoldable pub meetingTick : Leg → ℤ → ℕ
-meetingTick g c =
-    let a : ℕ = g.accelerationLimit in
+unfoldable pub meeting_tick : Leg → ℤ → ℕ
+meeting_tick g c =
+    let a : ℕ = g.acceleration_limit in
     let apart : ℤ = pos (a * g.ticks) in
     elim (le_z g.start c) [
       | true ↦ nat_abs (g.end -ℤ g.start +ℤ apart) / (2 * a)
@@ -27,48 +27,48 @@ meetingTick g c =
     ]
 
 -- how many ticks both ramps have, were each alone
-abbrev pub bothRamps : Leg → ℤ → ℕ
-bothRamps g c = rampTicks g.accelerationLimit g.start c + rampTicks g.accelerationLimit g.end c
+abbrev pub both_ramps : Leg → ℤ → ℕ
+both_ramps g c = ramp_ticks g.acceleration_limit g.start c + ramp_ticks g.acceleration_limit g.end c
 
 -- the last tick of the first ramp, and how many ticks before the end the other begins
 unfoldable pub rise : Leg → ℤ → ℕ
-rise g c = elim (leb g.ticks (bothRamps g c)) [
-  | true ↦ meetingTick g c
-  | false ↦ rampTicks g.accelerationLimit g.start c
+rise g c = elim (leb g.ticks (both_ramps g c)) [
+  | true ↦ meeting_tick g c
+  | false ↦ ramp_ticks g.acceleration_limit g.start c
 ]
 
 unfoldable pub fall : Leg → ℤ → ℕ
 fall g c =
-    elim (leb g.ticks (bothRamps g c)) [
-      | true ↦ g.ticks - meetingTick g c
-      | false ↦ rampTicks g.accelerationLimit g.end c
+    elim (leb g.ticks (both_ramps g c)) [
+      | true ↦ g.ticks - meeting_tick g c
+      | false ↦ ramp_ticks g.acceleration_limit g.end c
     ]
 
 -- the velocities at cruise c with r ticks raised, and ramps of given lengths
-abbrev pub withRamps : Leg → ℤ → ℕ → ℕ → ℕ → Regions
-withRamps g c r rising falling =
+abbrev pub with_ramps : Leg → ℤ → ℕ → ℕ → ℕ → Regions
+with_ramps g c r rising falling =
     record {
       start = g.start;
       rise = rising;
-      up = rampChange g.accelerationLimit g.start c;
+      up = ramp_change g.acceleration_limit g.start c;
       cruise = c;
       raised = r;
       end = g.end;
       fall = falling;
-      down = rampChange g.accelerationLimit g.end c;
+      down = ramp_change g.acceleration_limit g.end c;
       ticks = g.ticks;
     }
 
-abbrev pub regionsOf : Leg → ℤ → ℕ → Regions
-regionsOf g c r = withRamps g c r (rise g c) (fall g c)
+abbrev pub regions_of : Leg → ℤ → ℕ → Regions
+regions_of g c r = with_ramps g c r (rise g c) (fall g c)
 
 -- those of the list chosen for the required sum s
-abbrev pub chosenRegions : Leg → ℤ → Regions
-chosenRegions g s = regionsOf g (cruise g s) (remainder g s)
+abbrev pub chosen_regions : Leg → ℤ → Regions
+chosen_regions g s = regions_of g (cruise g s) (remainder g s)
 
 -- the velocity of tick k below T
-unfoldable pub velocityIn : Regions → ℕ → ℤ
-velocityIn r k =
+unfoldable pub velocity_in : Regions → ℕ → ℤ
+velocity_in r k =
     elim (leb k r.rise) [
       | true ↦ r.start +ℤ pos k *ℤ r.up
       | false ↦

@@ -1,10 +1,12 @@
 // The velocities at a cruise by regions (docs/METHOD.md, section 1): a ramp from the start, a level
 // part, a ramp to the end. Where the regions begin and end, and the velocity of a tick by the
 // region that it is in.
+#![tactic(auto)]
+
 ghost use Rattle.std.specs.Prelude.{◌^◌, ◌≤◌, ◌<◌, true, ◌≡◌};
 ghost use Rattle.whole.specs.Ranges.{Within, Is};
-ghost use Rattle.profile.specs.Profiles.{legOf, Ranged, endsAllowed};
-ghost use Rattle.regions.specs.Regions.{rampTicks, rampChange, meetingTick, withRamps, regionsOf, velocityIn};
+ghost use Rattle.profile.specs.Profiles.{leg_of, Ranged, ends_allowed};
+ghost use Rattle.regions.specs.Regions.{ramp_ticks, ramp_change, meeting_tick, with_ramps, regions_of, velocity_in};
 ghost use Rattle.regions.specs.Regions.{RegionsRanged};
 
 use profile::Profile;
@@ -39,7 +41,7 @@ fn ramp_ticks(limit: u64, v: i64, c: i64) -> u64
     requires limit_nonzero { 0 < limit }
     requires within { Within (2 ^ 37) v }
     requires within_2 { Within (2 ^ 37) c }
-    ensures { (result ≡ rampTicks limit v c) × (result ≤ 2 ^ 38) }
+    ensures { (result ≡ ramp_ticks limit v c) × (result ≤ 2 ^ 38) }
 {
     if v <= c {
         let way = c - v;
@@ -52,7 +54,7 @@ fn ramp_ticks(limit: u64, v: i64, c: i64) -> u64
 // The change of a tick of it.
 fn ramp_change(limit: u64, v: i64, c: i64) -> i64
     requires { limit ≤ 2 ^ 33 }
-    ensures { Is (2 ^ 33) result (rampChange limit v c) }
+    ensures { Is (2 ^ 33) result (ramp_change limit v c) }
 {
     let change = limit as i64;
     if v <= c {
@@ -66,8 +68,8 @@ fn ramp_change(limit: u64, v: i64, c: i64) -> i64
 fn meeting_tick(p: Profile, c: i64) -> u64
     requires ranged { Ranged p }
     requires acceleration_limit_nonzero { 0 < p.acceleration_limit }
-    requires p_value { endsAllowed (legOf p) ≡ true }
-    ensures { (result ≡ meetingTick (legOf p) c) × (result ≤ p.ticks) }
+    requires p_value { ends_allowed (leg_of p) ≡ true }
+    ensures { (result ≡ meeting_tick (leg_of p) c) × (result ≤ p.ticks) }
 {
     let start = p.start;
     let end = p.end;
@@ -86,7 +88,7 @@ fn meeting_tick(p: Profile, c: i64) -> u64
 fn with_ramps(p: Profile, cruise: CruisePlan, rise: u64, fall: u64) -> Regions
     requires ranged { Ranged p }
     requires within { Within (2 ^ 37) cruise.velocity }
-    ensures { result ≡ withRamps (legOf p) cruise.velocity cruise.raised rise fall }
+    ensures { result ≡ with_ramps (leg_of p) cruise.velocity cruise.raised rise fall }
 {
     let start = p.start;
     let end = p.end;
@@ -111,9 +113,9 @@ fn with_ramps(p: Profile, cruise: CruisePlan, rise: u64, fall: u64) -> Regions
 pub fn regions_of(p: Profile, cruise: CruisePlan) -> Regions
     requires ranged { Ranged p }
     requires acceleration_limit_nonzero { 0 < p.acceleration_limit }
-    requires p_value { endsAllowed (legOf p) ≡ true }
+    requires p_value { ends_allowed (leg_of p) ≡ true }
     requires within { Within (2 ^ 37) cruise.velocity }
-    ensures { result ≡ regionsOf (legOf p) cruise.velocity cruise.raised }
+    ensures { result ≡ regions_of (leg_of p) cruise.velocity cruise.raised }
 {
     let c = cruise.velocity;
     let rise = ramp_ticks(p.acceleration_limit, p.start, c);
@@ -130,7 +132,7 @@ pub fn regions_of(p: Profile, cruise: CruisePlan) -> Regions
 pub fn velocity_in(r: Regions, k: u64) -> i64
     requires regions_ranged { RegionsRanged r }
     requires k_lt_ticks { k < r.ticks }
-    ensures { Is (2 ^ 46) result (velocityIn r k) }
+    ensures { Is (2 ^ 46) result (velocity_in r k) }
 {
     let rise = r.rise;
     let ticks = r.ticks;

@@ -5,28 +5,28 @@ use native.Mathlib.Omega.{arith}
 use Rattle.whole.specs.Ranges.{Within}
 use Rattle.model.specs.declared.Order.{Order}
 use Rattle.planned.specs.declared.AxisPlan.{AxisPlan}
-use Rattle.planned.specs.Plans.{arrivalOf, PlanRanges}
+use Rattle.planned.specs.Plans.{arrival_of, PlanRanges}
 use Rattle.blended.specs.declared.BlendedState.{BlendedState}
-use Rattle.blended.specs.BlendedStates.{blendedStateAt}
+use Rattle.blended.specs.BlendedStates.{blended_state_at}
 use Rattle.blended.proofs.BlendedRanges.{velocity-within, position-within}
 use Rattle.segments.specs.declared.Segment.{Segment}
 use Rattle.cells.specs.declared.RowStates.{RowStates}
-use Rattle.cells.specs.Rows.{comesAt, rowStates}
+use Rattle.cells.specs.Rows.{comes_at, row_states}
 use Rattle.cells.proofs.OneRow.{Kept, change-within, row_is}
-use Rattle.rows.specs.Table.{statesIn, Writable}
+use Rattle.rows.specs.Table.{states_in, Writable}
 use Rattle.rows.proofs.States.{comes-late}
 
 module _ {p : AxisPlan} {k : ℕ} {q : Segment} (a : Kept p k q) (o : Order) (t : BlendedState)
-    (e : t ≡ blendedStateAt p (comesAt o k)) where
+    (e : t ≡ blended_state_at p (comes_at o k)) where
   -- its states are those of the plan
-  pub row-planned : statesIn o t q ≡ rowStates o p k
+  pub row-planned : states_in o t q ≡ row_states o p k
   row-planned = row_is a o t e
 
   -- and can be written
-  pub row-writable : PlanRanges p → k ≤ arrivalOf p → Writable o t q
+  pub row-writable : PlanRanges p → k ≤ arrival_of p → Writable o t q
   row-writable r l =
-      let m = comesAt o k in
-      let late : m ≤ suc (arrivalOf p) = omega (arith, l, comes-late o k) in
+      let m = comes_at o k in
+      let late : m ≤ suc (arrival_of p) = omega (arith, l, comes-late o k) in
       let here = sym row-planned in
       record {
         position =

@@ -3,13 +3,13 @@ use Rattle.std.specs.Prelude.{ℕ, ◌<◌, ◌≤◌, ◌≡◌, List, [], ◌�
 use Rattle.model.specs.declared.SecondSway.TheVariants.{Absent}
 use Rattle.model.specs.planning.Job.{JobAxis}
 use Rattle.planned.specs.declared.AxisPlan.{AxisPlan}
-use Rattle.planned.specs.Plans.{plan_of, arrivalOf, PlanRanges}
+use Rattle.planned.specs.Plans.{plan_of, arrival_of, PlanRanges}
 use Rattle.rows.specs.declared.Plan.{Plan}
 use Rattle.blended.specs.BlendedStates.{LandsAt}
 
 -- what stands after the last axis
-abbrev pub unsetPlan : AxisPlan
-unsetPlan =
+abbrev pub unset_plan : AxisPlan
+unset_plan =
     record {
       origin = pos 0;
       destination = pos 0;
@@ -33,19 +33,19 @@ unsetPlan =
     }
 
 -- the plans of a list of axes for arrival n
-abbrev pub plansFor : ℕ → List JobAxis → List AxisPlan
-plansFor n xs = map (λ (x : JobAxis). plan_of n x.axis) xs
+abbrev pub plans_for : ℕ → List JobAxis → List AxisPlan
+plans_for n xs = map (λ (x : JobAxis). plan_of n x.axis) xs
 
 -- those of a job's plan
-abbrev pub plansOf : Plan → List AxisPlan
-plansOf plan = take plan.count plan.axes
+abbrev pub plans_of : Plan → List AxisPlan
+plans_of plan = take plan.count plan.axes
 
 -- the plan of the axes xs of mask m for arrival n
 pub record PlanIs (m : ℕ) (xs : List JobAxis) (n : ℕ) (r : Plan) : Type 0 where
-  pub plans : plansOf r ≡ plansFor n xs
+  pub plans : plans_of r ≡ plans_for n xs
   pub count : r.count ≡ length xs
   pub few : r.count ≤ 6
-  pub unset : (i : ℕ) → r.count ≤ i → i < 6 → get_or r.axes i unsetPlan ≡ unsetPlan
+  pub unset : (i : ℕ) → r.count ≤ i → i < 6 → get_or r.axes i unset_plan ≡ unset_plan
   pub mask : r.mask ≡ m
   pub arrival : r.arrival ≡ n
 
@@ -58,6 +58,6 @@ Each Q (p ∷ ps) = Q p × Each Q ps
 -- to the arrival and lands there
 pub record Fillable (plan : Plan) : Type 0 where
   pub few : plan.count ≤ 6
-  pub ranged : Each PlanRanges (plansOf plan)
-  pub arrive : Each (λ p. plan.arrival ≤ arrivalOf p) (plansOf plan)
-  pub land : Each (LandsAt plan.arrival) (plansOf plan)
+  pub ranged : Each PlanRanges (plans_of plan)
+  pub arrive : Each (λ p. plan.arrival ≤ arrival_of p) (plans_of plan)
+  pub land : Each (LandsAt plan.arrival) (plans_of plan)

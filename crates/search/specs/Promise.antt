@@ -4,19 +4,19 @@
 use Rattle.std.specs.Prelude.{ℕ, ◌≡◌}
 use Rattle.model.specs.declared.Report.TheVariants.{Found}
 use Rattle.model.specs.declared.SearchAnswer.{SearchAnswer}
-use Rattle.model.specs.planning.Outcome.{Input, inputJob}
-use Rattle.model.specs.calls.Search.{searchCall}
+use Rattle.model.specs.planning.Outcome.{Input, input_job}
+use Rattle.model.specs.calls.Search.{search_call}
 use Rattle.theorems.specs.Search.{SearchSays, Planned, SearchCallVerdict}
 
 -- q is what the call was given, first the first candidate, r the answer
 pub record SearchPromise (q : Input) (first budget : ℕ) (r : SearchAnswer) : Type 0 where
   -- number, place, mask, arrival, report and the number tried are those of the definitions
-  pub is : r ≡ searchCall q first budget
+  pub is : r ≡ search_call q first budget
   -- the number comes only in its named case, said of the words or of the mask,
   -- and of the job that they bring
   pub verdict : SearchCallVerdict q first budget r
   -- number 0: what the report and the number tried say of the job, by the existence of a list
-  pub says : r.number ≡ 0 → SearchSays (inputJob q) first budget r.report r.tried
+  pub says : r.number ≡ 0 → SearchSays (input_job q) first budget r.report r.tried
   -- a tick that was found can be asked for: the job is then accepted with any table
   -- that has room, and meets demand 3
-  pub planned : r.number ≡ 0 → (n : ℕ) → r.report ≡ Found n → Planned (inputJob q) n
+  pub planned : r.number ≡ 0 → (n : ℕ) → r.report ≡ Found n → Planned (input_job q) n

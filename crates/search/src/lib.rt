@@ -10,14 +10,16 @@
 //                       admission::with_weight      damping as measured to a number B, where there
 //                                                   is any
 //                       search_from                 the search
+#![tactic(auto)]
+
 ghost use Rattle.std.specs.Prelude.{◌≡◌, cond, ◌+◌, ◌≤◌, ltb};
 ghost use Rattle.std.proofs.Math.Option.{none};
-ghost use Rattle.model.specs.planning.Job.{setAxes};
-ghost use Rattle.model.specs.planning.Refusals.{AllPassed, lastTick};
+ghost use Rattle.model.specs.planning.Job.{set_axes};
+ghost use Rattle.model.specs.planning.Refusals.{AllPassed, last_tick};
 ghost use Rattle.model.specs.planning.Windows.{refused13};
 ghost use Rattle.model.specs.planning.Outcome as Input;
-ghost use Rattle.model.specs.calls.Search.{refuseSearch, searchAnswer, foundTick, firstAllowed, searchFrom};
-ghost use Rattle.arrival.specs.Arrivals.{arrivesIn};
+ghost use Rattle.model.specs.calls.Search.{refuse_search, search_answer, found_tick, first_allowed, search_from};
+ghost use Rattle.arrival.specs.Arrivals.{arrives_in};
 ghost use Rattle.search.specs.Promise.{SearchPromise};
 
 use admission::Purpose;
@@ -68,7 +70,7 @@ pub fn search_words(words: &[u32], first: u32, budget: u32) -> SearchAnswer
 
 // Whether a first candidate is allowed: from 1 to 4,097, which leaves none to try.
 fn first_allowed(first: u32) -> bool
-    ensures { result ≡ firstAllowed first }
+    ensures { result ≡ first_allowed first }
 {
     if 0 < first {
         return first <= AFTER_LAST_TICK;
@@ -86,11 +88,11 @@ fn search_from(
     first: u32,
     budget: u32,
 ) -> SearchReport
-    requires all_passed { AllPassed (setAxes 0 mask axes) }
+    requires all_passed { AllPassed (set_axes 0 mask axes) }
     requires windows_value { refused13 windows ≡ none }
     requires le_first { 1 ≤ first }
-    requires first_bound { first ≤ lastTick + 1 }
-    ensures { result ≡ searchFrom (arrivesIn windows (setAxes 0 mask axes)) first budget }
+    requires first_bound { first ≤ last_tick + 1 }
+    ensures { result ≡ search_from (arrives_in windows (set_axes 0 mask axes)) first budget }
 {
     let left = AFTER_LAST_TICK - first;
     let count = within_budget(budget, left);
@@ -126,7 +128,7 @@ fn report_of(report: Report, tried: u32) -> SearchReport
 
 // A refusal: nothing was tried.
 fn refused(number: u32, place: usize) -> SearchAnswer
-    ensures { result ≡ refuseSearch number place }
+    ensures { result ≡ refuse_search number place }
 {
     SearchAnswer {
         number: number,
@@ -140,7 +142,7 @@ fn refused(number: u32, place: usize) -> SearchAnswer
 
 // The answer of a search.
 fn answered(mask: u32, found: SearchReport) -> SearchAnswer
-    ensures { result ≡ searchAnswer mask found }
+    ensures { result ≡ search_answer mask found }
 {
     let report = found.report;
     SearchAnswer {
@@ -155,7 +157,7 @@ fn answered(mask: u32, found: SearchReport) -> SearchAnswer
 
 // The tick found, or 0.
 fn found_tick(report: Report) -> u32
-    ensures { result ≡ foundTick report }
+    ensures { result ≡ found_tick report }
 {
     match report {
         Report::Found(tick) => tick,

@@ -14,9 +14,9 @@ use Rattle.regions.specs.declared.Regions.{Regions}
 use Rattle.regions.proofs.ChosenRegions.{in_start, in_end, in-raised, in-level}
 use Rattle.planned.specs.declared.AxisPlan.{AxisPlan}
 use Rattle.segments.specs.declared.Segment.{Segment}
-use Rattle.planned.specs.Plans.{plannedAt, velocityBack}
-use Rattle.blended.specs.BlendedStates.{mix, blendedBack, added, blendedVelocity}
-use Rattle.segments.specs.Segments.{SegmentOf, SegmentAt, fallBegins, raisedUntil, shared}
+use Rattle.planned.specs.Plans.{planned_at, velocity_back}
+use Rattle.blended.specs.BlendedStates.{mix, blended_back, added, blended_velocity}
+use Rattle.segments.specs.Segments.{SegmentOf, SegmentAt, fall_begins, raised_until, shared}
 use Rattle.planned.proofs.Velocities.{planned-before, lands, goes_on, back-late, back_early}
 
 -- ---- any velocities
@@ -89,13 +89,13 @@ module _ (r : Regions) where
     pub risen : r.rise < j
     pub falls : r.ticks ≤ j + r.fall
 
-  pub fall-from : (j : ℕ) → fallBegins r ≤ j → Falls j
+  pub fall-from : (j : ℕ) → fall_begins r ≤ j → Falls j
   fall-from j =
       by_bool (λ (a : ℕ). a ≤ j → Falls j) (ltb (r.rise + r.fall) r.ticks) _ _
       (λ t h. let s = ltb→lt (r.rise + r.fall) r.ticks t in record { risen = omega arith; falls = omega arith })
       (λ t h. let s = nltb→le (r.rise + r.fall) r.ticks t in record { risen = omega arith; falls = omega arith })
 
-  pub fall-first : (j : ℕ) → r.rise < j → r.ticks ≤ j + r.fall → fallBegins r ≤ j
+  pub fall-first : (j : ℕ) → r.rise < j → r.ticks ≤ j + r.fall → fall_begins r ≤ j
   fall-first j p q =
       by_bool (λ (a : ℕ). a ≤ j) (ltb (r.rise + r.fall) r.ticks) _ _ (λ t. omega arith) (λ t. omega arith)
 
@@ -104,7 +104,7 @@ module _ (r : Regions) where
       pub inside : j ≤ n
       pub raised : j - r.rise ≤ r.raised
 
-    pub raised-to : (j : ℕ) → j ≤ raisedUntil r n → Raised j
+    pub raised-to : (j : ℕ) → j ≤ raised_until r n → Raised j
     raised-to j =
         by_bool (λ (a : ℕ). j ≤ a → Raised j) (ltb r.raised (n - r.rise)) _ _
         (λ t l. let s = ltb→lt r.raised (n - r.rise) t in record { inside = omega arith; raised = omega arith })
@@ -114,13 +114,13 @@ module _ (r : Regions) where
       pub risen : r.rise < j
       pub unraised : r.raised < j - r.rise
 
-    pub raised-before : (j : ℕ) → j ≤ n → raisedUntil r n < j → Unraised j
+    pub raised-before : (j : ℕ) → j ≤ n → raised_until r n < j → Unraised j
     raised-before j l =
         by_bool (λ (a : ℕ). a < j → Unraised j) (ltb r.raised (n - r.rise)) _ _
         (λ t q. record { risen = omega arith; unraised = omega arith })
         (λ t q. absurd (omega arith))
 
-    pub raised-last : raisedUntil r n ≤ n
+    pub raised-last : raised_until r n ≤ n
     raised-last =
         by_bool (λ (a : ℕ). a ≤ n) (ltb r.raised (n - r.rise)) _ _
         (λ t. let s = ltb→lt r.raised (n - r.rise) t in omega arith) (λ t. omega arith)
@@ -132,18 +132,18 @@ module _ (p : AxisPlan) where
   g = p.regions
 
   -- from the landing on
-  pub segment-landed : (n : ℕ) → SegmentOf (plannedAt p) (over p.acceleration g.ticks n)
+  pub segment-landed : (n : ℕ) → SegmentOf (planned_at p) (over p.acceleration g.ticks n)
   segment-landed n = record { even = λ j h l. sym (goes_on p j h) }
 
   -- on the ramp from the start
-  pub segment-rising : g.rise < g.ticks → SegmentOf (plannedAt p) (over g.up 0 g.rise)
+  pub segment-rising : g.rise < g.ticks → SegmentOf (planned_at p) (over g.up 0 g.rise)
   segment-rising h =
       record {
         even = λ j _ l. rises (suc j) (omega arith) ∙ more j
             ∙ ap (λ (v : ℤ). v +ℤ g.up) (sym (rises j (omega arith)));
       }
     where
-      rises : (j : ℕ) → j ≤ g.rise → plannedAt p j ≡ g.start +ℤ pos j *ℤ g.up
+      rises : (j : ℕ) → j ≤ g.rise → planned_at p j ≡ g.start +ℤ pos j *ℤ g.up
       rises j l = sym (planned-before p j (omega arith)) ∙ in_start g j l
 
       ring : (v j a : ℤ) → v +ℤ (j +ℤ pos 1) *ℤ a ≡ v +ℤ j *ℤ a +ℤ a
@@ -155,7 +155,7 @@ module _ (p : AxisPlan) where
           ∙ ring g.start (pos j) g.up
 
   -- on the ramp to the end, up to the landing
-  pub segment-falling : SegmentOf (plannedAt p) (over (pos 0 -ℤ g.down) (fallBegins g) g.ticks)
+  pub segment-falling : SegmentOf (planned_at p) (over (pos 0 -ℤ g.down) (fall_begins g) g.ticks)
   segment-falling =
       record {
         even = λ j h l. falls (suc j) (fall-from g (suc j) (omega arith)) (omega arith)
@@ -166,10 +166,10 @@ module _ (p : AxisPlan) where
       none : (v a : ℤ) → v ≡ v +ℤ pos 0 *ℤ a
       none v a = same (v ∷ a ∷ []) (search pol depth 20 fits 9000) tt
 
-      falls : (j : ℕ) → Falls g j → j ≤ g.ticks → plannedAt p j ≡ g.end +ℤ pos (g.ticks - j) *ℤ g.down
+      falls : (j : ℕ) → Falls g j → j ≤ g.ticks → planned_at p j ≡ g.end +ℤ pos (g.ticks - j) *ℤ g.down
       falls j f l = go (dec_lt j g.ticks)
         where
-          go : Dec (j < g.ticks) → plannedAt p j ≡ g.end +ℤ pos (g.ticks - j) *ℤ g.down
+          go : Dec (j < g.ticks) → planned_at p j ≡ g.end +ℤ pos (g.ticks - j) *ℤ g.down
           go (Dec.yes q) = sym (planned-before p j q) ∙ in_end g j f.risen f.falls
           go (Dec.no q) =
               sym (lands p j (omega arith))
@@ -188,27 +188,27 @@ module _ (p : AxisPlan) where
 
   -- on the level part, whose last tick is n
   module _ (n : ℕ) (h : g.rise ≤ n) (end : suc (n + g.fall) ≡ g.ticks) where
-    pub segment-raised : SegmentOf (plannedAt p) (over (pos 0) (g.rise + 1) (raisedUntil g n))
+    pub segment-raised : SegmentOf (planned_at p) (over (pos 0) (g.rise + 1) (raised_until g n))
     segment-raised =
         record {
           even = λ j a b. at (suc j) (omega arith) b ∙ nothing _
               ∙ ap (λ (v : ℤ). v +ℤ pos 0) (sym (at j (omega arith) (omega arith)));
         }
       where
-        at : (j : ℕ) → g.rise < j → j ≤ raisedUntil g n → plannedAt p j ≡ g.cruise +ℤ pos 1
+        at : (j : ℕ) → g.rise < j → j ≤ raised_until g n → planned_at p j ≡ g.cruise +ℤ pos 1
         at j a b =
             let q = raised-to g n h j b in
             let i = q.inside in
             sym (planned-before p j (omega arith)) ∙ in-raised g j a (omega arith) q.raised
 
-    pub segment-level : SegmentOf (plannedAt p) (over (pos 0) (raisedUntil g n + 1) n)
+    pub segment-level : SegmentOf (planned_at p) (over (pos 0) (raised_until g n + 1) n)
     segment-level =
         record {
           even = λ j a b. at (suc j) (omega arith) b ∙ nothing _
               ∙ ap (λ (v : ℤ). v +ℤ pos 0) (sym (at j a (omega arith)));
         }
       where
-        at : (j : ℕ) → raisedUntil g n + 1 ≤ j → j ≤ n → plannedAt p j ≡ g.cruise
+        at : (j : ℕ) → raised_until g n + 1 ≤ j → j ≤ n → planned_at p j ≡ g.cruise
         at j a b =
             let q = raised-before g n h j b (omega arith) in
             sym (planned-before p j (omega arith)) ∙ in-level g j q.risen (omega arith) q.unraised
@@ -216,18 +216,18 @@ module _ (p : AxisPlan) where
 -- ---- d ticks before
 
 module _ (p : AxisPlan) (d : ℕ) where
-  pub segment-back : {q : Segment} → SegmentOf (plannedAt p) q
-      → SegmentOf (velocityBack p d) (over q.change (q.from + d) (q.until + d))
+  pub segment-back : {q : Segment} → SegmentOf (planned_at p) q
+      → SegmentOf (velocity_back p d) (over q.change (q.from + d) (q.until + d))
   segment-back {q} o =
       record {
         even = λ j h l. sym (back-late p d (suc j) (omega arith))
-            ∙ ap (plannedAt p) {x = suc j - d} {y = suc (j - d)} (omega arith)
+            ∙ ap (planned_at p) {x = suc j - d} {y = suc (j - d)} (omega arith)
             ∙ o.even (j - d) (omega arith) (omega arith)
             ∙ ap (λ (v : ℤ). v +ℤ q.change) (back-late p d j (omega arith));
       }
 
   -- up to tick 0 of the planned motion
-  pub segment-early : 0 < p.regions.ticks → SegmentOf (velocityBack p d) (over (pos 0) 0 d)
+  pub segment-early : 0 < p.regions.ticks → SegmentOf (velocity_back p d) (over (pos 0) 0 d)
   segment-early some =
       record {
         even = λ j h l. sym (back_early p d (suc j) some (omega arith))
@@ -237,14 +237,14 @@ module _ (p : AxisPlan) (d : ℕ) where
 
   -- ---- the blends
 
-  pub segment-blend : {q r : Segment} → SegmentOf (velocityBack p d) q
-      → SegmentOf (velocityBack p (d + p.half_period)) r
-      → SegmentOf (blendedBack p d) (shared (mix p.first_weight p.second_weight q.change r.change) q r)
-  unfolding blendedBack
+  pub segment-blend : {q r : Segment} → SegmentOf (velocity_back p d) q
+      → SegmentOf (velocity_back p (d + p.half_period)) r
+      → SegmentOf (blended_back p d) (shared (mix p.first_weight p.second_weight q.change r.change) q r)
+  unfolding blended_back
   segment-blend o u = segment-mix o u p.first_weight p.second_weight
 
 pub segment-added : (p : AxisPlan) {s : SecondSway} {q : Segment} → p.second_sway ≡ s
-    → SegmentOf (λ k. added s (λ d. blendedBack p d k)) q
-    → SegmentOf (blendedVelocity p) q
-unfolding blendedVelocity
-segment-added p e o = segment-same (λ k. ap (λ (s : SecondSway). added s (λ d. blendedBack p d k)) e) o
+    → SegmentOf (λ k. added s (λ d. blended_back p d k)) q
+    → SegmentOf (blended_velocity p) q
+unfolding blended_velocity
+segment-added p e o = segment-same (λ k. ap (λ (s : SecondSway). added s (λ d. blended_back p d k)) e) o

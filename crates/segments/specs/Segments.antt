@@ -17,12 +17,12 @@ pub record SegmentAt (n b : ℕ) (v : ℕ → ℤ) (k : ℕ) (q : Segment) : Typ
   pub small : Within b q.change
 
 -- the first tick of the ramp to the end, after the ramp from the start
-abbrev pub fallBegins : Regions → ℕ
-fallBegins r = elim (ltb (r.rise + r.fall) r.ticks) [ true ↦ r.ticks - r.fall | false ↦ r.rise + 1 ]
+abbrev pub fall_begins : Regions → ℕ
+fall_begins r = elim (ltb (r.rise + r.fall) r.ticks) [ true ↦ r.ticks - r.fall | false ↦ r.rise + 1 ]
 
 -- the last raised tick of the level part, whose last tick is n
-abbrev pub raisedUntil : Regions → ℕ → ℕ
-raisedUntil r n = elim (ltb r.raised (n - r.rise)) [ true ↦ r.rise + r.raised | false ↦ n ]
+abbrev pub raised_until : Regions → ℕ → ℕ
+raised_until r n = elim (ltb r.raised (n - r.rise)) [ true ↦ r.rise + r.raised | false ↦ n ]
 
 -- a change in the ticks that two segments have in common
 abbrev pub shared : ℤ → Segment → Segment → Segment

@@ -1,12 +1,14 @@
 // One axis of a job: the segments of its velocity (docs/METHOD.md, section 3), ticks over which it
 // changes by the same amount in each; of the planned velocity, and of the velocity after the
 // blends.
+#![tactic(auto)]
+
 ghost use Rattle.std.specs.Prelude.{suc, ◌+◌, ◌^◌, ◌<◌, ◌≤◌, max, min, ◌≡◌};
 ghost use Rattle.whole.specs.Ranges.{Within};
-ghost use Rattle.blended.specs.BlendedStates.{blendedBack, blendedVelocity};
-ghost use Rattle.planned.specs.Plans.{arrivalOf, PlanRanges, plannedAt, velocityBack};
+ghost use Rattle.blended.specs.BlendedStates.{blended_back, blended_velocity};
+ghost use Rattle.planned.specs.Plans.{arrival_of, PlanRanges, planned_at, velocity_back};
 ghost use Rattle.regions.specs.Regions.{RegionsRanged};
-ghost use Rattle.segments.specs.Segments.{SegmentAt, fallBegins, raisedUntil, shared};
+ghost use Rattle.segments.specs.Segments.{SegmentAt, fall_begins, raised_until, shared};
 
 use model::SecondSway;
 use planned::AxisPlan;
@@ -25,8 +27,8 @@ pub struct Segment {
 // The segment of the planned velocity in tick k alone.
 fn one_tick(p: AxisPlan, k: u32) -> Segment
     requires plan_ranges { PlanRanges p }
-    requires k_bound { k ≤ arrivalOf p }
-    ensures { SegmentAt (2 ^ 13) (2 ^ 39) (plannedAt p) k result }
+    requires k_bound { k ≤ arrival_of p }
+    ensures { SegmentAt (2 ^ 13) (2 ^ 39) (planned_at p) k result }
 {
     let now = planned::planned_velocity(p, k);
     let next = planned::planned_velocity(p, k + 1);
@@ -42,7 +44,7 @@ fn one_tick(p: AxisPlan, k: u32) -> Segment
 fn fall_begins(r: Regions) -> u64
     requires regions_ranged { RegionsRanged r }
     requires rise_lt_ticks { r.rise < r.ticks }
-    ensures { result ≡ fallBegins r }
+    ensures { result ≡ fall_begins r }
 {
     let rise = r.rise;
     let fall = r.fall;
@@ -56,7 +58,7 @@ fn fall_begins(r: Regions) -> u64
 // The last raised tick of the level part, whose last tick is given.
 fn raised_until(r: Regions, last: u64) -> u64
     requires { r.rise ≤ last }
-    ensures { result ≡ raisedUntil r last }
+    ensures { result ≡ raised_until r last }
 {
     let rise = r.rise;
     let raised = r.raised;
@@ -72,7 +74,7 @@ fn level_segment(p: AxisPlan, k: u32, last: u64) -> Segment
     requires rise_lt_k { p.regions.rise < k }
     requires k_le_last { k ≤ last }
     requires fall_value { suc (last + p.regions.fall) ≡ p.regions.ticks }
-    ensures { SegmentAt (2 ^ 13) (2 ^ 39) (plannedAt p) k result }
+    ensures { SegmentAt (2 ^ 13) (2 ^ 39) (planned_at p) k result }
 {
     let regions = p.regions;
     let rise = regions.rise;
@@ -102,7 +104,7 @@ fn later_segment(p: AxisPlan, k: u32) -> Segment
     requires plan_ranges { PlanRanges p }
     requires rise_lt_k { p.regions.rise < k }
     requires k_lt_ticks { k < p.regions.ticks }
-    ensures { SegmentAt (2 ^ 13) (2 ^ 39) (plannedAt p) k result }
+    ensures { SegmentAt (2 ^ 13) (2 ^ 39) (planned_at p) k result }
 {
     let regions = p.regions;
     let fall = regions.fall;
@@ -122,8 +124,8 @@ fn later_segment(p: AxisPlan, k: u32) -> Segment
 // The segment of the planned velocity at tick k.
 fn planned_segment(p: AxisPlan, k: u32) -> Segment
     requires plan_ranges { PlanRanges p }
-    requires k_bound { k ≤ arrivalOf p }
-    ensures { SegmentAt (2 ^ 13) (2 ^ 39) (plannedAt p) k result }
+    requires k_bound { k ≤ arrival_of p }
+    ensures { SegmentAt (2 ^ 13) (2 ^ 39) (planned_at p) k result }
 {
     let regions = p.regions;
     let rise = regions.rise;
@@ -155,8 +157,8 @@ fn planned_segment(p: AxisPlan, k: u32) -> Segment
 fn segment_back(p: AxisPlan, d: u32, k: u32) -> Segment
     requires plan_ranges { PlanRanges p }
     requires d_bound { d ≤ 512 }
-    requires k_bound { k ≤ arrivalOf p }
-    ensures { SegmentAt (2 ^ 14) (2 ^ 39) (velocityBack p d) k result }
+    requires k_bound { k ≤ arrival_of p }
+    ensures { SegmentAt (2 ^ 14) (2 ^ 39) (velocity_back p d) k result }
 {
     let delay = d as u64;
     if k < d {
@@ -210,8 +212,8 @@ fn common(change: i64, s: Segment, t: Segment) -> Segment
 fn blended_segment(p: AxisPlan, d: u32, k: u32) -> Segment
     requires plan_ranges { PlanRanges p }
     requires d_bound { d ≤ 256 }
-    requires k_bound { k ≤ arrivalOf p }
-    ensures { SegmentAt (2 ^ 14) (2 ^ 56) (blendedBack p d) k result }
+    requires k_bound { k ≤ arrival_of p }
+    ensures { SegmentAt (2 ^ 14) (2 ^ 56) (blended_back p d) k result }
 {
     let ahead = segment_back(p, d, k);
     let behind = segment_back(p, d + p.half_period, k);
@@ -222,8 +224,8 @@ fn blended_segment(p: AxisPlan, d: u32, k: u32) -> Segment
 // The segment of the velocity after the blends at tick k.
 pub fn segment_at(p: AxisPlan, k: u32) -> Segment
     requires plan_ranges { PlanRanges p }
-    requires k_bound { k ≤ arrivalOf p }
-    ensures { SegmentAt (2 ^ 14) (2 ^ 57) (blendedVelocity p) k result }
+    requires k_bound { k ≤ arrival_of p }
+    ensures { SegmentAt (2 ^ 14) (2 ^ 57) (blended_velocity p) k result }
 {
     let sway = p.second_sway;
     let once = blended_segment(p, 0, k);

@@ -11,7 +11,7 @@ use denote.Laws.{Is}
 use borrow.Author.Tests.{ltb-true, ltb-false}
 use Rattle.model.specs.declared.Stop.{Stop}
 use Rattle.stops.specs.declared.StopRow.{StopRow}
-use Rattle.stops.specs.Rows.{noStop, held_of, emptyRow, withStop, rowTo}
+use Rattle.stops.specs.Rows.{no_stop, held_of, empty_row, with_stop, row_to}
 use Rattle.stops.specs.contracts.StopRow as T
 use Rattle.stops.proofs.StopRow.TheLaws as T'
 
@@ -32,13 +32,13 @@ held-64 n = (held-is n).0
 pub held_all : (n : ℕ) → held_of n ≤ n
 held_all n = (held-is n).1
 
-pub row-none : (l : List Stop) → rowTo l 0 ≡ emptyRow (length l)
-unfolding rowTo
+pub row-none : (l : List Stop) → row_to l 0 ≡ empty_row (length l)
+unfolding row_to
 row-none l = refl
 
-pub row_more : (l : List Stop) (k : ℕ) → rowTo l (k + 1) ≡ withStop (rowTo l k) k (get_or l k noStop)
-unfolding rowTo
-row_more l k = let e : k + 1 ≡ suc k = omega arith in ap (rowTo l) e
+pub row_more : (l : List Stop) (k : ℕ) → row_to l (k + 1) ≡ with_stop (row_to l k) k (get_or l k no_stop)
+unfolding row_to
+row_more l k = let e : k + 1 ≡ suc k = omega arith in ap (row_to l) e
 
 -- past the end there is no place
 pub set_past : {A : Type 0} (l : List A) (i : ℕ) (a : A) → length l ≤ i → set l i a ≡ l

@@ -16,10 +16,10 @@ use Rattle.model.specs.declared.Axis.{Axis}
 use Rattle.model.specs.declared.AxisLimits.{AxisLimits}
 use Rattle.model.specs.declared.Stop.{Stop}
 use Rattle.model.specs.declared.TourSettings.{TourSettings}
-use Rattle.model.specs.planning.Windows.{longestDwell}
-use Rattle.model.specs.planning.Job.{unsetAxis}
-use Rattle.model.specs.calls.Tour.{Legs, legAxis, legAxes, legAnswer, allLegs, refusedLeg, legsFrom, firstLongDwell}
-use Rattle.stops.specs.Parts.{noLimits, legAxisAt, legsIn}
+use Rattle.model.specs.planning.Windows.{longest_dwell}
+use Rattle.model.specs.planning.Job.{unset_axis}
+use Rattle.model.specs.calls.Tour.{Legs, leg_axis, leg_axes, leg_answer, all_legs, refused_leg, legs_from, first_long_dwell}
+use Rattle.stops.specs.Parts.{no_limits, leg_axis_at, legs_in}
 
 -- ---- the stops that are left
 
@@ -39,41 +39,41 @@ module _ (stops : List Stop) (count : ℕ) (few : count ≤ length stops) where
   -- ---- the first dwell that is too long
 
   by-dwell : ℕ → Bool → Option ℕ
-  by-dwell i b = elim b [ true ↦ firstLongDwell (suc i) (left (i + 1)) | false ↦ some i ]
+  by-dwell i b = elim b [ true ↦ first_long_dwell (suc i) (left (i + 1)) | false ↦ some i ]
 
   dwell-is : (i : ℕ) (d : Stop) → i < count
-      → firstLongDwell i (left i) ≡ by-dwell i (leb (get_or stops i d).dwell longestDwell)
+      → first_long_dwell i (left i) ≡ by-dwell i (leb (get_or stops i d).dwell longest_dwell)
   unfolding by-dwell
-  dwell-is i d h = ap (firstLongDwell i) (left-more i d h)
+  dwell-is i d h = ap (first_long_dwell i) (left-more i d h)
 
-  pub long-here : (i : ℕ) (d : Stop) → i < count → longestDwell < (get_or stops i d).dwell
-      → firstLongDwell i (left i) ≡ some i
+  pub long-here : (i : ℕ) (d : Stop) → i < count → longest_dwell < (get_or stops i d).dwell
+      → first_long_dwell i (left i) ≡ some i
   unfolding by-dwell
-  long-here i d h e = dwell-is i d h ∙ ap (by-dwell i) (lt-leb (get_or stops i d).dwell longestDwell e)
+  long-here i d h e = dwell-is i d h ∙ ap (by-dwell i) (lt-leb (get_or stops i d).dwell longest_dwell e)
 
-  pub long-later : (i : ℕ) (d : Stop) → i < count → (get_or stops i d).dwell ≤ longestDwell
-      → firstLongDwell i (left i) ≡ firstLongDwell (i + 1) (left (i + 1))
+  pub long-later : (i : ℕ) (d : Stop) → i < count → (get_or stops i d).dwell ≤ longest_dwell
+      → first_long_dwell i (left i) ≡ first_long_dwell (i + 1) (left (i + 1))
   unfolding by-dwell
   long-later i d h e =
       dwell-is i d h
-      ∙ ap (by-dwell i) (le-leb (get_or stops i d).dwell longestDwell e)
-      ∙ ap (λ (k : ℕ). firstLongDwell k (left (i + 1))) (next_one i)
+      ∙ ap (by-dwell i) (le-leb (get_or stops i d).dwell longest_dwell e)
+      ∙ ap (λ (k : ℕ). first_long_dwell k (left (i + 1))) (next_one i)
 
-  pub long-nowhere : (i : ℕ) → count ≤ i → firstLongDwell i (left i) ≡ none
-  long-nowhere i h = ap (firstLongDwell i) (left-none i h)
+  pub long-nowhere : (i : ℕ) → count ≤ i → first_long_dwell i (left i) ≡ none
+  long-nowhere i h = ap (first_long_dwell i) (left-none i h)
 
   -- none is too long: not the next, and none after it
-  pub short : (i : ℕ) (d : Stop) → i < count → firstLongDwell i (left i) ≡ none
-      → ((get_or stops i d).dwell ≤ longestDwell) × (firstLongDwell (i + 1) (left (i + 1)) ≡ none)
+  pub short : (i : ℕ) (d : Stop) → i < count → first_long_dwell i (left i) ≡ none
+      → ((get_or stops i d).dwell ≤ longest_dwell) × (first_long_dwell (i + 1) (left (i + 1)) ≡ none)
   unfolding by-dwell
-  short i d h e = go (leb (get_or stops i d).dwell longestDwell) refl (sym (dwell-is i d h) ∙ e)
+  short i d h e = go (leb (get_or stops i d).dwell longest_dwell) refl (sym (dwell-is i d h) ∙ e)
     where
-      go : (b : Bool) → leb (get_or stops i d).dwell longestDwell ≡ b → by-dwell i b ≡ none
-          → ((get_or stops i d).dwell ≤ longestDwell) × (firstLongDwell (i + 1) (left (i + 1)) ≡ none)
+      go : (b : Bool) → leb (get_or stops i d).dwell longest_dwell ≡ b → by-dwell i b ≡ none
+          → ((get_or stops i d).dwell ≤ longest_dwell) × (first_long_dwell (i + 1) (left (i + 1)) ≡ none)
       go true t e = (
-        leb-true (get_or stops i d).dwell longestDwell t,
+        leb-true (get_or stops i d).dwell longest_dwell t,
         sym
-            (ap (λ (k : ℕ). firstLongDwell k (left (i + 1))) (next_one i)) ∙ e,
+            (ap (λ (k : ℕ). first_long_dwell k (left (i + 1))) (next_one i)) ∙ e,
       )
       go false t e = absurd (let z : ◌≡◌ {A = ℕ} 0 1 = cc in omega arith)
 
@@ -81,33 +81,33 @@ module _ (stops : List Stop) (count : ℕ) (few : count ≤ length stops) where
 
   module _ (t : TourSettings) (n : ℕ) (here : List ℤ) (i : ℕ) (d : Stop) (h : i < count) where
     abbrev a : Answer
-    a = legAnswer t here (get_or stops i d).positions
+    a = leg_answer t here (get_or stops i d).positions
 
     by-leg : List ℕ → Bool → Legs
     by-leg l b =
         elim b [
-          | true ↦ legsFrom t (left (i + 1)) (n + a.arrival + (get_or stops i d).dwell) (get_or stops i d).positions
+          | true ↦ legs_from t (left (i + 1)) (n + a.arrival + (get_or stops i d).dwell) (get_or stops i d).positions
               (l ++ ((n + a.arrival) ∷ []))
-          | false ↦ refusedLeg a (length l)
+          | false ↦ refused_leg a (length l)
         ]
 
-    legs-are : (l : List ℕ) → legsFrom t (left i) n here l ≡ by-leg l (eqb a.number 0)
+    legs-are : (l : List ℕ) → legs_from t (left i) n here l ≡ by-leg l (eqb a.number 0)
     unfolding by-leg
-    legs-are l = ap (λ (ss : List Stop). legsFrom t ss n here l) (left-more i d h)
+    legs-are l = ap (λ (ss : List Stop). legs_from t ss n here l) (left-more i d h)
 
-    pub leg-refused : (l : List ℕ) → (a.number ≡ 0 → ⊥) → legsFrom t (left i) n here l ≡ refusedLeg a (length l)
+    pub leg-refused : (l : List ℕ) → (a.number ≡ 0 → ⊥) → legs_from t (left i) n here l ≡ refused_leg a (length l)
     unfolding by-leg
     leg-refused l e = legs-are l ∙ ap (by-leg l) (ne_eqb a.number 0 e)
 
-    pub leg-made : (l : List ℕ) → a.number ≡ 0 → legsFrom t (left i) n here l
-        ≡ legsFrom t (left (i + 1)) (n + a.arrival + (get_or stops i d).dwell) (get_or stops i d).positions
+    pub leg-made : (l : List ℕ) → a.number ≡ 0 → legs_from t (left i) n here l
+        ≡ legs_from t (left (i + 1)) (n + a.arrival + (get_or stops i d).dwell) (get_or stops i d).positions
         (l ++ ((n + a.arrival) ∷ []))
     unfolding by-leg
     leg-made l e = legs-are l ∙ ap (by-leg l) (eq-eqb a.number 0 e)
 
   pub legs-made : (t : TourSettings) (n : ℕ) (here : List ℤ) (i : ℕ) (l : List ℕ) → count ≤ i
-      → legsFrom t (left i) n here l ≡ allLegs t n l
-  legs-made t n here i l h = ap (λ (ss : List Stop). legsFrom t ss n here l) (left-none i h)
+      → legs_from t (left i) n here l ≡ all_legs t n l
+  legs-made t n here i l h = ap (λ (ss : List Stop). legs_from t ss n here l) (left-none i h)
 
 -- ---- lists that are stored into in order
 
@@ -133,13 +133,13 @@ front_length l e r i h k q =
 -- ---- the ways out of the legs
 
 -- the default of an array's element
-abbrev pub emptyStop : Stop
-emptyStop = record { positions = []; dwell = 0 }
+abbrev pub empty_stop : Stop
+empty_stop = record { positions = []; dwell = 0 }
 
 -- the first refused leg, at stop i
 pub refused-row : (a : Answer) (i count : ℕ) (l : List ℕ) → (a.number ≡ 0 → ⊥) → i ≤ length l
-    → legsIn (record { number = a.number; place = i; mask = a.mask; arrival = a.arrival; total = 0; arrivals = l })
-    count ≡ refusedLeg a (length (take i l))
+    → legs_in (record { number = a.number; place = i; mask = a.mask; arrival = a.arrival; total = 0; arrivals = l })
+    count ≡ refused_leg a (length (take i l))
 refused-row a i count l e h =
     λ j. record {
       number = a.number;
@@ -157,7 +157,7 @@ refused-row a i count l e h =
 
 -- axis i, for any i
 leg-at : (ls : List AxisLimits) (ps qs : List ℤ) (i : ℕ) → i < length ls → i < length ps → i < length qs
-    → get_or (legAxes ls ps qs) i unsetAxis ≡ legAxis (get_or ls i noLimits) (get_or ps i (pos 0)) (get_or qs i (pos 0))
+    → get_or (leg_axes ls ps qs) i unset_axis ≡ leg_axis (get_or ls i no_limits) (get_or ps i (pos 0)) (get_or qs i (pos 0))
 leg-at [] ps qs i h k m = absurd (omega arith)
 leg-at (l ∷ ls) [] qs i h k m = absurd (omega arith)
 leg-at (l ∷ ls) (p ∷ ps) [] i h k m = absurd (omega arith)
@@ -165,7 +165,7 @@ leg-at (l ∷ ls) (p ∷ ps) (q ∷ qs) zero h k m = refl
 leg-at (l ∷ ls) (p ∷ ps) (q ∷ qs) (suc i) h k m = leg-at ls ps qs i (omega arith) (omega arith) (omega arith)
 
 pub legs-long : (ls : List AxisLimits) (ps qs : List ℤ) (n : ℕ) → length ls ≡ n → length ps ≡ n → length qs ≡ n
-    → length (legAxes ls ps qs) ≡ n
+    → length (leg_axes ls ps qs) ≡ n
 legs-long [] ps qs n h k m = h
 legs-long (l ∷ ls) [] qs n h k m = k
 legs-long (l ∷ ls) (p ∷ ps) [] n h k m = m
@@ -176,13 +176,13 @@ legs-long (l ∷ ls) (p ∷ ps) (q ∷ qs) (suc n) h k m =
 -- the axes before axis i are those of the leg, and so is axis i
 pub legs-next : (t : TourSettings) (here there : List ℤ) (axes : List Axis) (i : ℕ) (x : Axis)
     → i < length t.limits → i < length here → i < length there
-    → i < length (legAxes t.limits here there) → i < length axes
-    → x ≡ legAxisAt t here there i
-    → take i axes ≡ take i (legAxes t.limits here there)
-    → take (i + 1) (set axes i x) ≡ take (i + 1) (legAxes t.limits here there)
+    → i < length (leg_axes t.limits here there) → i < length axes
+    → x ≡ leg_axis_at t here there i
+    → take i axes ≡ take i (leg_axes t.limits here there)
+    → take (i + 1) (set axes i x) ≡ take (i + 1) (leg_axes t.limits here there)
 legs-next t here there axes i x l p q h k e f =
-    let g = legAxes t.limits here there in
+    let g = leg_axes t.limits here there in
     stored_next axes i x k
     ∙ (λ j. f j ++ ((e ∙ sym (leg-at t.limits here there i l p q)) j ∷ []))
-    ∙ sym (take-suc g i unsetAxis h)
+    ∙ sym (take-suc g i unset_axis h)
     ∙ ap (λ (m : ℕ). take m g) (next_one i)

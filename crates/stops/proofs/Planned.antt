@@ -13,10 +13,10 @@ use borrow.Author.Tests.{eqb-true, eqb-false}
 use Rattle.model.specs.declared.Answer.{Answer}
 use Rattle.model.specs.declared.Stop.{Stop}
 use Rattle.model.specs.declared.TourSettings.{TourSettings}
-use Rattle.model.specs.calls.Tour.{Legs, TourOutcome, legJob, legAnswer, legsFrom, refusedLeg, refuseTour, arrivalsOver}
-use Rattle.model.specs.calls.Tour.{afterLegs, firstLongDwell, dwellsChecked, stopsChecked, mostStops, tourOutcome}
-use Rattle.stops.specs.Rows.{noStop}
-use Rattle.stops.specs.Promise.{leavesFrom, departsAt, legTo, LegPlanned}
+use Rattle.model.specs.calls.Tour.{Legs, TourOutcome, leg_job, leg_answer, legs_from, refused_leg, refuse_tour, arrivals_over}
+use Rattle.model.specs.calls.Tour.{after_legs, first_long_dwell, dwells_checked, stops_checked, most_stops, tour_outcome}
+use Rattle.stops.specs.Rows.{no_stop}
+use Rattle.stops.specs.Promise.{leaves_from, departs_at, leg_to, LegPlanned}
 use Rattle.model.specs.planning.Outcome.{typed}
 use Rattle.theorems.proofs.jobs.BeforeTen.{job-accepted}
 
@@ -25,16 +25,16 @@ use Rattle.theorems.proofs.jobs.BeforeTen.{job-accepted}
 abbrev Plan : TourSettings → List Stop → ℕ → List ℤ → List ℕ → ℕ → Type 0
 Plan t [] n here m total = (m ≡ []) × (total ≡ n)
 Plan t (s ∷ ss) n here m total =
-    ((legAnswer t here s.positions).number ≡ 0)
-    × ((m' : List ℕ) × ((m ≡ (n + (legAnswer t here s.positions).arrival) ∷ m')
-    × Plan t ss (n + (legAnswer t here s.positions).arrival + s.dwell) s.positions m' total))
+    ((leg_answer t here s.positions).number ≡ 0)
+    × ((m' : List ℕ) × ((m ≡ (n + (leg_answer t here s.positions).arrival) ∷ m')
+    × Plan t ss (n + (leg_answer t here s.positions).arrival + s.dwell) s.positions m' total))
 
 module _ (t : TourSettings) where
   Made : List Stop → ℕ → List ℤ → List ℕ → Legs → Type 0
   Made ss n here l g = (m : List ℕ) × ((g.arrivals ≡ l ++ m) × Plan t ss n here m g.total)
 
-  legs-made : (ss : List Stop) (n : ℕ) (here : List ℤ) (l : List ℕ) → (legsFrom t ss n here l).number ≡ 0
-      → Made ss n here l (legsFrom t ss n here l)
+  legs-made : (ss : List Stop) (n : ℕ) (here : List ℤ) (l : List ℕ) → (legs_from t ss n here l).number ≡ 0
+      → Made ss n here l (legs_from t ss n here l)
   unfolding Made
   legs-made [] n here l z = ([], (sym (append-nil l), (refl, refl)))
     where
@@ -45,15 +45,15 @@ module _ (t : TourSettings) where
       (legs-made ss (n + a.arrival + s.dwell) s.positions (l ++ ((n + a.arrival) ∷ [])))
     where
       a : Answer
-      a = legAnswer t here s.positions
+      a = leg_answer t here s.positions
 
       rest : Legs
-      rest = legsFrom t ss (n + a.arrival + s.dwell) s.positions (l ++ ((n + a.arrival) ∷ []))
+      rest = legs_from t ss (n + a.arrival + s.dwell) s.positions (l ++ ((n + a.arrival) ∷ []))
 
       go : (b : Bool) → eqb a.number 0 ≡ b
-          → (elim b as (λ _. Legs) [ true ↦ rest | false ↦ refusedLeg a (length l) ]).number ≡ 0
+          → (elim b as (λ _. Legs) [ true ↦ rest | false ↦ refused_leg a (length l) ]).number ≡ 0
           → (rest.number ≡ 0 → Made ss (n + a.arrival + s.dwell) s.positions (l ++ ((n + a.arrival) ∷ [])) rest)
-          → Made (s ∷ ss) n here l (elim b [ true ↦ rest | false ↦ refusedLeg a (length l) ])
+          → Made (s ∷ ss) n here l (elim b [ true ↦ rest | false ↦ refused_leg a (length l) ])
       go true e z h =
           let r = h z in (
             (n + a.arrival) ∷ r.0,
@@ -68,17 +68,17 @@ module _ (t : TourSettings) where
   at [] n here m e total p i h = absurd (omega arith)
   at (s ∷ ss) n here m e total (z, (m', (q, p))) zero h =
       record {
-        ticks = (legAnswer t here s.positions).arrival;
+        ticks = (leg_answer t here s.positions).arrival;
         arrival = ap (λ (k : List ℕ). get_or (k ++ e) 0 0) q;
-        job = λ lent room. job-accepted (typed (legJob t here s.positions)) lent z room;
+        job = λ lent room. job-accepted (typed (leg_job t here s.positions)) lent z room;
       }
   at (s ∷ ss) n here m e total (z, (m', (q, p))) (suc i) h =
       subst (λ (k : List ℕ). LegPlanned t here n (s ∷ ss) (k ++ e) (suc i)) (sym q)
-      (next i (at ss (n + (legAnswer t here s.positions).arrival + s.dwell)
+      (next i (at ss (n + (leg_answer t here s.positions).arrival + s.dwell)
       s.positions m' e total p i (omega arith)))
     where
       first : ℕ
-      first = n + (legAnswer t here s.positions).arrival
+      first = n + (leg_answer t here s.positions).arrival
 
       next : (i : ℕ) → LegPlanned t s.positions (first + s.dwell) ss (m' ++ e) i
           → LegPlanned t here n (s ∷ ss) ((first ∷ m') ++ e) (suc i)
@@ -86,19 +86,19 @@ module _ (t : TourSettings) where
       next (suc i) r = record { ticks = r.ticks; arrival = r.arrival; job = r.job }
 
   total-at : (ss : List Stop) (n : ℕ) (here : List ℤ) (m e : List ℕ) (total : ℕ) → Plan t ss n here m total
-      → total ≡ departsAt n ss (m ++ e) (length ss)
+      → total ≡ departs_at n ss (m ++ e) (length ss)
   total-at [] n here m e total (q, p) = p
   total-at (s ∷ ss) n here m e total (z, (m', (q, p))) =
       total-at ss first s.positions m' e total p
       ∙ next ss
-      ∙ ap (λ (k : List ℕ). departsAt n (s ∷ ss) (k ++ e) (suc (length ss))) (sym q)
+      ∙ ap (λ (k : List ℕ). departs_at n (s ∷ ss) (k ++ e) (suc (length ss))) (sym q)
     where
       first : ℕ
-      first = n + (legAnswer t here s.positions).arrival + s.dwell
+      first = n + (leg_answer t here s.positions).arrival + s.dwell
 
       next : (us : List Stop)
-          → departsAt first us (m' ++ e) (length us)
-          ≡ departsAt n (s ∷ us) (((n + (legAnswer t here s.positions).arrival) ∷ m') ++ e) (suc (length us))
+          → departs_at first us (m' ++ e) (length us)
+          ≡ departs_at n (s ∷ us) (((n + (leg_answer t here s.positions).arrival) ∷ m') ++ e) (suc (length us))
       next [] = refl
       next (u ∷ us) = refl
 
@@ -110,7 +110,7 @@ module _ (t : TourSettings) (lent : List ℕ) where
   Accepted stops o =
       (m : List ℕ) × ((o.arrivals ≡ m ++ drop (length stops) lent) × Plan t stops 0 t.start m o.total)
 
-  tour-accepted : (stops : List Stop) → (tourOutcome t stops lent).number ≡ 0 → Accepted stops (tourOutcome t stops lent)
+  tour-accepted : (stops : List Stop) → (tour_outcome t stops lent).number ≡ 0 → Accepted stops (tour_outcome t stops lent)
   unfolding Accepted Made
   tour-accepted [] z = ([], (refl, (refl, refl)))
   tour-accepted (s ∷ ss) z = by_count (eqb (length (s ∷ ss)) 0) refl z
@@ -119,11 +119,11 @@ module _ (t : TourSettings) (lent : List ℕ) where
       stops = s ∷ ss
 
       g : Legs
-      g = legsFrom t stops 0 t.start []
+      g = legs_from t stops 0 t.start []
 
       by-room : (b : Bool) → g.number ≡ 0
           → (elim b as (λ _. TourOutcome) [
-            | true ↦ refuseTour 10 (length stops) 0 0 lent
+            | true ↦ refuse_tour 10 (length stops) 0 0 lent
             | false ↦ record {
               number = 0;
               place = 0;
@@ -134,7 +134,7 @@ module _ (t : TourSettings) (lent : List ℕ) where
             }
           ]).number ≡ 0
           → Accepted stops (elim b [
-            | true ↦ refuseTour 10 (length stops) 0 0 lent
+            | true ↦ refuse_tour 10 (length stops) 0 0 lent
             | false ↦ record {
               number = 0;
               place = 0;
@@ -151,58 +151,58 @@ module _ (t : TourSettings) (lent : List ℕ) where
 
       by-legs : (b : Bool) → eqb g.number 0 ≡ b
           → (elim b as (λ _. TourOutcome) [
-            | true ↦ arrivalsOver (length stops) g lent
-            | false ↦ refuseTour g.number g.place g.mask g.arrival lent
+            | true ↦ arrivals_over (length stops) g lent
+            | false ↦ refuse_tour g.number g.place g.mask g.arrival lent
           ]).number ≡ 0
           → Accepted stops
           (elim b [
-            | true ↦ arrivalsOver (length stops) g lent
-            | false ↦ refuseTour g.number g.place g.mask g.arrival lent
+            | true ↦ arrivals_over (length stops) g lent
+            | false ↦ refuse_tour g.number g.place g.mask g.arrival lent
           ])
       by-legs true e z = by-room (ltb (length lent) (length stops)) (eqb-true g.number 0 e) z
       by-legs false e z = absurd (eqb-false g.number 0 e z)
 
       by-dwell : (o : Option ℕ)
           → (elim o as (λ _. TourOutcome) [
-            | some i ↦ refuseTour 11 i 0 0 lent
-            | none ↦ afterLegs (length stops) g lent
+            | some i ↦ refuse_tour 11 i 0 0 lent
+            | none ↦ after_legs (length stops) g lent
           ]).number ≡ 0
-          → Accepted stops (elim o [ some i ↦ refuseTour 11 i 0 0 lent | none ↦ afterLegs (length stops) g lent ])
+          → Accepted stops (elim o [ some i ↦ refuse_tour 11 i 0 0 lent | none ↦ after_legs (length stops) g lent ])
       by-dwell (some i) z = absurd (omega arith)
       by-dwell none z = by-legs (eqb g.number 0) refl z
 
       by_most : (b : Bool)
           → (elim b as (λ _. TourOutcome) [
-            | true ↦ dwellsChecked t (length stops) stops lent
-            | false ↦ refuseTour 11 mostStops 0 0 lent
+            | true ↦ dwells_checked t (length stops) stops lent
+            | false ↦ refuse_tour 11 most_stops 0 0 lent
           ]).number ≡ 0
           → Accepted stops
-          (elim b [ true ↦ dwellsChecked t (length stops) stops lent | false ↦ refuseTour 11 mostStops 0 0 lent ])
-      by_most true z = by-dwell (firstLongDwell 0 stops) z
+          (elim b [ true ↦ dwells_checked t (length stops) stops lent | false ↦ refuse_tour 11 most_stops 0 0 lent ])
+      by_most true z = by-dwell (first_long_dwell 0 stops) z
       by_most false z = absurd (omega arith)
 
       by_count : (b : Bool) → eqb (length stops) 0 ≡ b
           → (elim b as (λ _. TourOutcome) [
-            | true ↦ refuseTour 0 0 0 0 lent
-            | false ↦ stopsChecked t (length stops) stops lent
+            | true ↦ refuse_tour 0 0 0 0 lent
+            | false ↦ stops_checked t (length stops) stops lent
           ]).number ≡ 0
           → Accepted stops
-          (elim b [ true ↦ refuseTour 0 0 0 0 lent | false ↦ stopsChecked t (length stops) stops lent ])
+          (elim b [ true ↦ refuse_tour 0 0 0 0 lent | false ↦ stops_checked t (length stops) stops lent ])
       by_count true e z = let n = eqb-true (length stops) 0 e in absurd (omega arith)
-      by_count false e z = by_most (leb (length stops) mostStops) z
+      by_count false e z = by_most (leb (length stops) most_stops) z
 
-  pub legs-planned : (stops : List Stop) → (tourOutcome t stops lent).number ≡ 0 → (i : ℕ) → i < length stops
-      → LegPlanned t t.start 0 stops (tourOutcome t stops lent).arrivals i
+  pub legs-planned : (stops : List Stop) → (tour_outcome t stops lent).number ≡ 0 → (i : ℕ) → i < length stops
+      → LegPlanned t t.start 0 stops (tour_outcome t stops lent).arrivals i
   unfolding Accepted
   legs-planned stops z i h =
       let a = tour-accepted stops z in
       subst (λ (l : List ℕ). LegPlanned t t.start 0 stops l i) (sym a.1.0)
       (at t stops 0 t.start a.0 (drop (length stops) lent) _ a.1.1 i h)
 
-  pub total-planned : (stops : List Stop) → (tourOutcome t stops lent).number ≡ 0
-      → (tourOutcome t stops lent).total ≡ departsAt 0 stops (tourOutcome t stops lent).arrivals (length stops)
+  pub total-planned : (stops : List Stop) → (tour_outcome t stops lent).number ≡ 0
+      → (tour_outcome t stops lent).total ≡ departs_at 0 stops (tour_outcome t stops lent).arrivals (length stops)
   unfolding Accepted
   total-planned stops z =
       let a = tour-accepted stops z in
       total-at t stops 0 t.start a.0 (drop (length stops) lent) _ a.1.1
-      ∙ ap (λ (l : List ℕ). departsAt 0 stops l (length stops)) (sym a.1.0)
+      ∙ ap (λ (l : List ℕ). departs_at 0 stops l (length stops)) (sym a.1.0)

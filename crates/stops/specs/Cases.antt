@@ -6,7 +6,7 @@ use Rattle.model.specs.declared.SecondSway.{SecondSway}
 use Rattle.model.specs.declared.SecondSway.TheVariants.{Absent, HalfPeriod}
 use Rattle.model.specs.declared.Weight.TheVariants.{Given}
 use Rattle.model.specs.declared.TourSettings.{TourSettings}
-use Rattle.model.specs.calls.Tour.{TourOutcome, refuseTour, tourOutcome}
+use Rattle.model.specs.calls.Tour.{TourOutcome, refuse_tour, tour_outcome}
 
 abbrev pub settings : ℕ → SecondSway → TourSettings
 settings mask sway =
@@ -44,16 +44,16 @@ cases =
     case 1 Absent (stop 4 2 ∷ stop 5 3 ∷ []) (7 ∷ 7 ∷ 7 ∷ []) (accepted 1 11 (4 ∷ 8 ∷ 7 ∷ []))
     -- the same on a pole with a second half period of 1: a tick more for each leg
     ∷ case 1 (HalfPeriod 1) (stop 4 2 ∷ stop 5 3 ∷ []) (7 ∷ 7 ∷ 7 ∷ []) (accepted 1 13 (5 ∷ 10 ∷ 7 ∷ []))
-    ∷ case 1 (HalfPeriod 0) (stop 4 2 ∷ stop 5 3 ∷ []) (7 ∷ 7 ∷ 7 ∷ []) (refuseTour 15 0 0 0 (7 ∷ 7 ∷ 7 ∷ []))
+    ∷ case 1 (HalfPeriod 0) (stop 4 2 ∷ stop 5 3 ∷ []) (7 ∷ 7 ∷ 7 ∷ []) (refuse_tour 15 0 0 0 (7 ∷ 7 ∷ 7 ∷ []))
     -- a list that is too short, after the legs; a refused leg comes before it; 11 before both
-    ∷ case 1 Absent (stop 4 2 ∷ stop 5 3 ∷ []) (7 ∷ []) (refuseTour 10 2 0 0 (7 ∷ []))
-    ∷ case 1 Absent (stop 4 2 ∷ stop 17179869184 3 ∷ []) (7 ∷ []) (refuseTour 6 1 0 0 (7 ∷ []))
-    ∷ case 1 Absent (stop 17179869184 2 ∷ stop 5 4097 ∷ []) (7 ∷ []) (refuseTour 11 1 0 0 (7 ∷ []))
+    ∷ case 1 Absent (stop 4 2 ∷ stop 5 3 ∷ []) (7 ∷ []) (refuse_tour 10 2 0 0 (7 ∷ []))
+    ∷ case 1 Absent (stop 4 2 ∷ stop 17179869184 3 ∷ []) (7 ∷ []) (refuse_tour 6 1 0 0 (7 ∷ []))
+    ∷ case 1 Absent (stop 17179869184 2 ∷ stop 5 4097 ∷ []) (7 ∷ []) (refuse_tour 11 1 0 0 (7 ∷ []))
     -- no stops: nothing else is read
     ∷ case 64 Absent [] (7 ∷ []) (accepted 0 0 (7 ∷ []))
-    ∷ case 64 Absent (stop 4 2 ∷ []) (7 ∷ []) (refuseTour 1 0 0 0 (7 ∷ []))
+    ∷ case 64 Absent (stop 4 2 ∷ []) (7 ∷ []) (refuse_tour 1 0 0 0 (7 ∷ []))
     ∷ []
 
 abbrev pub Small : Type 0
-Small = map (λ (c : Case). tourOutcome (settings c.mask c.sway) c.stops c.lent) cases
+Small = map (λ (c : Case). tour_outcome (settings c.mask c.sway) c.stops c.lent) cases
     ≡ map (λ (c : Case). c.says) cases

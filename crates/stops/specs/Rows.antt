@@ -3,19 +3,19 @@ use Rattle.std.specs.Prelude.{ℕ, zero, suc, ◌-◌, true, false, List, ◌++�
 use Rattle.model.specs.declared.Stop.{Stop}
 use Rattle.stops.specs.declared.StopRow.{StopRow}
 
-abbrev pub noStop : Stop
-noStop = record { positions = replicate 6 (pos 0); dwell = 0 }
+abbrev pub no_stop : Stop
+no_stop = record { positions = replicate 6 (pos 0); dwell = 0 }
 
-abbrev pub emptyRow : ℕ → StopRow
-emptyRow lent = record { stops = replicate 64 noStop; lent = lent }
+abbrev pub empty_row : ℕ → StopRow
+empty_row lent = record { stops = replicate 64 no_stop; lent = lent }
 
-abbrev pub withStop : StopRow → ℕ → Stop → StopRow
-withStop r i s = record { stops = set r.stops i s; lent = r.lent }
+abbrev pub with_stop : StopRow → ℕ → Stop → StopRow
+with_stop r i s = record { stops = set r.stops i s; lent = r.lent }
 
 -- The list that a row stands for. More than 64 stops are refused unread, so any stops will do for
 -- those that the row has no place for.
-abbrev pub rowStops : StopRow → List Stop
-rowStops r = take r.lent r.stops ++ replicate (r.lent - 64) noStop
+abbrev pub row_stops : StopRow → List Stop
+row_stops r = take r.lent r.stops ++ replicate (r.lent - 64) no_stop
 
 -- ---- the row of a list
 
@@ -24,9 +24,9 @@ unfoldable pub held_of : ℕ → ℕ
 held_of lent = elim (ltb lent 64) [ true ↦ lent | false ↦ 64 ]
 
 -- the row with the first k stops of a list
-unfoldable pub rowTo : List Stop → ℕ → StopRow
-rowTo l zero = emptyRow (length l)
-rowTo l (suc k) = withStop (rowTo l k) k (get_or l k noStop)
+unfoldable pub row_to : List Stop → ℕ → StopRow
+row_to l zero = empty_row (length l)
+row_to l (suc k) = with_stop (row_to l k) k (get_or l k no_stop)
 
 abbrev pub row_of : List Stop → StopRow
-row_of l = rowTo l (held_of (length l))
+row_of l = row_to l (held_of (length l))

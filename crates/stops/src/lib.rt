@@ -1,10 +1,12 @@
 // The stops of a tour by value, the job of each leg, and what a tour promises
 // (docs/METHOD.md, 8.1): all of a tour that asks for no answer of the planner. `stop_row` is the
 // only function here over a slice of structs.
+#![tactic(auto)]
+
 ghost use Rattle.std.specs.Prelude.{◌≡◌, ◌++◌, ◌<◌, ◌≤◌, length, take, drop};
-ghost use Rattle.model.specs.calls.Tour.{legAxes, legJob, firstLongDwell};
-ghost use Rattle.stops.specs.Rows.{emptyRow, withStop, held_of, row_of};
-ghost use Rattle.stops.specs.Parts.{legAxisAt, foundStop};
+ghost use Rattle.model.specs.calls.Tour.{leg_axes, leg_job, first_long_dwell};
+ghost use Rattle.stops.specs.Rows.{empty_row, with_stop, held_of, row_of};
+ghost use Rattle.stops.specs.Parts.{leg_axis_at, found_stop};
 
 use model::{
     AXES, Axis, AxisLimits, Job, LONGEST_DWELL, MAX_STOPS, RestPoint, Stop, Target, TourSettings,
@@ -22,7 +24,7 @@ pub struct StopRow {
 
 // The row of so many stops before any of them is stored.
 pub fn empty_row(lent: usize) -> StopRow
-    ensures { result ≡ emptyRow lent }
+    ensures { result ≡ empty_row lent }
 {
     let none = Stop {
         positions: [0; AXES],
@@ -36,7 +38,7 @@ pub fn empty_row(lent: usize) -> StopRow
 
 // The row with a stop at an index; past the 64th there is no place, and the row stays as it is.
 pub fn with_stop(row: StopRow, index: usize, stop: Stop) -> StopRow
-    ensures { result ≡ withStop row index stop }
+    ensures { result ≡ with_stop row index stop }
 {
     if MAX_STOPS <= index {
         return row;
@@ -83,7 +85,7 @@ pub enum FirstStop {
 // The first of `count` stops whose dwell is too long.
 pub fn first_long_dwell(stops: [Stop; MAX_STOPS], count: usize) -> FirstStop
     requires { count ≤ 64 }
-    ensures { foundStop result ≡ firstLongDwell 0 (take count stops) }
+    ensures { found_stop result ≡ first_long_dwell 0 (take count stops) }
 {
     let mut i: usize = 0;
     while i < count {
@@ -100,7 +102,7 @@ pub fn first_long_dwell(stops: [Stop; MAX_STOPS], count: usize) -> FirstStop
 
 // The typed job of a leg, without windows.
 pub fn leg_job(settings: TourSettings, here: [i64; AXES], there: [i64; AXES]) -> Job
-    ensures { result ≡ legJob settings here there }
+    ensures { result ≡ leg_job settings here there }
 {
     let axes = leg_axes(settings, here, there);
     let windows = model::no_windows();
@@ -114,7 +116,7 @@ pub fn leg_job(settings: TourSettings, here: [i64; AXES], there: [i64; AXES]) ->
 
 // The axes of a leg.
 fn leg_axes(settings: TourSettings, here: [i64; AXES], there: [i64; AXES]) -> [Axis; AXES]
-    ensures { result ≡ legAxes settings.limits here there }
+    ensures { result ≡ leg_axes settings.limits here there }
 {
     let first = leg_axis(settings, here, there, 0);
     let mut axes = [first; AXES];
@@ -130,7 +132,7 @@ fn leg_axes(settings: TourSettings, here: [i64; AXES], there: [i64; AXES]) -> [A
 // Axis i of a leg.
 fn leg_axis(settings: TourSettings, here: [i64; AXES], there: [i64; AXES], i: usize) -> Axis
     requires { i < 6 }
-    ensures { result ≡ legAxisAt settings here there i }
+    ensures { result ≡ leg_axis_at settings here there i }
 {
     let limits: [AxisLimits; AXES] = settings.limits;
     let limit = limits[i];

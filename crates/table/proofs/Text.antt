@@ -8,15 +8,15 @@ use lib.IntN.{ℤ}
 use lib.ListN.{length, take}
 use Rattle.whole.specs.Lists.{WrittenAtStart}
 use Rattle.whole.proofs.Lists.{start-taken}
-use Rattle.model.specs.planning.Outcome.{Outcome, outcomeOf}
-use Rattle.text.specs.Printed.{rowWidth, printed}
-use Rattle.text.specs.Enough.{tableBytes, textWithin}
+use Rattle.model.specs.planning.Outcome.{Outcome, outcome_of}
+use Rattle.text.specs.Printed.{row_width, printed}
+use Rattle.text.specs.Enough.{table_bytes, text_within}
 use Rattle.text.proofs.Enough.{TableFits, whole-text}
 use Rattle.planner.specs.Promise.{Fitted}
 use Rattle.model.specs.declared.Answer.{Answer}
 
 -- 24 bytes for a cell are enough
-bytes-enough : (w n : ℕ) → n ≤ 4096 → w * (n + 1) ≤ 8192 → tableBytes w n ≤ 196608
+bytes-enough : (w n : ℕ) → n ≤ 4096 → w * (n + 1) ≤ 8192 → table_bytes w n ≤ 196608
 bytes-enough w n h q = omega (arith, add-mul 5 (21 * w) (n + 1), mul_assoc 21 w (n + 1))
 
 fitted-fits : (r : Answer) (cells : List ℤ) (bytes : ℕ) → length cells ≤ 8192 → 196608 ≤ bytes → Fitted r cells
@@ -26,13 +26,13 @@ fitted-fits r cells bytes e h f =
       mask = f.mask;
       last = f.last;
       rows = f.room;
-      text = omega (arith, bytes-enough (rowWidth r.mask) r.arrival f.last (omega (arith, f.room)));
+      text = omega (arith, bytes-enough (row_width r.mask) r.arrival f.last (omega (arith, f.room)));
     }
 
 pub whole-printed : (r : Answer) (cells : List ℤ) {t u : List ℕ} {n : ℕ} (o : Outcome)
     → length cells ≤ 8192 → 196608 ≤ length t → (r.number ≡ 0 → Fitted r cells)
-    → outcomeOf r cells ≡ o → WrittenAtStart t (textWithin (outcomeOf r cells) (length t)) u n → take n u ≡ printed o
+    → outcome_of r cells ≡ o → WrittenAtStart t (text_within (outcome_of r cells) (length t)) u n → take n u ≡ printed o
 whole-printed r cells {t} o e h f p w =
     start-taken w
-    ∙ whole-text (outcomeOf r cells) (length t) (omega arith) (λ z. fitted-fits r cells (length t) e h (f z))
+    ∙ whole-text (outcome_of r cells) (length t) (omega arith) (λ z. fitted-fits r cells (length t) e h (f z))
     ∙ ap printed p

@@ -9,8 +9,8 @@ abbrev pub input_of : List ℕ → Input
 input_of bytes = words (words_of (take 512 bytes))
 
 -- the program's table has 8,192 cells, all 0
-abbrev pub lentTable : List ℤ
-lentTable = replicate 8192 (pos 0)
+abbrev pub lent_table : List ℤ
+lent_table = replicate 8192 (pos 0)
 
-unfoldable pub jobText : List ℕ → List ℕ
-jobText bytes = printed (call (input_of bytes) lentTable)
+unfoldable pub job_text : List ℕ → List ℕ
+job_text bytes = printed (call (input_of bytes) lent_table)

@@ -1,6 +1,6 @@
 -- What the code that reads words from bytes computes at one place. Assumes nothing.
 use Rattle.std.specs.Prelude.{ℕ, ◌+◌, ◌*◌, List, [], ◌∷◌, get_or}
-use Rattle.model.specs.calls.Bytes.{littleEndian}
+use Rattle.model.specs.calls.Bytes.{little_endian}
 
 -- the number of two bytes, the lower first
 abbrev pub pair_at : List ℕ → ℕ → ℕ
@@ -12,4 +12,4 @@ first_word [] = 0
 first_word (a ∷ []) = 0
 first_word (a ∷ b ∷ []) = 0
 first_word (a ∷ b ∷ c ∷ []) = 0
-first_word (a ∷ b ∷ c ∷ d ∷ bytes) = littleEndian a b c d
+first_word (a ∷ b ∷ c ∷ d ∷ bytes) = little_endian a b c d

@@ -1,13 +1,15 @@
 // What the table program reads and prints: the job words of its input bytes, and the text of an
 // answer and its table (docs/METHOD.md, sections 6 and 9). No public function has a `requires`.
+#![tactic(auto)]
+
 mod lines;
 mod numbers;
 mod words;
 
 ghost use Rattle.std.specs.Prelude.{◌≡◌, length};
 ghost use Rattle.whole.specs.Lists.{WrittenAtStart};
-ghost use Rattle.model.specs.planning.Outcome.{outcomeOf};
-ghost use Rattle.text.specs.Enough.{tableFits, tableWithin, textWithin};
+ghost use Rattle.model.specs.planning.Outcome.{outcome_of};
+ghost use Rattle.text.specs.Enough.{table_fits, table_within, text_within};
 
 use lines::{put_arrival, put_refusal, put_rows};
 use model::{Answer, LAST_TICK};
@@ -28,7 +30,7 @@ const CELL_BYTES: usize = 21;
 // accepted job are not all in the table.
 pub fn answer_text(answer: Answer, table: &[i64], out: &mut [u8]) -> usize
     ensures { WrittenAtStart out.old
-        (textWithin (outcomeOf answer table.now) (length out.old))
+        (text_within (outcome_of answer table.now) (length out.old))
         out.new result }
 {
     let number = answer.number;
@@ -47,7 +49,7 @@ pub fn answer_text(answer: Answer, table: &[i64], out: &mut [u8]) -> usize
 // Whether rows 0 to n of the axes of a mask are within a table of `cells` cells, and `bytes`
 // bytes are enough for their text.
 fn table_fits(mask: u32, n: u32, cells: usize, bytes: usize) -> bool
-    ensures { result ≡ tableFits mask n cells bytes }
+    ensures { result ≡ table_fits mask n cells bytes }
 {
     if 64 <= mask {
         return false;
@@ -66,7 +68,7 @@ fn table_fits(mask: u32, n: u32, cells: usize, bytes: usize) -> bool
 // The text of an accepted job, or nothing where it may not fit.
 fn put_table(out: &mut [u8], mask: u32, n: u32, table: &[i64]) -> usize
     ensures { WrittenAtStart out.old
-        (tableWithin mask n table.now (length out.old))
+        (table_within mask n table.now (length out.old))
         out.new result }
 {
     let fits = table_fits(mask, n, table.len(), out.len());

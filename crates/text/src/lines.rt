@@ -2,15 +2,15 @@
 // `at` on, and returns the index after it.
 ghost use Rattle.std.specs.Prelude.{suc, ◌+◌, ◌*◌, ◌≤◌, length};
 ghost use Rattle.whole.specs.Lists.{Room, Written, WrittenWithin};
-ghost use Rattle.model.specs.planning.Refusals.{lastTick};
-ghost use Rattle.text.specs.Printed.{cellText, cellsText, row_line, row_lines, arrivalLine, refusalLine};
-ghost use Rattle.text.specs.Enough.{refusalBytes, cellsBytes, rowBytes};
+ghost use Rattle.model.specs.planning.Refusals.{last_tick};
+ghost use Rattle.text.specs.Printed.{cell_text, cells_text, row_line, row_lines, arrival_line, refusal_line};
+ghost use Rattle.text.specs.Enough.{refusal_bytes, cells_bytes, row_bytes};
 
 use crate::numbers::{put_labelled, put_number};
 
 fn put_cell(out: &mut [u8], at: usize, x: i64) -> usize
-    requires { Room out.old at (cellText x) }
-    ensures { Written out.old at (cellText x) out.new result }
+    requires { Room out.old at (cell_text x) }
+    ensures { Written out.old at (cell_text x) out.new result }
 {
     let n = whole::size(x);
     out[at] = b' ';
@@ -22,9 +22,9 @@ fn put_cell(out: &mut [u8], at: usize, x: i64) -> usize
 }
 
 fn put_cells(out: &mut [u8], at: usize, cells: &[i64]) -> usize
-    requires { at + cellsBytes (length cells.now) ≤ length out.old }
-    ensures { WrittenWithin (cellsBytes (length cells.now))
-        out.old at (cellsText cells.now) out.new result }
+    requires { at + cells_bytes (length cells.now) ≤ length out.old }
+    ensures { WrittenWithin (cells_bytes (length cells.now))
+        out.old at (cells_text cells.now) out.new result }
 {
     let mut next = at;
     let mut i: usize = 0;
@@ -37,9 +37,9 @@ fn put_cells(out: &mut [u8], at: usize, cells: &[i64]) -> usize
 }
 
 fn put_row(out: &mut [u8], at: usize, tick: u32, cells: &[i64]) -> usize
-    requires tick_le_last_tick { tick ≤ lastTick }
-    requires cells_in_bounds { at + rowBytes (length cells.now) ≤ length out.old }
-    ensures { WrittenWithin (rowBytes (length cells.now))
+    requires tick_le_last_tick { tick ≤ last_tick }
+    requires cells_in_bounds { at + row_bytes (length cells.now) ≤ length out.old }
+    ensures { WrittenWithin (row_bytes (length cells.now))
         out.old at (row_line tick cells.now) out.new result }
 {
     let after_tick = put_number(out, at, tick as u64);
@@ -50,10 +50,10 @@ fn put_row(out: &mut [u8], at: usize, tick: u32, cells: &[i64]) -> usize
 
 // The rows of ticks 0 to n, of `width` cells each.
 pub(crate) fn put_rows(out: &mut [u8], at: usize, n: u32, width: usize, table: &[i64]) -> usize
-    requires n_le_last_tick { n ≤ lastTick }
+    requires n_le_last_tick { n ≤ last_tick }
     requires n_in_bounds { width * suc n ≤ length table.now }
-    requires n_in_bounds_2 { at + rowBytes width * suc n ≤ length out.old }
-    ensures { WrittenWithin (rowBytes width * suc n)
+    requires n_in_bounds_2 { at + row_bytes width * suc n ≤ length out.old }
+    ensures { WrittenWithin (row_bytes width * suc n)
         out.old at (row_lines width table.now n) out.new result }
 {
     let mut next = at;
@@ -69,8 +69,8 @@ pub(crate) fn put_rows(out: &mut [u8], at: usize, n: u32, width: usize, table: &
 }
 
 pub(crate) fn put_arrival(out: &mut [u8], at: usize, n: u32) -> usize
-    requires { Room out.old at (arrivalLine n) }
-    ensures { Written out.old at (arrivalLine n) out.new result }
+    requires { Room out.old at (arrival_line n) }
+    ensures { Written out.old at (arrival_line n) out.new result }
 {
     let next = put_labelled(out, at, b"arrival ", n as u64);
     out[next] = b'\n';
@@ -85,9 +85,9 @@ pub(crate) fn put_refusal(
     mask: u32,
     arrival: u32,
 ) -> usize
-    requires { at + refusalBytes ≤ length out.old }
-    ensures { WrittenWithin refusalBytes
-        out.old at (refusalLine number place mask arrival) out.new result }
+    requires { at + refusal_bytes ≤ length out.old }
+    ensures { WrittenWithin refusal_bytes
+        out.old at (refusal_line number place mask arrival) out.new result }
 {
     let after_number = put_labelled(out, at, b"refused ", number as u64);
     let after_place = put_labelled(out, after_number, b" place ", place as u64);

@@ -4,35 +4,35 @@
 use Rattle.std.specs.Prelude.{ℕ, ◌*◌, ◌≤◌, ◌<◌, ◌≡◌, true, List, ◌↔◌, pos, nat_abs, ◌*ℤ◌}
 use Rattle.std.proofs.Math.Option.{none, some}
 use Rattle.model.specs.declared.Axis.{Axis}
-use Rattle.model.specs.planning.Quantities.{delay, speedSteps}
+use Rattle.model.specs.planning.Quantities.{delay, speed_steps}
 use Rattle.model.specs.planning.Leg.{Leg, Feasible}
-use Rattle.model.specs.planning.Motion.{Reachable, leg, displacement, landingVelocity, arrivalVelocity}
+use Rattle.model.specs.planning.Motion.{Reachable, leg, displacement, landing_velocity, arrival_velocity}
 use Rattle.model.specs.planning.Windows.{brought}
 use Rattle.theorems.specs.Windows.{FitsOne}
 use Rattle.model.specs.planning.Job.{Job, JobAxis}
-use Rattle.model.specs.planning.Refusals.{lastTick, AllPassed}
-use Rattle.model.specs.planning.Outcome.{leastFrom, arrives}
+use Rattle.model.specs.planning.Refusals.{last_tick, AllPassed}
+use Rattle.model.specs.planning.Outcome.{least_from, arrives}
 use Rattle.theorems.specs.Verdict.{Among, AllReachable, Arrives}
 
 -- ---- rule 4 on the finer grid
 
 -- a leg in steps f times finer: the same ends and limits are f times as many steps
-abbrev pub finerLeg : ℕ → Leg → Leg
-finerLeg f g =
+abbrev pub finer_leg : ℕ → Leg → Leg
+finer_leg f g =
     record {
       ticks = g.ticks;
       start = pos f *ℤ g.start;
       end = pos f *ℤ g.end;
-      speedLimit = f * g.speedLimit;
-      accelerationLimit = f * g.accelerationLimit;
+      speed_limit = f * g.speed_limit;
+      acceleration_limit = f * g.acceleration_limit;
     }
 
 -- rule 4 with a list of whole velocities of the finer grid
 pub record ReachableOn (f : ℕ) (x : Axis) (n : ℕ) : Type 0 where
   pub after : delay x < n
-  pub landed : nat_abs (pos f *ℤ landingVelocity x n) ≤ f * speedSteps x
-  pub arrived : nat_abs (pos f *ℤ arrivalVelocity x n) ≤ f * speedSteps x
-  pub moves : Feasible (finerLeg f (leg x n)) (pos f *ℤ displacement x n)
+  pub landed : nat_abs (pos f *ℤ landing_velocity x n) ≤ f * speed_steps x
+  pub arrived : nat_abs (pos f *ℤ arrival_velocity x n) ≤ f * speed_steps x
+  pub moves : Feasible (finer_leg f (leg x n)) (pos f *ℤ displacement x n)
 
 abbrev pub AllReachableOn : ℕ → List JobAxis → ℕ → Type 0
 AllReachableOn f xs n = (x : JobAxis) → Among xs x → ReachableOn f x.axis n
@@ -61,9 +61,9 @@ pub record SameArrivals (P Q : ℕ → Type 0) : Type 0 where
 pub record GainsNothing (f : ℕ) (j : Job) : Type 0 where
   pub each : (x : JobAxis) → Among j.axes x → SameArrivals (ReachableOn f x.axis) (Reachable x.axis)
   pub together : SameArrivals (AllReachableOn f j.axes) (AllReachable j.axes)
-  pub inWindows : SameArrivals (ArrivesOn f j) (Arrives j)
-  pub found : (n : ℕ) → leastFrom (arrives j) 1 lastTick ≡ some n → IsLeast (ArrivesOn f j) n
-  pub missed : leastFrom (arrives j) 1 lastTick ≡ none → (n : ℕ) → 1 ≤ n → n ≤ 4096 → ArrivesOn f j n → ⊥
+  pub in_windows : SameArrivals (ArrivesOn f j) (Arrives j)
+  pub found : (n : ℕ) → least_from (arrives j) 1 last_tick ≡ some n → IsLeast (ArrivesOn f j) n
+  pub missed : least_from (arrives j) 1 last_tick ≡ none → (n : ℕ) → 1 ≤ n → n ≤ 4096 → ArrivesOn f j n → ⊥
 
 -- for every f from 1 up, and every job whose axes pass the refusals of one axis
 abbrev pub FinerGainsNothing : Type 0

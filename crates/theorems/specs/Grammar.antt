@@ -3,7 +3,7 @@
 -- allowed next. Only kinds count, the mask and the payload of the end word: the values of
 -- the others are other refusals' business.
 use Rattle.std.specs.Prelude.{ℕ, suc, ◌≤◌, ◌<◌, ◌≡◌, List, [], ◌∷◌, ◌++◌, ◌⊎◌, length, take}
-use Rattle.model.specs.planning.Job.{setBits}
+use Rattle.model.specs.planning.Job.{set_bits}
 use Rattle.model.specs.planning.Words.{kind, payload}
 
 -- a kind of lists of words
@@ -49,7 +49,7 @@ EndForm (w ∷ ws) = (kind w ≡ 15) × ((payload w ≡ 0) × (ws ≡ []))
 
 -- the words after a mask word whose mask is m
 abbrev pub AfterMask : ℕ → Form
-AfterMask m = OfKind 2 (AxesForm (setBits m) EndForm)
+AfterMask m = OfKind 2 (AxesForm (set_bits m) EndForm)
 
 -- words of which refusal 1 and refusal 2 find none wrong
 abbrev pub WellFormed : Form

@@ -7,24 +7,24 @@ use Rattle.model.specs.declared.Axis.{Axis}
 use Rattle.model.specs.declared.SecondSway.{SecondSway}
 use Rattle.model.specs.declared.SecondSway.TheVariants.{Absent, HalfPeriod}
 use Rattle.model.specs.declared.Order.{Order}
-use Rattle.model.specs.planning.Quantities.{halfPeriod, secondWeight, delay}
-use Rattle.model.specs.planning.Motion.{landingTick}
-use Rattle.model.specs.planning.Rows.{plannedAxis, tickAt, blend, divisor}
-use Rattle.model.specs.planning.Outcome.{Input, call_in, inputAxes}
-use Rattle.model.specs.planning.Demand.{CellTable, tableIn, accelerationCell, Swings, Bounded, accelerationChange, sway}
+use Rattle.model.specs.planning.Quantities.{half_period, second_weight, delay}
+use Rattle.model.specs.planning.Motion.{landing_tick}
+use Rattle.model.specs.planning.Rows.{planned_axis, tick_at, blend, divisor}
+use Rattle.model.specs.planning.Outcome.{Input, call_in, input_axes}
+use Rattle.model.specs.planning.Demand.{CellTable, table_in, acceleration_cell, Swings, Bounded, acceleration_change, sway}
 
 -- ---- the misfit of a list w at i: the blend of its entries i to i + h + h₂. It is 0
 -- where the list fits either rate
 
-abbrev pub misfitOnce : Axis → (ℕ → ℤ) → ℕ → ℤ
-misfitOnce x w i = pos (256 - secondWeight x) *ℤ w (i + halfPeriod x) +ℤ pos (secondWeight x) *ℤ w i
+abbrev pub misfit_once : Axis → (ℕ → ℤ) → ℕ → ℤ
+misfit_once x w i = pos (256 - second_weight x) *ℤ w (i + half_period x) +ℤ pos (second_weight x) *ℤ w i
 
-abbrev pub misfitBy : SecondSway → Axis → (ℕ → ℤ) → ℕ → ℤ
-misfitBy Absent x w i = misfitOnce x w i
-misfitBy (HalfPeriod d) x w i = misfitOnce x w (i + d) +ℤ misfitOnce x w i
+abbrev pub misfit_by : SecondSway → Axis → (ℕ → ℤ) → ℕ → ℤ
+misfit_by Absent x w i = misfit_once x w i
+misfit_by (HalfPeriod d) x w i = misfit_once x w (i + d) +ℤ misfit_once x w i
 
 abbrev pub misfit : Axis → (ℕ → ℤ) → ℕ → ℤ
-misfit x w i = misfitBy x.second_sway x w i
+misfit x w i = misfit_by x.second_sway x w i
 
 -- no misfit of the entries m − n to m exceeds E in size
 abbrev pub Misfits : Axis → ℕ → ℕ → ℕ → (ℕ → ℤ) → Type 0
@@ -65,81 +65,81 @@ pub record SwayOf (t : TruePole) (m G D : ℕ) (u : ℕ → ℤ) : Type 0 where
   pub gentle : Gentle (t.entries * m + t.turn) D u
 
 -- the sway by ticks
-abbrev pub byTick : TruePole → (ℕ → ℤ) → ℕ → ℤ
-byTick t u i = u (t.entries * i)
+abbrev pub by_tick : TruePole → (ℕ → ℤ) → ℕ → ℤ
+by_tick t u i = u (t.entries * i)
 
 -- the same times the weights, as a bound on its misfits is a fraction of them
 abbrev pub weighted : TruePole → (ℕ → ℤ) → ℕ → ℤ
-weighted t u i = pos (weights t) *ℤ byTick t u i
+weighted t u i = pos (weights t) *ℤ by_tick t u i
 
 -- One blend with the weights A and B and the delay h. With p the pole's half period in ticks, and b
 -- its second weight as a part of A + B, a sway of the pole has misfits up to 2|b − B|G + A|p − h| ×
 -- entries × D. This is that times the pole's weights.
-abbrev pub measuredMisfit : ℕ → ℕ → ℕ → TruePole → ℕ → ℕ → ℕ
-measuredMisfit A B h t G D =
+abbrev pub measured_misfit : ℕ → ℕ → ℕ → TruePole → ℕ → ℕ → ℕ
+measured_misfit A B h t G D =
     2 * (apart ((A + B) * t.after) (weights t * B) * G) + weights t * (A * (apart t.turn (t.entries * h) * D))
 
 -- a pole in place of the first rate, and twice that with a second sway
-abbrev pub firstMisfitBy : SecondSway → ℕ → ℕ
-firstMisfitBy Absent e = e
-firstMisfitBy (HalfPeriod d) e = 2 * e
+abbrev pub first_misfit_by : SecondSway → ℕ → ℕ
+first_misfit_by Absent e = e
+first_misfit_by (HalfPeriod d) e = 2 * e
 
-abbrev pub firstMisfit : Axis → TruePole → ℕ → ℕ → ℕ
-firstMisfit x t G D =
-    firstMisfitBy x.second_sway (measuredMisfit (256 - secondWeight x) (secondWeight x) (halfPeriod x) t G D)
+abbrev pub first_misfit : Axis → TruePole → ℕ → ℕ → ℕ
+first_misfit x t G D =
+    first_misfit_by x.second_sway (measured_misfit (256 - second_weight x) (second_weight x) (half_period x) t G D)
 
 -- a pole in place of the second, whose half period is d
-abbrev pub secondMisfit : ℕ → TruePole → ℕ → ℕ → ℕ
-secondMisfit d t G D = 256 * measuredMisfit 1 1 d t G D
+abbrev pub second_misfit : ℕ → TruePole → ℕ → ℕ → ℕ
+second_misfit d t G D = 256 * measured_misfit 1 1 d t G D
 
 pub record MeasuredMisfits (x : Axis) : Type 0 where
   pub first : (t : TruePole) (n m G D : ℕ) (u : ℕ → ℤ) → SwayOf t m G D u
-      → Misfits x n m (firstMisfit x t G D) (weighted t u)
+      → Misfits x n m (first_misfit x t G D) (weighted t u)
   pub second : (d : ℕ) (t : TruePole) (n m G D : ℕ) (u : ℕ → ℤ) → x.second_sway ≡ HalfPeriod d → SwayOf t m G D u
-      → Misfits x n m (secondMisfit d t G D) (weighted t u)
+      → Misfits x n m (second_misfit d t G D) (weighted t u)
   -- whatever the list fits
-  pub any : (n m G : ℕ) (w : ℕ → ℤ) → Entries n m G w → Misfits x n m (firstMisfitBy x.second_sway (256 * G)) w
+  pub any : (n m G : ℕ) (w : ℕ → ℤ) → Entries n m G w → Misfits x n m (first_misfit_by x.second_sway (256 * G)) w
 
 -- ---- how much the planned accelerations change in all
 
 -- the sum of the sizes of the changes of rows 0 to n
 abbrev pub variation : (ℕ → ℤ) → ℕ → ℕ
-variation a zero = nat_abs (accelerationChange a zero)
-variation a (suc n) = variation a n + nat_abs (accelerationChange a (suc n))
+variation a zero = nat_abs (acceleration_change a zero)
+variation a (suc n) = variation a n + nat_abs (acceleration_change a (suc n))
 
 -- up to the landing; from there on nothing changes
-abbrev pub plannedVariation : Axis → ℕ → ℕ
-plannedVariation x n = variation (λ k. (tickAt (plannedAxis n x) k).acceleration) (landingTick x n)
+abbrev pub planned_variation : Axis → ℕ → ℕ
+planned_variation x n = variation (λ k. (tick_at (planned_axis n x) k).acceleration) (landing_tick x n)
 
 -- ---- the claim, of one axis whose planned accelerations change by at most `most` in all: x is
 -- axis i of the table g, and N the arrival
 
 -- what the rounding of the cells of rows 0 to n adds at most, of entries up to G
-abbrev pub roundingLeft : ℕ → ℕ → ℕ
-roundingLeft n G = n * G
+abbrev pub rounding_left : ℕ → ℕ → ℕ
+rounding_left n G = n * G
 
 -- the divisor times the sway left is at most `most` × E before rounding, and as
 -- rounded at most divisor × N × G more
 pub record SwayLeft (most : Axis → ℕ → ℕ) (x : Axis) (i n : ℕ) (g : CellTable) : Type 0 where
   pub exact : (m E : ℕ) (w : ℕ → ℤ) → n ≤ m → Misfits x n m E w
-      → nat_abs (sway (λ k. blend (plannedAxis n x) k (λ s. s.acceleration)) w m n) ≤ most x n * E
+      → nat_abs (sway (λ k. blend (planned_axis n x) k (λ s. s.acceleration)) w m n) ≤ most x n * E
   pub rounded : (m E G : ℕ) (w : ℕ → ℤ) → n ≤ m → Misfits x n m E w → Entries n m G w
-      → divisor x * nat_abs (sway (accelerationCell g i) w m n) ≤ most x n * E + divisor x * roundingLeft n G
+      → divisor x * nat_abs (sway (acceleration_cell g i) w m n) ≤ most x n * E + divisor x * rounding_left n G
 
 -- ---- the claim, of poles as they swing in truth: no misfit is in it
 
 -- the weights of the pole, times the divisor, times the sway left
 pub record PoleLeft (x : Axis) (i n : ℕ) (g : CellTable) (t : TruePole) (m G most : ℕ) (u : ℕ → ℤ) : Type 0 where
-  pub exact : weights t * nat_abs (sway (λ k. blend (plannedAxis n x) k (λ s. s.acceleration)) (byTick t u) m n) ≤ most
-  pub rounded : divisor x * (weights t * nat_abs (sway (accelerationCell g i) (byTick t u) m n))
-      ≤ most + divisor x * roundingLeft n (weights t * G)
+  pub exact : weights t * nat_abs (sway (λ k. blend (planned_axis n x) k (λ s. s.acceleration)) (by_tick t u) m n) ≤ most
+  pub rounded : divisor x * (weights t * nat_abs (sway (acceleration_cell g i) (by_tick t u) m n))
+      ≤ most + divisor x * rounding_left n (weights t * G)
 
 pub record MeasuredLeft (most : Axis → ℕ → ℕ) (x : Axis) (i n : ℕ) (g : CellTable) : Type 0 where
   pub first : (t : TruePole) (m G D : ℕ) (u : ℕ → ℤ) → n ≤ m → SwayOf t m G D u
-      → PoleLeft x i n g t m G (most x n * firstMisfit x t G D) u
+      → PoleLeft x i n g t m G (most x n * first_misfit x t G D) u
   pub second : (d : ℕ) (t : TruePole) (m G D : ℕ) (u : ℕ → ℤ) → n ≤ m
       → x.second_sway ≡ HalfPeriod d → SwayOf t m G D u
-      → PoleLeft x i n g t m G (most x n * secondMisfit d t G D) u
+      → PoleLeft x i n g t m G (most x n * second_misfit d t G D) u
 
 -- ---- both claims, of every axis of every call that returns number 0, from words or
 -- from typed values, in either order
@@ -147,8 +147,8 @@ pub record MeasuredLeft (most : Axis → ℕ → ℕ) (x : Axis) (i n : ℕ) (g 
 abbrev pub OfCalls : (Axis → ℕ → ℕ → CellTable → Type 0) → Type 0
 OfCalls Claim =
     (o : Order) (q : Input) (lent : List ℤ) → (call_in o q lent).number ≡ 0 → (i : ℕ) (x : Axis)
-    → get_elem? (inputAxes q) i ≡ some x
-    → Claim x i (call_in o q lent).arrival (tableIn o (inputAxes q) (call_in o q lent).arrival (call_in o q lent).cells)
+    → get_elem? (input_axes q) i ≡ some x
+    → Claim x i (call_in o q lent).arrival (table_in o (input_axes q) (call_in o q lent).arrival (call_in o q lent).cells)
 
 abbrev pub SwayLeftHolds : (Axis → ℕ → ℕ) → Type 0
 SwayLeftHolds most = OfCalls (SwayLeft most)

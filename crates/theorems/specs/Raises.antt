@@ -13,9 +13,9 @@ use Rattle.model.specs.declared.RaisesAnswer.{RaisesAnswer}
 use Rattle.model.specs.planning.Motion.{Reachable}
 use Rattle.model.specs.planning.Job.{Job, JobAxis, bit}
 use Rattle.model.specs.declared.Order.TheVariants.{Forwards}
-use Rattle.model.specs.planning.Outcome.{Outcome, Input, beforeTen}
+use Rattle.model.specs.planning.Outcome.{Outcome, Input, before_ten}
 use Rattle.theorems.specs.Verdict.{Among, Verdict, ByInput}
-use Rattle.model.specs.calls.Raises.{limitOf, highest, withLimit, noRaises, noneRaised}
+use Rattle.model.specs.calls.Raises.{limit_of, highest, with_limit, no_raises, none_raised}
 
 -- ---- what an answer says, by the existence of a list
 
@@ -26,20 +26,20 @@ pub data RaiseIs (Q : ℕ → Type 0) (l most : ℕ) : Option ℕ → Type 0 whe
   no_raise : ((i : ℕ) → l + i ≤ most → Q (l + i) → ⊥) → RaiseIs Q l most none
 
 -- the raise of a limit that an axis's raises report, first or second
-abbrev pub raiseIn : Limit → Raise → Option ℕ → Option ℕ
-raiseIn Acceleration (AccelerationBy m) o = some m
-raiseIn Acceleration (SpeedBy l) o = o
-raiseIn Acceleration NoRaise o = o
-raiseIn Speed (AccelerationBy m) o = o
-raiseIn Speed (SpeedBy l) o = some l
-raiseIn Speed NoRaise o = o
+abbrev pub raise_in : Limit → Raise → Option ℕ → Option ℕ
+raise_in Acceleration (AccelerationBy m) o = some m
+raise_in Acceleration (SpeedBy l) o = o
+raise_in Acceleration NoRaise o = o
+raise_in Speed (AccelerationBy m) o = o
+raise_in Speed (SpeedBy l) o = some l
+raise_in Speed NoRaise o = o
 
 abbrev pub reported : Limit → AxisRaises → Option ℕ
-reported q r = raiseIn q r.first (raiseIn q r.second none)
+reported q r = raise_in q r.first (raise_in q r.second none)
 
 -- what may stand first and second
 pub data Ordered : AxisRaises → Type 0 where
-  neither : Ordered noRaises
+  neither : Ordered no_raises
   acceleration : (m : ℕ) → Ordered (record { first = AccelerationBy m; second = NoRaise })
   speed : (l : ℕ) → Ordered (record { first = SpeedBy l; second = NoRaise })
   acceleration-first : (m l : ℕ) → m ≤ l → Ordered (record { first = AccelerationBy m; second = SpeedBy l })
@@ -49,12 +49,12 @@ pub data Ordered : AxisRaises → Type 0 where
 pub record RaisesSay (x : Axis) (n : ℕ) (r : AxisRaises) : Type 0 where
   -- of each limit alone: the raise that is reported is enough and one less is not; where none is
   -- reported, no limit of the range is
-  pub each : (q : Limit) → RaiseIs (λ k. Reachable (withLimit q k x) n) (limitOf q x) (highest q) (reported q r)
+  pub each : (q : Limit) → RaiseIs (λ k. Reachable (with_limit q k x) n) (limit_of q x) (highest q) (reported q r)
   pub ordered : Ordered r
 
 -- the entry of axis i
-abbrev pub raisesAt : RaisesAnswer → ℕ → AxisRaises
-raisesAt r i = get_or r.axes i noRaises
+abbrev pub raises_at : RaisesAnswer → ℕ → AxisRaises
+raises_at r i = get_or r.axes i no_raises
 
 -- axis i is one that an answer with number 8 names
 abbrev pub Named : Answer → ℕ → Type 0
@@ -63,8 +63,8 @@ Named a i = (a.number ≡ 8) × (bit a.mask i ≡ true)
 -- the answer to a job: each axis that is named has its raises, and no other entry has any
 pub record RaisesHold (j : Job) (r : RaisesAnswer) : Type 0 where
   pub named : (x : JobAxis) → Among j.axes x → Named r.answer x.number
-      → RaisesSay x.axis j.asked (raisesAt r x.number)
-  pub others : (i : ℕ) → (Named r.answer i → ⊥) → raisesAt r i ≡ noRaises
+      → RaisesSay x.axis j.asked (raises_at r x.number)
+  pub others : (i : ℕ) → (Named r.answer i → ⊥) → raises_at r i ≡ no_raises
 
 -- ---- what each number says
 
@@ -73,12 +73,12 @@ pub record RaisesHold (j : Job) (r : RaisesAnswer) : Type 0 where
 pub record RaisesVerdict (j : Job) (r : RaisesAnswer) : Type 0 where
   pub outcome : Outcome
   pub planned : Verdict Forwards j [] outcome
-  pub answer : r.answer ≡ beforeTen j.mask outcome
+  pub answer : r.answer ≡ before_ten j.mask outcome
   pub holds : RaisesHold j r
 
 -- a refusal of the words or of the mask, without raises
-abbrev pub refuseRaises : ℕ → ℕ → RaisesAnswer
-refuseRaises n p = record { answer = record { number = n; place = p; mask = 0; arrival = 0 }; axes = noneRaised }
+abbrev pub refuse_raises : ℕ → ℕ → RaisesAnswer
+refuse_raises n p = record { answer = record { number = n; place = p; mask = 0; arrival = 0 }; axes = none_raised }
 
 abbrev pub RaisesCallVerdict : Input → RaisesAnswer → Type 0
-RaisesCallVerdict q r = ByInput (λ n p. r ≡ refuseRaises n p) (λ j. RaisesVerdict j r) q
+RaisesCallVerdict q r = ByInput (λ n p. r ≡ refuse_raises n p) (λ j. RaisesVerdict j r) q

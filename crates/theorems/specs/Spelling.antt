@@ -8,12 +8,12 @@ use Rattle.model.specs.declared.SecondSway.TheVariants.{Absent, HalfPeriod}
 use Rattle.model.specs.declared.Target.{Target}
 use Rattle.model.specs.declared.Target.TheVariants.{Fixed, Moving}
 use Rattle.model.specs.declared.Weight.TheVariants.{Given}
-use Rattle.model.specs.planning.Quantities.{speedLimit, accelerationLimit, halfPeriod, secondWeight}
-use Rattle.model.specs.planning.Windows.{noWindows}
-use Rattle.model.specs.planning.Job.{Job, JobAxis, setBits}
-use Rattle.model.specs.planning.Words.{word, kind, payload, fitsWord, firstBadLong, got, wrong, give, signed, position}
-use Rattle.model.specs.planning.Words.{afterMaskBy, goodMask, Decoded, noMask, badWord, job, decode}
-use Rattle.model.specs.planning.Refusals.{positionAllowed}
+use Rattle.model.specs.planning.Quantities.{speed_limit, acceleration_limit, half_period, second_weight}
+use Rattle.model.specs.planning.Windows.{no_windows}
+use Rattle.model.specs.planning.Job.{Job, JobAxis, set_bits}
+use Rattle.model.specs.planning.Words.{word, kind, payload, fits_word, first_bad_long, got, wrong, give, signed, position}
+use Rattle.model.specs.planning.Words.{after_mask_by, good_mask, Decoded, no_mask, bad_word, job, decode}
+use Rattle.model.specs.planning.Refusals.{position_allowed}
 
 -- the 28 bits of a number, two's complement
 abbrev pub bits : ℤ → ℕ
@@ -21,64 +21,64 @@ bits (pos n) = n
 bits (negsuc n) = 2 ^ 28 - suc n
 
 -- a number by 2²⁸: the quotient downward, and what is left, from 0 up
-abbrev pub highPart : ℤ → ℤ
-highPart (pos n) = pos (n / 2 ^ 28)
-highPart (negsuc n) = negsuc (n / 2 ^ 28)
+abbrev pub high_part : ℤ → ℤ
+high_part (pos n) = pos (n / 2 ^ 28)
+high_part (negsuc n) = negsuc (n / 2 ^ 28)
 
-abbrev pub lowPart : ℤ → ℕ
-lowPart (pos n) = n % 2 ^ 28
-lowPart (negsuc n) = 2 ^ 28 - suc (n % 2 ^ 28)
+abbrev pub low_part : ℤ → ℕ
+low_part (pos n) = n % 2 ^ 28
+low_part (negsuc n) = 2 ^ 28 - suc (n % 2 ^ 28)
 
 -- the words of a position: one where it fits, else two
-abbrev pub positionWords : ℕ → ℤ → List ℕ
-positionWords k p =
-    elim (fitsWord p) [ true ↦ word k (bits p) ∷ [] | false ↦ word 14 (bits (highPart p)) ∷ word k (lowPart p) ∷ [] ]
+abbrev pub position_words : ℕ → ℤ → List ℕ
+position_words k p =
+    elim (fits_word p) [ true ↦ word k (bits p) ∷ [] | false ↦ word 14 (bits (high_part p)) ∷ word k (low_part p) ∷ [] ]
 
 -- ---- a position has one spelling only
 
 -- words that are read as a position of kind k, whole, and that refusal 14 lets pass
 pub record SpellsPosition (k : ℕ) (p : ℤ) (ws : List ℕ) : Type 0 where
   pub read : position k 0 ws ≡ got p (length ws) []
-  pub allowed : firstBadLong 0 ws ≡ none
+  pub allowed : first_bad_long 0 ws ≡ none
 
 -- each position of the range has a spelling, no other words spell it, and no
 -- position outside the range has one
 pub record OnePositionSpelling (k : ℕ) (p : ℤ) : Type 0 where
-  pub spelled : positionAllowed p ≡ true → SpellsPosition k p (positionWords k p)
-  pub only : (ws : List ℕ) → SpellsPosition k p ws → ws ≡ positionWords k p
-  pub inside : (ws : List ℕ) → SpellsPosition k p ws → positionAllowed p ≡ true
+  pub spelled : position_allowed p ≡ true → SpellsPosition k p (position_words k p)
+  pub only : (ws : List ℕ) → SpellsPosition k p ws → ws ≡ position_words k p
+  pub inside : (ws : List ℕ) → SpellsPosition k p ws → position_allowed p ≡ true
 
 abbrev pub PositionSpelling : Type 0
 PositionSpelling = (k : ℕ) → (k ≡ 3) ⊎ (k ≡ 9) → (p : ℤ) → OnePositionSpelling k p
 
 -- ---- the words of a job
 
-abbrev pub targetWords : Target → List ℕ
-targetWords (Fixed r) = positionWords 9 r.position ++ (word 10 (bits r.velocity) ∷ [])
-targetWords (Moving m) =
-    positionWords 9 m.position
+abbrev pub target_words : Target → List ℕ
+target_words (Fixed r) = position_words 9 r.position ++ (word 10 (bits r.velocity) ∷ [])
+target_words (Moving m) =
+    position_words 9 m.position
     ++ (word 10 (bits m.velocity) ∷ word 11 (bits m.acceleration) ∷ word 12 (bits m.tick) ∷ [])
 
-abbrev pub swayWords : SecondSway → List ℕ
-swayWords Absent = []
-swayWords (HalfPeriod d) = word 13 d ∷ []
+abbrev pub sway_words : SecondSway → List ℕ
+sway_words Absent = []
+sway_words (HalfPeriod d) = word 13 d ∷ []
 
-abbrev pub axisWords : Axis → List ℕ
-axisWords x =
-    positionWords 3 x.start.position
+abbrev pub axis_words : Axis → List ℕ
+axis_words x =
+    position_words 3 x.start.position
     ++ (word 4 (bits x.start.velocity)
-    ∷ word 5 (speedLimit x)
-    ∷ word 6 (accelerationLimit x)
-    ∷ word 7 (halfPeriod x)
-    ∷ word 8 (secondWeight x)
-    ∷ (swayWords x.second_sway ++ targetWords x.target))
+    ∷ word 5 (speed_limit x)
+    ∷ word 6 (acceleration_limit x)
+    ∷ word 7 (half_period x)
+    ∷ word 8 (second_weight x)
+    ∷ (sway_words x.second_sway ++ target_words x.target))
 
-abbrev pub axesWords : List JobAxis → List ℕ
-axesWords [] = []
-axesWords (x ∷ xs) = axisWords x.axis ++ axesWords xs
+abbrev pub axes_words : List JobAxis → List ℕ
+axes_words [] = []
+axes_words (x ∷ xs) = axis_words x.axis ++ axes_words xs
 
-abbrev pub jobWords : Job → List ℕ
-jobWords j = word 1 j.mask ∷ word 2 j.asked ∷ (axesWords j.axes ++ (word 15 0 ∷ []))
+abbrev pub job_words : Job → List ℕ
+job_words j = word 1 j.mask ∷ word 2 j.asked ∷ (axes_words j.axes ++ (word 15 0 ∷ []))
 
 -- ---- which job words spell, said without a reader of words
 
@@ -89,10 +89,10 @@ SwayInWords Absent = Unit
 SwayInWords (HalfPeriod d) = d < 2 ^ 28
 
 pub record StateInWords (p v a t : ℤ) : Type 0 where
-  pub position : positionAllowed p ≡ true
-  pub velocity : fitsWord v ≡ true
-  pub acceleration : fitsWord a ≡ true
-  pub tick : fitsWord t ≡ true
+  pub position : position_allowed p ≡ true
+  pub velocity : fits_word v ≡ true
+  pub acceleration : fits_word a ≡ true
+  pub tick : fits_word t ≡ true
 
 -- a fixed target has no words for acceleration and tick
 abbrev pub TargetInWords : Target → Type 0
@@ -100,14 +100,14 @@ TargetInWords (Fixed r) = StateInWords r.position r.velocity (pos 0) (pos 0)
 TargetInWords (Moving m) = StateInWords m.position m.velocity m.acceleration m.tick
 
 pub record AxisInWords (x : Axis) : Type 0 where
-  pub position : positionAllowed x.start.position ≡ true
-  pub velocity : fitsWord x.start.velocity ≡ true
-  pub speed : speedLimit x < 2 ^ 28
-  pub acceleration : accelerationLimit x < 2 ^ 28
-  pub period : halfPeriod x < 2 ^ 28
+  pub position : position_allowed x.start.position ≡ true
+  pub velocity : fits_word x.start.velocity ≡ true
+  pub speed : speed_limit x < 2 ^ 28
+  pub acceleration : acceleration_limit x < 2 ^ 28
+  pub period : half_period x < 2 ^ 28
   -- words bring the number B, not damping as measured
-  pub given : x.second_weight ≡ Given (secondWeight x)
-  pub weight : secondWeight x < 2 ^ 28
+  pub given : x.second_weight ≡ Given (second_weight x)
+  pub weight : second_weight x < 2 ^ 28
   pub sway : SwayInWords x.second_sway
   pub target : TargetInWords x.target
 
@@ -122,12 +122,12 @@ AxesInWords (n ∷ ns) (x ∷ xs) = (x.number ≡ n) × (AxisInWords x.axis × A
 pub record JobInWords (j : Job) : Type 0 where
   pub mask : (1 ≤ j.mask) × (j.mask ≤ 63)
   pub asked : j.asked < 2 ^ 28
-  pub axes : AxesInWords (setBits j.mask) j.axes
-  pub windows : j.windows ≡ noWindows
+  pub axes : AxesInWords (set_bits j.mask) j.axes
+  pub windows : j.windows ≡ no_windows
 
 pub record SpellsJob (ws : List ℕ) (j : Job) : Type 0 where
   pub inside : JobInWords j
-  pub words : ws ≡ jobWords j
+  pub words : ws ≡ job_words j
 
 -- words are read as a job exactly where they spell it: the words of every job are read as that job,
 -- and no others are, so that no job has two spellings
@@ -138,12 +138,12 @@ OneSpelling = (ws : List ℕ) (j : Job) → (decode ws ≡ job j) ↔ SpellsJob 
 
 -- the reading of docs/METHOD.md, 6.1 and 6.2, without kinds 13 and 14: each position is one word,
 -- no axis has a second sway, and 1 and 2 are the only refusals
-abbrev pub oldDecode : List ℕ → Decoded
-oldDecode [] = noMask
-oldDecode (w ∷ ws) =
-    elim (eqb (kind w) 1 && goodMask (payload w)) [
-      | true ↦ elim (afterMaskBy signed (give Absent) (payload w) 1 ws) [ got j i rest ↦ job j | wrong p ↦ badWord p ]
-      | false ↦ noMask
+abbrev pub old_decode : List ℕ → Decoded
+old_decode [] = no_mask
+old_decode (w ∷ ws) =
+    elim (eqb (kind w) 1 && good_mask (payload w)) [
+      | true ↦ elim (after_mask_by signed (give Absent) (payload w) 1 ws) [ got j i rest ↦ job j | wrong p ↦ bad_word p ]
+      | false ↦ no_mask
     ]
 
 -- no word is of kind 14 or 13
@@ -152,4 +152,4 @@ OldKinds [] = Unit
 OldKinds (w ∷ ws) = (kind w ≡ 14 → ⊥) × ((kind w ≡ 13 → ⊥) × OldKinds ws)
 
 abbrev pub OldJobsKept : Type 0
-OldJobsKept = (ws : List ℕ) → OldKinds ws → decode ws ≡ oldDecode ws
+OldJobsKept = (ws : List ℕ) → OldKinds ws → decode ws ≡ old_decode ws

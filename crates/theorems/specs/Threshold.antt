@@ -3,8 +3,8 @@
 -- The theorem `arrivals-are-runs` says it of every job whose axes pass the refusals of one axis.
 use Rattle.std.specs.Prelude.{ℕ, suc, ◌≤◌, nat_abs}
 use Rattle.model.specs.declared.Axis.{Axis}
-use Rattle.model.specs.planning.Quantities.{delay, speedSteps}
-use Rattle.model.specs.planning.Motion.{Reachable, landingVelocity, arrivalVelocity}
+use Rattle.model.specs.planning.Quantities.{delay, speed_steps}
+use Rattle.model.specs.planning.Motion.{Reachable, landing_velocity, arrival_velocity}
 use Rattle.model.specs.planning.Job.{Job, JobAxis}
 use Rattle.model.specs.planning.Refusals.{AllPassed}
 use Rattle.theorems.specs.Verdict.{Among, AllReachable}
@@ -12,8 +12,8 @@ use Rattle.theorems.specs.Verdict.{Among, AllReachable}
 -- the target is slow enough for arrival n: what rule 4 asks of the planned velocities at
 -- the landing and at the arrival
 pub record Slow (x : Axis) (n : ℕ) : Type 0 where
-  pub landed : nat_abs (landingVelocity x n) ≤ speedSteps x
-  pub arrived : nat_abs (arrivalVelocity x n) ≤ speedSteps x
+  pub landed : nat_abs (landing_velocity x n) ≤ speed_steps x
+  pub arrived : nat_abs (arrival_velocity x n) ≤ speed_steps x
 
 -- from a first tick on, Q holds of one run of ticks: where it holds of two, it holds of all between
 -- them

@@ -12,14 +12,14 @@ use Rattle.model.specs.planning.Motion.{Reachable}
 use Rattle.model.specs.planning.Windows.{brought}
 use Rattle.theorems.specs.Windows.{FitsOne, WindowsWrong, WindowsRight}
 use Rattle.model.specs.planning.Rows.{table}
-use Rattle.model.specs.planning.Job.{Job, JobAxis, axesOf, job_of, bit}
-use Rattle.model.specs.planning.Words.{kind, payload, twos, longPosition, between, fitsWord, Decoded, noMask}
-use Rattle.model.specs.planning.Words.{badWord, badLong, job, decode}
+use Rattle.model.specs.planning.Job.{Job, JobAxis, axes_of, job_of, bit}
+use Rattle.model.specs.planning.Words.{kind, payload, twos, long_position, between, fits_word, Decoded, no_mask}
+use Rattle.model.specs.planning.Words.{bad_word, bad_long, job, decode}
 use Rattle.theorems.specs.Grammar.{WellFormed, FirstWrong}
 use Rattle.theorems.specs.Spelling.{SpellsJob}
-use Rattle.model.specs.planning.Refusals.{limitsRefused, dampingRefused, blendRefused, swayRefused, valuesRefused}
-use Rattle.model.specs.planning.Refusals.{accelerationRefused, flyingRefused, AllPassed}
-use Rattle.model.specs.planning.Outcome.{Outcome, Input, words, typed, cellsNeeded, jobOutcome}
+use Rattle.model.specs.planning.Refusals.{limits_refused, damping_refused, blend_refused, sway_refused, values_refused}
+use Rattle.model.specs.planning.Refusals.{acceleration_refused, flying_refused, AllPassed}
+use Rattle.model.specs.planning.Outcome.{Outcome, Input, words, typed, cells_needed, job_outcome}
 
 -- ---- the two kinds of answer
 
@@ -38,7 +38,7 @@ pub record Accepts (w : Order) (o : Outcome) (j : Job) (n : ℕ) (lent : List �
   pub place : o.place ≡ 0
   pub mask : o.mask ≡ j.mask
   pub arrival : o.arrival ≡ n
-  pub cells : o.cells ≡ table w (axesOf j) n ++ drop (cellsNeeded (length (axesOf j)) n) lent
+  pub cells : o.cells ≡ table w (axes_of j) n ++ drop (cells_needed (length (axes_of j)) n) lent
 
 -- ---- axes of a list
 
@@ -93,24 +93,24 @@ WindowsPass j = j.windows.given ≡ true → WindowsRight j.windows
 
 pub data Verdict (w : Order) (j : Job) (lent : List ℤ) (o : Outcome) : Type 0 where
   refused3 : 4096 < j.asked → Refuses o 3 1 0 0 lent → Verdict w j lent o
-  refused4 : (i : ℕ) → j.asked ≤ 4096 → FirstRefused limitsRefused j.axes i
+  refused4 : (i : ℕ) → j.asked ≤ 4096 → FirstRefused limits_refused j.axes i
       → Refuses o 4 i 0 0 lent → Verdict w j lent o
-  refused12 : (i : ℕ) → j.asked ≤ 4096 → NoneRefused limitsRefused j.axes → FirstRefused dampingRefused j.axes i
+  refused12 : (i : ℕ) → j.asked ≤ 4096 → NoneRefused limits_refused j.axes → FirstRefused damping_refused j.axes i
       → Refuses o 12 i 0 0 lent → Verdict w j lent o
-  refused5 : (i : ℕ) → j.asked ≤ 4096 → NoneRefused limitsRefused j.axes → NoneRefused dampingRefused j.axes
-      → FirstRefused blendRefused j.axes i → Refuses o 5 i 0 0 lent → Verdict w j lent o
-  refused15 : (i : ℕ) → j.asked ≤ 4096 → NoneRefused limitsRefused j.axes → NoneRefused dampingRefused j.axes
-      → NoneRefused blendRefused j.axes → FirstRefused swayRefused j.axes i
+  refused5 : (i : ℕ) → j.asked ≤ 4096 → NoneRefused limits_refused j.axes → NoneRefused damping_refused j.axes
+      → FirstRefused blend_refused j.axes i → Refuses o 5 i 0 0 lent → Verdict w j lent o
+  refused15 : (i : ℕ) → j.asked ≤ 4096 → NoneRefused limits_refused j.axes → NoneRefused damping_refused j.axes
+      → NoneRefused blend_refused j.axes → FirstRefused sway_refused j.axes i
       → Refuses o 15 i 0 0 lent → Verdict w j lent o
-  refused6 : (i : ℕ) → j.asked ≤ 4096 → NoneRefused limitsRefused j.axes → NoneRefused dampingRefused j.axes
-      → NoneRefused blendRefused j.axes → NoneRefused swayRefused j.axes → FirstRefused valuesRefused j.axes i
+  refused6 : (i : ℕ) → j.asked ≤ 4096 → NoneRefused limits_refused j.axes → NoneRefused damping_refused j.axes
+      → NoneRefused blend_refused j.axes → NoneRefused sway_refused j.axes → FirstRefused values_refused j.axes i
       → Refuses o 6 i 0 0 lent → Verdict w j lent o
-  refused16 : (i : ℕ) → j.asked ≤ 4096 → NoneRefused limitsRefused j.axes → NoneRefused dampingRefused j.axes
-      → NoneRefused blendRefused j.axes → NoneRefused swayRefused j.axes → NoneRefused valuesRefused j.axes
-      → FirstRefused accelerationRefused j.axes i → Refuses o 16 i 0 0 lent → Verdict w j lent o
-  refused17 : (i : ℕ) → j.asked ≤ 4096 → NoneRefused limitsRefused j.axes → NoneRefused dampingRefused j.axes
-      → NoneRefused blendRefused j.axes → NoneRefused swayRefused j.axes → NoneRefused valuesRefused j.axes
-      → NoneRefused accelerationRefused j.axes → FirstRefused flyingRefused j.axes i
+  refused16 : (i : ℕ) → j.asked ≤ 4096 → NoneRefused limits_refused j.axes → NoneRefused damping_refused j.axes
+      → NoneRefused blend_refused j.axes → NoneRefused sway_refused j.axes → NoneRefused values_refused j.axes
+      → FirstRefused acceleration_refused j.axes i → Refuses o 16 i 0 0 lent → Verdict w j lent o
+  refused17 : (i : ℕ) → j.asked ≤ 4096 → NoneRefused limits_refused j.axes → NoneRefused damping_refused j.axes
+      → NoneRefused blend_refused j.axes → NoneRefused sway_refused j.axes → NoneRefused values_refused j.axes
+      → NoneRefused acceleration_refused j.axes → FirstRefused flying_refused j.axes i
       → Refuses o 17 i 0 0 lent → Verdict w j lent o
   -- windows are brought, and they are not right
   refused13 : (p : ℕ) → j.asked ≤ 4096 → AllPassed j.axes → j.windows.given ≡ true → WindowsWrong j.windows p
@@ -126,10 +126,10 @@ pub data Verdict (w : Order) (j : Job) (lent : List ℤ) (o : Outcome) : Type 0 
       → ((n : ℕ) → 1 ≤ n → n ≤ 4096 → Arrives j n → ⊥) → Names ReachesNone j.axes m
       → Refuses o 9 0 m 0 lent → Verdict w j lent o
   refused10 : (n : ℕ) → AllPassed j.axes → WindowsPass j → IsArrival j n
-      → length lent < cellsNeeded (length j.axes) n
+      → length lent < cells_needed (length j.axes) n
       → Refuses o 10 0 0 n lent → Verdict w j lent o
   accepted : (n : ℕ) → AllPassed j.axes → WindowsPass j → IsArrival j n
-      → cellsNeeded (length j.axes) n ≤ length lent
+      → cells_needed (length j.axes) n ≤ length lent
       → Accepts w o j n lent → Verdict w j lent o
 
 -- ---- 8 and 9 of a job that every refusal before them lets pass
@@ -148,12 +148,12 @@ pub record OutsideWindows (j : Job) (n : ℕ) : Type 0 where
 -- 8 with mask 0 comes exactly where the asked arrival is such a tick
 abbrev pub EightOutside : Type 0
 EightOutside = (j : Job) (lent : List ℤ) → Passing j → 1 ≤ j.asked
-    → (((jobOutcome j lent).number ≡ 8) × ((jobOutcome j lent).mask ≡ 0)) ↔ OutsideWindows j j.asked
+    → (((job_outcome j lent).number ≡ 8) × ((job_outcome j lent).mask ≡ 0)) ↔ OutsideWindows j j.asked
 
 -- 9 comes exactly where no arrival from 1 to 4,096 is reached by every axis and fits a window
 abbrev pub NineNowhere : Type 0
 NineNowhere = (j : Job) (lent : List ℤ) → Passing j → j.asked ≡ 0
-    → ((jobOutcome j lent).number ≡ 9) ↔ ((n : ℕ) → 1 ≤ n → n ≤ 4096 → Arrives j n → ⊥)
+    → ((job_outcome j lent).number ≡ 9) ↔ ((n : ℕ) → 1 ≤ n → n ≤ 4096 → Arrives j n → ⊥)
 
 -- ---- the calls
 
@@ -178,7 +178,7 @@ pub record WordWrong (ws : List ℕ) (p : ℕ) : Type 0 where
 pub record LongWrong (w u : ℕ) : Type 0 where
   pub long : kind w ≡ 14
   pub wrong : (between (negsuc 63) (pos 63) (twos (payload w)) ≡ false)
-      ⊎ (fitsWord (longPosition (payload w) (payload u)) ≡ true)
+      ⊎ (fits_word (long_position (payload w) (payload u)) ≡ true)
 
 -- the word of index p is the first such
 pub record FirstLongWrong (ws : List ℕ) (p : ℕ) : Type 0 where
@@ -198,9 +198,9 @@ NoneLongWrong ws = (k w u : ℕ) → get_elem? ws k ≡ some w → get_elem? ws 
 -- the mask word is wrong; another word is; all are allowed but one of kind 14 is wrong;
 -- or none is, and they spell a job
 abbrev pub WordsAre : List ℕ → Decoded → Type 0
-WordsAre ws noMask = MaskWordWrong ws
-WordsAre ws (badWord p) = WordWrong ws p
-WordsAre ws (badLong p) = WellFormed ws × FirstLongWrong ws p
+WordsAre ws no_mask = MaskWordWrong ws
+WordsAre ws (bad_word p) = WordWrong ws p
+WordsAre ws (bad_long p) = WellFormed ws × FirstLongWrong ws p
 WordsAre ws (job j) = WellFormed ws × (NoneLongWrong ws × SpellsJob ws j)
 
 -- the decoder gives exactly the case that they are
@@ -211,12 +211,12 @@ DecodesAre = (ws : List ℕ) (d : Decoded) → (decode ws ≡ d) ↔ WordsAre ws
 -- number n and place p, P j what it says of the job j
 
 pub data ByInput (R : ℕ → ℕ → Type 0) (P : Job → Type 0) : Input → Type 0 where
-  words1 : (ws : List ℕ) → WordsAre ws noMask → R 1 0 → ByInput R P (words ws)
-  words2 : (ws : List ℕ) (p : ℕ) → WordsAre ws (badWord p) → R 2 p → ByInput R P (words ws)
-  words14 : (ws : List ℕ) (p : ℕ) → WordsAre ws (badLong p) → R 14 p → ByInput R P (words ws)
-  wordsJob : (ws : List ℕ) (j : Job) → WordsAre ws (job j) → P j → ByInput R P (words ws)
+  words1 : (ws : List ℕ) → WordsAre ws no_mask → R 1 0 → ByInput R P (words ws)
+  words2 : (ws : List ℕ) (p : ℕ) → WordsAre ws (bad_word p) → R 2 p → ByInput R P (words ws)
+  words14 : (ws : List ℕ) (p : ℕ) → WordsAre ws (bad_long p) → R 14 p → ByInput R P (words ws)
+  words_job : (ws : List ℕ) (j : Job) → WordsAre ws (job j) → P j → ByInput R P (words ws)
   typed1 : (t : Typed.Job) → MaskOutside t.mask → R 1 0 → ByInput R P (typed t)
-  typedJobs : (t : Typed.Job) → 1 ≤ t.mask → t.mask ≤ 63 → P (job_of t) → ByInput R P (typed t)
+  typed_jobs : (t : Typed.Job) → 1 ≤ t.mask → t.mask ≤ 63 → P (job_of t) → ByInput R P (typed t)
 
 -- a call for a table
 abbrev pub CallVerdict : Order → List ℤ → Outcome → Input → Type 0

@@ -18,34 +18,34 @@ pub record FitsOne (n dwell : ℕ) (l : List Window) : Type 0 where
 -- ---- 13 in the method's words
 
 -- the tick at which the window before window k closes, where before the first one closed at tick c
-abbrev pub closedBefore : ℕ → List Window → ℕ → ℕ
-closedBefore c l k = get_or (c ∷ map (λ w. w.closing) l) k 0
+abbrev pub closed_before : ℕ → List Window → ℕ → ℕ
+closed_before c l k = get_or (c ∷ map (λ w. w.closing) l) k 0
 
 -- window v, at index k, closes after it opens, and opens when the previous one has closed
 pub record InOrder (c : ℕ) (l : List Window) (k : ℕ) (v : Window) : Type 0 where
   pub closes : v.opening < v.closing
-  pub follows : closedBefore c l k ≤ v.opening
+  pub follows : closed_before c l k ≤ v.opening
 
 -- window i is the first whose closing is not above its opening or that opens
 -- before the previous one closes
 pub record FirstWrongWindow (c : ℕ) (l : List Window) (i : ℕ) : Type 0 where
   pub window : Window
   pub here : get_elem? l i ≡ some window
-  pub wrong : (window.closing ≤ window.opening) ⊎ (window.opening < closedBefore c l i)
+  pub wrong : (window.closing ≤ window.opening) ⊎ (window.opening < closed_before c l i)
   pub before : (k : ℕ) (v : Window) → k < i → get_elem? l k ≡ some v → InOrder c l k v
 
 -- what 13 refuses, with its place; before the first window nothing closes, so it opens at tick 0 or
 -- later
 pub data WindowsWrong (w : Windows) : ℕ → Type 0 where
   empty : w.count ≡ 0 → WindowsWrong w 0
-  tooMany : 32 < w.count → WindowsWrong w 32
-  longDwell : 1 ≤ w.count → w.count ≤ 32 → 4096 < w.dwell → WindowsWrong w 32
-  wrongWindow : (i : ℕ) → 1 ≤ w.count → w.count ≤ 32 → w.dwell ≤ 4096
+  too_many : 32 < w.count → WindowsWrong w 32
+  long_dwell : 1 ≤ w.count → w.count ≤ 32 → 4096 < w.dwell → WindowsWrong w 32
+  wrong_window : (i : ℕ) → 1 ≤ w.count → w.count ≤ 32 → w.dwell ≤ 4096
       → FirstWrongWindow 0 (brought w) i → WindowsWrong w i
 
 -- what it lets pass
 pub record WindowsRight (w : Windows) : Type 0 where
-  pub notEmpty : 1 ≤ w.count
+  pub not_empty : 1 ≤ w.count
   pub few : w.count ≤ 32
   pub dwell : w.dwell ≤ 4096
   pub each : (k : ℕ) (v : Window) → get_elem? (brought w) k ≡ some v → InOrder 0 (brought w) k v

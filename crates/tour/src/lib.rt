@@ -12,12 +12,14 @@
 //                    stops::write_arrivals      refusal 10, or the arrivals
 // A caller in Rattle has no slice of stops to lend: it makes a row by `empty_row` and `with_stop`
 // of `stops` and calls `tour_of_row`, which keeps the same promise.
+#![tactic(auto)]
+
 ghost use Rattle.std.specs.Prelude.{◌≡◌, [], ◌≤◌, take};
 ghost use Rattle.std.proofs.Math.Option.{none};
-ghost use Rattle.model.specs.calls.Tour.{legsFrom, firstLongDwell};
+ghost use Rattle.model.specs.calls.Tour.{legs_from, first_long_dwell};
 ghost use Rattle.stops.specs.Promise.{TourPromise};
-ghost use Rattle.stops.specs.Rows.{rowStops};
-ghost use Rattle.stops.specs.Parts.{LegIs, legsIn};
+ghost use Rattle.stops.specs.Rows.{row_stops};
+ghost use Rattle.stops.specs.Parts.{LegIs, legs_in};
 
 use model::{AXES, Answer, MAX_STOPS, Stop, TourAnswer, TourSettings};
 use stops::{
@@ -35,7 +37,7 @@ pub fn plan_tour(settings: TourSettings, stops: &[Stop], arrivals: &mut [u32]) -
 
 // The same for stops by value.
 pub fn tour_of_row(settings: TourSettings, row: StopRow, arrivals: &mut [u32]) -> TourAnswer
-    ensures { TourPromise settings (rowStops row) arrivals.old result arrivals.new }
+    ensures { TourPromise settings (row_stops row) arrivals.old result arrivals.new }
 {
     let count = row.lent;
     if count == 0 {
@@ -66,8 +68,8 @@ pub fn tour_of_row(settings: TourSettings, row: StopRow, arrivals: &mut [u32]) -
 // The legs to `count` stops, each from where the last one ended, after its dwell.
 fn legs_of(settings: TourSettings, stops: [Stop; MAX_STOPS], count: usize) -> LegRow
     requires count_bound { count ≤ 64 }
-    requires stops_value { firstLongDwell 0 (take count stops) ≡ none }
-    ensures { legsIn result count ≡ legsFrom settings (take count stops) 0 settings.start [] }
+    requires stops_value { first_long_dwell 0 (take count stops) ≡ none }
+    ensures { legs_in result count ≡ legs_from settings (take count stops) 0 settings.start [] }
 {
     let mut arrivals: [u32; MAX_STOPS] = [0; MAX_STOPS];
     let mut here = settings.start;

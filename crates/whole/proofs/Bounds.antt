@@ -23,7 +23,7 @@ use Rattle.whole.specs.Integers.{least, greatest}
 use Rattle.whole.specs.Ranges.{Within, Is}
 use Rattle.whole.proofs.Tests.{left, right, true-T, false-T, eqb_no}
 use Rattle.whole.proofs.Differences.{le-fails}
-use Rattle.whole.proofs.Laws.{natAbs-negpos, natAbs-neg, natAbs-+, natAbs-*}
+use Rattle.whole.proofs.Laws.{nat_abs-negpos, nat_abs-neg, nat_abs-+, nat_abs-*}
 
 -- ---- how far from 0
 
@@ -31,13 +31,13 @@ pub lit-holds : (z : ℤ) → nat_abs z ≤ nat_abs z
 lit-holds z = omega arith
 
 pub add_holds : (x y : ℤ) (m n : ℕ) → nat_abs x ≤ m → nat_abs y ≤ n → nat_abs (x +ℤ y) ≤ m + n
-add_holds x y m n h k = omega (arith, natAbs-+ x y)
+add_holds x y m n h k = omega (arith, nat_abs-+ x y)
 
 pub mul_holds : (x y : ℤ) (m n : ℕ) → nat_abs x ≤ m → nat_abs y ≤ n → nat_abs (x *ℤ y) ≤ m * n
-mul_holds x y m n h k = rw natAbs-* (mul-le-mul h k)
+mul_holds x y m n h k = rw nat_abs-* (mul-le-mul h k)
 
 pub neg-holds : (x : ℤ) (m : ℕ) → nat_abs x ≤ m → nat_abs (neg_ℤ x) ≤ m
-neg-holds x m h = rw natAbs-neg h
+neg-holds x m h = rw nat_abs-neg h
 
 pub shr-holds : (z : ℤ) (m n : ℕ) → nat_abs z ≤ n → nat_abs (shr_z z m) ≤ n
 shr-holds (pos a) m n h = omega (arith, div-le_self a m)
@@ -45,13 +45,13 @@ shr-holds (negsuc a) m n h = omega (arith, div-le_self a m)
 
 pub quot-holds : (z d : ℤ) (n : ℕ) → nat_abs z ≤ n → nat_abs (quot_z z d) ≤ n
 quot-holds (pos a) (pos b) n h = omega (arith, div-le_self a b)
-quot-holds (pos a) (negsuc b) n h = rw natAbs-negpos (omega (arith, div-le_self a (suc b)))
-quot-holds (negsuc a) (pos b) n h = rw natAbs-negpos (omega (arith, div-le_self (suc a) b))
+quot-holds (pos a) (negsuc b) n h = rw nat_abs-negpos (omega (arith, div-le_self a (suc b)))
+quot-holds (negsuc a) (pos b) n h = rw nat_abs-negpos (omega (arith, div-le_self (suc a) b))
 quot-holds (negsuc a) (negsuc b) n h = omega (arith, div-le_self (suc a) (suc b))
 
 pub rem-holds : (z d : ℤ) (n : ℕ) → nat_abs z ≤ n → nat_abs (rem_z z d) ≤ n
 rem-holds (pos a) d n h = omega (arith, mod-le a (nat_abs d))
-rem-holds (negsuc a) d n h = rw natAbs-negpos (omega (arith, mod-le (suc a) (nat_abs d)))
+rem-holds (negsuc a) d n h = rw nat_abs-negpos (omega (arith, mod-le (suc a) (nat_abs d)))
 
 pub cond-holds : (t : Bool) (x y : ℤ) (m n : ℕ) → nat_abs x ≤ m → nat_abs y ≤ n → nat_abs (cond t x y) ≤ max m n
 cond-holds true x y m n h k = omega arith

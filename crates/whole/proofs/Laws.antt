@@ -92,26 +92,26 @@ pub *ℤ-cancel : (x y : ℤ) (n : ℕ) → 1 ≤ n → (pos n *ℤ x) ≤ℤ (p
 
 -- ---- the size
 
-pub natAbs-negpos : (n : ℕ) → nat_abs (neg_ℤ (pos n)) ≡ n
-natAbs-negpos zero = refl
-natAbs-negpos (suc n) = refl
+pub nat_abs-negpos : (n : ℕ) → nat_abs (neg_ℤ (pos n)) ≡ n
+nat_abs-negpos zero = refl
+nat_abs-negpos (suc n) = refl
 
-pub natAbs-neg : (x : ℤ) → nat_abs (neg_ℤ x) ≡ nat_abs x
-natAbs-neg (pos n) = natAbs-negpos n
-natAbs-neg (negsuc n) = refl
+pub nat_abs-neg : (x : ℤ) → nat_abs (neg_ℤ x) ≡ nat_abs x
+nat_abs-neg (pos n) = nat_abs-negpos n
+nat_abs-neg (negsuc n) = refl
 
-pub natAbs-+ : (x y : ℤ) → nat_abs (x +ℤ y) ≤ nat_abs x + nat_abs y
-natAbs-+ = all₂ _ (λ a b c d. simp whole (omega arith))
+pub nat_abs-+ : (x y : ℤ) → nat_abs (x +ℤ y) ≤ nat_abs x + nat_abs y
+nat_abs-+ = all₂ _ (λ a b c d. simp whole (omega arith))
 
-pub natAbs-* : (x y : ℤ) → nat_abs (x *ℤ y) ≡ nat_abs x * nat_abs y
-natAbs-* (pos a) (pos b) = refl
-natAbs-* (pos a) (negsuc b) = natAbs-negpos (a * suc b)
-natAbs-* (negsuc a) (pos b) = natAbs-negpos (suc a * b)
-natAbs-* (negsuc a) (negsuc b) = refl
+pub nat_abs-* : (x y : ℤ) → nat_abs (x *ℤ y) ≡ nat_abs x * nat_abs y
+nat_abs-* (pos a) (pos b) = refl
+nat_abs-* (pos a) (negsuc b) = nat_abs-negpos (a * suc b)
+nat_abs-* (negsuc a) (pos b) = nat_abs-negpos (suc a * b)
+nat_abs-* (negsuc a) (negsuc b) = refl
 
-pub natAbs-zero : (x : ℤ) → nat_abs x ≡ 0 → x ≡ pos 0
-natAbs-zero (pos n) e = ap pos e
-natAbs-zero (negsuc n) e = absurd (omega arith)
+pub nat_abs-zero : (x : ℤ) → nat_abs x ≡ 0 → x ≡ pos 0
+nat_abs-zero (pos n) e = ap pos e
+nat_abs-zero (negsuc n) e = absurd (omega arith)
 
-pub natAbs-iff : (n : ℕ) (x : ℤ) → (nat_abs x ≤ n) ↔ ((neg_ℤ (pos n) ≤ℤ x) × (x ≤ℤ pos n))
-natAbs-iff n = all₁ _ (λ a b. simp whole (omega arith))
+pub nat_abs-iff : (n : ℕ) (x : ℤ) → (nat_abs x ≤ n) ↔ ((neg_ℤ (pos n) ≤ℤ x) × (x ≤ℤ pos n))
+nat_abs-iff n = all₁ _ (λ a b. simp whole (omega arith))

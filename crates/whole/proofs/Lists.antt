@@ -72,19 +72,19 @@ module _ {A : Type 0} where
 
   -- ---- parts one after another
 
-  pub upTo-more : (f : ℕ → List A) (n : ℕ) → up_to f (n + 1) ≡ up_to f n ++ f n
+  pub up_to-more : (f : ℕ → List A) (n : ℕ) → up_to f (n + 1) ≡ up_to f n ++ f n
   unfolding up_to
-  upTo-more f n = ap (up_to f) (add-one n)
+  up_to-more f n = ap (up_to f) (add-one n)
 
-  pub upTo-grows : (f : ℕ → List A) (n : ℕ) → length (up_to f (n + 1)) ≡ length (up_to f n) + length (f n)
-  upTo-grows f n = ap length (upTo-more f n) ∙ length-append (up_to f n) (f n)
+  pub up_to-grows : (f : ℕ → List A) (n : ℕ) → length (up_to f (n + 1)) ≡ length (up_to f n) + length (f n)
+  up_to-grows f n = ap length (up_to-more f n) ∙ length-append (up_to f n) (f n)
 
   -- the first part by itself
-  upTo-first : (f : ℕ → List A) (n : ℕ) → up_to f (suc n) ≡ f 0 ++ up_to (λ k. f (suc k)) n
+  up_to-first : (f : ℕ → List A) (n : ℕ) → up_to f (suc n) ≡ f 0 ++ up_to (λ k. f (suc k)) n
   unfolding up_to
-  upTo-first f zero = sym (append-nil (f 0))
-  upTo-first f (suc n) =
-      ap (λ (l : List A). l ++ f (suc n)) (upTo-first f n) ∙ append_assoc (f 0) (up_to (λ k. f (suc k)) n) (f (suc n))
+  up_to-first f zero = sym (append-nil (f 0))
+  up_to-first f (suc n) =
+      ap (λ (l : List A). l ++ f (suc n)) (up_to-first f n) ∙ append_assoc (f 0) (up_to (λ k. f (suc k)) n) (f (suc n))
 
   -- ---- writing on
 
@@ -152,9 +152,9 @@ module _ {A : Type 0} where
     written-within {v} {r} x =
         record {
           written =
-              subst (λ (l : List A). Written t i l v r) (sym (upTo-more f k))
+              subst (λ (l : List A). Written t i l v r) (sym (up_to-more f k))
               (written_then (room-on (f k) (omega (arith, turn-next, x.most)) w.written) w.written x.written);
-          most = omega (arith, upTo-grows f k, w.most, x.most, mul-add b k 1);
+          most = omega (arith, up_to-grows f k, w.most, x.most, mul-add b k 1);
         }
 
   -- ---- written at the start
@@ -170,9 +170,9 @@ module _ {A : Type 0} where
   start-within e w = omega (arith, w.written.next, w.most)
 
 -- the parts that a function makes of the entries of a list
-pub flatten-upTo : {A B : Type 0} (f : A → List B) (d : A) (l : List A)
+pub flatten-up_to : {A B : Type 0} (f : A → List B) (d : A) (l : List A)
     → flatten (map f l) ≡ up_to (λ i. f (get_or l i d)) (length l)
 unfolding flatten up_to
-flatten-upTo f d [] = refl
-flatten-upTo f d (x ∷ l) =
-    ap (λ m. f x ++ m) (flatten-upTo f d l) ∙ sym (upTo-first (λ i. f (get_or (x ∷ l) i d)) (length l))
+flatten-up_to f d [] = refl
+flatten-up_to f d (x ∷ l) =
+    ap (λ m. f x ++ m) (flatten-up_to f d l) ∙ sym (up_to-first (λ i. f (get_or (x ∷ l) i d)) (length l))

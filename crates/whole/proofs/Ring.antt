@@ -43,11 +43,11 @@ pub data Poly : Type 0 where
   nil : Poly
   mono : ℤ → List ℕ → Poly → Poly
 
-abbrev sameVars : List ℕ → List ℕ → Bool
-sameVars [] [] = true
-sameVars [] (y ∷ ys) = false
-sameVars (x ∷ xs) [] = false
-sameVars (x ∷ xs) (y ∷ ys) = eqb x y && sameVars xs ys
+abbrev same_vars : List ℕ → List ℕ → Bool
+same_vars [] [] = true
+same_vars [] (y ∷ ys) = false
+same_vars (x ∷ xs) [] = false
+same_vars (x ∷ xs) (y ∷ ys) = eqb x y && same_vars xs ys
 
 -- an order of monomials; any would do
 abbrev earlier : List ℕ → List ℕ → Bool
@@ -77,41 +77,41 @@ put true l c m d n p r = front (c +ℤ d) n p
 put false true c m d n p r = mono c m (mono d n p)
 put false false c m d n p r = mono d n r
 
-abbrev plusMono : ℤ → List ℕ → Poly → Poly
-plusMono c m nil = front c m nil
-plusMono c m (mono d n p) = let r = plusMono c m p in put (sameVars m n) (earlier m n) c m d n p r
+abbrev plus_mono : ℤ → List ℕ → Poly → Poly
+plus_mono c m nil = front c m nil
+plus_mono c m (mono d n p) = let r = plus_mono c m p in put (same_vars m n) (earlier m n) c m d n p r
 
 abbrev plus : Poly → Poly → Poly
 plus nil q = q
-plus (mono c m p) q = plusMono c m (plus p q)
+plus (mono c m p) q = plus_mono c m (plus p q)
 
 -- a monomial times a polynomial, onto another
-abbrev timesMono : ℤ → List ℕ → Poly → Poly → Poly
-timesMono c m nil s = s
-timesMono c m (mono d n p) s = plusMono (c *ℤ d) (merge m n) (timesMono c m p s)
+abbrev times_mono : ℤ → List ℕ → Poly → Poly → Poly
+times_mono c m nil s = s
+times_mono c m (mono d n p) s = plus_mono (c *ℤ d) (merge m n) (times_mono c m p s)
 
 abbrev times : Poly → Poly → Poly
 times nil q = nil
-times (mono c m p) q = timesMono c m q (times p q)
+times (mono c m p) q = times_mono c m q (times p q)
 
 abbrev pub norm : Ex → Poly
 norm (var n) = mono (pos 1) (n ∷ []) nil
 norm (con z) = front z [] nil
 norm (a :+ b) = plus (norm a) (norm b)
 norm (a :* b) = times (norm a) (norm b)
-norm (neg a) = timesMono (negsuc 0) [] (norm a) nil
+norm (neg a) = times_mono (negsuc 0) [] (norm a) nil
 
-abbrev sameCoefficient : ℤ → ℤ → Bool
-sameCoefficient (pos a) (pos b) = eqb a b
-sameCoefficient (pos a) (negsuc b) = false
-sameCoefficient (negsuc a) (pos b) = false
-sameCoefficient (negsuc a) (negsuc b) = eqb a b
+abbrev same_coefficient : ℤ → ℤ → Bool
+same_coefficient (pos a) (pos b) = eqb a b
+same_coefficient (pos a) (negsuc b) = false
+same_coefficient (negsuc a) (pos b) = false
+same_coefficient (negsuc a) (negsuc b) = eqb a b
 
-abbrev pub samePoly : Poly → Poly → Bool
-samePoly nil nil = true
-samePoly nil (mono d n q) = false
-samePoly (mono c m p) nil = false
-samePoly (mono c m p) (mono d n q) = sameCoefficient c d && (sameVars m n && samePoly p q)
+abbrev pub same_poly : Poly → Poly → Bool
+same_poly nil nil = true
+same_poly nil (mono d n q) = false
+same_poly (mono c m p) nil = false
+same_poly (mono c m p) (mono d n q) = same_coefficient c d && (same_vars m n && same_poly p q)
 
 -- ---- what it evaluates to
 module _ (ρ : List ℤ) where
@@ -145,12 +145,12 @@ module _ (ρ : List ℤ) where
   front-is (pos (suc k)) m p = refl
   front-is (negsuc k) m p = refl
 
-  sameVars-is : (m n : List ℕ) → T (sameVars m n) → m ≡ n
-  sameVars-is [] [] t = refl
-  sameVars-is [] (y ∷ ys) t = absurd t
-  sameVars-is (x ∷ xs) [] t = absurd t
-  sameVars-is (x ∷ xs) (y ∷ ys) t = let p = both (eqb x y) (sameVars xs ys) t in
-      λ i. eqb→eq x y p.0 i ∷ sameVars-is xs ys p.1 i
+  same_vars-is : (m n : List ℕ) → T (same_vars m n) → m ≡ n
+  same_vars-is [] [] t = refl
+  same_vars-is [] (y ∷ ys) t = absurd t
+  same_vars-is (x ∷ xs) [] t = absurd t
+  same_vars-is (x ∷ xs) (y ∷ ys) t = let p = both (eqb x y) (same_vars xs ys) t in
+      λ i. eqb→eq x y p.0 i ∷ same_vars-is xs ys p.1 i
 
   -- the law of `put`: one monomial into a polynomial, r being the rest with it put in
   join : (c d m p : ℤ) → (c +ℤ d) *ℤ m +ℤ p ≡ c *ℤ m +ℤ (d *ℤ m +ℤ p)
@@ -170,34 +170,34 @@ module _ (ρ : List ℤ) where
   put_is false false c m d n p r e h =
       ap (λ (z : ℤ). d *ℤ product n +ℤ z) h ∙ swap (c *ℤ product m) (d *ℤ product n) (sum p)
 
-  plusMono-is : (c : ℤ) (m : List ℕ) (p : Poly) → sum (plusMono c m p) ≡ c *ℤ product m +ℤ sum p
-  plusMono-is c m nil = front-is c m nil
-  plusMono-is c m (mono d n p) =
-      put_is (sameVars m n) (earlier m n) c m d n p (plusMono c m p) (sameVars-is m n) (plusMono-is c m p)
+  plus_mono-is : (c : ℤ) (m : List ℕ) (p : Poly) → sum (plus_mono c m p) ≡ c *ℤ product m +ℤ sum p
+  plus_mono-is c m nil = front-is c m nil
+  plus_mono-is c m (mono d n p) =
+      put_is (same_vars m n) (earlier m n) c m d n p (plus_mono c m p) (same_vars-is m n) (plus_mono-is c m p)
 
   plus-is : (p q : Poly) → sum (plus p q) ≡ sum p +ℤ sum q
   plus-is nil q = sym (+ℤ_idl (sum q))
   plus-is (mono c m p) q =
-      plusMono-is c m (plus p q)
+      plus_mono-is c m (plus p q)
       ∙ ap (λ (z : ℤ). c *ℤ product m +ℤ z) (plus-is p q)
       ∙ sym (+ℤ_assoc (c *ℤ product m) (sum p) (sum q))
 
   across : (c d m n p s : ℤ) → (c *ℤ d) *ℤ (m *ℤ n) +ℤ ((c *ℤ m) *ℤ p +ℤ s) ≡ (c *ℤ m) *ℤ (d *ℤ n +ℤ p) +ℤ s
   across c d m n p s = simp (*ℤ-+ℤ, *ℤ-assoc, left_comm, +ℤ_assoc)
 
-  timesMono-is : (c : ℤ) (m : List ℕ) (p s : Poly) → sum (timesMono c m p s) ≡ (c *ℤ product m) *ℤ sum p +ℤ sum s
-  timesMono-is c m nil s =
+  times_mono-is : (c : ℤ) (m : List ℕ) (p s : Poly) → sum (times_mono c m p s) ≡ (c *ℤ product m) *ℤ sum p +ℤ sum s
+  times_mono-is c m nil s =
       sym (ap (λ (z : ℤ). z +ℤ sum s) (*ℤ_comm (c *ℤ product m) (pos 0) ∙ zero-*ℤ (c *ℤ product m)) ∙ +ℤ_idl (sum s))
-  timesMono-is c m (mono d n p) s =
-      plusMono-is (c *ℤ d) (merge m n) (timesMono c m p s)
-      ∙ ap (λ (z : ℤ). (c *ℤ d) *ℤ z +ℤ sum (timesMono c m p s)) (merge-is m n)
-      ∙ ap (λ (z : ℤ). (c *ℤ d) *ℤ (product m *ℤ product n) +ℤ z) (timesMono-is c m p s)
+  times_mono-is c m (mono d n p) s =
+      plus_mono-is (c *ℤ d) (merge m n) (times_mono c m p s)
+      ∙ ap (λ (z : ℤ). (c *ℤ d) *ℤ z +ℤ sum (times_mono c m p s)) (merge-is m n)
+      ∙ ap (λ (z : ℤ). (c *ℤ d) *ℤ (product m *ℤ product n) +ℤ z) (times_mono-is c m p s)
       ∙ across c d (product m) (product n) (sum p) (sum s)
 
   times-is : (p q : Poly) → sum (times p q) ≡ sum p *ℤ sum q
   times-is nil q = sym (zero-*ℤ (sum q))
   times-is (mono c m p) q =
-      timesMono-is c m q (times p q)
+      times_mono-is c m q (times p q)
       ∙ ap (λ (z : ℤ). (c *ℤ product m) *ℤ sum q +ℤ z) (times-is p q)
       ∙ sym (+ℤ-*ℤ (c *ℤ product m) (sum p) (sum q))
 
@@ -215,25 +215,25 @@ module _ (ρ : List ℤ) where
   norm-is (con z) = front-is z [] nil ∙ lit-mono z
   norm-is (a :+ b) = plus-is (norm a) (norm b) ∙ (λ i. norm-is a i +ℤ norm-is b i)
   norm-is (a :* b) = times-is (norm a) (norm b) ∙ (λ i. norm-is a i *ℤ norm-is b i)
-  norm-is (neg a) = timesMono-is (negsuc 0) [] (norm a) nil ∙ neg-mono (sum (norm a)) ∙ ap neg_ℤ (norm-is a)
+  norm-is (neg a) = times_mono-is (negsuc 0) [] (norm a) nil ∙ neg-mono (sum (norm a)) ∙ ap neg_ℤ (norm-is a)
 
-  sameCoefficient-is : (c d : ℤ) → T (sameCoefficient c d) → c ≡ d
-  sameCoefficient-is (pos a) (pos b) t = ap pos (eqb→eq a b t)
-  sameCoefficient-is (pos a) (negsuc b) t = absurd t
-  sameCoefficient-is (negsuc a) (pos b) t = absurd t
-  sameCoefficient-is (negsuc a) (negsuc b) t = ap negsuc (eqb→eq a b t)
+  same_coefficient-is : (c d : ℤ) → T (same_coefficient c d) → c ≡ d
+  same_coefficient-is (pos a) (pos b) t = ap pos (eqb→eq a b t)
+  same_coefficient-is (pos a) (negsuc b) t = absurd t
+  same_coefficient-is (negsuc a) (pos b) t = absurd t
+  same_coefficient-is (negsuc a) (negsuc b) t = ap negsuc (eqb→eq a b t)
 
-  samePoly-is : (p q : Poly) → T (samePoly p q) → p ≡ q
-  samePoly-is nil nil t = refl
-  samePoly-is nil (mono d n q) t = absurd t
-  samePoly-is (mono c m p) nil t = absurd t
-  samePoly-is (mono c m p) (mono d n q) t =
-      let h = both (sameCoefficient c d) (sameVars m n && samePoly p q) t in
-      let k = both (sameVars m n) (samePoly p q) h.1 in
-      λ i. mono (sameCoefficient-is c d h.0 i) (sameVars-is m n k.0 i) (samePoly-is p q k.1 i)
+  same_poly-is : (p q : Poly) → T (same_poly p q) → p ≡ q
+  same_poly-is nil nil t = refl
+  same_poly-is nil (mono d n q) t = absurd t
+  same_poly-is (mono c m p) nil t = absurd t
+  same_poly-is (mono c m p) (mono d n q) t =
+      let h = both (same_coefficient c d) (same_vars m n && same_poly p q) t in
+      let k = both (same_vars m n) (same_poly p q) h.1 in
+      λ i. mono (same_coefficient-is c d h.0 i) (same_vars-is m n k.0 i) (same_poly-is p q k.1 i)
 
-  pub ring : (l r : Ex) → T (samePoly (norm l) (norm r)) → value ρ l ≡ value ρ r
-  ring l r t = sym (norm-is l) ∙ ap sum (samePoly-is (norm l) (norm r) t) ∙ norm-is r
+  pub ring : (l r : Ex) → T (same_poly (norm l) (norm r)) → value ρ l ≡ value ρ r
+  ring l r t = sym (norm-is l) ∙ ap sum (same_poly-is (norm l) (norm r) t) ∙ norm-is r
 
 -- ---- an expression with the value z, found by `search`
 pub record Pol (ρ : List ℤ) (z : ℤ) : Type 0 where
@@ -282,5 +282,5 @@ two ρ x y p q = record { left = p; right = q }
 
 pub ruleset pol = (two, p-pos, p-negsuc, numeral, p_add, p_mul, p-neg, p-var, here, there)
 
-pub same : (ρ : List ℤ) {x y : ℤ} → (t : Two ρ x y) → T (samePoly (norm t.left.ex) (norm t.right.ex)) → x ≡ y
+pub same : (ρ : List ℤ) {x y : ℤ} → (t : Two ρ x y) → T (same_poly (norm t.left.ex) (norm t.right.ex)) → x ≡ y
 same ρ t e = sym t.left.is ∙ ring ρ t.left.ex t.right.ex e ∙ t.right.is

@@ -1,5 +1,5 @@
 -- Division rounded down, to the nearest and, as the machine divides, toward zero. Theorems
--- that hold whichever way a half is rounded take no more of `nearestQuotient` than
+-- that hold whichever way a half is rounded take no more of `nearest_quotient` than
 -- `nearest-half`: it is off by a half at most.
 use mathlib.Core.Path.{◌≡◌, refl, sym, ap, ap₂, ◌∙◌}
 use mathlib.Core.Logic.{⊎_elim, ◌↔◌}
@@ -8,9 +8,9 @@ use native.Mathlib.Omega.{arith}
 use native.Mathlib.Nat.{div-add-mod, mod-lt, div-eq_of_lt, div-eq_of_lt-le, mul-div-mul_left, mul-le-mul}
 use lib.IntN.{ℤ, pos, negsuc, neg_ℤ, nat_abs, ◌+ℤ◌, ◌-ℤ◌, ◌*ℤ◌, neg_ℤ-neg_ℤ}
 use lib.Signed.{◌≤ℤ◌, ◌<ℤ◌, ≤ℤ_refl, shr_z, quot_z}
-use Rattle.whole.specs.Integers.{nearestQuotient, nearestSize}
+use Rattle.whole.specs.Integers.{nearest_quotient, nearest_size}
 use Rattle.whole.proofs.Differences.{whole, all₁, all₂, all₄}
-use Rattle.whole.proofs.Laws.{*ℤ-mono, ≤ℤ-total, ≤ℤ-antisym, next-≤ℤ, natAbs-*, natAbs-iff}
+use Rattle.whole.proofs.Laws.{*ℤ-mono, ≤ℤ-total, ≤ℤ-antisym, next-≤ℤ, nat_abs-*, nat_abs-iff}
 
 not_negative : (m : ℕ) → pos 0 ≤ℤ pos m
 not_negative m = simp whole (omega arith)
@@ -48,7 +48,7 @@ floor-unique {z} {m} {r} {s} f g =
 
 -- halves: twice a number is even, and half of it is the number; an even number is twice its half
 pub twice-even : (z : ℤ) → nat_abs (pos 2 *ℤ z) % 2 ≡ 0
-twice-even z = rw natAbs-* (omega arith)
+twice-even z = rw nat_abs-* (omega arith)
 
 pub half_twice : (z : ℤ) → shr_z (pos 2 *ℤ z) 2 ≡ z
 half_twice z = floor-unique (shr-floor (pos 2 *ℤ z) 2 (omega arith))
@@ -84,13 +84,13 @@ half-neg d = all₂ _ (λ a b c e. simp (whole, half-iff) (omega arith))
 double-some : (d : ℕ) → 0 < d → 0 < 2 * d
 double-some d h = omega arith
 
-size-half : (a d : ℕ) → 0 < d → WithinHalf (pos a) d (pos (nearestSize a d))
+size-half : (a d : ℕ) → 0 < d → WithinHalf (pos a) d (pos (nearest_size a d))
 size-half a d h =
-    half-size-of a d (nearestSize a d)
+    half-size-of a d (nearest_size a d)
     (omega (arith, div-add-mod (2 * a + d) (2 * d)))
     (omega (arith, div-add-mod (2 * a + d) (2 * d), mod-lt (2 * a + d) (double-some d h)))
 
-size-times : (c a d : ℕ) → 0 < c → nearestSize (c * a) (c * d) ≡ nearestSize a d
+size-times : (c a d : ℕ) → 0 < c → nearest_size (c * a) (c * d) ≡ nearest_size a d
 size-times c a d h = ap₂ ◌/◌ (above c a d) (below c d) ∙ mul-div-mul_left (2 * a + d) (2 * d) h
   where
     above : (c a d : ℕ) → 2 * (c * a) + c * d ≡ c * (2 * a + d)
@@ -99,19 +99,19 @@ size-times c a d h = ap₂ ◌/◌ (above c a d) (below c d) ∙ mul-div-mul_lef
     below : (c d : ℕ) → 2 * (c * d) ≡ c * (2 * d)
     below c d = omega arith
 
-pub nearest-half : (x : ℤ) (d : ℕ) → 0 < d → WithinHalf x d (nearestQuotient x d)
+pub nearest-half : (x : ℤ) (d : ℕ) → 0 < d → WithinHalf x d (nearest_quotient x d)
 nearest-half (pos a) d h = size-half a d h
-nearest-half (negsuc a) d h = half-neg d (pos (suc a)) (pos (nearestSize (suc a) d)) (size-half (suc a) d h)
+nearest-half (negsuc a) d h = half-neg d (pos (suc a)) (pos (nearest_size (suc a) d)) (size-half (suc a) d h)
 
 -- the same left and right: the negative is rounded to the negative
-pub nearest-neg : (x : ℤ) (d : ℕ) → 0 < d → nearestQuotient (neg_ℤ x) d ≡ neg_ℤ (nearestQuotient x d)
-nearest-neg (pos zero) d h = let z : nearestSize 0 d ≡ 0 = div-eq_of_lt (omega arith) in
+pub nearest-neg : (x : ℤ) (d : ℕ) → 0 < d → nearest_quotient (neg_ℤ x) d ≡ neg_ℤ (nearest_quotient x d)
+nearest-neg (pos zero) d h = let z : nearest_size 0 d ≡ 0 = div-eq_of_lt (omega arith) in
     ap (λ (n : ℕ). pos n) z ∙ sym (ap (λ (n : ℕ). neg_ℤ (pos n)) z)
 nearest-neg (pos (suc a)) d h = refl
-nearest-neg (negsuc a) d h = sym (neg_ℤ-neg_ℤ (pos (nearestSize (suc a) d)))
+nearest-neg (negsuc a) d h = sym (neg_ℤ-neg_ℤ (pos (nearest_size (suc a) d)))
 
 -- both numbers times c
-pub nearest-times : (c : ℕ) (x : ℤ) (d : ℕ) → 0 < c → 0 < d → nearestQuotient (pos c *ℤ x) (c * d) ≡ nearestQuotient x d
+pub nearest-times : (c : ℕ) (x : ℤ) (d : ℕ) → 0 < c → 0 < d → nearest_quotient (pos c *ℤ x) (c * d) ≡ nearest_quotient x d
 nearest-times c (pos a) d h k = ap pos (size-times c a d h)
 nearest-times c (negsuc a) d h k =
     nearest-neg (pos (c * suc a)) (c * d) (mul-le-mul h k) ∙ ap (λ (n : ℕ). neg_ℤ (pos n)) (size-times c (suc a) d h)
@@ -133,12 +133,12 @@ half-whole {z} {d} {r} h w =
         → (pos 2 *ℤ (pos d *ℤ z)) ≤ℤ (pos d *ℤ (pos 2 *ℤ r +ℤ pos 1)) → ⊥
     below d = all₂ _ (λ a b c e. simp whole (omega arith))
 
-pub nearest-whole : (d : ℕ) (z : ℤ) → 0 < d → nearestQuotient (pos d *ℤ z) d ≡ z
+pub nearest-whole : (d : ℕ) (z : ℤ) → 0 < d → nearest_quotient (pos d *ℤ z) d ≡ z
 nearest-whole d z h = half-whole h (nearest-half (pos d *ℤ z) d h)
 
 -- a number at most dn in size is rounded to one at most n in size
 pub half-size : {x : ℤ} {d : ℕ} {r : ℤ} (n : ℕ) → 0 < d → nat_abs x ≤ d * n → WithinHalf x d r → nat_abs r ≤ n
-half-size {x} {d} {r} n h k w = (natAbs-iff n r).1 (low, high)
+half-size {x} {d} {r} n h k w = (nat_abs-iff n r).1 (low, high)
   where
     above : (d n : ℕ) (x r : ℤ) → 0 < d → nat_abs x ≤ d * n → ((pos n +ℤ pos 1) *ℤ pos d) ≤ℤ (r *ℤ pos d)
         → (pos d *ℤ (pos 2 *ℤ r -ℤ pos 1)) ≤ℤ (pos 2 *ℤ x) → ⊥
@@ -162,20 +162,20 @@ half-size {x} {d} {r} n h k w = (natAbs-iff n r).1 (low, high)
 -- ---- the machine's division, toward zero
 
 -- half the divisor added to the size, d / 2 being rounded down where d is odd
-size-halved : (a d : ℕ) → 0 < d → (a + d / 2) / d ≡ nearestSize a d
+size-halved : (a d : ℕ) → 0 < d → (a + d / 2) / d ≡ nearest_size a d
 size-halved a d h =
     sym (div-eq_of_lt-le (2 * d)
     (omega (arith, div-add-mod (a + d / 2) d))
     (omega (arith, div-add-mod (a + d / 2) d, mod-lt (a + d / 2) h)))
 
-pub quot-nearest : (x : ℤ) (d : ℕ) → 0 < d → pos 0 ≤ℤ x → quot_z (x +ℤ pos (d / 2)) (pos d) ≡ nearestQuotient x d
+pub quot-nearest : (x : ℤ) (d : ℕ) → 0 < d → pos 0 ≤ℤ x → quot_z (x +ℤ pos (d / 2)) (pos d) ≡ nearest_quotient x d
 quot-nearest (pos a) d h k = ap pos (size-halved a d h)
 quot-nearest (negsuc a) d h k = absurd k.le
 
 not-below : (a : ℕ) → pos a <ℤ pos 0 → ⊥
 not-below a = simp whole (omega arith)
 
-pub quot-nearest-below : (x : ℤ) (d : ℕ) → 0 < d → x <ℤ pos 0 → quot_z (x -ℤ pos (d / 2)) (pos d) ≡ nearestQuotient x d
+pub quot-nearest-below : (x : ℤ) (d : ℕ) → 0 < d → x <ℤ pos 0 → quot_z (x -ℤ pos (d / 2)) (pos d) ≡ nearest_quotient x d
 quot-nearest-below (pos a) d h k = absurd (not-below a k)
 quot-nearest-below (negsuc a) d h k =
     ap (λ (z : ℤ). quot_z z (pos d)) (further a (d / 2))

@@ -5,26 +5,26 @@ use native.Mathlib.Omega.{arith}
 use native.Mathlib.Numerals.{add-one}
 use lib.IntN.{ℤ, pos, ◌+ℤ◌, ◌*ℤ◌, +ℤ_comm, +ℤ_assoc, *ℤ-zero}
 use lib.Signed.{◌≤ℤ◌, ≤ℤ_refl}
-use Rattle.whole.specs.Integers.{sumTo}
+use Rattle.whole.specs.Integers.{sum_to}
 use Rattle.whole.proofs.Laws.{+ℤ-mono, *ℤ-+ℤ}
 
 -- the code's k + 1 is the definition's suc k
-pub sum-next : (f : ℕ → ℤ) (k : ℕ) → sumTo f k +ℤ f (k + 1) ≡ sumTo f (k + 1)
+pub sum-next : (f : ℕ → ℤ) (k : ℕ) → sum_to f k +ℤ f (k + 1) ≡ sum_to f (k + 1)
 sum-next f k = rw add-one
 
-pub sum_first : (f : ℕ → ℤ) (n : ℕ) → sumTo f (suc n) ≡ f 1 +ℤ sumTo (λ k. f (suc k)) n
+pub sum_first : (f : ℕ → ℤ) (n : ℕ) → sum_to f (suc n) ≡ f 1 +ℤ sum_to (λ k. f (suc k)) n
 sum_first f zero = +ℤ_comm (pos 0) (f 1)
 sum_first f (suc n) =
-    ap (λ (z : ℤ). z +ℤ f (suc (suc n))) (sum_first f n) ∙ +ℤ_assoc (f 1) (sumTo (λ k. f (suc k)) n) (f (suc (suc n)))
+    ap (λ (z : ℤ). z +ℤ f (suc (suc n))) (sum_first f n) ∙ +ℤ_assoc (f 1) (sum_to (λ k. f (suc k)) n) (f (suc (suc n)))
 
-pub sum_same : (f g : ℕ → ℤ) (n : ℕ) → ((k : ℕ) → k ≤ n → f k ≡ g k) → sumTo f n ≡ sumTo g n
+pub sum_same : (f g : ℕ → ℤ) (n : ℕ) → ((k : ℕ) → k ≤ n → f k ≡ g k) → sum_to f n ≡ sum_to g n
 sum_same f g zero e = refl
 sum_same f g (suc n) e = ap₂ (λ (a b : ℤ). a +ℤ b) (sum_same f g n (λ k h. e k (omega arith))) (e (suc n) (omega arith))
 
-pub sum_mono : (f g : ℕ → ℤ) (n : ℕ) → ((k : ℕ) → k ≤ n → f k ≤ℤ g k) → sumTo f n ≤ℤ sumTo g n
+pub sum_mono : (f g : ℕ → ℤ) (n : ℕ) → ((k : ℕ) → k ≤ n → f k ≤ℤ g k) → sum_to f n ≤ℤ sum_to g n
 sum_mono f g zero h = ≤ℤ_refl (pos 0)
 sum_mono f g (suc n) h = +ℤ-mono (sum_mono f g n (λ k q. h k (omega arith))) (h (suc n) (omega arith))
 
-pub sum-times : (a : ℤ) (f : ℕ → ℤ) (n : ℕ) → sumTo (λ k. a *ℤ f k) n ≡ a *ℤ sumTo f n
+pub sum-times : (a : ℤ) (f : ℕ → ℤ) (n : ℕ) → sum_to (λ k. a *ℤ f k) n ≡ a *ℤ sum_to f n
 sum-times a f zero = sym (*ℤ-zero a)
-sum-times a f (suc n) = ap (λ (z : ℤ). z +ℤ a *ℤ f (suc n)) (sum-times a f n) ∙ sym (*ℤ-+ℤ a (sumTo f n) (f (suc n)))
+sum-times a f (suc n) = ap (λ (z : ℤ). z +ℤ a *ℤ f (suc n)) (sum-times a f n) ∙ sym (*ℤ-+ℤ a (sum_to f n) (f (suc n)))

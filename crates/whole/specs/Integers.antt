@@ -14,16 +14,16 @@ abbrev pub clamp : ℤ → ℤ → ℤ → ℤ
 clamp low high x = greatest low (least high x)
 
 -- f 1 + .. + f n
-abbrev pub sumTo : (ℕ → ℤ) → ℕ → ℤ
-sumTo f zero = pos 0
-sumTo f (suc n) = sumTo f n +ℤ f (suc n)
+abbrev pub sum_to : (ℕ → ℤ) → ℕ → ℤ
+sum_to f zero = pos 0
+sum_to f (suc n) = sum_to f n +ℤ f (suc n)
 
 -- n / m rounded to the nearest natural number, halves upward: (2n + m) / 2m rounded down
-abbrev pub nearestSize : ℕ → ℕ → ℕ
-nearestSize n m = (2 * n + m) / (2 * m)
+abbrev pub nearest_size : ℕ → ℕ → ℕ
+nearest_size n m = (2 * n + m) / (2 * m)
 
 -- x / m rounded to the nearest whole number, halves away from zero: the size is rounded,
 -- halves upward, and keeps its sign
-abbrev pub nearestQuotient : ℤ → ℕ → ℤ
-nearestQuotient (pos n) m = pos (nearestSize n m)
-nearestQuotient (negsuc n) m = neg_ℤ (pos (nearestSize (suc n) m))
+abbrev pub nearest_quotient : ℤ → ℕ → ℤ
+nearest_quotient (pos n) m = pos (nearest_size n m)
+nearest_quotient (negsuc n) m = neg_ℤ (pos (nearest_size (suc n) m))

@@ -1,5 +1,5 @@
--- The ticks from a first one on and before another that fit one window are those from `firstTick`
--- on and before `afterLast`: `ticks-fit`, `fit-ticks`.
+-- The ticks from a first one on and before another that fit one window are those from `first_tick`
+-- on and before `after_last`: `ticks-fit`, `fit-ticks`.
 use Prim.Native.Nat.{ℕ, ◌+◌, ◌-◌, ◌≤◌, ◌<◌}
 use native.Mathlib.Omega.{arith}
 use mathlib.Core.Path.{◌≡◌, refl}
@@ -7,8 +7,8 @@ use mathlib.Core.Bool.{Bool, true, false, cond, ◌&&◌, false≢true}
 use lib.Dec.{eqb, leb, ltb}
 use borrow.Author.Tests.{ltb-true, ltb-false, leb-true, eqb-true, eqb-false, le-leb, lt-ltb}
 use Rattle.model.specs.declared.Window.{Window}
-use Rattle.model.specs.planning.Windows.{fitsWindow}
-use Rattle.windows.specs.Ticks.{firstTick, up_to, afterLast}
+use Rattle.model.specs.planning.Windows.{fits_window}
+use Rattle.windows.specs.Ticks.{first_tick, up_to, after_last}
 
 -- what an arrival that fits has
 pub record Fit (n dwell : ℕ) (w : Window) : Type 0 where
@@ -16,7 +16,7 @@ pub record Fit (n dwell : ℕ) (w : Window) : Type 0 where
   pub within : n < w.closing
   pub stays : n + dwell ≤ w.closing
 
-pub fit_is : (n dwell : ℕ) (w : Window) → fitsWindow n dwell w ≡ true → Fit n dwell w
+pub fit_is : (n dwell : ℕ) (w : Window) → fits_window n dwell w ≡ true → Fit n dwell w
 fit_is n dwell w e =
     go (leb w.opening n) (ltb n w.closing) (leb (n + dwell) w.closing)
     (leb-true w.opening n) (ltb-true n w.closing) (leb-true (n + dwell) w.closing) e
@@ -28,21 +28,21 @@ fit_is n dwell w e =
     go true false c f g h e = absurd (false≢true e)
     go false b c f g h e = absurd (false≢true e)
 
-is-fit : (n dwell : ℕ) (w : Window) → Fit n dwell w → fitsWindow n dwell w ≡ true
+is-fit : (n dwell : ℕ) (w : Window) → Fit n dwell w → fits_window n dwell w ≡ true
 is-fit n dwell w f = λ i. le-leb w.opening n f.opened i
     && (lt-ltb n w.closing f.within i && le-leb (n + dwell) w.closing f.stays i)
 
 -- ---- by cases
 
 module _ (first after n : ℕ) where
-  first-is : (w : Window) → first ≤ n → w.opening ≤ n → firstTick first w ≤ n
+  first-is : (w : Window) → first ≤ n → w.opening ≤ n → first_tick first w ≤ n
   first-is w h k = go (ltb w.opening first)
     where
       go : (b : Bool) → cond b first w.opening ≤ n
       go true = h
       go false = k
 
-  is-first : (w : Window) → firstTick first w ≤ n → (first ≤ n) × (w.opening ≤ n)
+  is-first : (w : Window) → first_tick first w ≤ n → (first ≤ n) × (w.opening ≤ n)
   is-first w h = go (ltb w.opening first) (ltb-true w.opening first) (ltb-false w.opening first) h
     where
       go : (b : Bool) → (b ≡ true → w.opening < first) → (b ≡ false → first ≤ w.opening)
@@ -67,8 +67,8 @@ module _ (first after n : ℕ) where
 -- ---- the ticks of a window
 
 module _ (first after n dwell : ℕ) (w : Window) where
-  pub fit-ticks : first ≤ n → n < after → fitsWindow n dwell w ≡ true
-      → (firstTick first w ≤ n) × (n < afterLast dwell after w)
+  pub fit-ticks : first ≤ n → n < after → fits_window n dwell w ≡ true
+      → (first_tick first w ≤ n) × (n < after_last dwell after w)
   fit-ticks h k e =
       let f = fit_is n dwell w e in (
         first-is first after n w h f.opened,
@@ -82,8 +82,8 @@ module _ (first after n dwell : ℕ) (w : Window) where
       go false true f p q = absurd (let z = f refl in omega arith)
       go false false f p q = up-to first after n (w.closing - dwell + 1) k (omega arith)
 
-  pub ticks-fit : firstTick first w ≤ n → n < afterLast dwell after w
-      → (first ≤ n) × (n < after) × (fitsWindow n dwell w ≡ true)
+  pub ticks-fit : first_tick first w ≤ n → n < after_last dwell after w
+      → (first ≤ n) × (n < after) × (fits_window n dwell w ≡ true)
   ticks-fit h k =
       let o = is-first first after n w h in
       let s = go (eqb dwell 0) (ltb w.closing dwell) (eqb-true dwell 0) (eqb-false dwell 0)
@@ -105,7 +105,7 @@ module _ (first after n dwell : ℕ) (w : Window) where
           some-dwell d z h = omega (arith, z)
 
 -- no tick before `first`
-pub first_above : (first : ℕ) (w : Window) → first ≤ firstTick first w
+pub first_above : (first : ℕ) (w : Window) → first ≤ first_tick first w
 first_above first w = go (ltb w.opening first) (ltb-false w.opening first)
   where
     go : (b : Bool) → (b ≡ false → first ≤ w.opening) → first ≤ cond b first w.opening

@@ -3,13 +3,13 @@
 use Rattle.std.specs.Prelude.{ℕ, ◌-◌, ◌+◌, cond, eqb, ltb}
 use Rattle.model.specs.declared.Window.{Window}
 
-abbrev pub firstTick : ℕ → Window → ℕ
-firstTick first w = cond (ltb w.opening first) first w.opening
+abbrev pub first_tick : ℕ → Window → ℕ
+first_tick first w = cond (ltb w.opening first) first w.opening
 
 abbrev pub up_to : ℕ → ℕ → ℕ
 up_to after n = cond (ltb after n) after n
 
 -- an arrival ends at the closing at the latest, and also with dwell 0 it is before it
-abbrev pub afterLast : ℕ → ℕ → Window → ℕ
-afterLast dwell after w =
+abbrev pub after_last : ℕ → ℕ → Window → ℕ
+after_last dwell after w =
     cond (eqb dwell 0) (up_to after w.closing) (cond (ltb w.closing dwell) 0 (up_to after (w.closing - dwell + 1)))

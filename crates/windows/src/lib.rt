@@ -1,10 +1,12 @@
 // The windows of a job (docs/METHOD.md, 3.8): whether an arrival fits one, and refusal 13.
+#![tactic(auto)]
+
 ghost use Rattle.std.specs.Prelude.{◌≡◌, ◌≤◌, take, true};
 ghost use Rattle.std.proofs.Math.Option.{none};
-ghost use Rattle.model.specs.planning.Windows.{fitsWindow, fitsOne, inWindows, inOrderAfter};
-ghost use Rattle.model.specs.planning.Windows.{firstWrongWindow, windowsRefused, refused13};
+ghost use Rattle.model.specs.planning.Windows.{fits_window, fits_one, in_windows, in_order_after};
+ghost use Rattle.model.specs.planning.Windows.{first_wrong_window, windows_refused, refused13};
 ghost use Rattle.windows.specs.Places.{place_of};
-ghost use Rattle.windows.specs.Ticks.{firstTick, up_to, afterLast};
+ghost use Rattle.windows.specs.Ticks.{first_tick, up_to, after_last};
 
 use model::{LONGEST_DWELL, MAX_WINDOWS, Window, Windows};
 
@@ -13,7 +15,7 @@ use model::{LONGEST_DWELL, MAX_WINDOWS, Window, Windows};
 fn fits(tick: u32, dwell: u32, window: Window) -> bool
     requires tick_bound { tick ≤ 4096 }
     requires dwell_bound { dwell ≤ 4096 }
-    ensures { result ≡ fitsWindow tick dwell window }
+    ensures { result ≡ fits_window tick dwell window }
 {
     if window.opening <= tick {
         if tick < window.closing {
@@ -28,7 +30,7 @@ fn fits(tick: u32, dwell: u32, window: Window) -> bool
 pub fn allows(windows: Windows, tick: u32) -> bool
     requires windows_value { refused13 windows ≡ none }
     requires tick_bound { tick ≤ 4096 }
-    ensures { result ≡ inWindows windows tick }
+    ensures { result ≡ in_windows windows tick }
 {
     if windows.given {
         let list = windows.list;
@@ -42,7 +44,7 @@ fn fits_one(tick: u32, dwell: u32, list: [Window; MAX_WINDOWS], count: usize) ->
     requires tick_bound { tick ≤ 4096 }
     requires dwell_bound { dwell ≤ 4096 }
     requires count_bound { count ≤ 32 }
-    ensures { result ≡ fitsOne tick dwell (take count list) }
+    ensures { result ≡ fits_one tick dwell (take count list) }
 {
     let mut i: usize = 0;
     while i < count {
@@ -65,7 +67,7 @@ pub enum Place {
 // Whether a window closes after it opens, and opens at the tick at which the
 // one before it closed, or later.
 fn in_order_after(closed: u32, window: Window) -> bool
-    ensures { result ≡ inOrderAfter closed window }
+    ensures { result ≡ in_order_after closed window }
 {
     if window.opening < window.closing {
         return closed <= window.opening;
@@ -77,7 +79,7 @@ fn in_order_after(closed: u32, window: Window) -> bool
 // closes.
 fn first_wrong(list: [Window; MAX_WINDOWS], count: usize) -> Place
     requires { count ≤ 32 }
-    ensures { place_of result ≡ firstWrongWindow 0 0 (take count list) }
+    ensures { place_of result ≡ first_wrong_window 0 0 (take count list) }
 {
     let mut closed: u32 = 0;
     let mut i: usize = 0;
@@ -105,7 +107,7 @@ pub fn refused(windows: Windows) -> Place
 
 // The same of windows that are given.
 fn wrong_place(list: [Window; MAX_WINDOWS], count: usize, dwell: u32) -> Place
-    ensures { place_of result ≡ windowsRefused (record { given = true; dwell = dwell; count = count; list = list }) }
+    ensures { place_of result ≡ windows_refused (record { given = true; dwell = dwell; count = count; list = list }) }
 {
     if count == 0 {
         return Place::At(0);
@@ -122,7 +124,7 @@ fn wrong_place(list: [Window; MAX_WINDOWS], count: usize, dwell: u32) -> Place
 
 // The first tick, from `first` on, that is not before the opening.
 pub fn first_tick(window: Window, first: u32) -> u32
-    ensures { result ≡ firstTick first window }
+    ensures { result ≡ first_tick first window }
 {
     if window.opening < first {
         return first;
@@ -134,7 +136,7 @@ pub fn first_tick(window: Window, first: u32) -> u32
 // is not after the window's first.
 pub fn after_last(window: Window, dwell: u32, after: u32) -> u32
     requires { dwell ≤ 4096 }
-    ensures { result ≡ afterLast dwell after window }
+    ensures { result ≡ after_last dwell after window }
 {
     let closing = window.closing;
     if dwell == 0 {

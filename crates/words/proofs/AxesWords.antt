@@ -9,12 +9,12 @@ use lib.ListN.{drop, set}
 use lib.Dec.{eqb}
 use borrow.Author.Tests.{eq-eqb, ne_eqb}
 use Rattle.model.specs.declared.Axis.{Axis}
-use Rattle.model.specs.planning.Job.{JobAxis, setFrom}
+use Rattle.model.specs.planning.Job.{JobAxis, set_from}
 use Rattle.model.specs.planning.Words.{Reading, got, wrong, axis, axes, give, ◌>>=◌}
 use Rattle.words.specs.declared.axis.AxisReading.{AxisReading}
 use Rattle.words.specs.declared.AxesReading.{AxesReading}
 use Rattle.words.specs.Decoding.{placed}
-use Rattle.words.specs.ByIndex.{axisReading, withAxis, read_on, read_all}
+use Rattle.words.specs.ByIndex.{axis_reading, with_axis, read_on, read_all}
 use Rattle.words.proofs.Reader.{on}
 use Rattle.words.proofs.AxisWords.{Follows, axis-follows}
 
@@ -47,7 +47,7 @@ in-front ws six i x s (wrong p) h = h
 
 module _ (ws : List ℕ) (n i m : ℕ) where
   abbrev later : List ℕ
-  later = setFrom n (suc i) (m / 2)
+  later = set_from n (suc i) (m / 2)
 
   -- the axes after axis i, from any index and any six
   abbrev Later : Type 0
@@ -55,7 +55,7 @@ module _ (ws : List ℕ) (n i m : ℕ) where
       → Matches ws six (read_all ws n (suc i) (m / 2) (going at six)) (axes later at (drop at ws))
 
   one-read : (at : ℕ) (six : List Axis) → Later → (r : Reading Axis) → Follows ws at r
-      → Matches ws six (read_all ws n (suc i) (m / 2) (withAxis i (going at six) (axisReading r)))
+      → Matches ws six (read_all ws n (suc i) (m / 2) (with_axis i (going at six) (axis_reading r)))
       (on (λ x. ◌>>=◌ (axes later) (λ xs. give (front i x xs))) r)
   one-read at six h (got x j vs) (e, _) =
       let s = read_all ws n (suc i) (m / 2) (going j (set six i x)) in
@@ -68,7 +68,7 @@ module _ (ws : List ℕ) (n i m : ℕ) where
   bits b = elim b [ true ↦ i ∷ later | false ↦ later ]
 
   abbrev here : ℕ → List Axis → Bool → AxesReading
-  here at six b = cond b (withAxis i (going at six) (axisReading (axis at (drop at ws)))) (going at six)
+  here at six b = cond b (with_axis i (going at six) (axis_reading (axis at (drop at ws)))) (going at six)
 
   by_bit : (b : Bool) (at : ℕ) (six : List Axis) → Later
       → Matches ws six (read_all ws n (suc i) (m / 2) (here at six b)) (axes (bits b) at (drop at ws))
@@ -76,7 +76,7 @@ module _ (ws : List ℕ) (n i m : ℕ) where
   by_bit false at six h = h at six
 
 pub reads : (ws : List ℕ) (n i m at : ℕ) (six : List Axis)
-    → Matches ws six (read_all ws n i m (going at six)) (axes (setFrom n i m) at (drop at ws))
+    → Matches ws six (read_all ws n i m (going at six)) (axes (set_from n i m) at (drop at ws))
 unfolding read_all
 reads ws zero i m at six = (refl, refl, refl, refl)
 reads ws (suc n) i m at six = by_bit ws n i m (eqb (m % 2) 1) at six (λ a s. reads ws n (suc i) (m / 2) a s)
@@ -85,24 +85,24 @@ reads ws (suc n) i m at six = by_bit ws n i m (eqb (m % 2) 1) at six (λ a s. re
 
 module _ (ws : List ℕ) (i m : ℕ) (s : AxesReading) where
   abbrev turn : Bool → Bool → AxisReading → AxesReading
-  turn b d r = cond b (cond d (withAxis i s r) s) s
+  turn b d r = cond b (cond d (with_axis i s r) s) s
 
-  abbrev axisHere : AxisReading
-  axisHere = axisReading (axis s.at (drop s.at ws))
+  abbrev axis_here : AxisReading
+  axis_here = axis_reading (axis s.at (drop s.at ws))
 
-  going_on : (d : Bool) → s.got ≡ true → eqb (m % 2) 1 ≡ d → read_on ws i m s ≡ turn true d axisHere
-  going_on d e f = ap (λ (b : Bool). turn b (eqb (m % 2) 1) axisHere) e ∙ ap (λ (b : Bool). turn true b axisHere) f
+  going_on : (d : Bool) → s.got ≡ true → eqb (m % 2) 1 ≡ d → read_on ws i m s ≡ turn true d axis_here
+  going_on d e f = ap (λ (b : Bool). turn b (eqb (m % 2) 1) axis_here) e ∙ ap (λ (b : Bool). turn true b axis_here) f
 
   pub turn-unset : s.got ≡ true → (m % 2 ≡ 1 → ⊥) → s ≡ read_on ws i m s
   turn-unset e h = sym (going_on false e (ne_eqb (m % 2) 1 h))
 
-  pub turn-set : s.got ≡ true → m % 2 ≡ 1 → (r q : AxisReading) → r ≡ axisHere → r ≡ q
-      → withAxis i s q ≡ read_on ws i m s
-  turn-set e h r q p f = ap (withAxis i s) (sym f ∙ p) ∙ sym (going_on true e (eq-eqb (m % 2) 1 h))
+  pub turn-set : s.got ≡ true → m % 2 ≡ 1 → (r q : AxisReading) → r ≡ axis_here → r ≡ q
+      → with_axis i s q ≡ read_on ws i m s
+  turn-set e h r q p f = ap (with_axis i s) (sym f ∙ p) ∙ sym (going_on true e (eq-eqb (m % 2) 1 h))
 
 -- an axis has at most twelve words
 reading-end : (ws : List ℕ) (i : ℕ) (s : AxesReading) (r : Reading Axis) → Follows ws s.at r
-    → (withAxis i s (axisReading r)).at ≤ s.at + 13
+    → (with_axis i s (axis_reading r)).at ≤ s.at + 13
 reading-end ws i s (got x j vs) h = h.1
 reading-end ws i s (wrong p) h = h
 
@@ -111,7 +111,7 @@ turn_end ws i m s =
     go s.got (eqb (m % 2) 1) (reading-end ws i s (axis s.at (drop s.at ws)) (axis-follows ws s.at))
   where
     read : AxesReading
-    read = withAxis i s (axisReading (axis s.at (drop s.at ws)))
+    read = with_axis i s (axis_reading (axis s.at (drop s.at ws)))
 
     go : (b d : Bool) → read.at ≤ s.at + 13 → (cond b (cond d read s) s).at ≤ s.at + 13
     go true true h = h

@@ -14,23 +14,23 @@ use borrow.Author.Tests.{ltb-true, ltb-false, lt-ltb, le-ltb}
 use Rattle.model.specs.declared.Checked.{Checked}
 use Rattle.model.specs.declared.Checked.TheVariants.{Passed, Refused}
 use Rattle.model.specs.planning.Words.{kind, payload, Reading, got, wrong, ending}
-use Rattle.words.specs.ByIndex.{isKind, isEnd, payloadAt, badLongIn, longChecked, endChecked}
+use Rattle.words.specs.ByIndex.{is_kind, is_end, payload_at, bad_long_in, long_checked, end_checked}
 use Rattle.words.proofs.Reader.{inside, outside, there}
 
 abbrev end_word : ℕ → Bool
 end_word w = eqb (kind w) 15 && eqb (payload w) 0
 
-end-inside : (ws : List ℕ) (i : ℕ) → i < length ws → isEnd ws i ≡ end_word (get_or ws i 0)
+end-inside : (ws : List ℕ) (i : ℕ) → i < length ws → is_end ws i ≡ end_word (get_or ws i 0)
 end-inside ws i h =
-    ap (λ (b : Bool). cond b (eqb (payloadAt ws i) 0) false) (inside ws i 15 h)
-    ∙ both (eqb (kind (get_or ws i 0)) 15) (eqb (payloadAt ws i) 0)
+    ap (λ (b : Bool). cond b (eqb (payload_at ws i) 0) false) (inside ws i 15 h)
+    ∙ both (eqb (kind (get_or ws i 0)) 15) (eqb (payload_at ws i) 0)
   where
     both : (b d : Bool) → cond b d false ≡ b && d
     both true d = refl
     both false d = refl
 
-pub end-there : (ws : List ℕ) (i : ℕ) → isEnd ws i ≡ true → i < length ws
-end-there ws i e = there ws i 15 (first (isKind ws i 15) (eqb (payloadAt ws i) 0) e)
+pub end-there : (ws : List ℕ) (i : ℕ) → is_end ws i ≡ true → i < length ws
+end-there ws i e = there ws i 15 (first (is_kind ws i 15) (eqb (payload_at ws i) 0) e)
   where
     first : (b d : Bool) → cond b d false ≡ true → b ≡ true
     first true d e = refl
@@ -69,12 +69,12 @@ module _ {A : Type 0} (a : A) (ws : List ℕ) (i : ℕ) where
       ∙ ap (ends a i (end_word (get_or ws i 0))) (sym t))
       (either (ltb (i + 1) (length ws)))
 
-  pub ending-is : ending a i (drop i ws) ≡ ends a i (isEnd ws i) (ltb (i + 1) (length ws))
+  pub ending-is : ending a i (drop i ws) ≡ ends a i (is_end ws i) (ltb (i + 1) (length ws))
   ending-is = ⊎_elim
       (λ t. let h = ltb-true i (length ws) t in
       ending_there h ∙ ap (λ (b : Bool). ends a i b (ltb (i + 1) (length ws))) (sym (end-inside ws i h)))
       (λ t. ap (ending a i) (drop_of_length-le ws {i = i} (ltb-false i (length ws) t))
-      ∙ sym (ap (λ (b : Bool). ends a i (cond b (eqb (payloadAt ws i) 0) false) (ltb (i + 1) (length ws)))
+      ∙ sym (ap (λ (b : Bool). ends a i (cond b (eqb (payload_at ws i) 0) false) (ltb (i + 1) (length ws)))
       (outside ws i 15 t)))
       (either (ltb i (length ws)))
 
@@ -82,30 +82,30 @@ module _ {A : Type 0} (a : A) (ws : List ℕ) (i : ℕ) where
 
 module _ (ws : List ℕ) (i : ℕ) where
   by_last : Bool → Checked
-  by_last l = cond l (Refused 2 (i + 1)) (longChecked (badLongIn ws i 0) i)
+  by_last l = cond l (Refused 2 (i + 1)) (long_checked (bad_long_in ws i 0) i)
 
   by_end : Bool → Checked
   by_end b = cond b (by_last (ltb (i + 1) (length ws))) (Refused 2 i)
 
-  pub end-missing : isEnd ws i ≡ false → Refused 2 i ≡ endChecked ws i
-  unfolding endChecked by_end by_last
+  pub end-missing : is_end ws i ≡ false → Refused 2 i ≡ end_checked ws i
+  unfolding end_checked by_end by_last
   end-missing e = sym (ap by_end e)
 
-  ended : isEnd ws i ≡ true → endChecked ws i ≡ by_last (ltb (i + 1) (length ws))
-  unfolding endChecked by_end by_last
+  ended : is_end ws i ≡ true → end_checked ws i ≡ by_last (ltb (i + 1) (length ws))
+  unfolding end_checked by_end by_last
   ended e = ap by_end e
 
-  pub end-followed : isEnd ws i ≡ true → i + 1 < length ws → Refused 2 (i + 1) ≡ endChecked ws i
+  pub end-followed : is_end ws i ≡ true → i + 1 < length ws → Refused 2 (i + 1) ≡ end_checked ws i
   unfolding by_last
   end-followed e h = sym (ended e ∙ ap by_last (lt-ltb _ _ h))
 
-  module _ (e : isEnd ws i ≡ true) (h : length ws ≤ i + 1) (f : ℕ) (is : f ≡ badLongIn ws i 0) where
-    last : longChecked f i ≡ endChecked ws i
+  module _ (e : is_end ws i ≡ true) (h : length ws ≤ i + 1) (f : ℕ) (is : f ≡ bad_long_in ws i 0) where
+    last : long_checked f i ≡ end_checked ws i
     unfolding by_last
-    last = ap (λ (k : ℕ). longChecked k i) is ∙ sym (ended e ∙ ap by_last (le-ltb _ _ h))
+    last = ap (λ (k : ℕ). long_checked k i) is ∙ sym (ended e ∙ ap by_last (le-ltb _ _ h))
 
-    pub end-long : f < i → Refused 14 f ≡ endChecked ws i
+    pub end-long : f < i → Refused 14 f ≡ end_checked ws i
     end-long k = sym (ap (λ (b : Bool). cond b (Refused 14 f) Passed) (lt-ltb f i k)) ∙ last
 
-    pub end-passed : i ≤ f → Passed ≡ endChecked ws i
+    pub end-passed : i ≤ f → Passed ≡ end_checked ws i
     end-passed k = sym (ap (λ (b : Bool). cond b (Refused 14 f) Passed) (le-ltb f i k)) ∙ last

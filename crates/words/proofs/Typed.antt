@@ -11,13 +11,13 @@ use lib.Dec.{eqb}
 use Rattle.model.specs.declared.Axis.{Axis}
 use Rattle.model.specs.declared.Checked.TheVariants.{Passed, Refused}
 use Rattle.model.specs.declared.Windows.{Windows}
-use Rattle.model.specs.planning.Windows.{noWindows}
-use Rattle.model.specs.planning.Job.{Job, JobAxis, setFrom, setBits, setAxes, job_of, unsetAxis}
+use Rattle.model.specs.planning.Windows.{no_windows}
+use Rattle.model.specs.planning.Job.{Job, JobAxis, set_from, set_bits, set_axes, job_of, unset_axis}
 use Rattle.model.specs.planning.Words.{Reading, got, wrong, ◌>>=◌, give, kind, payload, field, axis, axes, ending}
-use Rattle.model.specs.planning.Words.{firstBadLong, readJob, afterMask, goodMask, Decoded, noMask, badWord, badLong}
+use Rattle.model.specs.planning.Words.{first_bad_long, read_job, after_mask, good_mask, Decoded, no_mask, bad_word, bad_long}
 use Rattle.model.specs.planning.Words.{job, spelled, decided, decode}
 use Rattle.words.specs.declared.DecodedJob.{DecodedJob}
-use Rattle.words.specs.Decoding.{unsetAxes, placed, decodedJob, Decodes}
+use Rattle.words.specs.Decoding.{unset_axes, placed, decoded_job, Decodes}
 use Rattle.words.proofs.Reader.{on}
 
 abbrev numbers : List JobAxis → List ℕ
@@ -34,10 +34,10 @@ earlier : (i : ℕ) (xs : List JobAxis) → From (suc i) xs → From i xs
 earlier i [] f = tt
 earlier i (x ∷ xs) (f, fs) = (omega arith, earlier i xs fs)
 
-bits-from : (n i m : ℕ) (xs : List JobAxis) → numbers xs ≡ setFrom n i m → From i xs
+bits-from : (n i m : ℕ) (xs : List JobAxis) → numbers xs ≡ set_from n i m → From i xs
 bits-from zero i m [] e = tt
 bits-from zero i m (x ∷ xs) e = absurd (let z : ◌≡◌ {A = ℕ} 0 1 = cc in omega arith)
-bits-from (suc n) i m xs e = go (eqb (m % 2) 1) xs (setFrom n (suc i) (m / 2)) e (λ ys. bits-from n (suc i) (m / 2) ys)
+bits-from (suc n) i m xs e = go (eqb (m % 2) 1) xs (set_from n (suc i) (m / 2)) e (λ ys. bits-from n (suc i) (m / 2) ys)
   where
     go : (b : Bool) (xs : List JobAxis) (later : List ℕ)
         → ◌≡◌ {A = List ℕ} (numbers xs) (elim b [ true ↦ i ∷ later | false ↦ later ])
@@ -55,24 +55,24 @@ placed-long (x ∷ xs) six = placed-long xs (set six x.number x.axis) ∙ length
 
 -- what stands below the numbers stays
 placed_below : (xs : List JobAxis) (six : List Axis) (i k : ℕ) → From i xs → k < i
-    → get_or (placed xs six) k unsetAxis ≡ get_or six k unsetAxis
+    → get_or (placed xs six) k unset_axis ≡ get_or six k unset_axis
 placed_below [] six i k f h = refl
 placed_below (x ∷ xs) six i k (f, fs) h =
     placed_below xs (set six x.number x.axis) i k fs h
-    ∙ get_or-set_other six x.number k x.axis unsetAxis (λ e. omega arith)
+    ∙ get_or-set_other six x.number k x.axis unset_axis (λ e. omega arith)
 
 module _ (n i m : ℕ) where
   abbrev later : List ℕ
-  later = setFrom n (suc i) (m / 2)
+  later = set_from n (suc i) (m / 2)
 
   abbrev rest : List Axis → List JobAxis
-  rest six = setAxes (suc i) (m / 2) (drop (suc i) six)
+  rest six = set_axes (suc i) (m / 2) (drop (suc i) six)
 
   abbrev bits : Bool → List ℕ
   bits b = elim b [ true ↦ i ∷ later | false ↦ later ]
 
   abbrev picked : Bool → List Axis → List JobAxis
-  picked b six = elim b [ true ↦ record { number = i; axis = get_or six i unsetAxis } ∷ rest six | false ↦ rest six ]
+  picked b six = elim b [ true ↦ record { number = i; axis = get_or six i unset_axis } ∷ rest six | false ↦ rest six ]
 
   abbrev Later : Type 0
   Later = (ys : List JobAxis) (s : List Axis) → length s ≡ suc i + n → numbers ys ≡ later → rest (placed ys s) ≡ ys
@@ -85,19 +85,19 @@ module _ (n i m : ℕ) where
       let others : numbers xs ≡ later = cc in
       let with : List Axis = set six x.number x.axis in
       let long : length with ≡ suc i + n = omega (arith, length-set six x.number x.axis) in
-      let kept : get_or (placed xs with) i unsetAxis ≡ x.axis =
+      let kept : get_or (placed xs with) i unset_axis ≡ x.axis =
       placed_below xs with (suc i) i (bits-from n (suc i) (m / 2) xs others) (omega arith)
-      ∙ ap (λ (k : ℕ). get_or with k unsetAxis) (sym first)
-      ∙ get_or-set_same six x.number x.axis unsetAxis (omega arith) in
+      ∙ ap (λ (k : ℕ). get_or with k unset_axis) (sym first)
+      ∙ get_or-set_same six x.number x.axis unset_axis (omega arith) in
       λ j. record { number = sym first j; axis = kept j } ∷ h xs with long others j
   by_bit false xs six l e h = h xs six (omega arith) e
 
-pub axes-again : (n i m : ℕ) (xs : List JobAxis) (six : List Axis) → length six ≡ i + n → numbers xs ≡ setFrom n i m
-    → setAxes i m (drop i (placed xs six)) ≡ xs
-axes-again zero i m [] six l e = ap (setAxes i m) (drop_of_length-le six {i = i} (omega arith))
+pub axes-again : (n i m : ℕ) (xs : List JobAxis) (six : List Axis) → length six ≡ i + n → numbers xs ≡ set_from n i m
+    → set_axes i m (drop i (placed xs six)) ≡ xs
+axes-again zero i m [] six l e = ap (set_axes i m) (drop_of_length-le six {i = i} (omega arith))
 axes-again zero i m (x ∷ xs) six l e = absurd (let z : ◌≡◌ {A = ℕ} 0 1 = cc in omega arith)
 axes-again (suc n) i m xs six l e =
-    ap (setAxes i m) (drop-cons (placed xs six) i unsetAxis (omega (arith, placed-long xs six)))
+    ap (set_axes i m) (drop-cons (placed xs six) i unset_axis (omega (arith, placed-long xs six)))
     ∙ by_bit n i m (eqb (m % 2) 1) xs six l e (λ ys s. axes-again n (suc i) (m / 2) ys s)
 
 -- ---- the numbers of the axes that are read, and the mask
@@ -122,7 +122,7 @@ axes-numbered (n ∷ ns) i ws = first (axis i ws) (axes-numbered ns)
 
 -- a job of mask m whose axes have the numbers of its set bits; words bring no windows
 abbrev OfMask : ℕ → Job → Type 0
-OfMask m j = (j.mask ≡ m) × (numbers j.axes ≡ setBits m) × (j.windows ≡ noWindows)
+OfMask m j = (j.mask ≡ m) × (numbers j.axes ≡ set_bits m) × (j.windows ≡ no_windows)
 
 abbrev JobOf : ℕ → Reading Job → Type 0
 JobOf m (got j i vs) = OfMask m j
@@ -141,71 +141,71 @@ ending-job m j i (w ∷ u ∷ ws) h = go (eqb (kind w) 15 && eqb (payload w) 0)
     go true = tt
     go false = tt
 
-after-mask-job : (m i : ℕ) (ws : List ℕ) → JobOf m (afterMask m i ws)
+after-mask-job : (m i : ℕ) (ws : List ℕ) → JobOf m (after_mask m i ws)
 after-mask-job m i ws = asked (field 2 i ws)
   where
-    by-axes : (a : ℕ) (r : Reading (List JobAxis)) → Numbered (setBits m) r
-        → JobOf m (on (λ xs. ending (readJob m a xs)) r)
-    by-axes a (got xs j vs) e = ending-job m (readJob m a xs) j vs (refl, e, refl)
+    by-axes : (a : ℕ) (r : Reading (List JobAxis)) → Numbered (set_bits m) r
+        → JobOf m (on (λ xs. ending (read_job m a xs)) r)
+    by-axes a (got xs j vs) e = ending-job m (read_job m a xs) j vs (refl, e, refl)
     by-axes a (wrong p) e = tt
 
-    asked : (r : Reading ℕ) → JobOf m (on (λ a. ◌>>=◌ (axes (setBits m)) (λ xs. ending (readJob m a xs))) r)
-    asked (got a j vs) = by-axes a (axes (setBits m) j vs) (axes-numbered (setBits m) j vs)
+    asked : (r : Reading ℕ) → JobOf m (on (λ a. ◌>>=◌ (axes (set_bits m)) (λ xs. ending (read_job m a xs))) r)
+    asked (got a j vs) = by-axes a (axes (set_bits m) j vs) (axes-numbered (set_bits m) j vs)
     asked (wrong p) = tt
 
 -- a decoded job has an allowed mask, and is that of its six axes
 abbrev Sound : Decoded → Type 0
-Sound noMask = Unit
-Sound (badWord p) = Unit
-Sound (badLong p) = Unit
-Sound (job j) = (goodMask j.mask ≡ true) × (numbers j.axes ≡ setBits j.mask) × (j.windows ≡ noWindows)
+Sound no_mask = Unit
+Sound (bad_word p) = Unit
+Sound (bad_long p) = Unit
+Sound (job j) = (good_mask j.mask ≡ true) × (numbers j.axes ≡ set_bits j.mask) × (j.windows ≡ no_windows)
 
 sound : (ws : List ℕ) → Sound (decode ws)
 sound [] = tt
-sound (w ∷ ws) = go (eqb (kind w) 1) (goodMask (payload w)) refl
+sound (w ∷ ws) = go (eqb (kind w) 1) (good_mask (payload w)) refl
   where
     by-long : (o : Option ℕ) (j : Job) → Sound (job j) → Sound (spelled o j)
     by-long (some p) j h = tt
     by-long none j h = h
 
-    by-reading : goodMask (payload w) ≡ true → (r : Reading Job) → JobOf (payload w) r → Sound (decided (w ∷ ws) r)
+    by-reading : good_mask (payload w) ≡ true → (r : Reading Job) → JobOf (payload w) r → Sound (decided (w ∷ ws) r)
     by-reading e (got j i rest) (p, q, r) =
-        by-long (firstBadLong 0 (w ∷ ws)) j (ap (λ (m : ℕ). goodMask m) p ∙ e, q ∙ ap (λ (m : ℕ). setBits m) (sym p), r)
+        by-long (first_bad_long 0 (w ∷ ws)) j (ap (λ (m : ℕ). good_mask m) p ∙ e, q ∙ ap (λ (m : ℕ). set_bits m) (sym p), r)
     by-reading e (wrong p) h = tt
 
-    go : (a b : Bool) → goodMask (payload w) ≡ b
-        → Sound (elim (a && b) [ true ↦ decided (w ∷ ws) (afterMask (payload w) 1 ws) | false ↦ noMask ])
-    go true true e = by-reading e (afterMask (payload w) 1 ws) (after-mask-job (payload w) 1 ws)
+    go : (a b : Bool) → good_mask (payload w) ≡ b
+        → Sound (elim (a && b) [ true ↦ decided (w ∷ ws) (after_mask (payload w) 1 ws) | false ↦ no_mask ])
+    go true true e = by-reading e (after_mask (payload w) 1 ws) (after-mask-job (payload w) 1 ws)
     go true false e = tt
     go false b e = tt
 
 apart : {n p : ℕ} → Refused n p ≡ Passed → ⊥
 apart e = let z : ◌≡◌ {A = ℕ} 0 1 = cc in omega arith
 
-pub decodes : (ws : List ℕ) (r : DecodedJob) → r ≡ decodedJob (decode ws) → Decodes ws r
+pub decodes : (ws : List ℕ) (r : DecodedJob) → r ≡ decoded_job (decode ws) → Decodes ws r
 decodes ws r e =
     record {
       decoded = e;
       typed = λ z.
           typed-of (decode ws) (sound ws) (passed-of z) ∙ ap (λ (s : DecodedJob). job (job_of s.job)) (sym e);
       allowed = λ z.
-          ap (λ (s : DecodedJob). goodMask s.job.mask) e ∙ allowed_of (decode ws) (sound ws) (passed-of z);
+          ap (λ (s : DecodedJob). good_mask s.job.mask) e ∙ allowed_of (decode ws) (sound ws) (passed-of z);
     }
   where
-    passed-of : r.checked ≡ Passed → (decodedJob (decode ws)).checked ≡ Passed
+    passed-of : r.checked ≡ Passed → (decoded_job (decode ws)).checked ≡ Passed
     passed-of z = sym (ap (λ (s : DecodedJob). s.checked) e) ∙ z
 
-    typed-of : (d : Decoded) → Sound d → (decodedJob d).checked ≡ Passed → d ≡ job (job_of (decodedJob d).job)
-    typed-of noMask h z = absurd (apart z)
-    typed-of (badWord p) h z = absurd (apart z)
-    typed-of (badLong p) h z = absurd (apart z)
+    typed-of : (d : Decoded) → Sound d → (decoded_job d).checked ≡ Passed → d ≡ job (job_of (decoded_job d).job)
+    typed-of no_mask h z = absurd (apart z)
+    typed-of (bad_word p) h z = absurd (apart z)
+    typed-of (bad_long p) h z = absurd (apart z)
     typed-of (job j) (g, ns, w) z =
         ap₂ (λ (xs : List JobAxis) (v : Windows). job
         (record { mask = j.mask; asked = j.asked; axes = xs; windows = v }))
-        (sym (axes-again 6 0 j.mask j.axes unsetAxes refl ns)) w
+        (sym (axes-again 6 0 j.mask j.axes unset_axes refl ns)) w
 
-    allowed_of : (d : Decoded) → Sound d → (decodedJob d).checked ≡ Passed → goodMask (decodedJob d).job.mask ≡ true
-    allowed_of noMask h z = absurd (apart z)
-    allowed_of (badWord p) h z = absurd (apart z)
-    allowed_of (badLong p) h z = absurd (apart z)
+    allowed_of : (d : Decoded) → Sound d → (decoded_job d).checked ≡ Passed → good_mask (decoded_job d).job.mask ≡ true
+    allowed_of no_mask h z = absurd (apart z)
+    allowed_of (bad_word p) h z = absurd (apart z)
+    allowed_of (bad_long p) h z = absurd (apart z)
     allowed_of (job j) h z = h.0

@@ -10,104 +10,104 @@ use Rattle.model.specs.declared.SecondSway.TheVariants.{Absent, HalfPeriod}
 use Rattle.model.specs.declared.State.{State}
 use Rattle.model.specs.declared.Target.{Target}
 use Rattle.model.specs.declared.RestPoint.{RestPoint}
-use Rattle.model.specs.planning.Words.{kind, payload, twos, longPosition, longAllowed, Reading, got, wrong, axis}
+use Rattle.model.specs.planning.Words.{kind, payload, twos, long_position, long_allowed, Reading, got, wrong, axis}
 use Rattle.words.specs.declared.axis.AxisReading.{AxisReading}
 use Rattle.words.specs.declared.axis.AxisReading.TheVariants.{Got, Wrong}
 use Rattle.words.specs.declared.AxesReading.{AxesReading}
-use Rattle.words.specs.Decoding.{unsetAxes}
+use Rattle.words.specs.Decoding.{unset_axes}
 
 -- ---- one word
 
-abbrev pub payloadAt : List ℕ → ℕ → ℕ
-payloadAt ws i = payload (get_or ws i 0)
+abbrev pub payload_at : List ℕ → ℕ → ℕ
+payload_at ws i = payload (get_or ws i 0)
 
-abbrev pub signedAt : List ℕ → ℕ → ℤ
-signedAt ws i = twos (payloadAt ws i)
+abbrev pub signed_at : List ℕ → ℕ → ℤ
+signed_at ws i = twos (payload_at ws i)
 
 -- word i is there and of kind k
-unfoldable pub isKind : List ℕ → ℕ → ℕ → Bool
-isKind ws i k = cond (ltb i (length ws)) (eqb (kind (get_or ws i 0)) k) false
+unfoldable pub is_kind : List ℕ → ℕ → ℕ → Bool
+is_kind ws i k = cond (ltb i (length ws)) (eqb (kind (get_or ws i 0)) k) false
 
 -- word i is the end word
-abbrev pub isEnd : List ℕ → ℕ → Bool
-isEnd ws i = cond (isKind ws i 15) (eqb (payloadAt ws i) 0) false
+abbrev pub is_end : List ℕ → ℕ → Bool
+is_end ws i = cond (is_kind ws i 15) (eqb (payload_at ws i) 0) false
 
 -- the first index from i on whose word is not of the kind due there: k, k + 1, ..,
 -- of n words; i + n where each is
-unfoldable pub firstWrong : List ℕ → ℕ → ℕ → ℕ → ℕ
-firstWrong ws i k zero = i
-firstWrong ws i k (suc n) = cond (isKind ws i k) (firstWrong ws (suc i) (suc k) n) i
+unfoldable pub first_wrong : List ℕ → ℕ → ℕ → ℕ → ℕ
+first_wrong ws i k zero = i
+first_wrong ws i k (suc n) = cond (is_kind ws i k) (first_wrong ws (suc i) (suc k) n) i
 
 -- the index after a word of kind k that may stand at i
-unfoldable pub skipOptional : List ℕ → ℕ → ℕ → ℕ
-skipOptional ws i k = cond (isKind ws i k) (suc i) i
+unfoldable pub skip_optional : List ℕ → ℕ → ℕ → ℕ
+skip_optional ws i k = cond (is_kind ws i k) (suc i) i
 
 -- ---- positions
 
 -- the position of word i, of kind 14, and the one after it
-abbrev pub longAt : List ℕ → ℕ → ℤ
-longAt ws i = longPosition (payloadAt ws i) (payloadAt ws (suc i))
+abbrev pub long_at : List ℕ → ℕ → ℤ
+long_at ws i = long_position (payload_at ws i) (payload_at ws (suc i))
 
 -- the position whose words begin at i
-unfoldable pub positionAt : List ℕ → ℕ → ℤ
-positionAt ws i = cond (isKind ws i 14) (longAt ws i) (signedAt ws i)
+unfoldable pub position_at : List ℕ → ℕ → ℤ
+position_at ws i = cond (is_kind ws i 14) (long_at ws i) (signed_at ws i)
 
 -- refusal 14 names word i
-unfoldable pub isBadLong : List ℕ → ℕ → Bool
-isBadLong ws i = cond (isKind ws i 14) (not (longAllowed (payloadAt ws i) (payloadAt ws (suc i)))) false
+unfoldable pub is_bad_long : List ℕ → ℕ → Bool
+is_bad_long ws i = cond (is_kind ws i 14) (not (long_allowed (payload_at ws i) (payload_at ws (suc i)))) false
 
 -- of n words from i on, the index of the first that it names; i + n where it names none
-unfoldable pub badLongIn : List ℕ → ℕ → ℕ → ℕ
-badLongIn ws zero i = i
-badLongIn ws (suc n) i = cond (isBadLong ws i) i (badLongIn ws n (suc i))
+unfoldable pub bad_long_in : List ℕ → ℕ → ℕ → ℕ
+bad_long_in ws zero i = i
+bad_long_in ws (suc n) i = cond (is_bad_long ws i) i (bad_long_in ws n (suc i))
 
 -- ---- one axis, whose words begin at i
 
 unfoldable pub rest_at : List ℕ → ℕ → RestPoint
-rest_at ws i = record { position = positionAt ws i; velocity = signedAt ws (skipOptional ws i 14 + 1) }
+rest_at ws i = record { position = position_at ws i; velocity = signed_at ws (skip_optional ws i 14 + 1) }
 
-unfoldable pub stateAt : List ℕ → ℕ → State
-stateAt ws i =
-    let s : ℕ = skipOptional ws i 14 in
+unfoldable pub state_at : List ℕ → ℕ → State
+state_at ws i =
+    let s : ℕ = skip_optional ws i 14 in
     record {
-      position = positionAt ws i;
-      velocity = signedAt ws (s + 1);
-      acceleration = signedAt ws (s + 2);
-      tick = signedAt ws (s + 3);
+      position = position_at ws i;
+      velocity = signed_at ws (s + 1);
+      acceleration = signed_at ws (s + 2);
+      tick = signed_at ws (s + 3);
     }
 
 -- the second sway whose word may stand at i
-unfoldable pub swayAt : List ℕ → ℕ → SecondSway
-swayAt ws i = cond (isKind ws i 13) (HalfPeriod (payloadAt ws i)) Absent
+unfoldable pub sway_at : List ℕ → ℕ → SecondSway
+sway_at ws i = cond (is_kind ws i 13) (HalfPeriod (payload_at ws i)) Absent
 
-unfoldable pub axisAt : List ℕ → ℕ → Target → Axis
-axisAt ws i g =
-    let s : ℕ = skipOptional ws i 14 in
+unfoldable pub axis_at : List ℕ → ℕ → Target → Axis
+axis_at ws i g =
+    let s : ℕ = skip_optional ws i 14 in
     record {
       start = rest_at ws i;
-      speed_limit = payloadAt ws (s + 2);
-      acceleration_limit = payloadAt ws (s + 3);
-      half_period = payloadAt ws (s + 4);
-      second_weight = Given (payloadAt ws (s + 5));
-      second_sway = swayAt ws (s + 6);
+      speed_limit = payload_at ws (s + 2);
+      acceleration_limit = payload_at ws (s + 3);
+      half_period = payload_at ws (s + 4);
+      second_weight = Given (payload_at ws (s + 5));
+      second_sway = sway_at ws (s + 6);
       target = g;
     }
 
 -- a reading of the definitions, without the words after it
-abbrev pub axisReading : Reading Axis → AxisReading
-axisReading (got x j ws) = Got x j
-axisReading (wrong p) = Wrong p
+abbrev pub axis_reading : Reading Axis → AxisReading
+axis_reading (got x j ws) = Got x j
+axis_reading (wrong p) = Wrong p
 
 -- ---- the axes of a mask
 
 -- what was read so far, with axis i
-abbrev pub withAxis : ℕ → AxesReading → AxisReading → AxesReading
-withAxis i s (Got x j) = record { got = true; at = j; axes = set s.axes i x }
-withAxis i s (Wrong p) = record { got = false; at = p; axes = s.axes }
+abbrev pub with_axis : ℕ → AxesReading → AxisReading → AxesReading
+with_axis i s (Got x j) = record { got = true; at = j; axes = set s.axes i x }
+with_axis i s (Wrong p) = record { got = false; at = p; axes = s.axes }
 
 -- with axis i, where the lowest bit of m names it and no word before was wrong
 abbrev pub read_on : List ℕ → ℕ → ℕ → AxesReading → AxesReading
-read_on ws i m s = cond s.got (cond (eqb (m % 2) 1) (withAxis i s (axisReading (axis s.at (drop s.at ws)))) s) s
+read_on ws i m s = cond s.got (cond (eqb (m % 2) 1) (with_axis i s (axis_reading (axis s.at (drop s.at ws)))) s) s
 
 -- n axes from number i on
 unfoldable pub read_all : List ℕ → ℕ → ℕ → ℕ → AxesReading → AxesReading
@@ -116,16 +116,16 @@ read_all ws (suc n) i m s = read_all ws n (suc i) (m / 2) (read_on ws i m s)
 
 -- no axis read; their words begin at index 2
 abbrev pub begun : AxesReading
-begun = record { got = true; at = 2; axes = unsetAxes }
+begun = record { got = true; at = 2; axes = unset_axes }
 
 -- ---- the end of a job
 
 -- refusal 14 of the words before i, f being the first that it names, or i where it names none
-abbrev pub longChecked : ℕ → ℕ → Checked
-longChecked f i = cond (ltb f i) (Refused 14 f) Passed
+abbrev pub long_checked : ℕ → ℕ → Checked
+long_checked f i = cond (ltb f i) (Refused 14 f) Passed
 
 -- refusal 2 where word i is not the end word, or not the last; then refusal 14
-unfoldable pub endChecked : List ℕ → ℕ → Checked
-endChecked ws i =
-    cond (isEnd ws i)
-    (cond (ltb (i + 1) (length ws)) (Refused 2 (i + 1)) (longChecked (badLongIn ws i 0) i)) (Refused 2 i)
+unfoldable pub end_checked : List ℕ → ℕ → Checked
+end_checked ws i =
+    cond (is_end ws i)
+    (cond (ltb (i + 1) (length ws)) (Refused 2 (i + 1)) (long_checked (bad_long_in ws i 0) i)) (Refused 2 i)

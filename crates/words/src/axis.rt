@@ -1,7 +1,7 @@
 // The words of one axis (docs/METHOD.md, section 6).
 ghost use Rattle.std.specs.Prelude.{◌+◌, ◌<◌, ◌≤◌, ◌≡◌, length, drop};
 ghost use Rattle.model.specs.planning.Words as Words;
-ghost use Rattle.words.specs.ByIndex.{skipOptional, rest_at, stateAt, swayAt, axisAt, axisReading};
+ghost use Rattle.words.specs.ByIndex.{skip_optional, rest_at, state_at, sway_at, axis_at, axis_reading};
 
 use crate::position::position_at;
 use crate::word::{first_wrong, is_kind, payload, signed_payload, skip_optional};
@@ -22,7 +22,7 @@ pub enum AxisReading {
 // of kind 13 after that of kind 8.
 pub fn read_axis(words: &[u32], at: usize) -> AxisReading
     requires { at < 1000 }
-    ensures { result ≡ axisReading (Words.axis at (drop at words.now)) }
+    ensures { result ≡ axis_reading (Words.axis at (drop at words.now)) }
 {
     let start = skip_optional(words, at, LONG_WORD);
     let first = first_wrong(words, start, START_WORD, 6);
@@ -54,8 +54,8 @@ pub fn read_axis(words: &[u32], at: usize) -> AxisReading
 
 // The axis whose words begin at an index, with a target.
 fn axis_to(words: &[u32], at: usize, target: Target) -> Axis
-    requires { skipOptional words.now at 14 + 6 ≤ length words.now }
-    ensures { result ≡ axisAt words.now at target }
+    requires { skip_optional words.now at 14 + 6 ≤ length words.now }
+    ensures { result ≡ axis_at words.now at target }
 {
     let start = rest_point(words, at);
     let first = skip_optional(words, at, LONG_WORD);
@@ -77,7 +77,7 @@ fn axis_to(words: &[u32], at: usize, target: Target) -> Axis
 
 // The second sway whose word may stand at an index.
 fn second_sway(words: &[u32], at: usize) -> SecondSway
-    ensures { result ≡ swayAt words.now at }
+    ensures { result ≡ sway_at words.now at }
 {
     if is_kind(words, at, SECOND_SWAY_WORD) {
         return SecondSway::HalfPeriod(payload(words, at));
@@ -87,7 +87,7 @@ fn second_sway(words: &[u32], at: usize) -> SecondSway
 
 // The position and velocity whose words begin at an index.
 fn rest_point(words: &[u32], at: usize) -> RestPoint
-    requires { skipOptional words.now at 14 + 2 ≤ length words.now }
+    requires { skip_optional words.now at 14 + 2 ≤ length words.now }
     ensures { result ≡ rest_at words.now at }
 {
     let first = skip_optional(words, at, LONG_WORD);
@@ -101,8 +101,8 @@ fn rest_point(words: &[u32], at: usize) -> RestPoint
 
 // The position, velocity, acceleration and tick whose words begin at an index.
 fn state_at(words: &[u32], at: usize) -> State
-    requires { skipOptional words.now at 14 + 4 ≤ length words.now }
-    ensures { result ≡ stateAt words.now at }
+    requires { skip_optional words.now at 14 + 4 ≤ length words.now }
+    ensures { result ≡ state_at words.now at }
 {
     let first = skip_optional(words, at, LONG_WORD);
     let position = position_at(words, at);

@@ -2,15 +2,15 @@
 ghost use Rattle.std.specs.Prelude.{◌+◌, ◌^◌, ◌<◌, ◌≡◌, length};
 ghost use Rattle.whole.specs.Ranges.{Is};
 ghost use Rattle.model.specs.planning.Words as Words;
-ghost use Rattle.words.specs.ByIndex.{longAt, positionAt, skipOptional, isBadLong, badLongIn};
+ghost use Rattle.words.specs.ByIndex.{long_at, position_at, skip_optional, is_bad_long, bad_long_in};
 
 use crate::word::{is_kind, payload, signed_payload};
 use model::LONG_WORD;
 
 // The position whose words begin at an index: one word, or a word of kind 14 and another.
 pub fn position_at(words: &[u32], at: usize) -> i64
-    requires { skipOptional words.now at 14 < length words.now }
-    ensures { result ≡ positionAt words.now at }
+    requires { skip_optional words.now at 14 < length words.now }
+    ensures { result ≡ position_at words.now at }
 {
     if is_kind(words, at, LONG_WORD) {
         return long_position(words, at);
@@ -22,7 +22,7 @@ pub fn position_at(words: &[u32], at: usize) -> i64
 // payload.
 fn long_position(words: &[u32], at: usize) -> i64
     requires { at + 1 < length words.now }
-    ensures { Is (2 ^ 56) result (longAt words.now at) }
+    ensures { Is (2 ^ 56) result (long_at words.now at) }
 {
     let high = signed_payload(words, at);
     let low = payload(words, at + 1);
@@ -33,7 +33,7 @@ fn long_position(words: &[u32], at: usize) -> i64
 // single word holds the position.
 fn is_bad_long(words: &[u32], at: usize) -> bool
     requires { at + 1 < length words.now }
-    ensures { result ≡ isBadLong words.now at }
+    ensures { result ≡ is_bad_long words.now at }
 {
     if !is_kind(words, at, LONG_WORD) {
         return false;
@@ -50,7 +50,7 @@ fn is_bad_long(words: &[u32], at: usize) -> bool
 // `end`; `end` where there is none.
 pub fn first_bad_long(words: &[u32], end: usize) -> usize
     requires { end < length words.now }
-    ensures { result ≡ badLongIn words.now end 0 }
+    ensures { result ≡ bad_long_in words.now end 0 }
 {
     let mut i: usize = 0;
     while i < end {

@@ -1,13 +1,13 @@
 // One word: its kind is its top four bits, its payload the other 28 (docs/METHOD.md, section 6).
 ghost use Rattle.std.specs.Prelude.{◌^◌, ◌<◌, ◌≡◌, length};
 ghost use Rattle.whole.specs.Ranges.{Is};
-ghost use Rattle.words.specs.ByIndex.{payloadAt, signedAt, isKind, isEnd, skipOptional, firstWrong};
+ghost use Rattle.words.specs.ByIndex.{payload_at, signed_at, is_kind, is_end, skip_optional, first_wrong};
 
 use model::END_WORD;
 
 // Whether there is a word at an index and it is of a kind: its top four bits.
 pub fn is_kind(words: &[u32], at: usize, due: u32) -> bool
-    ensures { result ≡ isKind words.now at due }
+    ensures { result ≡ is_kind words.now at due }
 {
     if at < words.len() {
         return words[at] / 268435456 == due;
@@ -18,7 +18,7 @@ pub fn is_kind(words: &[u32], at: usize, due: u32) -> bool
 // The low 28 bits of a word.
 pub fn payload(words: &[u32], at: usize) -> u32
     requires { at < length words.now }
-    ensures { result ≡ payloadAt words.now at }
+    ensures { result ≡ payload_at words.now at }
 {
     words[at] % 268435456
 }
@@ -26,7 +26,7 @@ pub fn payload(words: &[u32], at: usize) -> u32
 // The low 28 bits of a word in two's complement.
 pub fn signed_payload(words: &[u32], at: usize) -> i64
     requires { at < length words.now }
-    ensures { Is (2 ^ 27) result (signedAt words.now at) }
+    ensures { Is (2 ^ 27) result (signed_at words.now at) }
 {
     let bits = words[at] % 268435456;
     if bits < 134217728 {
@@ -37,7 +37,7 @@ pub fn signed_payload(words: &[u32], at: usize) -> i64
 
 // Whether the word at an index is the end word.
 pub fn is_end(words: &[u32], at: usize) -> bool
-    ensures { result ≡ isEnd words.now at }
+    ensures { result ≡ is_end words.now at }
 {
     if !is_kind(words, at, END_WORD) {
         return false;
@@ -48,7 +48,7 @@ pub fn is_end(words: &[u32], at: usize) -> bool
 // The index after a word that may stand at an index: the next where that word is of a kind, else
 // the same.
 pub fn skip_optional(words: &[u32], at: usize, kind: u32) -> usize
-    ensures { result ≡ skipOptional words.now at kind }
+    ensures { result ≡ skip_optional words.now at kind }
 {
     if is_kind(words, at, kind) {
         return at + 1;
@@ -60,7 +60,7 @@ pub fn skip_optional(words: &[u32], at: usize, kind: u32) -> usize
 // .., of `count` words. Where each is of its kind, at + count.
 pub fn first_wrong(words: &[u32], at: usize, first: u32, count: usize) -> usize
     requires { (at < 4096) × (first < 16) × (count < 16) }
-    ensures { result ≡ firstWrong words.now at first count }
+    ensures { result ≡ first_wrong words.now at first count }
 {
     let mut i: usize = 0;
     while i < count {

@@ -5,9 +5,9 @@ use mathlib.Core.Path.{◌≡◌, refl, sym, ◌∙◌}
 use mathlib.Core.Logic.{⊎_elim}
 use lib.ListN.{length}
 use borrow.Author.Rules.{rules}
-use Rattle.model.specs.planning.Job.{setAxes}
-use Rattle.admission.specs.Admitting.{anyMeasured}
-use Rattle.admission.proofs.Weights.{measuredOn, measured-here, measured-later, measured-unnamed, measured-none}
+use Rattle.model.specs.planning.Job.{set_axes}
+use Rattle.admission.specs.Admitting.{any_measured}
+use Rattle.admission.proofs.Weights.{measured_on, measured-here, measured-later, measured-unnamed, measured-none}
 use Rattle.admission.proofs.any_measured.Statement.{statement}
 use Rattle.admission.proofs.any_measured.Tie as tie
 
@@ -16,7 +16,7 @@ invariant-loop mask axes bits₀ i₀ bits i =
     record {
       low : i ≤ 6;
       six : length axes ≡ 6;
-      is : measuredOn axes i bits ≡ anyMeasured (setAxes 0 mask axes);
+      is : measured_on axes i bits ≡ any_measured (set_axes 0 mask axes);
     }
 
 abbrev decreases-loop : tie.decreases-loop

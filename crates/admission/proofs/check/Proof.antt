@@ -2,8 +2,8 @@ use mathlib.Core.Path.{sym, ap, ◌∙◌}
 use borrow.Author.Rules.{rules}
 use borrow.Author.Tests.{not-true, not-false}
 use Rattle.model.proofs.AllowedMask.{mask-refused}
-use Rattle.refusals.specs.Checks.{withoutJob}
-use Rattle.admission.specs.Admitting.{rulesFor}
+use Rattle.refusals.specs.Checks.{without_job}
+use Rattle.admission.specs.Admitting.{rules_for}
 use Rattle.admission.proofs.Purposes.{asked-late, asked-in-time}
 use Rattle.admission.proofs.check.Statement.{statement}
 use Rattle.admission.proofs.check.Tie as tie
@@ -15,8 +15,8 @@ returns : tie.Need-returns
 returns c =
     let a = c.before.before.args in
     let bad = sym c.before.mask-allowed.ensures ∙ not-true _ c.if1.true in
-    sym (ap withoutJob
-    (mask-refused (rulesFor a.purpose)
+    sym (ap without_job
+    (mask-refused (rules_for a.purpose)
     (record { mask = a.mask; asked = a.asked; axes = a.axes; windows = a.windows }) bad))
 
 asked-read-requires : tie.Need-asked-read-requires

@@ -8,9 +8,9 @@ use lib.ListN.{length, set, length-set}
 use lib.Seq.{set-get_or}
 use borrow.Author.Rules.{rules}
 use Rattle.model.specs.declared.Axis.{Axis}
-use Rattle.model.specs.planning.Job.{unsetAxis}
-use Rattle.admission.specs.Admitting.{namedWithWeight}
-use Rattle.admission.proofs.Weights.{handAt, hand-named, hand-unnamed, handFrom, hand-next, hand-all}
+use Rattle.model.specs.planning.Job.{unset_axis}
+use Rattle.admission.specs.Admitting.{named_with_weight}
+use Rattle.admission.proofs.Weights.{hand_at, hand-named, hand-unnamed, hand_from, hand-next, hand-all}
 use Rattle.admission.proofs.with_weight.Statement.{statement}
 use Rattle.admission.proofs.with_weight.Tie as tie
 
@@ -19,7 +19,7 @@ invariant-loop mask given₀ bits₀ i₀ given bits i =
     record {
       low : i ≤ 6;
       long : length given ≡ 6;
-      stored : handFrom i bits given ≡ namedWithWeight mask given₀;
+      stored : hand_from i bits given ≡ named_with_weight mask given₀;
     }
 
 abbrev decreases-loop : tie.decreases-loop
@@ -51,7 +51,7 @@ loop-less c = omega arith
 
 -- after a turn axis i is by hand where its bit is set, and as it was where not
 turned : (c : tie.Joined1 invariant-loop decreases-loop) → let l = c.before.before.loop in
-    c.if1.given ≡ set l.given l.i (handAt l.given l.i l.bits)
+    c.if1.given ≡ set l.given l.i (hand_at l.given l.i l.bits)
 turned c =
     let l = c.before.before.loop in
     let put : Axis → List Axis = set l.given l.i in
@@ -59,7 +59,7 @@ turned c =
     (λ w. w.3
     ∙ ap put (w.2.ensures ∙ hand-named l.given l.i l.bits (omega (arith, l.invariant.long)) (omega arith)))
     (λ w. w.1
-    ∙ sym (set-get_or l.given l.i unsetAxis)
+    ∙ sym (set-get_or l.given l.i unset_axis)
     ∙ ap put (hand-unnamed l.given l.i l.bits (omega (arith, l.invariant.long)) (λ e. omega arith)))
     c.if1.branch
 
@@ -70,7 +70,7 @@ loop-again c =
     record {
       low = omega arith;
       long = ap (λ (a : List Axis). length a) t ∙ length-set l.given l.i _ ∙ l.invariant.long;
-      stored = ap (handFrom (l.i + 1) _) t
+      stored = ap (hand_from (l.i + 1) _) t
           ∙ hand-next l.i l.bits l.given (omega (arith, l.invariant.long)) ∙ l.invariant.stored;
     }
 

@@ -9,7 +9,7 @@ use Rattle.whole.specs.Ranges.{Is}
 use Rattle.whole.proofs.Bounds.{sfits, within, exactly, exact, computed, is-of, then_is, cast-small}
 use Rattle.areas.specs.declared.Parts.{Parts}
 use Rattle.regions.specs.declared.Regions.{Regions}
-use Rattle.areas.specs.Areas.{rampArea, areaOf, parts_of}
+use Rattle.areas.specs.Areas.{ramp_area, area_of, parts_of}
 use Rattle.areas.proofs.area_of.Statement.{statement}
 use Rattle.areas.proofs.area_of.Tie as tie
 
@@ -64,7 +64,7 @@ add-result-2 : tie.Need-overflow-add-result-2
 add-result-2 c = let l = level-is c in sfits (search computed depth 20) tt
 
 returns : tie.Need-returns
-unfolding areaOf
+unfolding area_of
 returns c =
     let l = level-is c in
     let r = (known c).before.args.r in
@@ -77,7 +77,7 @@ returns c =
     let last = c.before.ramp-area2.ensures in
     let cruise = (known c).before.requires.0.cruise in
     then_is (is-of (search exact depth 30 fits 9000) tt)
-    (λ i. rampArea (s i) (u i) (p i).rising +ℤ pos (p i).level *ℤ r.cruise +ℤ rampArea (e i) (d i) (p i).falling)
+    (λ i. ramp_area (s i) (u i) (p i).rising +ℤ pos (p i).level *ℤ r.cruise +ℤ ramp_area (e i) (d i) (p i).falling)
 
 pub area-of-spec : {M : Type 1} → statement M
 area-of-spec =

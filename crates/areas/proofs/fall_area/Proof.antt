@@ -6,7 +6,7 @@ use mir.Syntax.{w64}
 use mir.Val.{to_z, of_z}
 use Rattle.whole.specs.Ranges.{Is}
 use Rattle.whole.proofs.Bounds.{sfits, within, exactly, exact, is-of, then_is, cast-small}
-use Rattle.areas.specs.Areas.{rampArea, fallArea}
+use Rattle.areas.specs.Areas.{ramp_area, fall_area}
 use borrow.Author.Rules.{rules}
 use Rattle.areas.proofs.fall_area.Statement.{statement}
 use Rattle.areas.proofs.fall_area.Tie as tie
@@ -46,14 +46,14 @@ After a =
     +ℤ to_z w64 (of_z w64 (to_z w64 (r.ticks - 1 - a.args.k) *ℤ to_z w64 (of_z w64 r.down)))))
 
 returns : tie.Need-returns
-unfolding fallArea
+unfolding fall_area
 returns c =
     let a = c.before.before.before.before.before in
     let r = a.args.r in
     let n = left_is a in
     let v : After a ≡ r.end +ℤ pos (r.ticks - 1 - a.args.k) *ℤ r.down = exactly (search exact depth 20) tt in
     let d : to_z w64 (of_z w64 r.down) ≡ r.down = exactly (search exact depth 9) tt in
-    then_is (is-of (search exact depth 9) tt) (λ i. rampArea (v i) (d i) a.args.n)
+    then_is (is-of (search exact depth 9) tt) (λ i. ramp_area (v i) (d i) a.args.n)
 
 pub fall-area-spec : {M : Type 1} → statement M
 fall-area-spec =

@@ -1,7 +1,7 @@
 use Prim.Native.Nat.{ℕ, ◌-◌, min}
 use mathlib.Core.Path.{◌≡◌, ap, ◌∙◌}
 use borrow.Author.Rules.{rules}
-use Rattle.areas.specs.Areas.{risingTicks, fallingTicks}
+use Rattle.areas.specs.Areas.{rising_ticks, falling_ticks}
 use Rattle.areas.proofs.parts_of.Statement.{statement}
 use Rattle.areas.proofs.parts_of.Tie as tie
 
@@ -26,8 +26,8 @@ sub-t6 c = search rules
 returns : tie.Need-returns
 returns c =
     let r = c.before.before.before.args.r in
-    let m : c.before.at_most.result ≡ risingTicks r = c.before.at_most.ensures in
-    let n : c.at-most2.result ≡ fallingTicks r =
+    let m : c.before.at_most.result ≡ rising_ticks r = c.before.at_most.ensures in
+    let n : c.at-most2.result ≡ falling_ticks r =
     c.at-most2.ensures ∙ ap (λ (k : ℕ). min r.fall (r.ticks - 1 - k)) m in
     λ i. record { rising = m i; level = r.ticks - 1 - m i - n i; falling = n i }
 

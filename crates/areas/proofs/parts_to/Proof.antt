@@ -1,6 +1,6 @@
 use Prim.Native.Nat.{ℕ, ◌-◌, min}
 use mathlib.Core.Path.{◌≡◌, ap, ◌∙◌}
-use Rattle.areas.specs.Areas.{lastLevel, risingTo, levelTo}
+use Rattle.areas.specs.Areas.{last_level, rising_to, level_to}
 use borrow.Author.Rules.{rules}
 use Rattle.areas.proofs.parts_to.Statement.{statement}
 use Rattle.areas.proofs.parts_to.Tie as tie
@@ -29,10 +29,10 @@ sub-t7 c = search rules
 returns : tie.Need-returns
 returns c =
     let a = c.before.before.before.before.before.args in
-    let m : c.before.before.before.before.at_most.result ≡ risingTo a.r a.k =
+    let m : c.before.before.before.before.at_most.result ≡ rising_to a.r a.k =
     c.before.before.before.before.at_most.ensures in
-    let s : c.before.before.less.result ≡ lastLevel a.r = c.before.before.less.ensures in
-    let l : c.less2.result ≡ levelTo a.r a.k =
+    let s : c.before.before.less.result ≡ last_level a.r = c.before.before.less.ensures in
+    let l : c.less2.result ≡ level_to a.r a.k =
     c.less2.ensures ∙ ap (λ (n : ℕ). n - a.r.rise) (c.before.at-most2.ensures ∙ ap (min a.k) s) in
     λ i. record { rising = m i; level = l i; falling = a.k - m i - l i }
 

@@ -6,7 +6,7 @@ use mir.Syntax.{w64}
 use mir.Val.{to_z}
 use Rattle.whole.specs.Ranges.{Is}
 use Rattle.whole.proofs.Bounds.{sfits, exact, is-of, cast-small}
-use Rattle.areas.specs.Areas.{triangle, rampArea}
+use Rattle.areas.specs.Areas.{triangle, ramp_area}
 use borrow.Author.Rules.{rules}
 use Rattle.areas.proofs.ramp_area.Statement.{statement}
 use Rattle.areas.proofs.ramp_area.Tie as tie
@@ -48,7 +48,7 @@ add-result c =
     sfits (search exact depth 20) tt
 
 returns : tie.Need-returns
-unfolding rampArea triangle
+unfolding ramp_area triangle
 returns c =
     let k = ticks-are c in
     let j = steps-are c in

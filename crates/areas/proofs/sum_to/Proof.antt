@@ -9,7 +9,7 @@ use Rattle.whole.specs.Ranges.{Is}
 use Rattle.whole.proofs.Bounds.{sfits, within, exactly, exact, computed, is-of, then_is, cast-small}
 use Rattle.areas.specs.declared.Parts.{Parts}
 use Rattle.regions.specs.declared.Regions.{Regions}
-use Rattle.areas.specs.Areas.{rampArea, lastLevel, partsTo, fallArea, area_to}
+use Rattle.areas.specs.Areas.{ramp_area, last_level, parts_to, fall_area, area_to}
 use Rattle.areas.proofs.PartSums.{parts_all, area-to-is-sum}
 use Rattle.areas.proofs.sum_to.Statement.{statement}
 use Rattle.areas.proofs.sum_to.Tie as tie
@@ -20,9 +20,9 @@ record Few (p : Parts) : Type 0 where
   level : p.level ≤ 4096
   falling : p.falling ≤ 4096
 
-few : (r : Regions) (k : ℕ) (p : Parts) → p ≡ partsTo r k → k ≤ 4096 → Few p
+few : (r : Regions) (k : ℕ) (p : Parts) → p ≡ parts_to r k → k ≤ 4096 → Few p
 few r k p e h =
-    let all = parts_all r.rise k (lastLevel r) in
+    let all = parts_all r.rise k (last_level r) in
     record {
       rising = omega (arith, ap (λ (q : Parts). q.rising) e, all);
       level = omega (arith, ap (λ (q : Parts). q.level) e, all);
@@ -104,13 +104,13 @@ returns c =
     let k = d.before.args.k in
     let s : to_z w64 (of_z w64 r.start) ≡ r.start = exactly (search exact depth 9) tt in
     let u : to_z w64 (of_z w64 r.up) ≡ r.up = exactly (search exact depth 9) tt in
-    let p : d.parts-to.result ≡ partsTo r k = d.parts-to.ensures in
+    let p : d.parts-to.result ≡ parts_to r k = d.parts-to.ensures in
     let first = c.before.before.ramp-area.ensures in
     let last = c.before.fall-area.ensures in
     let cruise = d.before.pre.0.cruise in
     then_is (is-of (search exact depth 30 fits 9000) tt)
-    ((λ i. rampArea (s i) (u i) (p i).rising +ℤ (pos (p i).level *ℤ r.cruise +ℤ pos (min r.raised (p i).level))
-    +ℤ fallArea r k (p i).falling)
+    ((λ i. ramp_area (s i) (u i) (p i).rising +ℤ (pos (p i).level *ℤ r.cruise +ℤ pos (min r.raised (p i).level))
+    +ℤ fall_area r k (p i).falling)
     ∙ area-to-is-sum r k (omega (arith, d.before.pre.1)))
 
 pub sum-to-spec : {M : Type 1} → statement M

@@ -7,9 +7,9 @@ use borrow.Author.Rules.{rules}
 use Rattle.whole.specs.Ranges.{Within}
 use Rattle.whole.proofs.Bounds.{within, exactly, computed, is-of, then_is}
 use Rattle.regions.specs.declared.Regions.{Regions}
-use Rattle.profile.specs.Profiles.{legOf}
-use Rattle.regions.specs.Regions.{regionsOf, RegionsRanged}
-use Rattle.areas.specs.Areas.{areaOf, parts_of}
+use Rattle.profile.specs.Profiles.{leg_of}
+use Rattle.regions.specs.Regions.{regions_of, RegionsRanged}
+use Rattle.areas.specs.Areas.{area_of, parts_of}
 use Rattle.profile.proofs.FeasibleParts.{ends-joined}
 use Rattle.regions.proofs.ChosenRegions.{regions-ranged}
 use Rattle.areas.proofs.EnvelopeAreas.{highest-area}
@@ -32,15 +32,15 @@ regions-of-requires c κs =
     (j.ranged, (j.acceleration, (j.ends, subst (Within (2 ^ 37)) (sym (cruise-is c)) (small c))))
 
 regions-are : (c : tie.After-regions-of)
-    → let p = c.before.before.args.p in c.regions-of.result ≡ regionsOf (legOf p) (pos p.speed_limit) 0
+    → let p = c.before.before.args.p in c.regions-of.result ≡ regions_of (leg_of p) (pos p.speed_limit) 0
 regions-are c =
-    c.regions-of.ensures ∙ (λ i. regionsOf (legOf c.before.before.args.p) (cruise-is c.before i) 0)
+    c.regions-of.ensures ∙ (λ i. regions_of (leg_of c.before.before.args.p) (cruise-is c.before i) 0)
 
 plannable : (c : tie.After-regions-of) → RegionsRanged c.regions-of.result × (0 < c.regions-of.result.ticks)
 plannable c =
     let a = c.before.before in
     let j = a.requires in
-    let g = legOf a.args.p in
+    let g = leg_of a.args.p in
     let r = regions-ranged g (ends-joined g j.ends) j.acceleration j.ranged.speed_limit
     j.ranged.acceleration_limit j.ranged.ticks in
     subst (λ (x : Regions). RegionsRanged x × (0 < x.ticks)) (sym (regions-are c)) (r _ 0 (small c.before), j.some)
@@ -55,7 +55,7 @@ returns : tie.Need-returns
 returns c =
     let r = c.before.before in
     let a = r.before.before in
-    let sum = ap areaOf (regions-are r) ∙ highest-area (legOf a.args.p) a.requires.acceleration a.requires.ends in
+    let sum = ap area_of (regions-are r) ∙ highest-area (leg_of a.args.p) a.requires.acceleration a.requires.ends in
     record {
       sum = then_is (is-of (search computed depth 9) tt) sum;
       parts = c.parts-of.ensures ∙ ap parts_of (regions-are r);

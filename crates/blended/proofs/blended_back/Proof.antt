@@ -4,7 +4,7 @@ use native.Mathlib.Omega.{arith}
 use mir.Syntax.{w64}
 use mir.Val.{to_z, of_z}
 use Rattle.whole.proofs.Bounds.{exact, exactly, within}
-use Rattle.planned.specs.Plans.{velocityBack}
+use Rattle.planned.specs.Plans.{velocity_back}
 use Rattle.blended.proofs.BlendedRanges.{blend_is, weights-small}
 use borrow.Author.Rules.{rules}
 use Rattle.blended.proofs.blended_back.Statement.{statement}
@@ -31,9 +31,9 @@ returns c =
     let p = a.args.p in
     let d = a.args.d in
     let k = a.args.k in
-    let one : to_z w64 (of_z w64 c.before.before.before.velocity-back.result) ≡ velocityBack p d k =
+    let one : to_z w64 (of_z w64 c.before.before.before.velocity-back.result) ≡ velocity_back p d k =
     exactly (search exact depth 9) tt in
-    let other : to_z w64 (of_z w64 c.before.velocity-back2.result) ≡ velocityBack p (d + p.half_period) k =
+    let other : to_z w64 (of_z w64 c.before.velocity-back2.result) ≡ velocity_back p (d + p.half_period) k =
     exactly (search exact depth 9) tt in
     blend_is p a.requires.0 d k _ _ _ a.requires.1.1 (exactly (search exact depth 9) tt) one other
 

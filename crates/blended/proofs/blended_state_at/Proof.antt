@@ -3,7 +3,7 @@ use mathlib.Core.Path.{◌≡◌, ap, ◌∙◌}
 use native.Mathlib.Omega.{arith}
 use Rattle.whole.specs.Ranges.{Is}
 use Rattle.whole.proofs.Bounds.{exact, sfits, exactly}
-use Rattle.blended.specs.BlendedStates.{blendedPosition, blendedVelocity, blendedStateAt}
+use Rattle.blended.specs.BlendedStates.{blended_position, blended_velocity, blended_state_at}
 use Rattle.blended.proofs.BlendedRanges.{position-is, velocity-is}
 use Rattle.blended.proofs.BlendedSums.{state-by-sum}
 use borrow.Author.Rules.{rules}
@@ -17,7 +17,7 @@ returns : tie.Need-returns
 returns c =
     let a = c.before.before.args in
     let e : 0 ≡ a.k = omega (arith, c.if1.true) in
-    c.before.started.ensures ∙ ap (blendedStateAt a.p) e
+    c.before.started.ensures ∙ ap (blended_state_at a.p) e
 
 blended-sum-requires : tie.Need-blended-sum-requires
 blended-sum-requires c κs = search rules
@@ -27,14 +27,14 @@ blended-velocity-requires c κs = search rules
 
 -- the state at tick 0
 abbrev Position : tie.After-started → Type 0
-Position d = Is (2 ^ 61) d.started.result.position (blendedPosition d.before.args.p 0)
+Position d = Is (2 ^ 61) d.started.result.position (blended_position d.before.args.p 0)
 
 position : (d : tie.After-started) → Position d
 position d =
     position-is d.before.args.p d.before.requires.0 0 d.started.result (omega arith) d.started.ensures
 
 abbrev Velocity : tie.After-started → Type 0
-Velocity d = Is (2 ^ 46) d.started.result.velocity (blendedVelocity d.before.args.p 0)
+Velocity d = Is (2 ^ 46) d.started.result.velocity (blended_velocity d.before.args.p 0)
 
 velocity : (d : tie.After-started) → Velocity d
 velocity d =

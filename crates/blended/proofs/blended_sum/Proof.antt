@@ -3,12 +3,12 @@ use Prim.Native.Nat.{ℕ, ◌≤◌}
 use native.Mathlib.Omega.{arith}
 use mir.Syntax.{w64}
 use mir.Val.{to_z, of_z}
-use Rattle.whole.specs.Integers.{sumTo}
+use Rattle.whole.specs.Integers.{sum_to}
 use Rattle.whole.proofs.Bounds.{exact, exactly, sfits}
 use Rattle.model.specs.declared.SecondSway.{SecondSway}
-use Rattle.model.specs.planning.Quantities.{swayDelay}
+use Rattle.model.specs.planning.Quantities.{sway_delay}
 use Rattle.planned.specs.declared.AxisPlan.{AxisPlan}
-use Rattle.blended.specs.BlendedStates.{blendedBack, added}
+use Rattle.blended.specs.BlendedStates.{blended_back, added}
 use Rattle.blended.proofs.BlendedSums.{blends-sum-is}
 use borrow.Author.Rules.{rules}
 use Rattle.blended.proofs.blended_sum.Statement.{statement}
@@ -16,8 +16,8 @@ use Rattle.blended.proofs.blended_sum.Tie as tie
 
 -- the blends of a second sway
 all : (p : AxisPlan) (k : ℕ) {s : SecondSway} → p.second_sway ≡ s
-    → added p.second_sway (λ d. sumTo (blendedBack p d) k) ≡ added s (λ d. sumTo (blendedBack p d) k)
-all p k e = ap (λ (s : SecondSway). added s (λ d. sumTo (blendedBack p d) k)) e
+    → added p.second_sway (λ d. sum_to (blended_back p d) k) ≡ added s (λ d. sum_to (blended_back p d) k)
+all p k e = ap (λ (s : SecondSway). added s (λ d. sum_to (blended_back p d) k)) e
 
 blended-sum-back-requires : tie.Need-blended-sum-back-requires
 blended-sum-back-requires c κs = (c.requires.0, (omega arith, c.requires.1))
@@ -31,7 +31,7 @@ enum-known-sway c = search rules
 blended-sum-back-requires-2 : tie.Need-blended-sum-back-requires-2
 blended-sum-back-requires-2 c κs =
     let a = c.before.before.before.before in
-    let short = subst (λ (s : SecondSway). swayDelay s ≤ 256) c.before.sway.given.1 a.requires.0.second_sway in
+    let short = subst (λ (s : SecondSway). sway_delay s ≤ 256) c.before.sway.given.1 a.requires.0.second_sway in
     (a.requires.0, (omega (arith, short), a.requires.1))
 
 add-result : tie.Need-overflow-add-result
@@ -42,7 +42,7 @@ returns c =
     let a = c.before.before.before in
     let p = a.args.p in
     let k = a.args.k in
-    let once : to_z w64 (of_z w64 c.before.before.blended-sum-back.result) ≡ sumTo (blendedBack p 0) k =
+    let once : to_z w64 (of_z w64 c.before.before.blended-sum-back.result) ≡ sum_to (blended_back p 0) k =
     exactly (search exact depth 9) tt in
     blends-sum-is p a.requires.0 k a.requires.1 _ (once ∙ sym (all p k c.enum_told.given.1))
 

@@ -4,10 +4,10 @@ use native.Mathlib.Omega.{arith}
 use lib.IntN.{pos, ◌*ℤ◌}
 use mir.Syntax.{w64}
 use mir.Val.{to_z, of_z}
-use Rattle.whole.specs.Integers.{sumTo}
+use Rattle.whole.specs.Integers.{sum_to}
 use Rattle.whole.specs.Ranges.{Is}
 use Rattle.whole.proofs.Bounds.{exact, sfits, exactly, cast-small}
-use Rattle.planned.specs.Plans.{velocityBack}
+use Rattle.planned.specs.Plans.{velocity_back}
 use Rattle.blended.proofs.BlendedRanges.{weights-small}
 use Rattle.blended.proofs.BlendedSums.{weighed-within, weights-light, blend-sum-is}
 use borrow.Author.Rules.{rules}
@@ -34,7 +34,7 @@ abbrev First : tie.After-sum-back2 → Type 0
 First d =
     let a = (start d).args in
     Is (2 ^ 58) (to_z w64 a.p.first_weight *ℤ to_z w64 (of_z w64 d.before.before.sum_back.result))
-    (pos a.p.first_weight *ℤ sumTo (velocityBack a.p a.d) a.k)
+    (pos a.p.first_weight *ℤ sum_to (velocity_back a.p a.d) a.k)
 
 first : (d : tie.After-sum-back2) → First d
 first d =
@@ -52,7 +52,7 @@ abbrev Second : tie.After-sum-back2 → Type 0
 Second d =
     let a = (start d).args in
     Is (2 ^ 58) (to_z w64 a.p.second_weight *ℤ to_z w64 (of_z w64 d.sum-back2.result))
-    (pos a.p.second_weight *ℤ sumTo (velocityBack a.p (a.d + a.p.half_period)) a.k)
+    (pos a.p.second_weight *ℤ sum_to (velocity_back a.p (a.d + a.p.half_period)) a.k)
 
 second : (d : tie.After-sum-back2) → Second d
 second d =

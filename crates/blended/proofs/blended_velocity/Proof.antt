@@ -5,9 +5,9 @@ use mir.Syntax.{w64}
 use mir.Val.{to_z, of_z}
 use Rattle.whole.proofs.Bounds.{exact, exactly, sfits}
 use Rattle.model.specs.declared.SecondSway.{SecondSway}
-use Rattle.model.specs.planning.Quantities.{swayDelay}
+use Rattle.model.specs.planning.Quantities.{sway_delay}
 use Rattle.planned.specs.declared.AxisPlan.{AxisPlan}
-use Rattle.blended.specs.BlendedStates.{blendedBack, added}
+use Rattle.blended.specs.BlendedStates.{blended_back, added}
 use Rattle.blended.proofs.BlendedRanges.{blends-are}
 use borrow.Author.Rules.{rules}
 use Rattle.blended.proofs.blended_velocity.Statement.{statement}
@@ -15,8 +15,8 @@ use Rattle.blended.proofs.blended_velocity.Tie as tie
 
 -- the blends of a second sway
 all : (p : AxisPlan) (k : ℕ) {s : SecondSway} → p.second_sway ≡ s
-    → added p.second_sway (λ d. blendedBack p d k) ≡ added s (λ d. blendedBack p d k)
-all p k e = ap (λ (s : SecondSway). added s (λ d. blendedBack p d k)) e
+    → added p.second_sway (λ d. blended_back p d k) ≡ added s (λ d. blended_back p d k)
+all p k e = ap (λ (s : SecondSway). added s (λ d. blended_back p d k)) e
 
 blended-back-requires : tie.Need-blended-back-requires
 blended-back-requires c κs = (c.requires.0, (omega arith, c.requires.1))
@@ -30,7 +30,7 @@ enum-known-sway c = search rules
 blended-back-requires-2 : tie.Need-blended-back-requires-2
 blended-back-requires-2 c κs =
     let a = c.before.before.before.before in
-    let short = subst (λ (s : SecondSway). swayDelay s ≤ 256) c.before.sway.given.1 a.requires.0.second_sway in
+    let short = subst (λ (s : SecondSway). sway_delay s ≤ 256) c.before.sway.given.1 a.requires.0.second_sway in
     (a.requires.0, (omega (arith, short), a.requires.1))
 
 add-result : tie.Need-overflow-add-result
@@ -41,7 +41,7 @@ returns c =
     let a = c.before.before.before in
     let p = a.args.p in
     let k = a.args.k in
-    let once : to_z w64 (of_z w64 c.before.before.blended-back.result) ≡ blendedBack p 0 k =
+    let once : to_z w64 (of_z w64 c.before.before.blended-back.result) ≡ blended_back p 0 k =
     exactly (search exact depth 9) tt in
     blends-are p a.requires.0 k _ a.requires.1 (once ∙ sym (all p k c.enum_told.given.1))
 

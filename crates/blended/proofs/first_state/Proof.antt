@@ -2,7 +2,7 @@ use Prim.Native.Nat.{suc, ◌+◌, ◌-◌}
 use mathlib.Core.Path.{sym, ap, ◌∙◌}
 use native.Mathlib.Omega.{arith}
 use Rattle.model.specs.declared.Order.{Order}
-use Rattle.blended.specs.BlendedStates.{blendedStateAt, comesTo}
+use Rattle.blended.specs.BlendedStates.{blended_state_at, comes_to}
 use borrow.Author.Rules.{rules}
 use Rattle.blended.proofs.first_state.Statement.{statement}
 use Rattle.blended.proofs.first_state.Tie as tie
@@ -27,8 +27,8 @@ returns c =
     let e = c.before.before in
     let a = e.before.before.before.args in
     c.next-state.ensures
-    ∙ ap (blendedStateAt a.p) {x = suc a.n} {y = suc a.n - a.place} (omega (arith, e.if1.true))
-    ∙ sym (ap (λ (o : Order). blendedStateAt a.p (comesTo o a.n a.place)) e.before.enum-told2.given.1)
+    ∙ ap (blended_state_at a.p) {x = suc a.n} {y = suc a.n - a.place} (omega (arith, e.if1.true))
+    ∙ sym (ap (λ (o : Order). blended_state_at a.p (comes_to o a.n a.place)) e.before.enum-told2.given.1)
 
 add-blended-state-at : tie.Need-overflow-add-blended-state-at
 add-blended-state-at c = search rules
@@ -43,15 +43,15 @@ returns-2 : tie.Need-returns-2
 returns-2 c =
     let a = c.before.before.before.args in
     c.blended-state-at.ensures
-    ∙ sym (ap (λ (o : Order). blendedStateAt a.p (comesTo o a.n a.place)) c.before.enum_told.given.1)
+    ∙ sym (ap (λ (o : Order). blended_state_at a.p (comes_to o a.n a.place)) c.before.enum_told.given.1)
 
 returns-3 : tie.Need-returns-3
 returns-3 c =
     let e = c.before.before in
     let a = e.before.before.args in
     c.blended-state-at2.ensures
-    ∙ ap (blendedStateAt a.p) {x = a.n + 1 - a.place} {y = suc a.n - a.place} (omega arith)
-    ∙ sym (ap (λ (o : Order). blendedStateAt a.p (comesTo o a.n a.place)) e.enum-told2.given.1)
+    ∙ ap (blended_state_at a.p) {x = a.n + 1 - a.place} {y = suc a.n - a.place} (omega arith)
+    ∙ sym (ap (λ (o : Order). blended_state_at a.p (comes_to o a.n a.place)) e.enum-told2.given.1)
 
 pub first-state-spec : {M : Type 1} → statement M
 first-state-spec =

@@ -2,7 +2,7 @@ use Prim.Native.Nat.{ℕ, ◌+◌, ◌*◌, ◌^◌, ◌≤◌}
 use mathlib.Core.Path.{sym, ap₂, subst}
 use native.Mathlib.Omega.{arith}
 use native.Mathlib.Nat.{mul-le-mul}
-use Rattle.planned.specs.Plans.{blendsBy}
+use Rattle.planned.specs.Plans.{blends_by}
 use Rattle.blended.proofs.BlendedRanges.{weights-small, lag-small}
 use borrow.Author.Rules.{rules}
 use Rattle.blended.proofs.lag_of.Statement.{statement}
@@ -35,7 +35,7 @@ small : (c : tie.After-blends)
 small c =
     let a = start c in
     subst (λ (n : ℕ). n * first a + both a * c.before.sway-delay.result ≤ 2 ^ 25) (sym c.blends.ensures)
-    (subst (λ (d : ℕ). blendsBy a.args.p.second_sway * first a + both a * d ≤ 2 ^ 25)
+    (subst (λ (d : ℕ). blends_by a.args.p.second_sway * first a + both a * d ≤ 2 ^ 25)
     (sym c.before.sway-delay.ensures)
     (lag-small a.args.p a.pre))
 

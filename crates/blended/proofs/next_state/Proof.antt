@@ -5,7 +5,7 @@ use Prim.Native.Nat.{ℕ, suc, ◌^◌}
 use native.Mathlib.Omega.{arith}
 use native.Mathlib.Numerals.{add-one}
 use borrow.Author.Rules.{rules}
-use Rattle.blended.specs.BlendedStates.{blendedVelocity, blendedPosition}
+use Rattle.blended.specs.BlendedStates.{blended_velocity, blended_position}
 use Rattle.blended.proofs.BlendedSteps.{state-next}
 use Rattle.blended.proofs.BlendedRanges.{position-is, velocity-is}
 use Rattle.blended.proofs.next_state.Statement.{statement}
@@ -19,24 +19,24 @@ blended-velocity-requires c κs = search rules
 
 -- the state at tick k
 abbrev Position : tie.Start → Type 0
-Position a = Is (2 ^ 61) a.args.t.position (blendedPosition a.args.p a.args.k)
+Position a = Is (2 ^ 61) a.args.t.position (blended_position a.args.p a.args.k)
 
 position : (a : tie.Start) → Position a
 position a = position-is a.args.p a.requires.0 a.args.k a.args.t (omega arith) a.requires.1.1
 
 abbrev Velocity : tie.Start → Type 0
-Velocity a = Is (2 ^ 46) a.args.t.velocity (blendedVelocity a.args.p a.args.k)
+Velocity a = Is (2 ^ 46) a.args.t.velocity (blended_velocity a.args.p a.args.k)
 
 velocity : (a : tie.Start) → Velocity a
 velocity a = velocity-is a.args.p a.requires.0 a.args.k a.args.t (omega arith) a.requires.1.1
 
 -- the blended velocity one tick on
 abbrev Next : tie.After-blended-velocity → Type 0
-Next d = Is (2 ^ 46) d.blended-velocity.result (blendedVelocity d.before.args.p (suc d.before.args.k))
+Next d = Is (2 ^ 46) d.blended-velocity.result (blended_velocity d.before.args.p (suc d.before.args.k))
 
 next : (d : tie.After-blended-velocity) → Next d
 next d =
-    subst (λ (k : ℕ). Is (2 ^ 46) d.blended-velocity.result (blendedVelocity d.before.args.p k))
+    subst (λ (k : ℕ). Is (2 ^ 46) d.blended-velocity.result (blended_velocity d.before.args.p k))
     (add-one d.before.args.k)
     d.blended-velocity.ensures
 

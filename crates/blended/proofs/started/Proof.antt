@@ -7,8 +7,8 @@ use lib.IntN.{pos, ◌*ℤ◌}
 use mir.Syntax.{w64}
 use mir.Val.{to_z, of_z}
 use Rattle.planned.specs.declared.AxisPlan.{AxisPlan}
-use Rattle.planned.specs.Plans.{totalWeight}
-use Rattle.blended.specs.BlendedStates.{lagOf}
+use Rattle.planned.specs.Plans.{total_weight}
+use Rattle.blended.specs.BlendedStates.{lag_of}
 use Rattle.blended.proofs.BlendedSteps.{state-0}
 use Rattle.blended.proofs.BlendedRanges.{lag-small, lagging, origin-within}
 use borrow.Author.Rules.{rules}
@@ -35,13 +35,13 @@ plan c = (start c).args.p
 
 -- all weights together, and each times its delay
 weight_is : (c : tie.After-lag-of)
-    → Is (2 ^ 16) (to_z w64 c.before.total-weight.result) (pos (totalWeight (plan c)))
+    → Is (2 ^ 16) (to_z w64 c.before.total-weight.result) (pos (total_weight (plan c)))
 weight_is c =
     let e = c.before.total-weight.ensures in
     then_is (cast-small (2 ^ 16) c.before.total-weight.result (omega (arith, e, (start c).requires.light)) tt)
     (ap pos e)
 
-lag-is : (c : tie.After-lag-of) → Is (2 ^ 25) (to_z w64 c.lag-of.result) (pos (lagOf (plan c)))
+lag-is : (c : tie.After-lag-of) → Is (2 ^ 25) (to_z w64 c.lag-of.result) (pos (lag_of (plan c)))
 lag-is c =
     let e = c.lag-of.ensures in
     then_is (cast-small (2 ^ 25) c.lag-of.result (omega (arith, e, lag-small (plan c) (start c).requires)) tt)
@@ -50,7 +50,7 @@ lag-is c =
 -- the blended position of a head at rest
 abbrev Origin : tie.After-lag-of → Type 0
 Origin c = Is (2 ^ 60) (to_z w64 c.before.total-weight.result *ℤ to_z w64 (of_z w64 (plan c).origin))
-    (pos (totalWeight (plan c)) *ℤ (plan c).origin)
+    (pos (total_weight (plan c)) *ℤ (plan c).origin)
 
 origin-is : (c : tie.After-lag-of) → Origin c
 origin-is c =
@@ -61,7 +61,7 @@ origin-is c =
 -- how far a head in motion is behind it
 abbrev Lag : tie.After-lag-of → Type 0
 Lag c = Is (2 ^ 54) (to_z w64 c.lag-of.result *ℤ to_z w64 (of_z w64 (plan c).regions.start))
-    (pos (lagOf (plan c)) *ℤ (plan c).regions.start)
+    (pos (lag_of (plan c)) *ℤ (plan c).regions.start)
 
 behind : (c : tie.After-lag-of) → Lag c
 behind c =

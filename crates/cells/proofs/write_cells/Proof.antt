@@ -4,7 +4,7 @@ use Rattle.whole.proofs.Bounds.{exact, sfits, exactly, within, back-id}
 use lib.IntN.{ℤ, ◌-ℤ◌}
 use mir.Syntax.{w64}
 use mir.Val.{to_z, of_z}
-use Rattle.whole.specs.Integers.{nearestQuotient}
+use Rattle.whole.specs.Integers.{nearest_quotient}
 use native.Mathlib.Omega.{arith}
 use borrow.Author.Rules.{rules}
 use lib.ListN.{length-set}
@@ -64,12 +64,12 @@ returns c =
     let velocity : to_z w64 (of_z w64 t.velocity) ≡ t.velocity = exactly (search exact depth 20) tt in
     let difference : ℤ = to_z w64 (of_z w64 u.velocity) -ℤ to_z w64 (of_z w64 t.velocity) in
     let acceleration : to_z w64 (of_z w64 difference) ≡ u.velocity -ℤ t.velocity = exactly (search exact depth 20) tt in
-    let first : to_z w64 (of_z w64 p.result) ≡ nearestQuotient t.position 131072 =
-    back-id (record { sfits = p.type-inv }) ∙ p.ensures ∙ ap (λ (z : ℤ). nearestQuotient z 131072) position in
-    let second : to_z w64 (of_z w64 v.result) ≡ nearestQuotient t.velocity 65536 =
-    back-id (record { sfits = v.type-inv }) ∙ v.ensures ∙ ap (λ (z : ℤ). nearestQuotient z 65536) velocity in
-    let third : to_z w64 (of_z w64 w.result) ≡ nearestQuotient (u.velocity -ℤ t.velocity) 65536 =
-    back-id (record { sfits = w.type-inv }) ∙ w.ensures ∙ ap (λ (z : ℤ). nearestQuotient z 65536) acceleration in
+    let first : to_z w64 (of_z w64 p.result) ≡ nearest_quotient t.position 131072 =
+    back-id (record { sfits = p.type-inv }) ∙ p.ensures ∙ ap (λ (z : ℤ). nearest_quotient z 131072) position in
+    let second : to_z w64 (of_z w64 v.result) ≡ nearest_quotient t.velocity 65536 =
+    back-id (record { sfits = v.type-inv }) ∙ v.ensures ∙ ap (λ (z : ℤ). nearest_quotient z 65536) velocity in
+    let third : to_z w64 (of_z w64 w.result) ≡ nearest_quotient (u.velocity -ℤ t.velocity) 65536 =
+    back-id (record { sfits = w.type-inv }) ∙ w.ensures ∙ ap (λ (z : ℤ). nearest_quotient z 65536) acceleration in
     sym (over-three a.args.table.now a.args.at _ _ _ (omega arith))
     ∙ (λ i. over a.args.table.now a.args.at (first i ∷ second i ∷ third i ∷ []))
 

@@ -4,7 +4,7 @@ use mathlib.Core.Bool.{true}
 use mathlib.Core.Path.{◌≡◌, sym, subst, ◌∙◌}
 use lib.ListN.{length, set, length-set}
 use borrow.Author.Rules.{rules}
-use Rattle.converter.specs.Pieces.{flyingAt}
+use Rattle.converter.specs.Pieces.{flying_at}
 use Rattle.converter.proofs.Pieces.{one-fits, three-fit, three-written, one_written}
 use Rattle.converter.proofs.put_word.Statement.{statement}
 use Rattle.converter.proofs.put_word.Tie as tie
@@ -28,7 +28,7 @@ slice-write-lent c =
     one-fits a.lent.now a.at a.asked a.words.now a.i s.requires.1.1
 
 flies : (c : tie.Then1) → let a = c.before.before.before.before.before.args in
-    flyingAt a.words.now a.i ≡ true
+    flying_at a.words.now a.i ≡ true
 flies c = sym c.before.before.is-flying.ensures ∙ c.if1.true
 
 fits : (c : tie.Then1) → let a = c.before.before.before.before.before.args in a.at + 3 ≤ length a.lent.now

@@ -4,7 +4,7 @@ use mathlib.Core.Path.{◌≡◌}
 use lib.ListN.{length, drop}
 use borrow.Author.Rules.{rules}
 use Rattle.model.specs.calls.Converter.{converted}
-use Rattle.converter.specs.Pieces.{neededFor}
+use Rattle.converter.specs.Pieces.{needed_for}
 use Rattle.converter.proofs.Pieces.{count-more, count-all}
 use Rattle.converter.proofs.words_needed.Statement.{statement}
 use Rattle.converter.proofs.words_needed.Tie as tie
@@ -14,7 +14,7 @@ invariant-loop words needed₀ i₀ needed i =
     record {
       low : i ≤ length words;
       few : needed ≤ 3 * i;
-      counted : needed + length (converted 0 (drop i words)) ≡ neededFor words;
+      counted : needed + length (converted 0 (drop i words)) ≡ needed_for words;
     }
 
 abbrev decreases-loop : tie.decreases-loop

@@ -8,8 +8,8 @@ use mir.Syntax.{w64}
 use mir.Val.{to_z, of_z}
 use Rattle.whole.specs.Ranges.{Within}
 use Rattle.whole.proofs.Bounds.{sfits, exactly, le-taken, computed, is-of, then_is, le_is}
-use Rattle.model.specs.planning.Leg.{fitsAt}
-use Rattle.profile.specs.Profiles.{legOf}
+use Rattle.model.specs.planning.Leg.{fits_at}
+use Rattle.profile.specs.Profiles.{leg_of}
 use Rattle.cruise.proofs.ClimbSteps.{step-up, step-unfit, step-fast, step-inside}
 use borrow.Author.Rules.{rules}
 use Rattle.cruise.proofs.climb_step.Statement.{statement}
@@ -60,10 +60,10 @@ start c = c.before.before.before.before
 
 fits : (c : tie.After-sum-by)
     → le_z (to_z w64 (of_z w64 c.sum_by.result)) (to_z w64 (of_z w64 (start c).args.sum))
-    ≡ fitsAt (legOf (start c).args.p) (start c).args.sum (next (start c))
+    ≡ fits_at (leg_of (start c).args.p) (start c).args.sum (next (start c))
 fits c =
     let a = (start c).args in
-    le_is (search computed depth 9) tt ∙ (λ i. fitsAt (legOf a.p) a.sum (next-is c.before.before.before i))
+    le_is (search computed depth 9) tt ∙ (λ i. fits_at (leg_of a.p) a.sum (next-is c.before.before.before i))
 
 returns : tie.Need-returns
 returns c =
@@ -74,7 +74,7 @@ returns c =
       is = next-is b.before.before.before;
       within = omega (arith, (small b.before).within, (start b).requires.0.ranged.speed_limit);
     })
-    (step-up (legOf a.p) a.sum a.c a.step (slow b.before) (sym (fits b) ∙ c.if2.true))
+    (step-up (leg_of a.p) a.sum a.c a.step (slow b.before) (sym (fits b) ∙ c.if2.true))
 
 returns-2 : tie.Need-returns-2
 returns-2 c =
@@ -82,14 +82,14 @@ returns-2 c =
     let a = (start b).args in
     let w = slow-enough (start b) in
     then_is (is-of (search computed depth 9) tt)
-    (step-unfit (legOf a.p) a.sum a.c a.step (slow b.before) (sym (fits b) ∙ c.if2.false))
+    (step-unfit (leg_of a.p) a.sum a.c a.step (slow b.before) (sym (fits b) ∙ c.if2.false))
 
 returns-3 : tie.Need-returns-3
 returns-3 c =
     let a = c.before.before.before.args in
     let w = slow-enough c.before.before.before in
     then_is (is-of (search computed depth 9) tt)
-    (step-fast (legOf a.p) a.sum a.c a.step (sym (le_is (search computed depth 20) tt) ∙ c.if1.false))
+    (step-fast (leg_of a.p) a.sum a.c a.step (sym (le_is (search computed depth 20) tt) ∙ c.if1.false))
 
 pub climb-step-spec : {M : Type 1} → statement M
 climb-step-spec =

@@ -9,7 +9,7 @@ use mir.Val.{to_z, of_z}
 use Rattle.whole.proofs.Bounds.{sfits, exactly, exact, cast-up, computed, back-id}
 use Rattle.whole.proofs.Laws.{sub-nonneg}
 use Rattle.model.specs.planning.Leg.{sum_at}
-use Rattle.profile.specs.Profiles.{legOf}
+use Rattle.profile.specs.Profiles.{leg_of}
 use Rattle.cruise.proofs.remainder.Statement.{statement}
 use Rattle.cruise.proofs.remainder.Tie as tie
 
@@ -29,10 +29,10 @@ sub-result c = sfits (search computed depth 20) tt
 -- the difference, as the definition has it
 left_is : (c : tie.After-sum-by)
     → to_z w64 (of_z w64 c.before.args.sum) -ℤ to_z w64 (of_z w64 c.sum_by.result)
-    ≡ c.before.args.sum -ℤ sum_at (legOf c.before.args.p) c.before.args.c
+    ≡ c.before.args.sum -ℤ sum_at (leg_of c.before.args.p) c.before.args.c
 left_is c =
     let a = c.before.args in
-    exactly (search computed depth 20) tt ∙ (λ i. a.sum -ℤ sum_at (legOf a.p) (cruise-is c.before i))
+    exactly (search computed depth 20) tt ∙ (λ i. a.sum -ℤ sum_at (leg_of a.p) (cruise-is c.before i))
 
 cast-result : tie.Need-overflow-cast-result
 cast-result c =

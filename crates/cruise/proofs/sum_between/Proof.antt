@@ -2,17 +2,17 @@ use Prim.Native.Nat.{ℕ, ◌-◌}
 use mathlib.Core.Path.{◌≡◌, sym, ap, subst, ◌∙◌}
 use native.Mathlib.Omega.{arith}
 use Rattle.whole.specs.Ranges.{Within}
-use Rattle.whole.proofs.Laws.{natAbs-negpos}
+use Rattle.whole.proofs.Laws.{nat_abs-negpos}
 use lib.IntN.{pos, neg_ℤ}
 use lib.Signed.{le_z}
 use mir.Syntax.{w64}
 use mir.Val.{to_z, of_z}
 use Rattle.whole.proofs.Bounds.{exactly, computed, le_is}
 use Rattle.whole.proofs.Tests.{and_no, and_yes}
-use Rattle.whole.specs.Integers.{sumTo}
+use Rattle.whole.specs.Integers.{sum_to}
 use Rattle.model.specs.planning.Leg.{sum_at, lower}
 use Rattle.theorems.proofs.legs.Envelopes.{lowest-sum, highest-sum}
-use Rattle.profile.specs.Profiles.{legOf}
+use Rattle.profile.specs.Profiles.{leg_of}
 use Rattle.profile.proofs.FeasibleParts.{ends-joined}
 use borrow.Author.Rules.{rules}
 use Rattle.cruise.proofs.sum_between.Statement.{statement}
@@ -27,7 +27,7 @@ lowest-is : (c : tie.After-negative)
 lowest-is c = exactly (search computed depth 9) tt
 
 lowest-within : (l : ℕ) → Within l (neg_ℤ (pos l))
-lowest-within l = record { within = omega (arith, natAbs-negpos l) }
+lowest-within l = record { within = omega (arith, nat_abs-negpos l) }
 
 highest-is : (c : tie.After-signed)
     → to_z w64 (of_z w64 c.signed.result) ≡ pos c.before.before.before.before.args.p.speed_limit
@@ -48,18 +48,18 @@ sum-by-requires-2 c κs =
 -- the first test
 low : (c : tie.After-sum-by)
     → le_z (to_z w64 (of_z w64 c.sum_by.result)) (to_z w64 (of_z w64 c.before.before.args.sum))
-    ≡ le_z (sumTo (lower (legOf c.before.before.args.p)) (c.before.before.args.p.ticks - 1))
+    ≡ le_z (sum_to (lower (leg_of c.before.before.args.p)) (c.before.before.args.p.ticks - 1))
     c.before.before.args.sum
 low c =
     let a = c.before.before in
-    let g = legOf a.args.p in
+    let g = leg_of a.args.p in
     le_is (search computed depth 9) tt
     ∙ (λ i. le_z ((ap (sum_at g) (lowest-is c.before) ∙ lowest-sum g) i) a.args.sum)
 
 returns : tie.Need-returns
 returns c =
     let a = c.before.before.before.before.before in
-    let g = legOf a.args.p in
+    let g = leg_of a.args.p in
     and_yes _ _ (sym (low c.before.before.before) ∙ c.before.before.if1.true)
     (le_is (search computed depth 9) tt
     ∙ (λ i. le_z a.args.sum

@@ -7,7 +7,7 @@ use Rattle.whole.specs.Ranges.{Within}
 use Rattle.whole.proofs.Bounds.{within, exactly, computed, is-of, then_is}
 use borrow.Author.Rules.{rules}
 use Rattle.model.specs.planning.Leg.{sum_at}
-use Rattle.profile.specs.Profiles.{legOf}
+use Rattle.profile.specs.Profiles.{leg_of}
 use Rattle.cruise.proofs.sum_by.Statement.{statement}
 use Rattle.cruise.proofs.sum_by.Tie as tie
 
@@ -39,12 +39,12 @@ area-at-requires c κs =
 returns : tie.Need-returns
 returns c =
     let a = c.before.before.before in
-    then_is (is-of (search computed depth 9) tt) (ap (sum_at (legOf a.args.p)) (cruise-is a))
+    then_is (is-of (search computed depth 9) tt) (ap (sum_at (leg_of a.args.p)) (cruise-is a))
 
 returns-2 : tie.Need-returns-2
 returns-2 c =
     let a = c.before.before.before in
-    then_is (is-of (search computed depth 9) tt) (ap (sum_at (legOf a.args.p)) (cruise-is a))
+    then_is (is-of (search computed depth 9) tt) (ap (sum_at (leg_of a.args.p)) (cruise-is a))
 
 pub sum-by-spec : {M : Type 1} → statement M
 sum-by-spec =

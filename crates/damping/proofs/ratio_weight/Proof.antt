@@ -1,14 +1,14 @@
 use Prim.Native.Nat.{◌≤◌}
 use native.Mathlib.Omega.{arith}
 use mathlib.Core.Path.{◌≡◌, refl, sym, ap, ◌∙◌}
-use Rattle.model.specs.planning.Damping.{largestTo, ratioWeight}
+use Rattle.model.specs.planning.Damping.{largest_to, ratio_weight}
 use Rattle.theorems.proofs.jobs.MeasuredWeight.{largest-none, largest-here, largest-lower}
 use Rattle.damping.proofs.ratio_weight.Statement.{statement}
 use Rattle.damping.proofs.ratio_weight.Tie as tie
 
 -- none above has met
 abbrev invariant-loop : tie.invariant-loop
-invariant-loop ratio weight₀ weight = record { largest : largestTo ratio weight ≡ ratioWeight ratio; high : weight ≤ 128 }
+invariant-loop ratio weight₀ weight = record { largest : largest_to ratio weight ≡ ratio_weight ratio; high : weight ≤ 128 }
 
 abbrev decreases-loop : tie.decreases-loop
 decreases-loop ratio weight₀ weight = weight
@@ -45,7 +45,7 @@ returns-2 c =
     let l = c.before.loop in
     let r = c.before.before.args.ratio in
     let done : l.weight ≡ 0 = omega arith in
-    sym (ap (largestTo r) done ∙ largest-none r) ∙ l.invariant.largest
+    sym (ap (largest_to r) done ∙ largest-none r) ∙ l.invariant.largest
 
 pub ratio-weight-spec : {M : Type 1} → statement M
 ratio-weight-spec =

@@ -1,6 +1,6 @@
 use mathlib.Core.Path.{sym, ap, ◌∙◌}
 use lib.Ieee.{Float}
-use Rattle.model.specs.planning.Damping.{ratioWeight, weightOf}
+use Rattle.model.specs.planning.Damping.{ratio_weight, weight_of}
 use borrow.Author.Rules.{rules}
 use Rattle.damping.proofs.weight_of.Statement.{statement}
 use Rattle.damping.proofs.weight_of.Tie as tie
@@ -23,8 +23,8 @@ returns c = search rules
 returns-2 : tie.Need-returns-2
 returns-2 c =
     c.ratio-weight.ensures
-    ∙ ap (λ (r : Float). ratioWeight r) c.before.ratio-of.ensures
-    ∙ sym (ap weightOf c.before.before.before.weight2.given.1)
+    ∙ ap (λ (r : Float). ratio_weight r) c.before.ratio-of.ensures
+    ∙ sym (ap weight_of c.before.before.before.weight2.given.1)
 
 pub weight-of-spec : {M : Type 1} → statement M
 weight-of-spec =

@@ -7,8 +7,8 @@ use lib.IntN.{ℤ}
 use mir.Syntax.{w64}
 use mir.Val.{to_z, of_z}
 use Rattle.whole.proofs.Bounds.{within, exactly, exact}
-use Rattle.profile.specs.Profiles.{legOf}
-use Rattle.envelopes.specs.Sums.{betweenAt}
+use Rattle.profile.specs.Profiles.{leg_of}
+use Rattle.envelopes.specs.Sums.{between_at}
 use borrow.Author.Rules.{rules}
 use Rattle.envelopes.proofs.further.Statement.{statement}
 use Rattle.envelopes.proofs.further.Tie as tie
@@ -32,13 +32,13 @@ will-do-requires c κs =
 -- the test, of the numbers as they were given
 tested : (c : tie.After-will-do)
     → c.will-do.result
-    ≡ betweenAt (legOf c.before.before.args.p) c.before.before.args.sum c.before.before.args.change
+    ≡ between_at (leg_of c.before.before.args.p) c.before.before.args.sum c.before.before.args.change
     (c.before.before.args.low + c.before.before.args.step)
 tested c =
     let a = c.before.before in
     let s : to_z w64 (of_z w64 a.args.sum) ≡ a.args.sum = exactly (search exact depth 9) tt in
     let d : to_z w64 (of_z w64 a.args.change) ≡ a.args.change = exactly (search exact depth 9) tt in
-    c.will-do.ensures ∙ (λ i. betweenAt (legOf a.args.p) (s i) (d i) (a.args.low + a.args.step))
+    c.will-do.ensures ∙ (λ i. between_at (leg_of a.args.p) (s i) (d i) (a.args.low + a.args.step))
 
 returns : tie.Need-returns
 returns c = inr (refl, λ h. sym (tested c.before) ∙ c.if2.true)

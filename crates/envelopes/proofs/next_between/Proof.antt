@@ -8,11 +8,11 @@ use mir.Syntax.{w64}
 use mir.Val.{to_z, of_z}
 use Rattle.whole.specs.Ranges.{Within}
 use Rattle.whole.proofs.Bounds.{sfits, within, exactly, exact, computed, back-id}
-use Rattle.whole.proofs.Laws.{natAbs-+}
+use Rattle.whole.proofs.Laws.{nat_abs-+}
 use Rattle.theorems.proofs.legs.Envelopes.{Joined}
-use Rattle.profile.specs.Profiles.{legOf}
+use Rattle.profile.specs.Profiles.{leg_of}
 use Rattle.whole.specs.Candidates.{Next}
-use Rattle.envelopes.specs.Sums.{envelopeSumsAt, stepped, SumsRanged, withTicks, betweenAt}
+use Rattle.envelopes.specs.Sums.{envelope_sums_at, stepped, SumsRanged, with_ticks, between_at}
 use Rattle.envelopes.specs.Skips.{Lasting}
 use Rattle.profile.proofs.FeasibleParts.{ends-joined}
 use Rattle.envelopes.proofs.EnvelopeSums.{more-ticks, step_is, sums-ranged}
@@ -27,17 +27,17 @@ invariant-loop p sum change last sums₀ wanted₀ t₀ stop sums wanted t =
       start : p.ticks ≤ stop;
       end : stop ≤ last;
       high : t ≤ stop + 1;
-      are : sums ≡ envelopeSumsAt (withTicks (legOf p) t);
+      are : sums ≡ envelope_sums_at (with_ticks (leg_of p) t);
       is : to_z w64 wanted ≡ to_z w64 sum +ℤ pos (t - p.ticks) *ℤ to_z w64 change;
       small : nat_abs (to_z w64 wanted) ≤ 2 ^ 62 + t * 2 ^ 37;
-      missed : (k : ℕ) → p.ticks ≤ k → k < t → betweenAt (legOf p) (to_z w64 sum) (to_z w64 change) k ≡ false;
+      missed : (k : ℕ) → p.ticks ≤ k → k < t → between_at (leg_of p) (to_z w64 sum) (to_z w64 change) k ≡ false;
     }
 
 abbrev decreases-loop : tie.decreases-loop
 decreases-loop p sum change last sums₀ wanted₀ t₀ stop sums wanted t = stop + 1 - t
 
-joined : (a : tie.Start invariant-loop decreases-loop) (t : ℕ) → a.args.p.ticks ≤ t → Joined (withTicks (legOf a.args.p) t)
-joined a t h = let g = legOf a.args.p in more-ticks g t (ends-joined g a.requires.0.ends) h
+joined : (a : tie.Start invariant-loop decreases-loop) (t : ℕ) → a.args.p.ticks ≤ t → Joined (with_ticks (leg_of a.args.p) t)
+joined a t h = let g = leg_of a.args.p in more-ticks g t (ends-joined g a.requires.0.ends) h
 
 -- the required sum at first, and its change
 abbrev sum : tie.Start invariant-loop decreases-loop → ℤ
@@ -48,13 +48,13 @@ change a = to_z w64 (of_z w64 a.args.change)
 
 -- of the numbers as they were given
 given : (a : tie.Start invariant-loop decreases-loop) (r : ℕ)
-    → Next (betweenAt (legOf a.args.p) (sum a) (change a)) a.args.p.ticks a.args.last r
-    → Next (betweenAt (legOf a.args.p) a.args.sum a.args.change) a.args.p.ticks a.args.last r
+    → Next (between_at (leg_of a.args.p) (sum a) (change a)) a.args.p.ticks a.args.last r
+    → Next (between_at (leg_of a.args.p) a.args.sum a.args.change) a.args.p.ticks a.args.last r
 given a r =
     let x : sum a ≡ a.args.sum = exactly (search exact depth 9) tt in
     let y : change a ≡ a.args.change = exactly (search exact depth 9) tt in
     subst (λ (f : ℕ → Bool). Next f a.args.p.ticks a.args.last r)
-    (λ i. betweenAt (legOf a.args.p) (x i) (y i))
+    (λ i. between_at (leg_of a.args.p) (x i) (y i))
 
 envelope-sums-requires : tie.Need-envelope-sums-requires invariant-loop decreases-loop
 envelope-sums-requires c κs = c.requires.0
@@ -67,7 +67,7 @@ returns : tie.Need-returns invariant-loop decreases-loop
 returns c =
     let r = c.before.before in
     let a = r.before in
-    let g = legOf a.args.p in
+    let g = leg_of a.args.p in
     let T = a.args.p.ticks in
     given a T
     (record {
@@ -113,12 +113,12 @@ start c = c.before.before.before.before.before.before.before.before
 
 tested : (c : tie.After-within-sums2 invariant-loop decreases-loop)
     → c.within-sums2.result
-    ≡ betweenAt (legOf (start c).args.p) (sum (start c)) (change (start c)) c.before.before.loop.t
+    ≡ between_at (leg_of (start c).args.p) (sum (start c)) (change (start c)) c.before.before.loop.t
 tested c =
     let a = start c in
     let l = c.before.before.loop in
     c.within-sums2.ensures
-    ∙ between_is (legOf a.args.p) (sum a) (change a) l.t (joined a l.t l.invariant.low)
+    ∙ between_is (leg_of a.args.p) (sum a) (change a) l.t (joined a l.t l.invariant.low)
     l.sums l.invariant.are _ l.invariant.is
 
 returns-2 : tie.Need-returns-2 invariant-loop decreases-loop
@@ -155,7 +155,7 @@ step-requires c κs =
     let r = a.pre.0.ranged in
     let l = b.before.before.loop in
     let longer = joined a l.t l.invariant.low in
-    let ranged = sums-ranged (withTicks (legOf a.args.p) l.t) longer a.pre.0.acceleration r.speed_limit
+    let ranged = sums-ranged (with_ticks (leg_of a.args.p) l.t) longer a.pre.0.acceleration r.speed_limit
     r.acceleration_limit in (
       subst SumsRanged (sym l.invariant.are) (ranged (omega (arith, l.invariant.high, l.invariant.end, a.pre.1.1.1.1.0))),
       (
@@ -186,7 +186,7 @@ loop-again c =
     let b = c.before.before.before.before in
     let a = start b in
     let l = b.before.before.loop in
-    let g = legOf a.args.p in
+    let g = leg_of a.args.p in
     let T = a.args.p.ticks in
     let j = joined a l.t l.invariant.low in
     let w : Within (2 ^ 37) (change a) = within (search exact depth 9) tt in
@@ -200,13 +200,13 @@ loop-again c =
       are =
           c.step.ensures
           ∙ (λ i. stepped (speed-is c.before.before i) (steep-is c.before i) (l.invariant.are i))
-          ∙ step_is (withTicks g l.t) j a.pre.0.acceleration some
-          ∙ ap (λ (n : ℕ). envelopeSumsAt (withTicks g n)) (sym (add-one l.t));
+          ∙ step_is (with_ticks g l.t) j a.pre.0.acceleration some
+          ∙ ap (λ (n : ℕ). envelope_sums_at (with_ticks g n)) (sym (add-one l.t));
       is = back ∙ ap (λ (z : ℤ). z +ℤ change a) l.invariant.is ∙ wanted-next (sum a) (change a) l.t T l.invariant.low;
       small =
           subst (λ (z : ℤ). nat_abs z ≤ 2 ^ 62 + (l.t + 1) * 2 ^ 37) (sym back)
-          (omega (arith, natAbs-+ (to_z w64 l.wanted) (change a), l.invariant.small, w.within));
-      missed = missed-next (betweenAt g (sum a) (change a)) T l.t l.invariant.missed
+          (omega (arith, nat_abs-+ (to_z w64 l.wanted) (change a), l.invariant.small, w.within));
+      missed = missed-next (between_at g (sum a) (change a)) T l.t l.invariant.missed
           (sym (tested b) ∙ c.before.before.before.if2.false);
     }
 
@@ -244,7 +244,7 @@ next-by-halving-requires c κs =
               (
                 a.requires.1.1.1.1.0,
                 (
-                  subst₂ (λ (s d : ℤ). Lasting (betweenAt (legOf a.args.p) s d) a.args.p.ticks) x y
+                  subst₂ (λ (s d : ℤ). Lasting (between_at (leg_of a.args.p) s d) a.args.p.ticks) x y
                       a.requires.1.1.1.1.1,
                   l.invariant.missed _ l.invariant.start (omega (arith, b.loop-test.false)),
                 ),

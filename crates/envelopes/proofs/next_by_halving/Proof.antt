@@ -6,9 +6,9 @@ use lib.IntN.{ℤ}
 use mir.Syntax.{w64}
 use mir.Val.{to_z, of_z}
 use Rattle.whole.proofs.Bounds.{within, exactly, exact}
-use Rattle.profile.specs.Profiles.{legOf}
+use Rattle.profile.specs.Profiles.{leg_of}
 use Rattle.whole.specs.Candidates.{Next}
-use Rattle.envelopes.specs.Sums.{betweenAt}
+use Rattle.envelopes.specs.Sums.{between_at}
 use Rattle.envelopes.specs.Skips.{Lasting, LastingTo, Bracket}
 use Rattle.envelopes.proofs.Halving.{not_lower, halved, found}
 use Rattle.envelopes.proofs.next_by_halving.Statement.{statement}
@@ -20,7 +20,7 @@ invariant-loop p sum change missed last low₀ width₀ low width =
       from : p.ticks ≤ low;
       most : width ≤ 4096;
       some : 1 ≤ width;
-      bracket : Bracket (betweenAt (legOf p) (to_z w64 sum) (to_z w64 change)) last low width;
+      bracket : Bracket (between_at (leg_of p) (to_z w64 sum) (to_z w64 change)) last low width;
     }
 
 abbrev decreases-loop : tie.decreases-loop
@@ -34,11 +34,11 @@ change-is : (a : tie.Start invariant-loop decreases-loop) → to_z w64 (of_z w64
 change-is a = exactly (search exact depth 9) tt
 
 abbrev test : tie.Start invariant-loop decreases-loop → ℕ → Bool
-test a = betweenAt (legOf a.args.p) (to_z w64 (of_z w64 a.args.sum)) (to_z w64 (of_z w64 a.args.change))
+test a = between_at (leg_of a.args.p) (to_z w64 (of_z w64 a.args.sum)) (to_z w64 (of_z w64 a.args.change))
 
 lasting : (a : tie.Start invariant-loop decreases-loop) → LastingTo (test a) a.args.p.ticks a.args.last
 lasting a =
-    subst₂ (λ (x y : ℤ). LastingTo (betweenAt (legOf a.args.p) x y) a.args.p.ticks a.args.last)
+    subst₂ (λ (x y : ℤ). LastingTo (between_at (leg_of a.args.p) x y) a.args.p.ticks a.args.last)
     (sym (sum_is a)) (sym (change-is a))
     (λ j k p q l e. a.requires.1.1.1.1.1.1.0 j k p q e)
 
@@ -52,7 +52,7 @@ loop-holds c =
           record {
             high = c.requires.1.1.1.1.0;
             missed =
-                subst₂ (λ (x y : ℤ). betweenAt (legOf c.args.p) x y c.args.missed ≡ false)
+                subst₂ (λ (x y : ℤ). between_at (leg_of c.args.p) x y c.args.missed ≡ false)
                 (sym (sum_is c)) (sym (change-is c))
                 c.requires.1.1.1.1.1.1.1;
             passed = λ h. absurd (omega (arith, c.requires.1.1.1.0, c.requires.0.some, c.requires.1.1.1.1.1.0));
@@ -101,7 +101,7 @@ returns c =
     let l = c.before.loop in
     let a = c.before.before in
     let one : l.width ≡ 1 = omega (arith, l.invariant.some, c.loop-test.false) in
-    subst₂ (λ (x y : ℤ). Next (betweenAt (legOf a.args.p) x y) a.args.p.ticks a.args.last (l.low + 1))
+    subst₂ (λ (x y : ℤ). Next (between_at (leg_of a.args.p) x y) a.args.p.ticks a.args.last (l.low + 1))
     (sum_is a) (change-is a)
     (found (test a) a.args.p.ticks a.args.last (lasting a) l.low l.invariant.from
     (subst (λ (w : ℕ). Bracket (test a) a.args.last l.low w) one l.invariant.bracket))

@@ -8,9 +8,9 @@ use mir.Val.{to_z, of_z}
 use Rattle.whole.specs.Ranges.{Is}
 use Rattle.whole.proofs.Bounds.{sfits, within, exactly, exact, cast-small}
 use Rattle.profile.specs.declared.Profile.{Profile}
-use Rattle.profile.specs.Profiles.{legOf, Joinable}
+use Rattle.profile.specs.Profiles.{leg_of, Joinable}
 use Rattle.whole.specs.Candidates.{Next}
-use Rattle.envelopes.specs.Sums.{betweenAt, withTicks}
+use Rattle.envelopes.specs.Sums.{between_at, with_ticks}
 use Rattle.envelopes.specs.Skips.{Lasting, lengthened}
 use Rattle.profile.proofs.FeasibleParts.{joined-ends}
 use Rattle.envelopes.proofs.NextTicks.{next-later, next-none}
@@ -28,7 +28,7 @@ add-result c = search rules
 returns : tie.Need-returns
 returns c =
     let a = c.before.before in
-    next-none (legOf a.args.p) a.args.sum a.args.change _ c.before.near-tick.ensures a.args.last
+    next-none (leg_of a.args.p) a.args.sum a.args.change _ c.before.near-tick.ensures a.args.last
     a.requires.1.1.1.1.1.1.1.0 c.if1.true
 
 sub-waited : tie.Need-overflow-sub-waited
@@ -73,18 +73,18 @@ near-joinable c =
       acceleration = a.1.0;
       some = omega (arith, n.low, a.1.1.0);
       ends =
-          joined-ends (legOf (lengthened (start c).args.p c.before.near-tick.result))
+          joined-ends (leg_of (lengthened (start c).args.p c.before.near-tick.result))
           (record { start = a.1.1.1.0; end = a.1.1.1.1.0; apart = n.near });
     }
 
 -- the required sum there, and its change, as the code has them
-abbrev sumThere : tie.Else1 → ℤ
-sumThere c =
+abbrev sum_there : tie.Else1 → ℤ
+sum_there c =
     to_z w64 (of_z w64
     (to_z w64 (of_z w64 (start c).args.sum)
     +ℤ to_z w64 (of_z w64 (to_z w64 (waited c) *ℤ to_z w64 (of_z w64 (start c).args.change)))))
 
-sum_is : (c : tie.Else1) → sumThere c ≡ (start c).args.sum +ℤ pos (waited c) *ℤ (start c).args.change
+sum_is : (c : tie.Else1) → sum_there c ≡ (start c).args.sum +ℤ pos (waited c) *ℤ (start c).args.change
 sum_is c = let w = waited-is c in exactly (search exact depth 20) tt
 
 change-is : (c : tie.Else1) → to_z w64 (of_z w64 (start c).args.change) ≡ (start c).args.change
@@ -107,10 +107,10 @@ next-lasting-requires c κs =
             (
               a.pre.1.1.1.1.1.1.1.1.0,
               subst (λ (p : Profile). Lasting
-                  (betweenAt (legOf p) (sumThere b) (to_z w64 (of_z w64 a.args.change))) p.ticks) (sym e)
-                  (subst₂ (λ (x y : ℤ). Lasting (betweenAt (withTicks (legOf a.args.p) n.result) x y)
+                  (between_at (leg_of p) (sum_there b) (to_z w64 (of_z w64 a.args.change))) p.ticks) (sym e)
+                  (subst₂ (λ (x y : ℤ). Lasting (between_at (with_ticks (leg_of a.args.p) n.result) x y)
                   n.result) (sym (sum_is b)) (sym (change-is b))
-                  (lasting-later (legOf a.args.p) a.args.sum a.args.change a.args.last
+                  (lasting-later (leg_of a.args.p) a.args.sum a.args.change a.args.last
                   a.pre.1.1.1.1.1.1.1.1.1 n.result n.ensures.low)),
             ),
           ),
@@ -123,10 +123,10 @@ returns-2 c =
     let b = c.before.before.before in
     let a = (start b).args in
     let n = b.before.near-tick in
-    next-later (legOf a.p) a.sum a.change n.result n.ensures a.last c.next-lasting.result
+    next-later (leg_of a.p) a.sum a.change n.result n.ensures a.last c.next-lasting.result
     (subst (λ (f : ℕ → Bool). Next f n.result a.last c.next-lasting.result)
-    (λ i. betweenAt (withTicks (legOf a.p) n.result) (sum_is b i) (change-is b i))
-    (subst (λ (p : Profile). Next (betweenAt (legOf p) (sumThere b) (to_z w64 (of_z w64 a.change))) p.ticks
+    (λ i. between_at (with_ticks (leg_of a.p) n.result) (sum_is b i) (change-is b i))
+    (subst (λ (p : Profile). Next (between_at (leg_of p) (sum_there b) (to_z w64 (of_z w64 a.change))) p.ticks
     a.last c.next-lasting.result)
     c.before.with-ticks.ensures c.next-lasting.ensures))
 

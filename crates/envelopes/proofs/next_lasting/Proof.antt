@@ -8,9 +8,9 @@ use mir.Val.{to_z, of_z}
 use Rattle.whole.specs.Ranges.{Is}
 use Rattle.whole.proofs.Bounds.{sfits, within, exactly, exact, cast-small}
 use Rattle.profile.specs.declared.Profile.{Profile}
-use Rattle.profile.specs.Profiles.{legOf, Joinable}
+use Rattle.profile.specs.Profiles.{leg_of, Joinable}
 use Rattle.whole.specs.Candidates.{Next}
-use Rattle.envelopes.specs.Sums.{betweenAt, withTicks}
+use Rattle.envelopes.specs.Sums.{between_at, with_ticks}
 use Rattle.envelopes.specs.Skips.{Skips, Lasting, lengthened}
 use Rattle.envelopes.proofs.Longer.{longer-joinable}
 use Rattle.envelopes.proofs.Skipping.{next_past, next-skipped, lasting-later}
@@ -26,9 +26,9 @@ change-is : (a : tie.Start) → to_z w64 (of_z w64 a.args.change) ≡ a.args.cha
 change-is a = exactly (search exact depth 9) tt
 
 on : (a : tie.Start)
-    → Lasting (betweenAt (legOf a.args.p) (to_z w64 (of_z w64 a.args.sum)) (to_z w64 (of_z w64 a.args.change)))
+    → Lasting (between_at (leg_of a.args.p) (to_z w64 (of_z w64 a.args.sum)) (to_z w64 (of_z w64 a.args.change)))
     a.args.p.ticks
-on a = subst₂ (λ (x y : ℤ). Lasting (betweenAt (legOf a.args.p) x y) a.args.p.ticks) (sym (sum_is a))
+on a = subst₂ (λ (x y : ℤ). Lasting (between_at (leg_of a.args.p) x y) a.args.p.ticks) (sym (sum_is a))
     (sym (change-is a)) a.requires.1.1.1.1.1
 
 skip-missed-requires : tie.Need-skip-missed-requires
@@ -41,18 +41,18 @@ skip-missed-requires c κs = (
 )
 
 skipped : (c : tie.After-skip-missed)
-    → Skips (betweenAt (legOf c.before.args.p) c.before.args.sum c.before.args.change)
+    → Skips (between_at (leg_of c.before.args.p) c.before.args.sum c.before.args.change)
     c.before.args.p.ticks c.before.args.last c.skip-missed.result
 skipped c =
     let a = c.before in
-    subst₂ (λ (x y : ℤ). Skips (betweenAt (legOf a.args.p) x y) a.args.p.ticks a.args.last
+    subst₂ (λ (x y : ℤ). Skips (between_at (leg_of a.args.p) x y) a.args.p.ticks a.args.last
     c.skip-missed.result) (sum_is a) (change-is a)
     c.skip-missed.ensures
 
 returns : tie.Need-returns
 returns c =
     let a = c.before.before in
-    next_past (legOf a.args.p) a.args.sum a.args.change a.args.last a.requires.1.1.1.1.1
+    next_past (leg_of a.args.p) a.args.sum a.args.change a.args.last a.requires.1.1.1.1.1
     c.before.skip-missed.result c.if1.true (skipped c.before)
 
 sub-later : tie.Need-overflow-sub-later
@@ -86,28 +86,28 @@ add-next-between : tie.Need-overflow-add-next-between
 add-next-between c = let l = later-is c.before.before in sfits (search exact depth 20) tt
 
 -- the required sum there, as the code has it
-abbrev sumThere : tie.Else1 → ℤ
-sumThere b =
+abbrev sum_there : tie.Else1 → ℤ
+sum_there b =
     let a = start b in
     to_z w64 (of_z w64
     (to_z w64 (of_z w64 a.args.sum) +ℤ to_z w64
     (of_z w64 (to_z w64 (b.before.skip-missed.result - a.args.p.ticks) *ℤ to_z w64 (of_z w64 a.args.change)))))
 
-sum-there : (b : tie.Else1) → sumThere b
+sum-there : (b : tie.Else1) → sum_there b
     ≡ (start b).args.sum +ℤ pos (b.before.skip-missed.result - (start b).args.p.ticks) *ℤ (start b).args.change
 sum-there b = let l = later-is b in exactly (search exact depth 20) tt
 
 lasting-there : (c : tie.After-with-ticks)
-    → Lasting (betweenAt (legOf c.with-ticks.result) (sumThere c.before.before)
+    → Lasting (between_at (leg_of c.with-ticks.result) (sum_there c.before.before)
     (to_z w64 (of_z w64 (start c.before.before).args.change))) c.with-ticks.result.ticks
 lasting-there c =
     let b = c.before.before in
     let a = start b in
-    let g = legOf a.args.p in
+    let g = leg_of a.args.p in
     let r = b.before.skip-missed.result in
-    subst (λ (p : Profile). Lasting (betweenAt (legOf p) (sumThere b) (to_z w64 (of_z w64 a.args.change))) p.ticks)
+    subst (λ (p : Profile). Lasting (between_at (leg_of p) (sum_there b) (to_z w64 (of_z w64 a.args.change))) p.ticks)
     (sym c.with-ticks.ensures)
-    (subst₂ (λ (s d : ℤ). Lasting (betweenAt (withTicks g r) s d) r) (sym (sum-there b)) (sym (change-is a))
+    (subst₂ (λ (s d : ℤ). Lasting (between_at (with_ticks g r) s d) r) (sym (sum-there b)) (sym (change-is a))
     (lasting-later g a.args.sum a.args.change a.args.last
     a.pre.1.1.1.1.1 r (skipped b.before).low))
 
@@ -134,11 +134,11 @@ returns-2 c =
     let b = c.before.before.before in
     let a = start b in
     let r = b.before.skip-missed.result in
-    next-skipped (legOf a.args.p) a.args.sum a.args.change a.args.last a.pre.1.1.1.1.1 r
+    next-skipped (leg_of a.args.p) a.args.sum a.args.change a.args.last a.pre.1.1.1.1.1 r
     c.next-between.result (skipped b.before)
     (subst (λ (f : ℕ → Bool). Next f r a.args.last c.next-between.result)
-    (λ i. betweenAt (withTicks (legOf a.args.p) r) (sum-there b i) (change-is a i))
-    (subst (λ (p : Profile). Next (betweenAt (legOf p) (sumThere b) (to_z w64 (of_z w64 a.args.change))) p.ticks
+    (λ i. between_at (with_ticks (leg_of a.args.p) r) (sum-there b i) (change-is a i))
+    (subst (λ (p : Profile). Next (between_at (leg_of p) (sum_there b) (to_z w64 (of_z w64 a.args.change))) p.ticks
     a.args.last c.next-between.result)
     c.before.with-ticks.ensures c.next-between.ensures))
 

@@ -7,9 +7,9 @@ use mir.Val.{to_z, of_z}
 use Rattle.whole.specs.Ranges.{Is}
 use Rattle.whole.proofs.Bounds.{sfits, exactly, exact, cast-small}
 use Rattle.profile.specs.declared.Profile.{Profile}
-use Rattle.profile.specs.Profiles.{legOf, Joinable}
+use Rattle.profile.specs.Profiles.{leg_of, Joinable}
 use Rattle.profile.proofs.FeasibleParts.{ends-joined}
-use Rattle.envelopes.specs.Sums.{envelopeSumsAt, betweenAt}
+use Rattle.envelopes.specs.Sums.{envelope_sums_at, between_at}
 use Rattle.envelopes.specs.Skips.{lengthened}
 use Rattle.envelopes.proofs.EnvelopeSums.{more-ticks}
 use Rattle.envelopes.proofs.NextTicks.{between_is}
@@ -51,14 +51,14 @@ returns c =
     let s = c.before in
     let a = s.before.before.before in
     let l = later-is a in
-    let g = legOf a.args.p in
+    let g = leg_of a.args.p in
     let wanted : to_z w64
     (of_z w64
     (to_z w64 (of_z w64 a.args.sum) +ℤ to_z w64
     (of_z w64 (to_z w64 (a.args.t - a.args.p.ticks) *ℤ to_z w64 (of_z w64 a.args.change)))))
     ≡ a.args.sum +ℤ pos (a.args.t - a.args.p.ticks) *ℤ a.args.change =
     exactly (search exact depth 20) tt in
-    let sums = s.envelope-sums.ensures ∙ (λ i. envelopeSumsAt (legOf (s.before.with-ticks.ensures i))) in
+    let sums = s.envelope-sums.ensures ∙ (λ i. envelope_sums_at (leg_of (s.before.with-ticks.ensures i))) in
     c.within-sums.ensures
     ∙ between_is g a.args.sum a.args.change a.args.t
     (more-ticks g a.args.t (ends-joined g a.requires.0.ends) a.requires.1.1.1.0)

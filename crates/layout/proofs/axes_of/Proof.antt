@@ -9,9 +9,9 @@ use lib.ListN.{length, get_or, set, length-set, get_or-replicate}
 use lib.Seq.{set-get_or, get_or-set_other}
 use borrow.Author.Rules.{rules}
 use Rattle.model.specs.declared.Axis.{Axis}
-use Rattle.model.specs.planning.Job.{unsetAxis}
-use Rattle.layout.specs.Jobs.{axisFromC, axesFromC}
-use Rattle.layout.proofs.Named.{named_at, is-named, not_named, namedFrom, named-next, named-all}
+use Rattle.model.specs.planning.Job.{unset_axis}
+use Rattle.layout.specs.Jobs.{axis_from_c, axes_from_c}
+use Rattle.layout.proofs.Named.{named_at, is-named, not_named, named_from, named-next, named-all}
 use Rattle.layout.proofs.axes_of.Statement.{statement}
 use Rattle.layout.proofs.axes_of.Tie as tie
 
@@ -21,8 +21,8 @@ invariant-loop mask list axes₀ bits₀ i₀ axes bits i =
       low : i ≤ 6;
       six : length list ≡ 6;
       long : length axes ≡ 6;
-      unset : (j : ℕ) → i ≤ j → j < 6 → get_or axes j unsetAxis ≡ unsetAxis;
-      stored : namedFrom axisFromC unsetAxis list i bits axes ≡ axesFromC mask list;
+      unset : (j : ℕ) → i ≤ j → j < 6 → get_or axes j unset_axis ≡ unset_axis;
+      stored : named_from axis_from_c unset_axis list i bits axes ≡ axes_from_c mask list;
     }
 
 abbrev decreases-loop : tie.decreases-loop
@@ -37,7 +37,7 @@ loop-holds c =
       low = omega arith;
       six = omega arith;
       long = refl;
-      unset = λ j h k. get_or-replicate 6 j _ unsetAxis k ∙ c.unset-axis.ensures;
+      unset = λ j h k. get_or-replicate 6 j _ unset_axis k ∙ c.unset-axis.ensures;
       stored = refl;
     }
 
@@ -66,18 +66,18 @@ loop-less c = omega arith
 turned : (c : tie.Joined1 invariant-loop decreases-loop)
     → let h = c.before.before.loop in
     c.if1.axes ≡ set h.axes h.i
-    (named_at axisFromC unsetAxis c.before.before.before.before.args.t2 h.i h.bits)
+    (named_at axis_from_c unset_axis c.before.before.before.before.args.t2 h.i h.bits)
 turned c =
     let h = c.before.before.loop in
     let l = c.before.before.before.before.args.t2 in
     let put : Axis → List Axis = set h.axes h.i in
     ⊎_elim
     (λ w. w.3 ∙ ap put
-    (w.2.ensures ∙ is-named axisFromC unsetAxis l _ h.i h.bits (omega (arith, h.invariant.six)) (omega arith)))
+    (w.2.ensures ∙ is-named axis_from_c unset_axis l _ h.i h.bits (omega (arith, h.invariant.six)) (omega arith)))
     (λ w. w.1
-    ∙ sym (set-get_or h.axes h.i unsetAxis)
+    ∙ sym (set-get_or h.axes h.i unset_axis)
     ∙ ap put (h.invariant.unset h.i (omega arith) (omega arith)
-    ∙ not_named axisFromC unsetAxis l h.i h.bits (λ e. omega arith)))
+    ∙ not_named axis_from_c unset_axis l h.i h.bits (λ e. omega arith)))
     c.if1.branch
 
 loop-again : tie.Need-loop-preserved invariant-loop decreases-loop
@@ -89,12 +89,12 @@ loop-again c =
       low = omega arith;
       six = h.invariant.six;
       long = ap (λ (a : List Axis). length a) t ∙ length-set h.axes h.i _ ∙ h.invariant.long;
-      unset = λ j q k. ap (λ (a : List Axis). get_or a j unsetAxis) t
-          ∙ get_or-set_other h.axes h.i j _ unsetAxis (λ e. omega arith)
+      unset = λ j q k. ap (λ (a : List Axis). get_or a j unset_axis) t
+          ∙ get_or-set_other h.axes h.i j _ unset_axis (λ e. omega arith)
           ∙ h.invariant.unset j (omega arith) k;
       stored =
-          ap (namedFrom axisFromC unsetAxis l (h.i + 1) _) t
-          ∙ named-next axisFromC unsetAxis l h.i h.bits h.axes
+          ap (named_from axis_from_c unset_axis l (h.i + 1) _) t
+          ∙ named-next axis_from_c unset_axis l h.i h.bits h.axes
           (omega (arith, h.invariant.six)) (omega (arith, h.invariant.long))
           ∙ h.invariant.stored;
     }
@@ -102,7 +102,7 @@ loop-again c =
 returns : tie.Need-returns invariant-loop decreases-loop
 returns c =
     let h = c.before.loop in
-    sym (named-all axisFromC unsetAxis _ h.i h.bits h.axes (omega (arith, h.invariant.six))
+    sym (named-all axis_from_c unset_axis _ h.i h.bits h.axes (omega (arith, h.invariant.six))
     (omega (arith, h.invariant.long))) ∙ h.invariant.stored
 
 pub axes-of-spec : {M : Type 1} → statement M

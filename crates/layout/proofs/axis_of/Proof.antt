@@ -1,6 +1,6 @@
 -- `axis_of` gives the axis that its struct stands for, field by field.
 use borrow.Author.Rules.{rules}
-use Rattle.layout.specs.Jobs.{axisFromC}
+use Rattle.layout.specs.Jobs.{axis_from_c}
 use Rattle.layout.proofs.axis_of.Statement.{statement}
 use Rattle.layout.proofs.axis_of.Tie as tie
 
@@ -17,7 +17,7 @@ target-of-requires : tie.Need-target-of-requires
 target-of-requires c κs = search rules
 
 returns : tie.Need-returns
-unfolding axisFromC
+unfolding axis_from_c
 returns c =
     let a = c.before.before.before.before.args.a in
     λ i.

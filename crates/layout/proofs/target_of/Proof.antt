@@ -8,17 +8,17 @@ use Rattle.model.specs.declared.RestPoint.{RestPoint}
 use Rattle.model.specs.declared.State.{State}
 use Rattle.model.specs.declared.Target.TheVariants.{Fixed, Moving}
 use Rattle.layout.specs.declared.PolgamirAxis.{PolgamirAxis}
-use Rattle.layout.specs.Jobs.{fixedOf, movingOf, target_of}
+use Rattle.layout.specs.Jobs.{fixed_of, moving_of, target_of}
 use Rattle.layout.proofs.target_of.Statement.{statement}
 use Rattle.layout.proofs.target_of.Tie as tie
 
-fixed : (a : PolgamirAxis) → a.target_kind ≡ 0 → Fixed (fixedOf a) ≡ target_of a
+fixed : (a : PolgamirAxis) → a.target_kind ≡ 0 → Fixed (fixed_of a) ≡ target_of a
 unfolding target_of
-fixed a e = sym (ap (λ (t : Bool). cond t (Fixed (fixedOf a)) (Moving (movingOf a))) (eq-eqb a.target_kind 0 e))
+fixed a e = sym (ap (λ (t : Bool). cond t (Fixed (fixed_of a)) (Moving (moving_of a))) (eq-eqb a.target_kind 0 e))
 
-moving : (a : PolgamirAxis) → (a.target_kind ≡ 0 → ⊥) → Moving (movingOf a) ≡ target_of a
+moving : (a : PolgamirAxis) → (a.target_kind ≡ 0 → ⊥) → Moving (moving_of a) ≡ target_of a
 unfolding target_of
-moving a e = sym (ap (λ (t : Bool). cond t (Fixed (fixedOf a)) (Moving (movingOf a))) (ne_eqb a.target_kind 0 e))
+moving a e = sym (ap (λ (t : Bool). cond t (Fixed (fixed_of a)) (Moving (moving_of a))) (ne_eqb a.target_kind 0 e))
 
 fixed-of-requires : tie.Need-fixed-of-requires
 fixed-of-requires c κs = search rules

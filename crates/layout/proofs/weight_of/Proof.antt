@@ -9,7 +9,7 @@ use borrow.Author.Tests.{eq-eqb, ne_eqb}
 use Rattle.model.specs.declared.Weight.{Weight}
 use Rattle.model.specs.declared.Damping.TheVariants.{Ratio, Peaks}
 use Rattle.model.specs.declared.Weight.TheVariants.{Given, Measured}
-use Rattle.layout.specs.Jobs.{weightFromC}
+use Rattle.layout.specs.Jobs.{weight_from_c}
 use Rattle.layout.proofs.weight_of.Statement.{statement}
 use Rattle.layout.proofs.weight_of.Tie as tie
 
@@ -26,16 +26,16 @@ module _ (kind weight : ℕ) (ratio first second : Float) where
   by : Bool → Bool → Weight
   by s t = cond s given (cond t of-swings peaks)
 
-  with-weight : kind ≡ 0 → given ≡ weightFromC kind weight ratio first second
-  unfolding weightFromC by
+  with-weight : kind ≡ 0 → given ≡ weight_from_c kind weight ratio first second
+  unfolding weight_from_c by
   with-weight e = sym (ap (λ (s : Bool). by s (eqb kind 1)) (eq-eqb kind 0 e))
 
-  of-ratio : (kind ≡ 0 → ⊥) → kind ≡ 1 → of-swings ≡ weightFromC kind weight ratio first second
-  unfolding weightFromC by
+  of-ratio : (kind ≡ 0 → ⊥) → kind ≡ 1 → of-swings ≡ weight_from_c kind weight ratio first second
+  unfolding weight_from_c by
   of-ratio n e = sym (λ i. by (ne_eqb kind 0 n i) (eq-eqb kind 1 e i))
 
-  of-peaks : (kind ≡ 0 → ⊥) → (kind ≡ 1 → ⊥) → peaks ≡ weightFromC kind weight ratio first second
-  unfolding weightFromC by
+  of-peaks : (kind ≡ 0 → ⊥) → (kind ≡ 1 → ⊥) → peaks ≡ weight_from_c kind weight ratio first second
+  unfolding weight_from_c by
   of-peaks n e = sym (λ i. by (ne_eqb kind 0 n i) (ne_eqb kind 1 e i))
 
 returns : tie.Need-returns

@@ -3,7 +3,7 @@ use mathlib.Core.Path.{sym, ap, ap₂, ◌∙◌}
 use native.Mathlib.Omega.{arith}
 use borrow.Author.Rules.{rules}
 use Rattle.model.specs.declared.Limit.{Limit}
-use Rattle.least_limit.specs.Limits.{gainOf}
+use Rattle.least_limit.specs.Limits.{gain_of}
 use Rattle.least_limit.proofs.gain.Statement.{statement}
 use Rattle.least_limit.proofs.gain.Tie as tie
 
@@ -26,7 +26,7 @@ returns : tie.Need-returns
 returns c =
     let parts = c.before.before.before.before.args.parts in (
       ap₂ ◌+◌ c.before.triangle.ensures.0 c.triangle2.ensures.0
-          ∙ sym (ap (λ (q : Limit). gainOf q parts) c.before.before.enum_told.given.1),
+          ∙ sym (ap (λ (q : Limit). gain_of q parts) c.before.before.enum_told.given.1),
       omega (arith, c.before.triangle.ensures.1, c.triangle2.ensures.1),
     )
 

@@ -7,17 +7,17 @@ use lib.Signed.{le_z, ◌≤ℤ◌, ◌<ℤ◌, yes_non_neg, pos-nat_abs}
 use mir.Syntax.{w64}
 use mir.Val.{to_z, of_z}
 use borrow.Author.Rules.{rules}
-use Rattle.whole.specs.Integers.{sumTo}
+use Rattle.whole.specs.Integers.{sum_to}
 use Rattle.whole.specs.Ranges.{Within}
 use Rattle.whole.proofs.Differences.{whole, all₂}
 use Rattle.whole.proofs.Laws.{add-sub, sub-nonneg, <ℤ-weaken}
 use Rattle.whole.proofs.Bounds.{sfits, within, exactly, computed, cast-up, back-id, le_is, le_left}
 use Rattle.model.specs.planning.Leg.{upper}
 use Rattle.profile.specs.declared.Profile.{Profile}
-use Rattle.profile.specs.Profiles.{legOf}
-use Rattle.areas.specs.Areas.{upperParts}
-use Rattle.least_limit.specs.Limits.{gainOf, PartsRanged}
-use Rattle.least_limit.proofs.FallsShort.{legWith, upperSum, falls-short, comes-up, parts-few}
+use Rattle.profile.specs.Profiles.{leg_of}
+use Rattle.areas.specs.Areas.{upper_parts}
+use Rattle.least_limit.specs.Limits.{gain_of, PartsRanged}
+use Rattle.least_limit.proofs.FallsShort.{leg_with, upper_sum, falls-short, comes-up, parts-few}
 use Rattle.least_limit.proofs.lead.Statement.{statement}
 use Rattle.least_limit.proofs.lead.Tie as tie
 
@@ -33,17 +33,17 @@ abbrev start : tie.After-upper-area → tie.Start
 start c = c.before.before
 
 abbrev reached : tie.After-upper-area → ℤ
-reached c = upperSum (start c).args.t (start c).args.limit (start c).args.value
+reached c = upper_sum (start c).args.t (start c).args.limit (start c).args.value
 
 sum_is : (c : tie.After-upper-area)
-    → sumTo (upper (legOf c.before.profile-with.result)) (c.before.profile-with.result.ticks - 1) ≡ reached c
-sum_is c = ap (λ (p : Profile). sumTo (upper (legOf p)) (p.ticks - 1)) c.before.profile-with.ensures.is
+    → sum_to (upper (leg_of c.before.profile-with.result)) (c.before.profile-with.result.ticks - 1) ≡ reached c
+sum_is c = ap (λ (p : Profile). sum_to (upper (leg_of p)) (p.ticks - 1)) c.before.profile-with.ensures.is
 
 parts_are : (c : tie.After-upper-area)
     → c.upper-area.result.parts
-    ≡ upperParts (legWith (start c).args.t (start c).args.limit (start c).args.value)
+    ≡ upper_parts (leg_with (start c).args.t (start c).args.limit (start c).args.value)
 parts_are c =
-    c.upper-area.ensures.parts ∙ ap (λ (p : Profile). upperParts (legOf p)) c.before.profile-with.ensures.is
+    c.upper-area.ensures.parts ∙ ap (λ (p : Profile). upper_parts (leg_of p)) c.before.profile-with.ensures.is
 
 tested : (c : tie.After-upper-area)
     → le_z (to_z w64 (of_z w64 (start c).args.t.sum)) (to_z w64 (of_z w64 c.upper-area.result.sum))
@@ -68,7 +68,7 @@ gain-requires : tie.Need-gain-requires
 gain-requires c κs =
     let u = c.before.before.before.before in
     subst PartsRanged (sym (parts_are u))
-    (parts-few (legWith (start u).args.t (start u).args.limit (start u).args.value) (start u).requires.0.ticks)
+    (parts-few (leg_with (start u).args.t (start u).args.limit (start u).args.value) (start u).requires.0.ticks)
 
 mul_most : tie.Need-overflow-mul-most
 mul_most c =
@@ -132,7 +132,7 @@ returns-2 c =
     let k = c.before in
     let a = start (area k) in
     let r = c.next-lower-bound.ensures in
-    let gained = k.before.gain.ensures.0 ∙ ap (gainOf a.args.limit) (parts_are (area k)) in
+    let gained = k.before.gain.ensures.0 ∙ ap (gain_of a.args.limit) (parts_are (area k)) in
     let steps : ℕ → ℕ = λ n. a.args.t.steps * n in
     record {
       low = omega (arith, r.higher);

@@ -2,7 +2,7 @@ use Prim.Native.Nat.{ℕ, ◌+◌, ◌-◌, ◌≤◌, ◌<◌}
 use mathlib.Core.Path.{◌≡◌, ap, ◌∙◌}
 use mathlib.Core.Bool.{true, false}
 use native.Mathlib.Omega.{arith}
-use Rattle.least_limit.specs.Limits.{enoughWith}
+use Rattle.least_limit.specs.Limits.{enough_with}
 use Rattle.least_limit.proofs.FallsShort.{allowed-higher, highest-small}
 use Rattle.least_limit.proofs.least_from.Statement.{statement}
 use Rattle.least_limit.proofs.least_from.Tie as tie
@@ -16,8 +16,8 @@ invariant-loop t limit first after low₀ high₀ tests₀ low high tests =
       order : low ≤ high;
       most : high ≤ after;
       few : tests + (high - low) ≤ after;
-      short : (k : ℕ) → first ≤ k → k < low → enoughWith limit t k ≡ false;
-      enough : high < after → enoughWith limit t high ≡ true;
+      short : (k : ℕ) → first ≤ k → k < low → enough_with limit t k ≡ false;
+      enough : high < after → enough_with limit t high ≡ true;
     }
 
 abbrev decreases-loop : tie.decreases-loop
@@ -105,7 +105,7 @@ returns c =
       low = i.least;
       high = omega (arith, i.order, i.most);
       missed = i.short;
-      passed = λ h. ap (enoughWith a.args.limit a.args.t) met
+      passed = λ h. ap (enough_with a.args.limit a.args.t) met
           ∙ i.enough (omega (arith, i.order, i.most, i.least, a.requires.1.0));
     }
 

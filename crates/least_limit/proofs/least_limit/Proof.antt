@@ -25,16 +25,16 @@ allows-requires : tie.Need-allows-requires
 allows-requires c κs = search rules
 
 -- whether the other limit allows the ends
-abbrev otherAllows : tie.Start → Bool
-otherAllows a =
+abbrev other_allows : tie.Start → Bool
+other_allows a =
     let q = limits.other a.args.limit in
-    leb (limits.need q a.args.t) (limits.unit q a.args.t * limits.limitIn q a.args.t)
+    leb (limits.need q a.args.t) (limits.unit q a.args.t * limits.limit_in q a.args.t)
 
-tested : (c : tie.After-allows) → c.allows.result ≡ otherAllows c.before.before
+tested : (c : tie.After-allows) → c.allows.result ≡ other_allows c.before.before
 tested c =
     let t = c.before.before.args.t in
     c.allows.ensures
-    ∙ ap (λ (q : Limit). leb (limits.need q t) (limits.unit q t * limits.limitIn q t)) c.before.other.ensures
+    ∙ ap (λ (q : Limit). leb (limits.need q t) (limits.unit q t * limits.limit_in q t)) c.before.other.ensures
 
 returns : tie.Need-returns
 returns c =
@@ -71,11 +71,11 @@ least-from-requires c κs =
 
 -- the values before the first that allows the ends, and those that are searched
 all-missed : (q : Limit) (t : Task) (after first last r : ℕ) → limits.FirstAllowed q t after first
-    → Next (limits.enoughWith q t) first last r
-    → (k : ℕ) → suc (limits.limitIn q t) ≤ k → k < r → limits.enoughWith q t k ≡ false
+    → Next (limits.enough_with q t) first last r
+    → (k : ℕ) → suc (limits.limit_in q t) ≤ k → k < r → limits.enough_with q t k ≡ false
 all-missed q t after first last r f n k h l = go (lt-or-le k first)
   where
-    go : (k < first) ⊎ (first ≤ k) → limits.enoughWith q t k ≡ false
+    go : (k < first) ⊎ (first ≤ k) → limits.enough_with q t k ≡ false
     go (inl u) = not-allowed t q k (f.short k h u)
     go (inr u) = n.missed k u l
 

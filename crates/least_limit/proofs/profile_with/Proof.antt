@@ -7,17 +7,17 @@ use Rattle.model.specs.calls.Raises.{highest}
 use Rattle.profile.specs.declared.Profile.{Profile}
 use Rattle.profile.specs.Profiles.{Joinable}
 use Rattle.least_limit.specs.declared.Task.{Task}
-use Rattle.least_limit.specs.Limits.{profileAt, speedWith, accelerationWith, TaskRanged, Allowed, ProfileFor}
+use Rattle.least_limit.specs.Limits.{profile_at, speed_with, acceleration_with, TaskRanged, Allowed, ProfileFor}
 use Rattle.least_limit.proofs.FallsShort.{profile-joinable}
 use Rattle.least_limit.proofs.profile_with.Statement.{statement}
 use Rattle.least_limit.proofs.profile_with.Tie as tie
 
 -- the profile that the code makes for the limit q
 made : (p q : Limit) (t : Task) (v : ℕ) (r : Profile) → TaskRanged t → Allowed p t v → p ≡ q
-    → r ≡ profileAt t (speedWith q t v) (accelerationWith q t v)
+    → r ≡ profile_at t (speed_with q t v) (acceleration_with q t v)
     → ProfileFor p t v r
 made p q t v r ranged a e is =
-    let own = is ∙ ap (λ (l : Limit). profileAt t (speedWith l t v) (accelerationWith l t v)) (sym e) in
+    let own = is ∙ ap (λ (l : Limit). profile_at t (speed_with l t v) (acceleration_with l t v)) (sym e) in
     record { is = own; joinable = subst Joinable (sym own) (profile-joinable t p v ranged a) }
 
 -- the value is in the range of its limit

@@ -6,7 +6,7 @@ use Rattle.model.specs.declared.Order.TheVariants.{Forwards, Backwards}
 use Rattle.model.specs.planning.Quantities.{finer}
 use Rattle.model.specs.planning.Leg.{cruise}
 use Rattle.model.specs.cases.Case.{Hold}
-use Rattle.model.specs.cases.RowCases.{TopSpeedCruised, MovedBefore, FinestGrid, rowCases, TableIs}
+use Rattle.model.specs.cases.RowCases.{TopSpeedCruised, MovedBefore, FinestGrid, row_cases, TableIs}
 use Rattle.model.specs.cases.RowCases.{CellsStand, ExactD}
 
 pub top-speed-cruised : TopSpeedCruised
@@ -21,7 +21,7 @@ pub finest-grid : FinestGrid
 unfolding finer
 finest-grid = refl
 
-pub row-cases : Hold rowCases
+pub row-cases : Hold row_cases
 unfolding cruise finer flatten
 row-cases = (refl, (refl, (refl, (refl, (refl, tt)))))
 

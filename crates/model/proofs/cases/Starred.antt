@@ -5,7 +5,7 @@ use mathlib.Core.List.{flatten}
 use Rattle.model.specs.planning.Quantities.{finer}
 use Rattle.model.specs.planning.Leg.{cruise}
 use Rattle.model.specs.planning.Outcome.{answer_of}
-use Rattle.model.specs.calls.Raises.{raiseOf, raisesCall}
+use Rattle.model.specs.calls.Raises.{raise_of, raises_call}
 use Rattle.model.specs.cases.FieldCases.{Starred}
 use Rattle.model.specs.cases.WindowCases.{WindowCasesHold, RunCasesHold}
 use Rattle.model.specs.cases.SwayCases.{SwayCasesHold}
@@ -32,7 +32,7 @@ unfolding cruise finer flatten
 sway-cases = (refl, (refl, (refl, (refl, (refl, (refl, (refl, (refl, (refl, (refl, (refl, tt)))))))))))
 
 pub raises-cases : RaisesCasesHold
-unfolding finer answer_of raiseOf raisesCall
+unfolding finer answer_of raise_of raises_call
 raises-cases = refl
 
 pub conversions : ConversionsHold

@@ -3,12 +3,12 @@
 use Rattle.std.specs.Prelude.{ℕ, ◌+◌, ◌*◌, List, [], ◌∷◌}
 
 -- the word of four bytes, the lowest first
-abbrev pub littleEndian : ℕ → ℕ → ℕ → ℕ → ℕ
-littleEndian a b c d = a + 256 * b + 65536 * c + 16777216 * d
+abbrev pub little_endian : ℕ → ℕ → ℕ → ℕ → ℕ
+little_endian a b c d = a + 256 * b + 65536 * c + 16777216 * d
 
 unfoldable pub words_of : List ℕ → List ℕ
 words_of [] = []
 words_of (a ∷ []) = 0 ∷ []
 words_of (a ∷ b ∷ []) = 0 ∷ []
 words_of (a ∷ b ∷ c ∷ []) = 0 ∷ []
-words_of (a ∷ b ∷ c ∷ d ∷ bytes) = littleEndian a b c d ∷ words_of bytes
+words_of (a ∷ b ∷ c ∷ d ∷ bytes) = little_endian a b c d ∷ words_of bytes

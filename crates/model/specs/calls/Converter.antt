@@ -3,24 +3,24 @@
 use Rattle.std.specs.Prelude.{ℕ, zero, suc, Bool, true, false, not, ◌&&◌, List, [], ◌∷◌, ◌++◌, ℤ, eqb, ltb, length, drop}
 use Rattle.model.specs.planning.Job.{Job}
 use Rattle.model.specs.planning.Words.{kind, payload, word}
-use Rattle.model.specs.planning.Refusals.{limitsRefused, dampingRefused, blendRefused, swayRefused, valuesRefused}
-use Rattle.model.specs.planning.Refusals.{accelerationRefused}
-use Rattle.model.specs.planning.Admission.{words, Tests, axisRefusals, Admission, refusedAt, admitted, Rules}
-use Rattle.model.specs.planning.Admission.{jobAdmission, admission}
+use Rattle.model.specs.planning.Refusals.{limits_refused, damping_refused, blend_refused, sway_refused, values_refused}
+use Rattle.model.specs.planning.Refusals.{acceleration_refused}
+use Rattle.model.specs.planning.Admission.{words, Tests, axis_refusals, Admission, refused_at, admitted, Rules}
+use Rattle.model.specs.planning.Admission.{job_admission, admission}
 use Rattle.model.specs.planning.Outcome.{Outcome, call_by}
 
--- ---- the old rules: the tests of `axisRefusals` without 17
+-- ---- the old rules: the tests of `axis_refusals` without 17
 
-abbrev pub oldRefusals : Tests
-oldRefusals =
-    (4, limitsRefused) ∷ (12, dampingRefused) ∷ (5, blendRefused) ∷ (15, swayRefused) ∷ (6, valuesRefused)
-    ∷ (16, accelerationRefused) ∷ []
+abbrev pub old_refusals : Tests
+old_refusals =
+    (4, limits_refused) ∷ (12, damping_refused) ∷ (5, blend_refused) ∷ (15, sway_refused) ∷ (6, values_refused)
+    ∷ (16, acceleration_refused) ∷ []
 
-abbrev pub oldRules : Rules
-oldRules = record { reads = λ j. j; tests = λ asked. oldRefusals }
+abbrev pub old_rules : Rules
+old_rules = record { reads = λ j. j; tests = λ asked. old_refusals }
 
-abbrev pub oldOutcome : List ℕ → List ℤ → Outcome
-oldOutcome ws = call_by oldRules (words ws)
+abbrev pub old_outcome : List ℕ → List ℤ → Outcome
+old_outcome ws = call_by old_rules (words ws)
 
 -- ---- the converted words
 
@@ -30,15 +30,15 @@ begins k [] = false
 begins k (w ∷ ws) = eqb (kind w) k
 
 -- the word w, before ws, is the velocity of a fixed target that flies
-abbrev pub flyingWord : ℕ → List ℕ → Bool
-flyingWord w ws = eqb (kind w) 10 && (not (eqb (payload w) 0) && not (begins 11 ws))
+abbrev pub flying_word : ℕ → List ℕ → Bool
+flying_word w ws = eqb (kind w) 10 && (not (eqb (payload w) 0) && not (begins 11 ws))
 
 -- right after such a word come an acceleration of 0 and the asked arrival as tick; all else is
 -- copied
 abbrev pub converted : ℕ → List ℕ → List ℕ
 converted asked [] = []
 converted asked (w ∷ ws) =
-    elim (flyingWord w ws) [
+    elim (flying_word w ws) [
       | true ↦ w ∷ word 11 0 ∷ word 12 asked ∷ converted asked ws
       | false ↦ w ∷ converted asked ws
     ]
@@ -65,20 +65,20 @@ written ws lent =
     ]
 
 -- planning's tests through 17, which is given only where the least arrival is sought
-abbrev pub conversionRefusals : ℕ → Tests
-conversionRefusals zero = axisRefusals
-conversionRefusals (suc n) = oldRefusals
+abbrev pub conversion_refusals : ℕ → Tests
+conversion_refusals zero = axis_refusals
+conversion_refusals (suc n) = old_refusals
 
-abbrev pub conversionRules : Rules
-conversionRules = record { reads = λ j. j; tests = conversionRefusals }
+abbrev pub conversion_rules : Rules
+conversion_rules = record { reads = λ j. j; tests = conversion_refusals }
 
-abbrev pub conversionAfter : List ℕ → List ℕ → Admission → Conversion
-conversionAfter ws lent (refusedAt n p) = unconverted n p lent
-conversionAfter ws lent (admitted j) = written (converted j.asked ws) lent
+abbrev pub conversion_after : List ℕ → List ℕ → Admission → Conversion
+conversion_after ws lent (refused_at n p) = unconverted n p lent
+conversion_after ws lent (admitted j) = written (converted j.asked ws) lent
 
 abbrev pub conversion : List ℕ → List ℕ → Conversion
-conversion ws lent = conversionAfter ws lent (admission conversionRules (words ws))
+conversion ws lent = conversion_after ws lent (admission conversion_rules (words ws))
 
 -- a job that words spell
-abbrev pub jobConversion : Job → List ℕ → List ℕ → Conversion
-jobConversion j ws lent = conversionAfter ws lent (jobAdmission conversionRules j)
+abbrev pub job_conversion : Job → List ℕ → List ℕ → Conversion
+job_conversion j ws lent = conversion_after ws lent (job_admission conversion_rules j)

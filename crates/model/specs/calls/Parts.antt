@@ -5,11 +5,11 @@ use Rattle.std.specs.Prelude.{ℕ, suc, ◌-◌, ◌*◌, ◌/◌, min, true, fa
 use Rattle.model.specs.declared.Answer.{Answer}
 use Rattle.model.specs.declared.Axis.{Axis}
 use Rattle.model.specs.declared.Order.TheVariants.{Forwards}
-use Rattle.model.specs.planning.Outcome.{Input, inputAxes, partOver, answer_of}
+use Rattle.model.specs.planning.Outcome.{Input, input_axes, part_over, answer_of}
 
 -- how many whole rows of so many axes a table of so many cells holds, from row k on and up to row n
-abbrev pub partRows : ℕ → ℕ → ℕ → ℕ → ℕ
-partRows axes n k cells = min (cells / (3 * axes)) (suc n - k)
+abbrev pub part_rows : ℕ → ℕ → ℕ → ℕ → ℕ
+part_rows axes n k cells = min (cells / (3 * axes)) (suc n - k)
 
 -- what a call for the rows from row k on gives: the answer before refusal 10, how many rows it
 -- writes, and the lent table as it leaves it
@@ -20,17 +20,17 @@ pub record PartOutcome : Type 0 where
 
 -- an accepted job's rows k, k + 1, .. stand in front, as many whole rows as the lent table holds,
 -- up to row N
-abbrev pub partAccepted : Answer → List Axis → ℕ → List ℤ → PartOutcome
-partAccepted a xs k lent =
-    let c : ℕ = partRows (length xs) a.arrival k (length lent) in
-    record { answer = a; rows = c; cells = partOver Forwards xs a.arrival k c lent }
+abbrev pub part_accepted : Answer → List Axis → ℕ → List ℤ → PartOutcome
+part_accepted a xs k lent =
+    let c : ℕ = part_rows (length xs) a.arrival k (length lent) in
+    record { answer = a; rows = c; cells = part_over Forwards xs a.arrival k c lent }
 
 -- a refused job writes none
-abbrev pub partRefused : Answer → List ℤ → PartOutcome
-partRefused a lent = record { answer = a; rows = 0; cells = lent }
+abbrev pub part_refused : Answer → List ℤ → PartOutcome
+part_refused a lent = record { answer = a; rows = 0; cells = lent }
 
-abbrev pub partWith : Answer → List Axis → ℕ → List ℤ → PartOutcome
-partWith a xs k lent = elim (eqb a.number 0) [ true ↦ partAccepted a xs k lent | false ↦ partRefused a lent ]
+abbrev pub part_with : Answer → List Axis → ℕ → List ℤ → PartOutcome
+part_with a xs k lent = elim (eqb a.number 0) [ true ↦ part_accepted a xs k lent | false ↦ part_refused a lent ]
 
-unfoldable pub partCall : Input → ℕ → List ℤ → PartOutcome
-partCall q k lent = partWith (answer_of q) (inputAxes q) k lent
+unfoldable pub part_call : Input → ℕ → List ℤ → PartOutcome
+part_call q k lent = part_with (answer_of q) (input_axes q) k lent

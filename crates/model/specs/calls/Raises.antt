@@ -10,16 +10,16 @@ use Rattle.model.specs.declared.Limit.TheVariants.{Acceleration, Speed}
 use Rattle.model.specs.declared.Raise.TheVariants.{AccelerationBy, SpeedBy, NoRaise}
 use Rattle.model.specs.declared.AxisRaises.{AxisRaises}
 use Rattle.model.specs.declared.RaisesAnswer.{RaisesAnswer}
-use Rattle.model.specs.planning.Quantities.{speedLimit, accelerationLimit}
+use Rattle.model.specs.planning.Quantities.{speed_limit, acceleration_limit}
 use Rattle.model.specs.planning.Motion.{reachable}
 use Rattle.model.specs.planning.Job.{Job, JobAxis}
-use Rattle.model.specs.planning.Outcome.{leastFrom, Input, inputJob, answer_of}
+use Rattle.model.specs.planning.Outcome.{least_from, Input, input_job, answer_of}
 
 -- ---- an axis with other limits
 
 -- L and M
-abbrev pub withLimits : ℕ → ℕ → Axis → Axis
-withLimits l m x =
+abbrev pub with_limits : ℕ → ℕ → Axis → Axis
+with_limits l m x =
     record {
       start = x.start;
       speed_limit = l;
@@ -31,70 +31,70 @@ withLimits l m x =
     }
 
 -- one limit alone: what it is, the highest of its range, and the axis with another
-abbrev pub limitOf : Limit → Axis → ℕ
-limitOf Acceleration x = accelerationLimit x
-limitOf Speed x = speedLimit x
+abbrev pub limit_of : Limit → Axis → ℕ
+limit_of Acceleration x = acceleration_limit x
+limit_of Speed x = speed_limit x
 
 abbrev pub highest : Limit → ℕ
 highest Acceleration = 65536
 highest Speed = 1048576
 
-abbrev pub withLimit : Limit → ℕ → Axis → Axis
-withLimit Acceleration m x = withLimits (speedLimit x) m x
-withLimit Speed l x = withLimits l (accelerationLimit x) x
+abbrev pub with_limit : Limit → ℕ → Axis → Axis
+with_limit Acceleration m x = with_limits (speed_limit x) m x
+with_limit Speed l x = with_limits l (acceleration_limit x) x
 
 -- ---- the least raise of one limit
 
 -- from 1 on, within the range: the first for which the axis reaches n
-unfoldable pub raiseOf : Limit → Axis → ℕ → Option ℕ
-raiseOf q x n = leastFrom (λ r. reachable (withLimit q (limitOf q x + r) x) n) 1 (highest q - limitOf q x)
+unfoldable pub raise_of : Limit → Axis → ℕ → Option ℕ
+raise_of q x n = least_from (λ r. reachable (with_limit q (limit_of q x + r) x) n) 1 (highest q - limit_of q x)
 
 -- ---- both limits of an axis
 
-abbrev pub noRaises : AxisRaises
-noRaises = record { first = NoRaise; second = NoRaise }
+abbrev pub no_raises : AxisRaises
+no_raises = record { first = NoRaise; second = NoRaise }
 
 -- the raise of M and that of L: the smaller first, M's if equal; one that does not exist is left
 -- out
-abbrev pub inOrder : Option ℕ → Option ℕ → AxisRaises
-inOrder none none = noRaises
-inOrder (some m) none = record { first = AccelerationBy m; second = NoRaise }
-inOrder none (some l) = record { first = SpeedBy l; second = NoRaise }
-inOrder (some m) (some l) =
+abbrev pub in_order : Option ℕ → Option ℕ → AxisRaises
+in_order none none = no_raises
+in_order (some m) none = record { first = AccelerationBy m; second = NoRaise }
+in_order none (some l) = record { first = SpeedBy l; second = NoRaise }
+in_order (some m) (some l) =
     elim (leb m l) [
       | true ↦ record { first = AccelerationBy m; second = SpeedBy l }
       | false ↦ record { first = SpeedBy l; second = AccelerationBy m }
     ]
 
-abbrev pub raisesOf : Axis → ℕ → AxisRaises
-raisesOf x n = inOrder (raiseOf Acceleration x n) (raiseOf Speed x n)
+abbrev pub raises_of : Axis → ℕ → AxisRaises
+raises_of x n = in_order (raise_of Acceleration x n) (raise_of Speed x n)
 
 -- ---- all axes of a job
 
 -- those of the axes that do not reach n, lowest first, each put at its number; windows are not
 -- asked
-abbrev pub raisesFrom : ℕ → List JobAxis → List AxisRaises → List AxisRaises
-raisesFrom n [] l = l
-raisesFrom n (x ∷ xs) l =
+abbrev pub raises_from : ℕ → List JobAxis → List AxisRaises → List AxisRaises
+raises_from n [] l = l
+raises_from n (x ∷ xs) l =
     elim (reachable x.axis n) [
-      | true ↦ raisesFrom n xs l
-      | false ↦ raisesFrom n xs (set l x.number (raisesOf x.axis n))
+      | true ↦ raises_from n xs l
+      | false ↦ raises_from n xs (set l x.number (raises_of x.axis n))
     ]
 
-abbrev pub noneRaised : List AxisRaises
-noneRaised = replicate 6 noRaises
+abbrev pub none_raised : List AxisRaises
+none_raised = replicate 6 no_raises
 
 -- ---- the call
 
 -- 8 brings the raises of the axes that do not reach the asked arrival, and no other number brings
 -- any
-abbrev pub raisesWith : Answer → Job → RaisesAnswer
-raisesWith a j =
+abbrev pub raises_with : Answer → Job → RaisesAnswer
+raises_with a j =
     record {
       answer = a;
-      axes = elim (eqb a.number 8) [ true ↦ raisesFrom j.asked j.axes noneRaised | false ↦ noneRaised ];
+      axes = elim (eqb a.number 8) [ true ↦ raises_from j.asked j.axes none_raised | false ↦ none_raised ];
     }
 
 -- the planning answer before 10, with its raises
-unfoldable pub raisesCall : Input → RaisesAnswer
-raisesCall q = raisesWith (answer_of q) (inputJob q)
+unfoldable pub raises_call : Input → RaisesAnswer
+raises_call q = raises_with (answer_of q) (input_job q)

@@ -10,14 +10,14 @@ use Rattle.model.specs.declared.AxisLimits.{AxisLimits}
 use Rattle.model.specs.declared.TourSettings.{TourSettings}
 use Rattle.model.specs.declared.TourAnswer.{TourAnswer}
 use Rattle.model.specs.declared.Job.{Job}
-use Rattle.model.specs.planning.Windows.{noWindows, longestDwell}
+use Rattle.model.specs.planning.Windows.{no_windows, longest_dwell}
 use Rattle.model.specs.planning.Outcome.{typed, answer_of}
 
 -- ---- a leg
 
 -- one axis, from rest at p to rest at q
-abbrev pub legAxis : AxisLimits → ℤ → ℤ → Axis
-legAxis l p q =
+abbrev pub leg_axis : AxisLimits → ℤ → ℤ → Axis
+leg_axis l p q =
     record {
       start = record { position = p; velocity = pos 0 };
       speed_limit = l.speed_limit;
@@ -28,19 +28,19 @@ legAxis l p q =
       target = Fixed (record { position = q; velocity = pos 0 });
     }
 
-abbrev pub legAxes : List AxisLimits → List ℤ → List ℤ → List Axis
-legAxes [] ps qs = []
-legAxes (l ∷ ls) [] qs = []
-legAxes (l ∷ ls) (p ∷ ps) [] = []
-legAxes (l ∷ ls) (p ∷ ps) (q ∷ qs) = legAxis l p q ∷ legAxes ls ps qs
+abbrev pub leg_axes : List AxisLimits → List ℤ → List ℤ → List Axis
+leg_axes [] ps qs = []
+leg_axes (l ∷ ls) [] qs = []
+leg_axes (l ∷ ls) (p ∷ ps) [] = []
+leg_axes (l ∷ ls) (p ∷ ps) (q ∷ qs) = leg_axis l p q ∷ leg_axes ls ps qs
 
 -- the typed job of the leg between two positions: it asks for its least
 -- arrival, and brings no windows
-abbrev pub legJob : TourSettings → List ℤ → List ℤ → Job
-legJob t here there = record { mask = t.mask; asked = 0; axes = legAxes t.limits here there; windows = noWindows }
+abbrev pub leg_job : TourSettings → List ℤ → List ℤ → Job
+leg_job t here there = record { mask = t.mask; asked = 0; axes = leg_axes t.limits here there; windows = no_windows }
 
-abbrev pub legAnswer : TourSettings → List ℤ → List ℤ → Answer
-legAnswer t here there = answer_of (typed (legJob t here there))
+abbrev pub leg_answer : TourSettings → List ℤ → List ℤ → Answer
+leg_answer t here there = answer_of (typed (leg_job t here there))
 
 -- ---- all legs
 
@@ -55,22 +55,22 @@ pub record Legs : Type 0 where
   -- counted from the tour's start
   pub arrivals : List ℕ
 
-abbrev pub allLegs : TourSettings → ℕ → List ℕ → Legs
-allLegs t total l = record { number = 0; place = 0; mask = t.mask; arrival = 0; total = total; arrivals = l }
+abbrev pub all_legs : TourSettings → ℕ → List ℕ → Legs
+all_legs t total l = record { number = 0; place = 0; mask = t.mask; arrival = 0; total = total; arrivals = l }
 
-abbrev pub refusedLeg : Answer → ℕ → Legs
-refusedLeg a stop =
+abbrev pub refused_leg : Answer → ℕ → Legs
+refused_leg a stop =
     record { number = a.number; place = stop; mask = a.mask; arrival = a.arrival; total = 0; arrivals = [] }
 
 -- The legs to the stops that are left. The head rests at `here` and leaves at tick n; l
 -- is the list of arrivals so far.
-abbrev pub legsFrom : TourSettings → List Stop → ℕ → List ℤ → List ℕ → Legs
-legsFrom t [] n here l = allLegs t n l
-legsFrom t (s ∷ ss) n here l =
-    let a : Answer = legAnswer t here s.positions in
+abbrev pub legs_from : TourSettings → List Stop → ℕ → List ℤ → List ℕ → Legs
+legs_from t [] n here l = all_legs t n l
+legs_from t (s ∷ ss) n here l =
+    let a : Answer = leg_answer t here s.positions in
     elim (eqb a.number 0) [
-      | true ↦ legsFrom t ss (n + a.arrival + s.dwell) s.positions (l ++ ((n + a.arrival) ∷ []))
-      | false ↦ refusedLeg a (length l)
+      | true ↦ legs_from t ss (n + a.arrival + s.dwell) s.positions (l ++ ((n + a.arrival) ∷ []))
+      | false ↦ refused_leg a (length l)
     ]
 
 -- ---- the tour
@@ -85,8 +85,8 @@ pub record TourOutcome : Type 0 where
   pub arrivals : List ℕ
 
 -- an answer, and the lent list as the call leaves it
-abbrev pub tourOutcomeOf : TourAnswer → List ℕ → TourOutcome
-tourOutcomeOf r l =
+abbrev pub tour_outcome_of : TourAnswer → List ℕ → TourOutcome
+tour_outcome_of r l =
     record {
       number = r.number;
       place = r.place;
@@ -97,15 +97,15 @@ tourOutcomeOf r l =
     }
 
 -- a refused tour writes nothing
-abbrev pub refuseTour : ℕ → ℕ → ℕ → ℕ → List ℕ → TourOutcome
-refuseTour number place mask arrival lent =
+abbrev pub refuse_tour : ℕ → ℕ → ℕ → ℕ → List ℕ → TourOutcome
+refuse_tour number place mask arrival lent =
     record { number = number; place = place; mask = mask; arrival = arrival; total = 0; arrivals = lent }
 
 -- 10, checked after the legs; or the arrivals in front of the lent list, whose later entries stay
-abbrev pub arrivalsOver : ℕ → Legs → List ℕ → TourOutcome
-arrivalsOver stops g lent =
+abbrev pub arrivals_over : ℕ → Legs → List ℕ → TourOutcome
+arrivals_over stops g lent =
     elim (ltb (length lent) stops) [
-      | true ↦ refuseTour 10 stops 0 0 lent
+      | true ↦ refuse_tour 10 stops 0 0 lent
       | false ↦ record {
         number = 0;
         place = 0;
@@ -116,44 +116,44 @@ arrivalsOver stops g lent =
       }
     ]
 
-abbrev pub afterLegs : ℕ → Legs → List ℕ → TourOutcome
-afterLegs stops g lent =
+abbrev pub after_legs : ℕ → Legs → List ℕ → TourOutcome
+after_legs stops g lent =
     elim (eqb g.number 0) [
-      | true ↦ arrivalsOver stops g lent
-      | false ↦ refuseTour g.number g.place g.mask g.arrival lent
+      | true ↦ arrivals_over stops g lent
+      | false ↦ refuse_tour g.number g.place g.mask g.arrival lent
     ]
 
 -- the most stops
-abbrev pub mostStops : ℕ
-mostStops = 64
+abbrev pub most_stops : ℕ
+most_stops = 64
 
 -- the first stop, the next being stop i, whose dwell is too long
-abbrev pub firstLongDwell : ℕ → List Stop → Option ℕ
-firstLongDwell i [] = none
-firstLongDwell i (s ∷ ss) = elim (leb s.dwell longestDwell) [ true ↦ firstLongDwell (suc i) ss | false ↦ some i ]
+abbrev pub first_long_dwell : ℕ → List Stop → Option ℕ
+first_long_dwell i [] = none
+first_long_dwell i (s ∷ ss) = elim (leb s.dwell longest_dwell) [ true ↦ first_long_dwell (suc i) ss | false ↦ some i ]
 
 -- the second part of 11, and then the legs
-abbrev pub dwellsChecked : TourSettings → ℕ → List Stop → List ℕ → TourOutcome
-dwellsChecked t count stops lent =
-    elim (firstLongDwell 0 stops) [
-      | some i ↦ refuseTour 11 i 0 0 lent
-      | none ↦ afterLegs count (legsFrom t stops 0 t.start []) lent
+abbrev pub dwells_checked : TourSettings → ℕ → List Stop → List ℕ → TourOutcome
+dwells_checked t count stops lent =
+    elim (first_long_dwell 0 stops) [
+      | some i ↦ refuse_tour 11 i 0 0 lent
+      | none ↦ after_legs count (legs_from t stops 0 t.start []) lent
     ]
 
 -- a tour of one stop or more: 11 comes before the legs, too many stops before a dwell that is too
 -- long
-abbrev pub stopsChecked : TourSettings → ℕ → List Stop → List ℕ → TourOutcome
-stopsChecked t count stops lent =
-    elim (leb count mostStops) [ true ↦ dwellsChecked t count stops lent | false ↦ refuseTour 11 mostStops 0 0 lent ]
+abbrev pub stops_checked : TourSettings → ℕ → List Stop → List ℕ → TourOutcome
+stops_checked t count stops lent =
+    elim (leb count most_stops) [ true ↦ dwells_checked t count stops lent | false ↦ refuse_tour 11 most_stops 0 0 lent ]
 
 -- no stops: total 0, and nothing else is read, so that the mask of the answer
 -- is 0 and not the settings' own
-abbrev pub noStops : List ℕ → TourOutcome
-noStops lent = record { number = 0; place = 0; mask = 0; arrival = 0; total = 0; arrivals = lent }
+abbrev pub no_stops : List ℕ → TourOutcome
+no_stops lent = record { number = 0; place = 0; mask = 0; arrival = 0; total = 0; arrivals = lent }
 
 -- a tour of so many stops; those past the 64th are not looked at
-abbrev pub tourBy : TourSettings → ℕ → List Stop → List ℕ → TourOutcome
-tourBy t count stops lent = elim (eqb count 0) [ true ↦ noStops lent | false ↦ stopsChecked t count stops lent ]
+abbrev pub tour_by : TourSettings → ℕ → List Stop → List ℕ → TourOutcome
+tour_by t count stops lent = elim (eqb count 0) [ true ↦ no_stops lent | false ↦ stops_checked t count stops lent ]
 
-abbrev pub tourOutcome : TourSettings → List Stop → List ℕ → TourOutcome
-tourOutcome t stops lent = tourBy t (length stops) stops lent
+abbrev pub tour_outcome : TourSettings → List Stop → List ℕ → TourOutcome
+tour_outcome t stops lent = tour_by t (length stops) stops lent

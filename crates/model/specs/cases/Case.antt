@@ -7,7 +7,7 @@ use Rattle.model.specs.declared.Target.{Target}
 use Rattle.model.specs.declared.Target.TheVariants.{Fixed}
 use Rattle.model.specs.declared.Weight.TheVariants.{Given}
 use Rattle.model.specs.declared.Window.{Window}
-use Rattle.model.specs.planning.Windows.{noWindows}
+use Rattle.model.specs.planning.Windows.{no_windows}
 use Rattle.model.specs.planning.Words.{word}
 use Rattle.model.specs.planning.Outcome.{Outcome, Input, typed, call}
 
@@ -18,11 +18,11 @@ use Rattle.model.specs.planning.Outcome.{Outcome, Input, typed, call}
 pub data View : Type 0 where
   all positions velocities accelerations : View
 
-abbrev pub everyThird : List ℤ → List ℤ
-everyThird [] = []
-everyThird (a ∷ []) = a ∷ []
-everyThird (a ∷ b ∷ []) = a ∷ []
-everyThird (a ∷ b ∷ c ∷ l) = a ∷ everyThird l
+abbrev pub every_third : List ℤ → List ℤ
+every_third [] = []
+every_third (a ∷ []) = a ∷ []
+every_third (a ∷ b ∷ []) = a ∷ []
+every_third (a ∷ b ∷ c ∷ l) = a ∷ every_third l
 
 abbrev pub tail : List ℤ → List ℤ
 tail [] = []
@@ -30,9 +30,9 @@ tail (a ∷ l) = l
 
 abbrev pub seen : List ℤ → View → List ℤ
 seen l all = l
-seen l positions = everyThird l
-seen l velocities = everyThird (tail l)
-seen l accelerations = everyThird (tail (tail l))
+seen l positions = every_third l
+seen l velocities = every_third (tail l)
+seen l accelerations = every_third (tail (tail l))
 
 pub record Result : Type 0 where
   pub number : ℕ
@@ -83,33 +83,33 @@ abbrev pub fixed : ℕ → ℕ → Target
 fixed p v = Fixed (record { position = pos p; velocity = pos v })
 
 -- one axis, at rest at 0, L = 10, h = 0, to rest at p
-abbrev pub restTo : ℕ → Axis
-restTo p = axis (pos 0) (pos 0) 10 0 (fixed p 0)
+abbrev pub rest_to : ℕ → Axis
+rest_to p = axis (pos 0) (pos 0) 10 0 (fixed p 0)
 
 -- F's words of an asked arrival: one axis, from 0 at velocity 10, L = 20, M = 1, h = 0, B = 128, to
 -- a fixed target at 10 with velocity 10
-abbrev pub axisF : List ℕ
-axisF = 0x30000000 ∷ 0x4000000A ∷ 0x50000014 ∷ 0x60000001 ∷ 0x70000000 ∷ 0x80000080 ∷ 0x9000000A ∷ 0xA000000A ∷ []
+abbrev pub axis_f : List ℕ
+axis_f = 0x30000000 ∷ 0x4000000A ∷ 0x50000014 ∷ 0x60000001 ∷ 0x70000000 ∷ 0x80000080 ∷ 0x9000000A ∷ 0xA000000A ∷ []
 
-abbrev pub wordsF : ℕ → List ℕ
-wordsF asked = 0x10000001 ∷ word 2 asked ∷ (axisF ++ (0xF0000000 ∷ []))
+abbrev pub words_f : ℕ → List ℕ
+words_f asked = 0x10000001 ∷ word 2 asked ∷ (axis_f ++ (0xF0000000 ∷ []))
 
 -- G's: axis 0 as F, axis 1 from rest at 0 to rest at 1, L = 10
-abbrev pub wordsG : ℕ → List ℕ
-wordsG asked =
+abbrev pub words_g : ℕ → List ℕ
+words_g asked =
     0x10000003 ∷ word 2 asked
-    ∷ (axisF
+    ∷ (axis_f
     ++ (0x30000000 ∷ 0x40000000 ∷ 0x5000000A ∷ 0x60000001 ∷ 0x70000000 ∷ 0x80000080 ∷ 0x90000001
     ∷ 0xA0000000 ∷ 0xF0000000 ∷ []))
 
-abbrev pub oneAxis : ℕ → Axis → Input
-oneAxis asked x = typed (record { mask = 1; asked = asked; axes = x ∷ []; windows = noWindows })
+abbrev pub one_axis : ℕ → Axis → Input
+one_axis asked x = typed (record { mask = 1; asked = asked; axes = x ∷ []; windows = no_windows })
 
-abbrev pub twoAxes : ℕ → Axis → Axis → Input
-twoAxes asked x y = typed (record { mask = 3; asked = asked; axes = x ∷ y ∷ []; windows = noWindows })
+abbrev pub two_axes : ℕ → Axis → Axis → Input
+two_axes asked x y = typed (record { mask = 3; asked = asked; axes = x ∷ y ∷ []; windows = no_windows })
 
-abbrev pub wordsC : List ℕ
-wordsC = 0x10000001 ∷ 0x20000004 ∷ 0x30000000 ∷ 0x40000000 ∷ 0x5000000A ∷ 0x60000001 ∷ 0x70000000 ∷ 0x80000080
+abbrev pub words_c : List ℕ
+words_c = 0x10000001 ∷ 0x20000004 ∷ 0x30000000 ∷ 0x40000000 ∷ 0x5000000A ∷ 0x60000001 ∷ 0x70000000 ∷ 0x80000080
     ∷ 0x90000001 ∷ 0xA0000000 ∷ 0xF0000000 ∷ []
 
 abbrev pub accepted : ℕ → ℕ → List (List ℤ) → Result
@@ -127,7 +127,7 @@ inside asked dwell l =
     typed (record {
       mask = 1;
       asked = asked;
-      axes = restTo 4 ∷ [];
+      axes = rest_to 4 ∷ [];
       windows = record { given = true; dwell = dwell; count = length l; list = l };
     })
 

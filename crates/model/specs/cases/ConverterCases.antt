@@ -2,7 +2,7 @@
 use Rattle.std.specs.Prelude.{ℕ, ◌≡◌, List, [], ◌∷◌, ◌++◌, map, replicate}
 use Rattle.model.specs.planning.Outcome.{words}
 use Rattle.model.specs.calls.Converter.{Conversion, conversion, converted}
-use Rattle.model.specs.cases.Case.{axisF, wordsF, wordsC}
+use Rattle.model.specs.cases.Case.{axis_f, words_f, words_c}
 
 -- ---- what the converter answers (docs/METHOD.md, 8.3): number, place, and the lent words as it
 -- leaves them
@@ -20,19 +20,19 @@ converting ws n number place l =
 abbrev pub conversions : List Converting
 conversions =
     -- reach is not checked; later words stay; a word too few
-    converting (wordsF 2) 14 0 13
-    (0x10000001 ∷ 0x20000002 ∷ (axisF ++ (0xB0000000 ∷ 0xC0000002 ∷ 0xF0000000 ∷ 0 ∷ [])))
-    ∷ converting (wordsF 2) 12 10 13 (replicate 12 0)
+    converting (words_f 2) 14 0 13
+    (0x10000001 ∷ 0x20000002 ∷ (axis_f ++ (0xB0000000 ∷ 0xC0000002 ∷ 0xF0000000 ∷ 0 ∷ [])))
+    ∷ converting (words_f 2) 12 10 13 (replicate 12 0)
     -- no conversion where the least arrival is sought, whatever is lent
-    ∷ converting (wordsF 0) 0 17 0 []
+    ∷ converting (words_f 0) 0 17 0 []
     -- targets at rest are copied, also where the least arrival is sought
-    ∷ converting wordsC 11 0 11 wordsC
+    ∷ converting words_c 11 0 11 words_c
     -- of two flying targets both become moving ones
-    ∷ converting (0x10000003 ∷ 0x20000002 ∷ (axisF ++ (axisF ++ (0xF0000000 ∷ [])))) 23 0 23
+    ∷ converting (0x10000003 ∷ 0x20000002 ∷ (axis_f ++ (axis_f ++ (0xF0000000 ∷ [])))) 23 0 23
     (0x10000003 ∷ 0x20000002
-    ∷ (axisF ++ (0xB0000000 ∷ 0xC0000002 ∷ (axisF ++ (0xB0000000 ∷ 0xC0000002 ∷ 0xF0000000 ∷ [])))))
+    ∷ (axis_f ++ (0xB0000000 ∷ 0xC0000002 ∷ (axis_f ++ (0xB0000000 ∷ 0xC0000002 ∷ 0xF0000000 ∷ [])))))
     -- moving targets are copied, also where they are not at rest
-    ∷ converting (converted 2 (wordsF 2)) 13 0 13 (converted 2 (wordsF 2))
+    ∷ converting (converted 2 (words_f 2)) 13 0 13 (converted 2 (words_f 2))
     ∷ []
 
 abbrev pub ConversionsHold : Type 0

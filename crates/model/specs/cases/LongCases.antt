@@ -27,8 +27,8 @@ stay high low = rail 0 (two_words 3 high low) (two_words 9 high low) end_word
 abbrev pub negative : ℕ → ℕ
 negative n = 2 ^ 28 - n
 
-abbrev pub longCases : List Case
-longCases =
+abbrev pub long_cases : List Case
+long_cases =
     -- the low payload is unsigned: the first position past a single word, on both
     -- sides, and the ends of the range
     case (stay 0 (2 ^ 27)) 6 (positions ∷ []) (accepted 1 1 ((pos (256 * 134217728) ∷ pos (256 * 134217728) ∷ []) ∷ []))
@@ -40,8 +40,8 @@ longCases =
     (accepted 1 1 ((negsuc (256 * 17179869184 - 1) ∷ negsuc (256 * 17179869184 - 1) ∷ []) ∷ []))
     ∷ []
 
-abbrev pub longRefusals : List Case
-longRefusals =
+abbrev pub long_refusals : List Case
+long_refusals =
     -- 14: a position that fits a single word, a payload outside −64 to 63
     case (stay 0 (2 ^ 27 - 1)) 6 [] (refused 14 2 0 0)
     ∷ case (stay (negative 1) (2 ^ 27)) 6 [] (refused 14 2 0 0)
@@ -58,4 +58,4 @@ longRefusals =
 
 -- each call gives what the method says
 abbrev pub LongCasesHold : Type 0
-LongCasesHold = Hold longCases × Hold longRefusals
+LongCasesHold = Hold long_cases × Hold long_refusals

@@ -3,7 +3,7 @@
 use Rattle.std.specs.Prelude.{List, [], ◌∷◌, pos, negsuc, replicate}
 use Rattle.model.specs.declared.Axis.{Axis}
 use Rattle.model.specs.declared.Target.TheVariants.{Moving}
-use Rattle.model.specs.cases.Case.{Case, Hold, axis, oneAxis, accepted, refused, case, inside, window}
+use Rattle.model.specs.cases.Case.{Case, Hold, axis, one_axis, accepted, refused, case, inside, window}
 
 -- ---- reach is not a threshold: a target that accelerates can be met in a run of ticks
 -- that ends, and windows have gaps
@@ -14,24 +14,24 @@ abbrev pub passing : Axis
 passing = axis (pos 0) (pos 0) 10 0
     (Moving (record { position = pos 8; velocity = negsuc 0; acceleration = pos 1; tick = pos 0 }))
 
-abbrev pub runCases : List Case
-runCases =
-    case (oneAxis 0 passing) 36 [] (accepted 1 9 [])
-    ∷ case (oneAxis 8 passing) 36 [] (refused 8 0 1 0)
-    ∷ case (oneAxis 11 passing) 36 [] (accepted 1 11 [])
-    ∷ case (oneAxis 12 passing) 36 [] (refused 8 0 1 0)
+abbrev pub run_cases : List Case
+run_cases =
+    case (one_axis 0 passing) 36 [] (accepted 1 9 [])
+    ∷ case (one_axis 8 passing) 36 [] (refused 8 0 1 0)
+    ∷ case (one_axis 11 passing) 36 [] (accepted 1 11 [])
+    ∷ case (one_axis 12 passing) 36 [] (refused 8 0 1 0)
     -- field case B: one window at tick 4, the next from 2,000 on
     ∷ case (inside 0 0 (window 4 5 ∷ window 2000 3000 ∷ [])) 24 [] (accepted 1 4 [])
     ∷ []
 
 abbrev pub RunCasesHold : Type 0
-RunCasesHold = Hold runCases
+RunCasesHold = Hold run_cases
 
 -- ---- laser windows (docs/METHOD.md, 3.8), on field case B, whose axis reaches tick 4 and every
 -- later one
 
-abbrev pub windowCases : List Case
-windowCases =
+abbrev pub window_cases : List Case
+window_cases =
     case (inside 0 2 (window 0 6 ∷ [])) 24 [] (accepted 1 4 [])
     -- touching windows do not join
     ∷ case (inside 0 2 (window 0 5 ∷ window 5 9 ∷ [])) 24 [] (accepted 1 5 [])
@@ -46,8 +46,8 @@ windowCases =
     ∷ case (inside 4 0 (window 7 9 ∷ [])) 24 [] (refused 8 0 0 0)
     ∷ []
 
-abbrev pub windowRefusals : List Case
-windowRefusals =
+abbrev pub window_refusals : List Case
+window_refusals =
     -- 9 where no arrival fits; its mask is of the axes alone
     case (inside 0 0 (window 1 2 ∷ [])) 24 [] (refused 9 0 0 0)
     -- 13: empty, too many, the dwell, the first wrong window; after 3 and before 8
@@ -60,4 +60,4 @@ windowRefusals =
     ∷ []
 
 abbrev pub WindowCasesHold : Type 0
-WindowCasesHold = Hold windowCases × Hold windowRefusals
+WindowCasesHold = Hold window_cases × Hold window_refusals

@@ -12,9 +12,9 @@ use Rattle.model.specs.declared.Weight.TheVariants.{Given, Measured}
 -- ---- the ratio
 
 -- of two peaks: the second divided by the first, rounded once
-abbrev pub ratioOf : Damping → Float
-ratioOf (Ratio r) = r
-ratioOf (Peaks first second) = div binary32 second first
+abbrev pub ratio_of : Damping → Float
+ratio_of (Ratio r) = r
+ratio_of (Peaks first second) = div binary32 second first
 
 -- ---- the weight of a ratio
 
@@ -27,9 +27,9 @@ unfoldable pub meets : Float → ℕ → Bool
 meets r b = le (float b) (mul binary32 r (float (256 - b)))
 
 -- the largest from 1 to n that does, or 1 if there is none
-unfoldable pub largestTo : Float → ℕ → ℕ
-largestTo r zero = 1
-largestTo r (suc n) = elim (meets r (suc n)) [ true ↦ suc n | false ↦ largestTo r n ]
+unfoldable pub largest_to : Float → ℕ → ℕ
+largest_to r zero = 1
+largest_to r (suc n) = elim (meets r (suc n)) [ true ↦ suc n | false ↦ largest_to r n ]
 
 -- as the method says it: the largest from 1 to n, or 1 if there is none
 pub record IsLargest (r : Float) (n b : ℕ) : Type 0 where
@@ -38,27 +38,27 @@ pub record IsLargest (r : Float) (n b : ℕ) : Type 0 where
   pub met : T (meets r b) ⊎ ((b ≡ 1) × (T (meets r 1) → ⊥))
   pub larger : (c : ℕ) → b < c → c ≤ n → T (meets r c) → ⊥
 
-abbrev pub ratioWeight : Float → ℕ
-ratioWeight r = largestTo r 128
+abbrev pub ratio_weight : Float → ℕ
+ratio_weight r = largest_to r 128
 
 -- B of an axis
-abbrev pub weightOf : Weight → ℕ
-weightOf (Given b) = b
-weightOf (Measured d) = ratioWeight (ratioOf d)
+abbrev pub weight_of : Weight → ℕ
+weight_of (Given b) = b
+weight_of (Measured d) = ratio_weight (ratio_of d)
 
 -- ---- which damping is allowed
 
-abbrev pub aboveZero : Float → Bool
-aboveZero x = lt (fin false 0 (pos 0)) x
+abbrev pub above_zero : Float → Bool
+above_zero x = lt (fin false 0 (pos 0)) x
 
 -- a number above 0 and at most 1
-abbrev pub ratioAllowed : Float → Bool
-ratioAllowed r = aboveZero r && le r (fin false 1 (pos 0))
+abbrev pub ratio_allowed : Float → Bool
+ratio_allowed r = above_zero r && le r (fin false 1 (pos 0))
 
-abbrev pub dampingAllowed : Damping → Bool
-dampingAllowed (Ratio r) = ratioAllowed r
-dampingAllowed (Peaks first second) = aboveZero first && ratioAllowed (ratioOf (Peaks first second))
+abbrev pub damping_allowed : Damping → Bool
+damping_allowed (Ratio r) = ratio_allowed r
+damping_allowed (Peaks first second) = above_zero first && ratio_allowed (ratio_of (Peaks first second))
 
-abbrev pub weightAllowed : Weight → Bool
-weightAllowed (Given b) = true
-weightAllowed (Measured d) = dampingAllowed d
+abbrev pub weight_allowed : Weight → Bool
+weight_allowed (Given b) = true
+weight_allowed (Measured d) = damping_allowed d

@@ -9,8 +9,8 @@ use Rattle.model.specs.declared.SecondSway.TheVariants.{Absent, HalfPeriod}
 use Rattle.model.specs.declared.State.{State}
 use Rattle.model.specs.declared.Target.{Target}
 use Rattle.model.specs.declared.Target.TheVariants.{Fixed, Moving}
-use Rattle.model.specs.planning.Quantities.{speedLimit, accelerationLimit, halfPeriod, secondWeight, accelerates}
-use Rattle.model.specs.planning.Damping.{weightAllowed}
+use Rattle.model.specs.planning.Quantities.{speed_limit, acceleration_limit, half_period, second_weight, accelerates}
+use Rattle.model.specs.planning.Damping.{weight_allowed}
 use Rattle.model.specs.planning.Motion.{reachable}
 use Rattle.model.specs.planning.Job.{JobAxis}
 
@@ -19,67 +19,67 @@ abbrev pub within : ℕ → ℕ → ℕ → Bool
 within a b n = leb a n && leb n b
 
 -- the last tick that an arrival, or in size a target's tick, may be
-abbrev pub lastTick : ℕ
-lastTick = 4096
+abbrev pub last_tick : ℕ
+last_tick = 4096
 
 -- ---- 4: L or M is outside its range
 
-abbrev pub limitsRefused : Axis → Bool
-limitsRefused x = not (within 1 1048576 (speedLimit x) && within 1 65536 (accelerationLimit x))
+abbrev pub limits_refused : Axis → Bool
+limits_refused x = not (within 1 1048576 (speed_limit x) && within 1 65536 (acceleration_limit x))
 
 -- ---- 12: a first peak that is not above zero, or a ratio that is not a number above 0
 -- and at most 1; also when h is 0
 
-abbrev pub dampingRefused : Axis → Bool
-dampingRefused x = not (weightAllowed x.second_weight)
+abbrev pub damping_refused : Axis → Bool
+damping_refused x = not (weight_allowed x.second_weight)
 
 -- ---- 5: h or B is outside its range, B also when h is 0
 
-abbrev pub blendRefused : Axis → Bool
-blendRefused x = not (within 0 256 (halfPeriod x) && within 1 128 (secondWeight x))
+abbrev pub blend_refused : Axis → Bool
+blend_refused x = not (within 0 256 (half_period x) && within 1 128 (second_weight x))
 
 -- ---- 15: a second half period is outside its range
 
-abbrev pub swayAllowed : SecondSway → Bool
-swayAllowed Absent = true
-swayAllowed (HalfPeriod d) = within 1 256 d
+abbrev pub sway_allowed : SecondSway → Bool
+sway_allowed Absent = true
+sway_allowed (HalfPeriod d) = within 1 256 d
 
-abbrev pub swayRefused : Axis → Bool
-swayRefused x = not (swayAllowed x.second_sway)
+abbrev pub sway_refused : Axis → Bool
+sway_refused x = not (sway_allowed x.second_sway)
 
 -- ---- 6: start or target velocity exceeds L in size, target acceleration exceeds M in size, target
 -- tick exceeds 4,096 in size, or a position is outside −17,179,869,184 to 17,179,869,183, which two
 -- words hold (docs/METHOD.md, 6.3)
 
-abbrev pub positionAllowed : ℤ → Bool
-positionAllowed p = le_z (negsuc 17179869183) p && le_z p (pos 17179869183)
+abbrev pub position_allowed : ℤ → Bool
+position_allowed p = le_z (negsuc 17179869183) p && le_z p (pos 17179869183)
 
-abbrev pub velocityAllowed : Axis → ℤ → Bool
-velocityAllowed x v = leb (nat_abs v) (speedLimit x)
+abbrev pub velocity_allowed : Axis → ℤ → Bool
+velocity_allowed x v = leb (nat_abs v) (speed_limit x)
 
-abbrev pub restAllowed : Axis → RestPoint → Bool
-restAllowed x r = positionAllowed r.position && velocityAllowed x r.velocity
+abbrev pub rest_allowed : Axis → RestPoint → Bool
+rest_allowed x r = position_allowed r.position && velocity_allowed x r.velocity
 
 -- the acceleration and the tick of a moving target
-abbrev pub motionAllowed : Axis → State → Bool
-motionAllowed x m = leb (nat_abs m.acceleration) (accelerationLimit x) && leb (nat_abs m.tick) lastTick
+abbrev pub motion_allowed : Axis → State → Bool
+motion_allowed x m = leb (nat_abs m.acceleration) (acceleration_limit x) && leb (nat_abs m.tick) last_tick
 
-abbrev pub targetAllowed : Axis → Target → Bool
-targetAllowed x (Fixed r) = restAllowed x r
-targetAllowed x (Moving m) =
-    restAllowed x (record { position = m.position; velocity = m.velocity }) && motionAllowed x m
+abbrev pub target_allowed : Axis → Target → Bool
+target_allowed x (Fixed r) = rest_allowed x r
+target_allowed x (Moving m) =
+    rest_allowed x (record { position = m.position; velocity = m.velocity }) && motion_allowed x m
 
-abbrev pub valuesRefused : Axis → Bool
-valuesRefused x = not (restAllowed x x.start && targetAllowed x x.target)
+abbrev pub values_refused : Axis → Bool
+values_refused x = not (rest_allowed x x.start && target_allowed x x.target)
 
 -- ---- 16: the target of an axis with a second sway accelerates
 
-abbrev pub accelerationRefusedBy : SecondSway → Target → Bool
-accelerationRefusedBy Absent g = false
-accelerationRefusedBy (HalfPeriod d) g = accelerates g
+abbrev pub acceleration_refused_by : SecondSway → Target → Bool
+acceleration_refused_by Absent g = false
+acceleration_refused_by (HalfPeriod d) g = accelerates g
 
-abbrev pub accelerationRefused : Axis → Bool
-accelerationRefused x = accelerationRefusedBy x.second_sway x.target
+abbrev pub acceleration_refused : Axis → Bool
+acceleration_refused x = acceleration_refused_by x.second_sway x.target
 
 -- ---- 17: a fixed target has a velocity that is not 0
 
@@ -87,19 +87,19 @@ abbrev pub flies : Target → Bool
 flies (Fixed r) = not (eqb (nat_abs r.velocity) 0)
 flies (Moving m) = false
 
-abbrev pub flyingRefused : Axis → Bool
-flyingRefused x = flies x.target
+abbrev pub flying_refused : Axis → Bool
+flying_refused x = flies x.target
 
 -- ---- what an axis has that none of them refuses
 
 pub record Passed (x : Axis) : Type 0 where
-  pub limits : limitsRefused x ≡ false
-  pub damping : dampingRefused x ≡ false
-  pub blend : blendRefused x ≡ false
-  pub sway : swayRefused x ≡ false
-  pub values : valuesRefused x ≡ false
-  pub acceleration : accelerationRefused x ≡ false
-  pub resting : flyingRefused x ≡ false
+  pub limits : limits_refused x ≡ false
+  pub damping : damping_refused x ≡ false
+  pub blend : blend_refused x ≡ false
+  pub sway : sway_refused x ≡ false
+  pub values : values_refused x ≡ false
+  pub acceleration : acceleration_refused x ≡ false
+  pub resting : flying_refused x ≡ false
 
 abbrev pub AllPassed : List JobAxis → Type 0
 AllPassed [] = Unit
@@ -108,5 +108,5 @@ AllPassed (x ∷ xs) = Passed x.axis × AllPassed xs
 -- an axis that can be planned for arrival n
 pub record Plannable (x : Axis) (n : ℕ) : Type 0 where
   pub passed : Passed x
-  pub tick : n ≤ lastTick
+  pub tick : n ≤ last_tick
   pub reach : reachable x n ≡ true

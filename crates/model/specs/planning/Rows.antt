@@ -6,8 +6,8 @@ use Rattle.model.specs.declared.SecondSway.{SecondSway}
 use Rattle.model.specs.declared.SecondSway.TheVariants.{Absent, HalfPeriod}
 use Rattle.model.specs.declared.Order.{Order}
 use Rattle.model.specs.declared.Order.TheVariants.{Forwards, Backwards}
-use Rattle.whole.specs.Integers.{nearestQuotient}
-use Rattle.model.specs.planning.Quantities.{halfPeriod, secondWeight, finer}
+use Rattle.whole.specs.Integers.{nearest_quotient}
+use Rattle.model.specs.planning.Quantities.{half_period, second_weight, finer}
 use Rattle.model.specs.planning.Motion.{Tick, planned, earlier}
 
 -- an axis with its planned motion
@@ -15,45 +15,45 @@ pub record PlannedAxis : Type 0 where
   pub axis : Axis
   pub ticks : List Tick
 
-abbrev pub plannedAxis : ℕ → Axis → PlannedAxis
-plannedAxis n x = record { axis = x; ticks = planned x n }
+abbrev pub planned_axis : ℕ → Axis → PlannedAxis
+planned_axis n x = record { axis = x; ticks = planned x n }
 
 -- the planned motion at k, and at k − d
-abbrev pub tickAt : PlannedAxis → ℕ → Tick
-tickAt t k = get_or t.ticks k (earlier t.axis 0)
+abbrev pub tick_at : PlannedAxis → ℕ → Tick
+tick_at t k = get_or t.ticks k (earlier t.axis 0)
 
-abbrev pub tickBack : PlannedAxis → ℕ → ℕ → Tick
-tickBack t k d = elim (ltb k d) [ true ↦ earlier t.axis (d - k) | false ↦ tickAt t (k - d) ]
+abbrev pub tick_back : PlannedAxis → ℕ → ℕ → Tick
+tick_back t k d = elim (ltb k d) [ true ↦ earlier t.axis (d - k) | false ↦ tick_at t (k - d) ]
 
 -- 256 times the value of one blend at k − d: A × planned at k − d + B × planned at k − d − h
-abbrev pub blendOnce : PlannedAxis → ℕ → ℕ → (Tick → ℤ) → ℤ
-blendOnce t k d f =
-    let b : ℕ = secondWeight t.axis in
-    pos (256 - b) *ℤ f (tickBack t k d) +ℤ pos b *ℤ f (tickBack t k (d + halfPeriod t.axis))
+abbrev pub blend_once : PlannedAxis → ℕ → ℕ → (Tick → ℤ) → ℤ
+blend_once t k d f =
+    let b : ℕ = second_weight t.axis in
+    pos (256 - b) *ℤ f (tick_back t k d) +ℤ pos b *ℤ f (tick_back t k (d + half_period t.axis))
 
 -- the blend, applied once more with equal weights and the delay h₂ where the pole has a second
 -- sway; and what its weights add up to
-abbrev pub blendBy : SecondSway → PlannedAxis → ℕ → (Tick → ℤ) → ℤ
-blendBy Absent t k f = blendOnce t k 0 f
-blendBy (HalfPeriod d) t k f = blendOnce t k 0 f +ℤ blendOnce t k d f
+abbrev pub blend_by : SecondSway → PlannedAxis → ℕ → (Tick → ℤ) → ℤ
+blend_by Absent t k f = blend_once t k 0 f
+blend_by (HalfPeriod d) t k f = blend_once t k 0 f +ℤ blend_once t k d f
 
-abbrev pub weightsBy : SecondSway → ℕ
-weightsBy Absent = 256
-weightsBy (HalfPeriod d) = 512
+abbrev pub weights_by : SecondSway → ℕ
+weights_by Absent = 256
+weights_by (HalfPeriod d) = 512
 
 abbrev pub blend : PlannedAxis → ℕ → (Tick → ℤ) → ℤ
-blend t k f = blendBy t.axis.second_sway t k f
+blend t k f = blend_by t.axis.second_sway t k f
 
 -- what the blend is divided by to give fine steps: its weights, times the grid steps in a fine step
 abbrev pub divisor : Axis → ℕ
-divisor x = weightsBy x.second_sway * finer x
+divisor x = weights_by x.second_sway * finer x
 
 -- the three cells of row k: a planned position is in half steps, so its divisor is twice as large
 abbrev pub cells : ℕ → PlannedAxis → List ℤ
 cells k t =
-    nearestQuotient (blend t k (λ s. s.position)) (2 * divisor t.axis)
-    ∷ nearestQuotient (blend t k (λ s. s.velocity)) (divisor t.axis)
-    ∷ nearestQuotient (blend t k (λ s. s.acceleration)) (divisor t.axis)
+    nearest_quotient (blend t k (λ s. s.position)) (2 * divisor t.axis)
+    ∷ nearest_quotient (blend t k (λ s. s.velocity)) (divisor t.axis)
+    ∷ nearest_quotient (blend t k (λ s. s.acceleration)) (divisor t.axis)
     ∷ []
 
 -- f k, f (k + 1), .. : n of them
@@ -74,7 +74,7 @@ row_at Backwards n j = n - j
 -- the rows at places j, j + 1, .. of the rows 0 to N, in an order: c of them
 abbrev pub part : Order → List Axis → ℕ → ℕ → ℕ → List ℤ
 part o xs n j c =
-    let ts : List PlannedAxis = map (plannedAxis n) xs in
+    let ts : List PlannedAxis = map (planned_axis n) xs in
     flatten (tabulate (λ i. row ts (row_at o n i)) j c)
 
 -- all of them

@@ -6,56 +6,56 @@ use Rattle.model.specs.declared.Window.{Window}
 use Rattle.model.specs.declared.Windows.{Windows}
 
 -- the most windows, and the longest dwell
-abbrev pub mostWindows : ℕ
-mostWindows = 32
+abbrev pub most_windows : ℕ
+most_windows = 32
 
-abbrev pub longestDwell : ℕ
-longestDwell = 4096
+abbrev pub longest_dwell : ℕ
+longest_dwell = 4096
 
 -- the windows that are brought: the first `count` of the list
 abbrev pub brought : Windows → List Window
 brought w = take w.count w.list
 
 -- a job without windows
-abbrev pub noWindows : Windows
-noWindows =
-    record { given = false; dwell = 0; count = 0; list = replicate mostWindows (record { opening = 0; closing = 0 }) }
+abbrev pub no_windows : Windows
+no_windows =
+    record { given = false; dwell = 0; count = 0; list = replicate most_windows (record { opening = 0; closing = 0 }) }
 
 -- arrival n fits a window: at its opening or later, below its closing, and n + dwell not above its
 -- closing
-abbrev pub fitsWindow : ℕ → ℕ → Window → Bool
-fitsWindow n dwell w = leb w.opening n && (ltb n w.closing && leb (n + dwell) w.closing)
+abbrev pub fits_window : ℕ → ℕ → Window → Bool
+fits_window n dwell w = leb w.opening n && (ltb n w.closing && leb (n + dwell) w.closing)
 
-abbrev pub fitsOne : ℕ → ℕ → List Window → Bool
-fitsOne n dwell [] = false
-fitsOne n dwell (w ∷ ws) = elim (fitsWindow n dwell w) [ true ↦ true | false ↦ fitsOne n dwell ws ]
+abbrev pub fits_one : ℕ → ℕ → List Window → Bool
+fits_one n dwell [] = false
+fits_one n dwell (w ∷ ws) = elim (fits_window n dwell w) [ true ↦ true | false ↦ fits_one n dwell ws ]
 
 -- a job without windows may arrive at any tick
-abbrev pub inWindows : Windows → ℕ → Bool
-inWindows w n = elim w.given [ true ↦ fitsOne n w.dwell (brought w) | false ↦ true ]
+abbrev pub in_windows : Windows → ℕ → Bool
+in_windows w n = elim w.given [ true ↦ fits_one n w.dwell (brought w) | false ↦ true ]
 
 -- ---- 13: an empty list (place 0); more than 32 windows, or then a dwell above 4,096 (place 32);
 -- then the first window, from index i on, whose closing is not above its opening or that opens
 -- before the previous one closes, at tick c (place its index)
 
-abbrev pub inOrderAfter : ℕ → Window → Bool
-inOrderAfter c w = ltb w.opening w.closing && leb c w.opening
+abbrev pub in_order_after : ℕ → Window → Bool
+in_order_after c w = ltb w.opening w.closing && leb c w.opening
 
-abbrev pub firstWrongWindow : ℕ → ℕ → List Window → Option ℕ
-firstWrongWindow i c [] = none
-firstWrongWindow i c (w ∷ ws) =
-    elim (inOrderAfter c w) [ true ↦ firstWrongWindow (suc i) w.closing ws | false ↦ some i ]
+abbrev pub first_wrong_window : ℕ → ℕ → List Window → Option ℕ
+first_wrong_window i c [] = none
+first_wrong_window i c (w ∷ ws) =
+    elim (in_order_after c w) [ true ↦ first_wrong_window (suc i) w.closing ws | false ↦ some i ]
 
-abbrev pub windowsRefused : Windows → Option ℕ
-windowsRefused w =
+abbrev pub windows_refused : Windows → Option ℕ
+windows_refused w =
     elim (eqb w.count 0) [
       | true ↦ some 0
-      | false ↦ elim (leb w.count mostWindows && leb w.dwell longestDwell) [
-        | true ↦ firstWrongWindow 0 0 (brought w)
-        | false ↦ some mostWindows
+      | false ↦ elim (leb w.count most_windows && leb w.dwell longest_dwell) [
+        | true ↦ first_wrong_window 0 0 (brought w)
+        | false ↦ some most_windows
       ]
     ]
 
 -- the place that 13 names, of a job that brings windows
 abbrev pub refused13 : Windows → Option ℕ
-refused13 w = elim w.given [ true ↦ windowsRefused w | false ↦ none ]
+refused13 w = elim w.given [ true ↦ windows_refused w | false ↦ none ]

@@ -8,8 +8,8 @@ use Rattle.model.specs.declared.SecondSway.TheVariants.{Absent, HalfPeriod}
 use Rattle.model.specs.declared.Target.{Target}
 use Rattle.model.specs.declared.Target.TheVariants.{Fixed, Moving}
 use Rattle.model.specs.declared.Weight.TheVariants.{Given}
-use Rattle.model.specs.planning.Windows.{noWindows}
-use Rattle.model.specs.planning.Job.{Job, JobAxis, setBits}
+use Rattle.model.specs.planning.Windows.{no_windows}
+use Rattle.model.specs.planning.Job.{Job, JobAxis, set_bits}
 
 abbrev pub word : ℕ → ℕ → ℕ
 word k n = k * 2 ^ 28 + n
@@ -27,29 +27,29 @@ twos n = elim (ltb n (2 ^ 27)) [ true ↦ pos n | false ↦ neg_ℤ (pos (2 ^ 28
 -- ---- positions past 28 bits: a word of kind 14 may stand just before one of kind 3 or 9
 
 -- its signed payload times 2²⁸, plus the following payload read as unsigned
-abbrev pub longPosition : ℕ → ℕ → ℤ
-longPosition high low = pos (2 ^ 28) *ℤ twos high +ℤ pos low
+abbrev pub long_position : ℕ → ℕ → ℤ
+long_position high low = pos (2 ^ 28) *ℤ twos high +ℤ pos low
 
 abbrev pub between : ℤ → ℤ → ℤ → Bool
 between a b z = le_z a z && le_z z b
 
 -- a position that 28 bits hold, −134,217,728 to 134,217,727
-abbrev pub fitsWord : ℤ → Bool
-fitsWord p = between (negsuc 134217727) (pos 134217727) p
+abbrev pub fits_word : ℤ → Bool
+fits_word p = between (negsuc 134217727) (pos 134217727) p
 
 -- the payload of kind 14 is from −64 to 63, and the position does not fit a single word
-abbrev pub longAllowed : ℕ → ℕ → Bool
-longAllowed high low = between (negsuc 63) (pos 63) (twos high) && not (fitsWord (longPosition high low))
+abbrev pub long_allowed : ℕ → ℕ → Bool
+long_allowed high low = between (negsuc 63) (pos 63) (twos high) && not (fits_word (long_position high low))
 
 -- Of words from index i on, the index of the first of kind 14 that is not allowed with the word
 -- after it. Where no word is of a wrong kind, that is a word of kind 3 or 9.
-abbrev pub firstBadLong : ℕ → List ℕ → Option ℕ
-firstBadLong i [] = none
-firstBadLong i (w ∷ []) = none
-firstBadLong i (w ∷ u ∷ ws) =
-    elim (eqb (kind w) 14 && not (longAllowed (payload w) (payload u))) [
+abbrev pub first_bad_long : ℕ → List ℕ → Option ℕ
+first_bad_long i [] = none
+first_bad_long i (w ∷ []) = none
+first_bad_long i (w ∷ u ∷ ws) =
+    elim (eqb (kind w) 14 && not (long_allowed (payload w) (payload u))) [
       | true ↦ some i
-      | false ↦ firstBadLong (suc i) (u ∷ ws)
+      | false ↦ first_bad_long (suc i) (u ∷ ws)
     ]
 
 -- ---- reading
@@ -85,17 +85,17 @@ next k i [] = got false i []
 next k i (w ∷ ws) = got (eqb (kind w) k) i (w ∷ ws)
 
 -- a position: a word of kind k, or one of kind 14 and then one of kind k
-abbrev pub positionBy : Bool → ℕ → Reader ℤ
-positionBy true k = do
+abbrev pub position_by : Bool → ℕ → Reader ℤ
+position_by true k = do
   high ← field 14
   low ← field k
-  give (longPosition high low)
-positionBy false k = signed k
+  give (long_position high low)
+position_by false k = signed k
 
 abbrev pub position : ℕ → Reader ℤ
 position k = do
   long ← next 14
-  positionBy long k
+  position_by long k
 
 abbrev pub target : Bool → ℤ → ℤ → Reader Target
 target true p v = do
@@ -105,20 +105,20 @@ target true p v = do
 target false p v = give (Fixed (record { position = p; velocity = v }))
 
 -- a second half period: a word of kind 13, or none
-abbrev pub swayBy : Bool → Reader SecondSway
-swayBy true = do
+abbrev pub sway_by : Bool → Reader SecondSway
+sway_by true = do
   d ← field 13
   give (HalfPeriod d)
-swayBy false = give Absent
+sway_by false = give Absent
 
-abbrev pub secondSway : Reader SecondSway
-secondSway = do
+abbrev pub second_sway : Reader SecondSway
+second_sway = do
   named ← next 13
-  swayBy named
+  sway_by named
 
 -- an axis, by a reader of positions and one of a second sway
-abbrev pub axisBy : (ℕ → Reader ℤ) → Reader SecondSway → Reader Axis
-axisBy positions sway = do
+abbrev pub axis_by : (ℕ → Reader ℤ) → Reader SecondSway → Reader Axis
+axis_by positions sway = do
   p₀ ← positions 3
   v₀ ← signed 4
   l ← field 5
@@ -141,11 +141,11 @@ axisBy positions sway = do
         target = g;
       })
 
-abbrev pub axesBy : (ℕ → Reader ℤ) → Reader SecondSway → List ℕ → Reader (List JobAxis)
-axesBy positions sway [] = give []
-axesBy positions sway (n ∷ ns) = do
-  x ← axisBy positions sway
-  xs ← axesBy positions sway ns
+abbrev pub axes_by : (ℕ → Reader ℤ) → Reader SecondSway → List ℕ → Reader (List JobAxis)
+axes_by positions sway [] = give []
+axes_by positions sway (n ∷ ns) = do
+  x ← axis_by positions sway
+  xs ← axes_by positions sway ns
   give (record { number = n; axis = x } ∷ xs)
 
 -- the end word, of payload 0, with nothing after it
@@ -155,50 +155,50 @@ ending a i (w ∷ []) = elim (eqb (kind w) 15 && eqb (payload w) 0) [ true ↦ g
 ending a i (w ∷ u ∷ ws) = elim (eqb (kind w) 15 && eqb (payload w) 0) [ true ↦ wrong (suc i) | false ↦ wrong i ]
 
 -- the job of a mask, an asked arrival and axes that were read; words bring no windows
-abbrev pub readJob : ℕ → ℕ → List JobAxis → Job
-readJob m asked xs = record { mask = m; asked = asked; axes = xs; windows = noWindows }
+abbrev pub read_job : ℕ → ℕ → List JobAxis → Job
+read_job m asked xs = record { mask = m; asked = asked; axes = xs; windows = no_windows }
 
-abbrev pub afterMaskBy : (ℕ → Reader ℤ) → Reader SecondSway → ℕ → Reader Job
-afterMaskBy positions sway m = do
+abbrev pub after_mask_by : (ℕ → Reader ℤ) → Reader SecondSway → ℕ → Reader Job
+after_mask_by positions sway m = do
   asked ← field 2
-  xs ← axesBy positions sway (setBits m)
-  ending (readJob m asked xs)
+  xs ← axes_by positions sway (set_bits m)
+  ending (read_job m asked xs)
 
 -- the same with positions of one word or two, and with a second half period or none
 abbrev pub axis : Reader Axis
-axis = axisBy position secondSway
+axis = axis_by position second_sway
 
 abbrev pub axes : List ℕ → Reader (List JobAxis)
-axes = axesBy position secondSway
+axes = axes_by position second_sway
 
-abbrev pub afterMask : ℕ → Reader Job
-afterMask = afterMaskBy position secondSway
+abbrev pub after_mask : ℕ → Reader Job
+after_mask = after_mask_by position second_sway
 
--- refusal 1 is `noMask`, refusal 2 `badWord` and refusal 14 `badLong`, each with its place
+-- refusal 1 is `no_mask`, refusal 2 `bad_word` and refusal 14 `bad_long`, each with its place
 pub data Decoded : Type 0 where
-  noMask : Decoded
-  badWord : ℕ → Decoded
-  badLong : ℕ → Decoded
+  no_mask : Decoded
+  bad_word : ℕ → Decoded
+  bad_long : ℕ → Decoded
   job : Job → Decoded
 
-abbrev pub goodMask : ℕ → Bool
-goodMask m = ltb 0 m && leb m 63
+abbrev pub good_mask : ℕ → Bool
+good_mask m = ltb 0 m && leb m 63
 
 -- refusal 14 comes directly after all of refusal 2: once every word is of a kind allowed at its
 -- place
 abbrev pub spelled : Option ℕ → Job → Decoded
-spelled (some p) j = badLong p
+spelled (some p) j = bad_long p
 spelled none j = job j
 
 -- what the words ws are, from the reading of those after the mask word
 abbrev pub decided : List ℕ → Reading Job → Decoded
-decided ws (got j i rest) = spelled (firstBadLong 0 ws) j
-decided ws (wrong p) = badWord p
+decided ws (got j i rest) = spelled (first_bad_long 0 ws) j
+decided ws (wrong p) = bad_word p
 
 abbrev pub decode : List ℕ → Decoded
-decode [] = noMask
+decode [] = no_mask
 decode (w ∷ ws) =
-    elim (eqb (kind w) 1 && goodMask (payload w)) [
-      | true ↦ decided (w ∷ ws) (afterMask (payload w) 1 ws)
-      | false ↦ noMask
+    elim (eqb (kind w) 1 && good_mask (payload w)) [
+      | true ↦ decided (w ∷ ws) (after_mask (payload w) 1 ws)
+      | false ↦ no_mask
     ]

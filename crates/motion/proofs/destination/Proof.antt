@@ -2,7 +2,7 @@ use mathlib.Core.Path.{sym, ap, subst}
 use lib.IntN.{pos}
 use Rattle.whole.proofs.Bounds.{computed, is-of, then_is}
 use Rattle.model.specs.declared.State.{State}
-use Rattle.model.specs.planning.Quantities.{twicePositionAt}
+use Rattle.model.specs.planning.Quantities.{twice_position_at}
 use Rattle.motion.specs.Motions.{StateRanges}
 use Rattle.motion.proofs.PassedRanges.{ranges-of}
 use borrow.Author.Rules.{rules}
@@ -24,7 +24,7 @@ returns : tie.Need-returns
 returns c =
     let n = c.before.before.args.n in
     then_is (is-of (search computed depth 9) tt)
-    (ap (λ (m : State). twicePositionAt m (pos n)) c.before.as-moving.ensures)
+    (ap (λ (m : State). twice_position_at m (pos n)) c.before.as-moving.ensures)
 
 pub destination-spec : {M : Type 1} → statement M
 destination-spec = tie.close (tie.spec as-moving-requires twice-position-at-requires returns)

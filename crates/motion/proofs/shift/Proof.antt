@@ -6,14 +6,14 @@ use lib.IntN.{pos}
 use mir.Syntax.{w64}
 use mir.ValLaws.{to_z_pos}
 use borrow.Author.Rules.{rules}
-use Rattle.model.specs.planning.Quantities.{halfPeriod}
+use Rattle.model.specs.planning.Quantities.{half_period}
 use Rattle.motion.proofs.shift.Statement.{statement}
 use Rattle.motion.proofs.shift.Tie as tie
 
 -- Bh, and h₂
-first_small : (c : tie.After-second-weight) → c.second-weight.result * halfPeriod c.before.args.x ≤ 128 * 256
+first_small : (c : tie.After-second-weight) → c.second-weight.result * half_period c.before.args.x ≤ 128 * 256
 first_small c =
-    subst (λ (b : ℕ). b * halfPeriod c.before.args.x ≤ 128 * 256) (sym c.second-weight.ensures)
+    subst (λ (b : ℕ). b * half_period c.before.args.x ≤ 128 * 256) (sym c.second-weight.ensures)
     (mul-le-mul c.before.requires.second_weight c.before.requires.half_period)
 
 second-small : (c : tie.After-second-half-period) → c.second-half-period.result ≤ 256
@@ -44,7 +44,7 @@ returns c =
     let x = w.before.args.x in
     let h = first_small w in
     let k = second-small c in
-    let e = ap₂ (λ (b d : ℕ). b * halfPeriod x + 128 * d) w.second-weight.ensures
+    let e = ap₂ (λ (b d : ℕ). b * half_period x + 128 * d) w.second-weight.ensures
     c.second-half-period.ensures in
     record { is = to_z_pos w64 _ (omega arith) ∙ (λ i. pos (e i)); within = omega arith }
 

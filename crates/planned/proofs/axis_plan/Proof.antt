@@ -5,7 +5,7 @@ use borrow.Author.Rules.{rules}
 use lib.IntN.{ℤ, ◌-ℤ◌}
 use mir.Syntax.{w64}
 use mir.Val.{to_z, of_z}
-use Rattle.model.specs.planning.Motion.{startPosition, displacement}
+use Rattle.model.specs.planning.Motion.{start_position, displacement}
 use native.Mathlib.Omega.{arith}
 use native.Mathlib.Nat.{mul-le-mul}
 use Rattle.motion.proofs.PlannableAxis.{plannable-after, plannable-landed, plannable-ranges}
@@ -36,9 +36,9 @@ way : (d : tie.After-displacement) → Way d
 way d =
     let x = d.before.before.before.args.x in
     let l = d.before.before.landing-at in
-    let e : to_z w64 (of_z w64 d.displacement.result) ≡ l.result.position -ℤ startPosition x =
+    let e : to_z w64 (of_z w64 d.displacement.result) ≡ l.result.position -ℤ start_position x =
     exactly (search exact depth 9) tt in
-    e ∙ ap (λ (z : ℤ). z -ℤ startPosition x) l.ensures.position.is
+    e ∙ ap (λ (z : ℤ). z -ℤ start_position x) l.ensures.position.is
 
 chosen-requires : tie.Need-chosen-requires
 chosen-requires c κs =

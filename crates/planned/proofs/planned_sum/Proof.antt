@@ -4,10 +4,10 @@ use native.Mathlib.Omega.{arith}
 use lib.IntN.{◌+ℤ◌}
 use mir.Syntax.{w64}
 use mir.Val.{to_z, of_z}
-use Rattle.whole.specs.Integers.{sumTo}
+use Rattle.whole.specs.Integers.{sum_to}
 use Rattle.whole.proofs.Bounds.{exact, sfits, within, exactly}
-use Rattle.regions.specs.Regions.{velocityIn}
-use Rattle.areas.specs.Areas.{rampArea}
+use Rattle.regions.specs.Regions.{velocity_in}
+use Rattle.areas.specs.Areas.{ramp_area}
 use Rattle.planned.proofs.PlannedSums.{planned-sum-is, sum-before, sum-after}
 use borrow.Author.Rules.{rules}
 use Rattle.planned.proofs.planned_sum.Statement.{statement}
@@ -22,7 +22,7 @@ returns c =
     let a = b.before.before in
     let p = a.args.p in
     let k = a.args.k in
-    let e : to_z w64 (of_z w64 c.sum_to.result) ≡ sumTo (velocityIn p.regions) k =
+    let e : to_z w64 (of_z w64 c.sum_to.result) ≡ sum_to (velocity_in p.regions) k =
     exactly (search exact depth 9) tt in
     planned-sum-is p a.requires.0 k a.requires.1 _ (e ∙ sum-before p k b.if1.true)
 
@@ -56,7 +56,7 @@ returns-2 c =
     let u : to_z w64 (of_z w64 p.acceleration) ≡ p.acceleration = exactly (search exact depth 9) tt in
     planned-sum-is p a.requires.0 k a.requires.1 _
     (exactly (search exact depth 20) tt
-    ∙ (λ i. sumTo (velocityIn r) (r.ticks - 1) +ℤ r.end +ℤ rampArea (v i) (u i) (k - r.ticks))
+    ∙ (λ i. sum_to (velocity_in r) (r.ticks - 1) +ℤ r.end +ℤ ramp_area (v i) (u i) (k - r.ticks))
     ∙ sum-after p k a.requires.0.some b.if1.false)
 
 pub planned-sum-spec : {M : Type 1} → statement M

@@ -6,7 +6,7 @@ use mir.Syntax.{w64}
 use mir.Val.{to_z, of_z}
 use Rattle.whole.specs.Ranges.{Is}
 use Rattle.whole.proofs.Bounds.{exact, sfits, exactly, cast-small}
-use Rattle.regions.specs.Regions.{velocityIn}
+use Rattle.regions.specs.Regions.{velocity_in}
 use Rattle.planned.proofs.PlannedRanges.{planned-is}
 use Rattle.planned.proofs.Velocities.{planned-before, planned-after}
 use borrow.Author.Rules.{rules}
@@ -20,7 +20,7 @@ returns : tie.Need-returns
 returns c =
     let b = c.before in
     let a = b.before.before in
-    let e : to_z w64 (of_z w64 c.velocity-in.result) ≡ velocityIn a.args.p.regions a.args.k =
+    let e : to_z w64 (of_z w64 c.velocity-in.result) ≡ velocity_in a.args.p.regions a.args.k =
     exactly (search exact depth 9) tt in
     planned-is a.args.p a.requires.0 a.args.k _ (omega arith)
     (e ∙ planned-before a.args.p a.args.k b.if1.true)

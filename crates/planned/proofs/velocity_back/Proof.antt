@@ -4,7 +4,7 @@ use Prim.Native.Nat.{◌-◌}
 use mir.Syntax.{w64}
 use mir.Val.{to_z, of_z}
 use Rattle.whole.proofs.Bounds.{exact, exactly}
-use Rattle.planned.specs.Plans.{plannedAt}
+use Rattle.planned.specs.Plans.{planned_at}
 use Rattle.planned.proofs.PlannedRanges.{behind-is}
 use Rattle.planned.proofs.Velocities.{back-before, back-late}
 use borrow.Author.Rules.{rules}
@@ -25,7 +25,7 @@ returns-2 : tie.Need-returns-2
 returns-2 c =
     let b = c.before in
     let a = b.before in
-    let e : to_z w64 (of_z w64 c.planned-velocity.result) ≡ plannedAt a.args.p (a.args.k - a.args.d) =
+    let e : to_z w64 (of_z w64 c.planned-velocity.result) ≡ planned_at a.args.p (a.args.k - a.args.d) =
     exactly (search exact depth 9) tt in
     behind-is a.args.p a.requires.0 a.args.d a.args.k _ (omega arith)
     (e ∙ back-late a.args.p a.args.d a.args.k b.if1.false)

@@ -1,7 +1,7 @@
 use Prim.Native.Nat.{ℕ, ◌*◌, ◌/◌}
 use mathlib.Core.Path.{ap, ◌∙◌}
 use native.Mathlib.Omega.{arith}
-use Rattle.model.specs.calls.Parts.{partRows}
+use Rattle.model.specs.calls.Parts.{part_rows}
 use Rattle.planner.proofs.Stages.{few-axes}
 use Rattle.planner.proofs.Rows.{some_bits, held_rows, left-rows}
 use borrow.Author.Rules.{rules}
@@ -36,14 +36,14 @@ returns-2 c =
     let a = c.before.before.before.args in
     held_rows (a.cells / (3 * c.before.axis-count.result)) a.n a.first
     c.before.before.if1.false c.if2.true
-    ∙ ap (λ (m : ℕ). partRows m a.n a.first a.cells) c.before.axis-count.ensures
+    ∙ ap (λ (m : ℕ). part_rows m a.n a.first a.cells) c.before.axis-count.ensures
 
 returns-3 : tie.Need-returns-3
 returns-3 c =
     let a = c.before.before.before.args in
     left-rows (a.cells / (3 * c.before.axis-count.result)) a.n a.first
     c.before.before.if1.false c.if2.false
-    ∙ ap (λ (m : ℕ). partRows m a.n a.first a.cells) c.before.axis-count.ensures
+    ∙ ap (λ (m : ℕ). part_rows m a.n a.first a.cells) c.before.axis-count.ensures
 
 pub part-rows-spec : {M : Type 1} → statement M
 part-rows-spec =

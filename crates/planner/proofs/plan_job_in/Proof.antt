@@ -1,11 +1,11 @@
 use mathlib.Core.Path.{◌≡◌, sym, ap, ◌∙◌}
 use mathlib.Core.Logic.{⊎_elim}
-use Rattle.model.specs.planning.Job.{setAxes}
-use Rattle.model.specs.planning.Admission.{typed, planningRules}
-use Rattle.model.specs.planning.Outcome.{outcomeAfter}
+use Rattle.model.specs.planning.Job.{set_axes}
+use Rattle.model.specs.planning.Admission.{typed, planning_rules}
+use Rattle.model.specs.planning.Outcome.{outcome_after}
 use Rattle.theorems.proofs.jobs.CheckingOrder.{clear-passed}
 use Rattle.theorems.proofs.jobs.BeforeTen.{planning-numbered}
-use Rattle.admission.specs.Admitting.{namedWithWeight}
+use Rattle.admission.specs.Admitting.{named_with_weight}
 use Rattle.admission.proofs.Weights.{given-are, given-passed}
 use Rattle.admission.proofs.Admitted.{refused, passed, good-mask}
 use Rattle.planner.proofs.Calls.{promise-in}
@@ -31,10 +31,10 @@ returns c =
     let k = c.before.before.before.before.check in
     let v = c.before.before.checked.given in
     let r = c.refused in
-    let q = refused planningRules planning-numbered (typed t) k.result k.ensures v.0.0 v.0.1.0 v.1 in
+    let q = refused planning_rules planning-numbered (typed t) k.result k.ensures v.0.0 v.0.1.0 v.1 in
     promise-in a.wanted (typed t) lent r.result lent
     (refuses t.mask _ lent a.wanted r.result v.0.0 v.0.1.0 0 _ r.ensures q.not-0 q.not-10
-    (sym (ap (outcomeAfter lent) q.is)))
+    (sym (ap (outcome_after lent) q.is)))
 
 enum_told : tie.Need-enum-told
 enum_told c = search rules
@@ -47,7 +47,7 @@ with-weight-requires c κs = search rules
 
 -- worked out, or given already
 with-weight : (c : tie.Joined1) → let t = c.before.before.before.before.before.before.before.args.job in
-    c.if1.given ≡ namedWithWeight t.mask t.axes
+    c.if1.given ≡ named_with_weight t.mask t.axes
 with-weight c =
     let t = c.before.before.before.before.before.before.before.args.job in
     ⊎_elim
@@ -61,10 +61,10 @@ plan-checked-requires c κs =
     let e = g.before.before in
     let k = e.before.before.check in
     let t = e.before.before.before.before.before.args.job in
-    let q = passed planningRules planning-numbered (typed t) k.result k.ensures e.enum_told.given.1 in
-    let mask = good-mask planningRules t _ q.is in
+    let q = passed planning_rules planning-numbered (typed t) k.result k.ensures e.enum_told.given.1 in
+    let mask = good-mask planning_rules t _ q.is in
     let given = given-passed t.mask t.axes g.if1.given (with-weight g)
-    (clear-passed (setAxes 0 t.mask t.axes) q.clear) in
+    (clear-passed (set_axes 0 t.mask t.axes) q.clear) in
     (mask.0, (mask.1, (q.asked, (given, q.windows))))
 
 same_length : tie.Need-same-length
@@ -80,9 +80,9 @@ returns-2 c =
     let t = a.job in
     let lent = a.table.now in
     let exit = w.new.1.1.1.1.1.0 in
-    let q = passed planningRules planning-numbered (typed t) k.result k.ensures e.enum_told.given.1 in
+    let q = passed planning_rules planning-numbered (typed t) k.result k.ensures e.enum_told.given.1 in
     promise-in a.wanted (typed t) lent w.result exit
-    (onward t.mask _ lent a.wanted _ _ w.result exit (sym (ap (outcomeAfter lent) q.is))
+    (onward t.mask _ lent a.wanted _ _ w.result exit (sym (ap (outcome_after lent) q.is))
     (given-arrives t.mask t.asked t.axes g.if1.given t.windows (with-weight g) lent
     w.result exit a.wanted w.ensures))
 

@@ -1,5 +1,5 @@
 use mathlib.Core.Path.{sym, ap}
-use Rattle.model.specs.planning.Outcome.{words, inputJob, outcomeAfter}
+use Rattle.model.specs.planning.Outcome.{words, input_job, outcome_after}
 use Rattle.planner.proofs.Calls.{promise-in}
 use Rattle.planner.proofs.Answers.{of_words, words-promise}
 use Rattle.planner.proofs.Stages.{refuses}
@@ -26,8 +26,8 @@ returns c =
     let lent = a.table.now in
     let w = of_words ws d.result d.ensures v.0.0 v.0.1.0 v.1 in
     promise-in a.wanted (words ws) lent r.result lent
-    (refuses (inputJob (words ws)).mask _ lent a.wanted r.result v.0.0 v.0.1.0 0 _ r.ensures
-    w.not-0 w.not-10 (sym (ap (outcomeAfter lent) w.is)))
+    (refuses (input_job (words ws)).mask _ lent a.wanted r.result v.0.0 v.0.1.0 0 _ r.ensures
+    w.not-0 w.not-10 (sym (ap (outcome_after lent) w.is)))
 
 enum_told : tie.Need-enum-told
 enum_told c = search rules

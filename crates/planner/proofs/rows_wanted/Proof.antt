@@ -5,8 +5,8 @@ use lib.Dec.{leb}
 use Rattle.model.specs.declared.Order.TheVariants.{Forwards}
 use Rattle.planner.specs.declared.Wanted.{Wanted}
 use lib.ListN.{length}
-use Rattle.model.specs.planning.Job.{setBits}
-use Rattle.planner.specs.Stages.{choiceFor}
+use Rattle.model.specs.planning.Job.{set_bits}
+use Rattle.planner.specs.Stages.{choice_for}
 use borrow.Author.Rules.{rules}
 use Rattle.planner.proofs.rows_wanted.Statement.{statement}
 use Rattle.planner.proofs.rows_wanted.Tie as tie
@@ -37,14 +37,14 @@ returns c =
       first = 0;
       rows = add-one a.tick i;
     })
-    ∙ sym (ap (λ (w : Wanted). choiceFor w (length (setBits a.mask)) a.tick a.cells) e.wanted.given.1)
+    ∙ sym (ap (λ (w : Wanted). choice_for w (length (set_bits a.mask)) a.tick a.cells) e.wanted.given.1)
 
 returns-2 : tie.Need-returns-2
 returns-2 c =
     let e = c.before.before in
     let a = e.before.before.args in
     (λ i. record { fits = true; order = Forwards; first = e.wanted2.given.0.0; rows = c.part-rows.ensures i })
-    ∙ sym (ap (λ (w : Wanted). choiceFor w (length (setBits a.mask)) a.tick a.cells) e.wanted2.given.1)
+    ∙ sym (ap (λ (w : Wanted). choice_for w (length (set_bits a.mask)) a.tick a.cells) e.wanted2.given.1)
 
 pub rows-wanted-spec : {M : Type 1} → statement M
 rows-wanted-spec =

@@ -2,7 +2,7 @@ use Prim.Native.Nat.{ℕ}
 use mathlib.Core.Path.{refl, sym, ap, ◌∙◌}
 use native.Mathlib.Omega.{arith}
 use borrow.Author.Tests.{not-true, not-false}
-use Rattle.model.specs.planning.Job.{axesOf, typedJob}
+use Rattle.model.specs.planning.Job.{axes_of, typed_job}
 use Rattle.planner.proofs.Rows.{rows_inside, rows_fit, too_short, wrote, none_written}
 use borrow.Author.Rules.{rules}
 use Rattle.planner.proofs.write_rows.Statement.{statement}
@@ -32,7 +32,7 @@ returns-2 c =
     let a = s.args in
     let w = c.before.before.before.before.rows-wanted in
     let none = c.before.if2.true in
-    let xs = axesOf (typedJob a.mask a.tick a.axes) in
+    let xs = axes_of (typed_job a.mask a.tick a.axes) in
     wrote a.mask a.tick a.axes s.well-formed.1.0.1.0.1 a.table.now a.wanted w.result w.ensures
     (not-false _ c.before.before.if1.false) c.answered2.result a.table.now
     (c.answered2.ensures

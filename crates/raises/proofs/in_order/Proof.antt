@@ -1,7 +1,7 @@
 use mathlib.Core.Path.{sym, ap, ◌∙◌}
-use Rattle.model.specs.calls.Raises.{inOrder}
+use Rattle.model.specs.calls.Raises.{in_order}
 use Rattle.raises.specs.declared.LeastRaise.{LeastRaise}
-use Rattle.raises.specs.LeastRaises.{raiseBy}
+use Rattle.raises.specs.LeastRaises.{raise_by}
 use borrow.Author.Rules.{rules}
 use Rattle.raises.proofs.in_order.Statement.{statement}
 use Rattle.raises.proofs.in_order.Tie as tie
@@ -24,7 +24,7 @@ returns c = search rules
 returns-2 : tie.Need-returns-2
 returns-2 c =
     c.acceleration-and.ensures
-    ∙ sym (ap (λ (z : LeastRaise). inOrder (raiseBy z) (raiseBy c.before.before.before.before.args.l))
+    ∙ sym (ap (λ (z : LeastRaise). in_order (raise_by z) (raise_by c.before.before.before.before.args.l))
     c.before.before.m.given.1)
 
 pub in-order-spec : {M : Type 1} → statement M

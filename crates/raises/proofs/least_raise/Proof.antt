@@ -5,7 +5,7 @@ use native.Mathlib.Omega.{arith}
 use borrow.Author.Rules.{rules}
 use Rattle.model.specs.calls.Raises as model
 use Rattle.whole.specs.Candidates.{Next}
-use Rattle.least_limit.specs.Limits.{limitIn, enoughWith}
+use Rattle.least_limit.specs.Limits.{limit_in, enough_with}
 use Rattle.least_limit.proofs.FallsShort.{limit-range, highest-small}
 use Rattle.raises.proofs.LeastRaises.{found, not_found}
 use Rattle.raises.proofs.least_raise.Statement.{statement}
@@ -31,11 +31,11 @@ least-limit-requires c κs =
 -- what the search gave, to the highest of the range
 least : (c : tie.After-least-limit)
     → let a = c.before.before.before.args in
-    Next (enoughWith a.limit a.t) (suc (limitIn a.limit a.t))
+    Next (enough_with a.limit a.t) (suc (limit_in a.limit a.t))
     (model.highest a.limit) c.least-limit.result
 least c =
     let a = c.before.before.before.args in
-    subst (λ (m : ℕ). Next (enoughWith a.limit a.t) (suc (limitIn a.limit a.t)) m c.least-limit.result)
+    subst (λ (m : ℕ). Next (enough_with a.limit a.t) (suc (limit_in a.limit a.t)) m c.least-limit.result)
     c.before.highest.ensures
     c.least-limit.ensures
 

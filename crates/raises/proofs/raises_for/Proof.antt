@@ -7,10 +7,10 @@ use lib.ListN.{length, set, length-set}
 use borrow.Author.Rules.{rules}
 use Rattle.model.specs.declared.Axis.{Axis}
 use Rattle.model.specs.declared.AxisRaises.{AxisRaises}
-use Rattle.model.specs.planning.Job.{setAxes}
+use Rattle.model.specs.planning.Job.{set_axes}
 use Rattle.model.specs.planning.Refusals.{AllPassed}
-use Rattle.model.specs.calls.Raises.{raisesOf, raisesFrom, noneRaised}
-use Rattle.model.proofs.SetAxes.{from, axisAt, passed-from}
+use Rattle.model.specs.calls.Raises.{raises_of, raises_from, none_raised}
+use Rattle.model.proofs.SetAxes.{from, axis_at, passed-from}
 use Rattle.raises.proofs.AllAxes.{missed-is, missed, not-missed, no_more}
 use Rattle.raises.proofs.raises_for.Statement.{statement}
 use Rattle.raises.proofs.raises_for.Tie as tie
@@ -22,7 +22,7 @@ invariant-loop mask asked axes raises₀ bits₀ number₀ raises bits number =
       six : length axes ≡ 6;
       long : length raises ≡ 6;
       passed : AllPassed (from number bits axes);
-      is : raisesFrom asked (from number bits axes) raises ≡ raisesFrom asked (setAxes 0 mask axes) noneRaised;
+      is : raises_from asked (from number bits axes) raises ≡ raises_from asked (set_axes 0 mask axes) none_raised;
     }
 
 abbrev decreases-loop : tie.decreases-loop
@@ -40,7 +40,7 @@ loop-holds c =
       six = c.before.well-formed.1.1.0.1.0.1;
       long = ap (λ (l : List AxisRaises). length l) none;
       passed = c.before.requires.0;
-      is = ap (raisesFrom a.asked (setAxes 0 a.mask a.t3)) none;
+      is = ap (raises_from a.asked (set_axes 0 a.mask a.t3)) none;
     }
 
 mul-axis : tie.Need-overflow-mul-axis invariant-loop decreases-loop
@@ -59,7 +59,7 @@ raises-of-requires : tie.Need-raises-of-requires invariant-loop decreases-loop
 raises-of-requires c κs =
     let l = c.before.before.before.before.loop in
     let b = c.before.before.before.before.before.before in
-    let m = missed-is l.bits (axisAt b.args.t3 l.number) b.args.asked
+    let m = missed-is l.bits (axis_at b.args.t3 l.number) b.args.asked
     (sym c.before.misses.ensures ∙ c.if1.true) in
     ((passed-from l.number l.bits b.args.t3 (omega arith) l.invariant.passed).here m.0, b.requires.1)
 
@@ -78,7 +78,7 @@ loop-less c = omega arith
 -- what a turn leaves, whether the axis misses the arrival or not
 pub record Turned (asked bits number : ℕ) (axes : List Axis) (before after : List AxisRaises) : Type 0 where
   pub long : length after ≡ length before
-  pub is : raisesFrom asked (from number bits axes) before ≡ raisesFrom asked (from (number + 1) (bits / 2) axes) after
+  pub is : raises_from asked (from number bits axes) before ≡ raises_from asked (from (number + 1) (bits / 2) axes) after
 
 turned : (c : tie.Joined1 invariant-loop decreases-loop)
     → let l = c.before.before.before.before.loop in
@@ -87,12 +87,12 @@ turned : (c : tie.Joined1 invariant-loop decreases-loop)
 turned c =
     let l = c.before.before.before.before.loop in
     let a = c.before.before.before.before.before.before.args in
-    let x = axisAt a.t3 l.number in
-    let more : List AxisRaises → List AxisRaises = raisesFrom a.asked (from (l.number + 1) (l.bits / 2) a.t3) in
+    let x = axis_at a.t3 l.number in
+    let more : List AxisRaises → List AxisRaises = raises_from a.asked (from (l.number + 1) (l.bits / 2) a.t3) in
     ⊎_elim
     (λ w. let e = w.2 ∙ ap (set l.raises l.number) w.1.ensures in
     record {
-      long = ap (λ (r : List AxisRaises). length r) e ∙ length-set l.raises l.number (raisesOf x a.asked);
+      long = ap (λ (r : List AxisRaises). length r) e ∙ length-set l.raises l.number (raises_of x a.asked);
       is =
           missed a.asked l.number l.bits a.t3 l.raises (omega (arith, l.invariant.six))
           (sym c.before.misses.ensures ∙ w.0.taken)

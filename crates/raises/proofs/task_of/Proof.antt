@@ -10,10 +10,10 @@ use Rattle.whole.specs.Ranges.{Is}
 use Rattle.whole.proofs.Bounds.{sfits, within, exactly, computed, cast-small, lt-taken, lt-left, add_holds, mul_holds}
 use Rattle.model.specs.declared.Axis.{Axis}
 use Rattle.model.specs.planning.Quantities.{delay}
-use Rattle.model.specs.planning.Motion.{startPosition, startVelocity, landingVelocity, landingAcceleration}
-use Rattle.model.specs.planning.Motion.{arrivalVelocity, landingTick, displacement}
+use Rattle.model.specs.planning.Motion.{start_position, start_velocity, landing_velocity, landing_acceleration}
+use Rattle.model.specs.planning.Motion.{arrival_velocity, landing_tick, displacement}
 use Rattle.motion.proofs.PassedRanges.{ranges-of}
-use Rattle.least_limit.specs.Tasks.{taskWith, fastestOf, TaskIs}
+use Rattle.least_limit.specs.Tasks.{task_with, fastest_of, TaskIs}
 use Rattle.least_limit.proofs.Decisions.{task-ahead, task-behind}
 use Rattle.raises.proofs.task_of.Statement.{statement}
 use Rattle.raises.proofs.task_of.Tie as tie
@@ -70,31 +70,31 @@ mul-line : tie.Need-overflow-mul-line
 mul-line c = let t = ticks-is c in sfits (search computed depth 20) tt
 
 travel-is : (c : tie.After-fastest-of)
-    → c.before.before.before.before.before.before.landing-at.result.position -ℤ startPosition (axis c)
+    → c.before.before.before.before.before.before.landing-at.result.position -ℤ start_position (axis c)
     ≡ displacement (axis c) (tick c)
-travel-is c = ap (λ (z : ℤ). z -ℤ startPosition (axis c))
+travel-is c = ap (λ (z : ℤ). z -ℤ start_position (axis c))
     c.before.before.before.before.before.before.landing-at.ensures.position.is
 
 fastest-is : (c : tie.After-fastest-of)
     → c.fastest-of.result
-    ≡ fastestOf (startVelocity (axis c)) (landingVelocity (axis c) (tick c)) (arrivalVelocity (axis c) (tick c))
+    ≡ fastest_of (start_velocity (axis c)) (landing_velocity (axis c) (tick c)) (arrival_velocity (axis c) (tick c))
 fastest-is c =
     let v = c.before.before.before.before.before.start-velocity.result in
-    let s : to_z w64 (of_z w64 v) ≡ startVelocity (axis c) = exactly (search computed depth 9) tt in
+    let s : to_z w64 (of_z w64 v) ≡ start_velocity (axis c) = exactly (search computed depth 9) tt in
     let l = c.before.before.before.before.before.before.landing-at.ensures in
     let h = c.before.delay-of.ensures in
     c.fastest-of.ensures
-    ∙ (λ i. fastestOf (s i) (l.velocity.is i) (l.velocity.is i +ℤ pos (h i) *ℤ l.acceleration.is i))
+    ∙ (λ i. fastest_of (s i) (l.velocity.is i) (l.velocity.is i +ℤ pos (h i) *ℤ l.acceleration.is i))
 
 -- no speed and no displacement is too great
-fast : (c : tie.After-fastest-of) → fastestOf (startVelocity (axis c)) (landingVelocity (axis c) (tick c))
-    (arrivalVelocity (axis c) (tick c)) ≤ 2 ^ 48
+fast : (c : tie.After-fastest-of) → fastest_of (start_velocity (axis c)) (landing_velocity (axis c) (tick c))
+    (arrival_velocity (axis c) (tick c)) ≤ 2 ^ 48
 fast c =
     let l = c.before.before.before.before.before.before.landing-at.ensures in
-    let e : nat_abs (landingVelocity (axis c) (tick c)) ≤ 2 ^ 47 = l.velocity.within in
-    let w = add_holds (landingVelocity (axis c) (tick c))
-    (pos (delay (axis c)) *ℤ landingAcceleration (axis c) (tick c)) (2 ^ 47) (512 * 2 ^ 32) e
-    (mul_holds (pos (delay (axis c))) (landingAcceleration (axis c) (tick c)) 512 (2 ^ 32)
+    let e : nat_abs (landing_velocity (axis c) (tick c)) ≤ 2 ^ 47 = l.velocity.within in
+    let w = add_holds (landing_velocity (axis c) (tick c))
+    (pos (delay (axis c)) *ℤ landing_acceleration (axis c) (tick c)) (2 ^ 47) (512 * 2 ^ 32) e
+    (mul_holds (pos (delay (axis c))) (landing_acceleration (axis c) (tick c)) 512 (2 ^ 32)
     (short (start c)) l.acceleration.within) in
     omega (arith, c.before.before.before.before.before.start-velocity.ensures.within, e, w)
 
@@ -104,12 +104,12 @@ far c = subst (λ (z : ℤ). nat_abs z ≤ 2 ^ 60) (travel-is c) c.before.before
 -- ---- the two ways
 
 abbrev line : tie.After-fastest-of → ℤ
-line c = pos (landingTick (axis c) (tick c)) *ℤ (startVelocity (axis c) +ℤ landingVelocity (axis c) (tick c))
+line c = pos (landing_tick (axis c) (tick c)) *ℤ (start_velocity (axis c) +ℤ landing_velocity (axis c) (tick c))
 
 line-is : (c : tie.After-fastest-of)
     → pos c.before.before.before.landing-tick.result
-    *ℤ (startVelocity (axis c) +ℤ landingVelocity (axis c) (tick c)) ≡ line c
-line-is c = ap (λ (n : ℕ). pos n *ℤ (startVelocity (axis c) +ℤ landingVelocity (axis c) (tick c)))
+    *ℤ (start_velocity (axis c) +ℤ landing_velocity (axis c) (tick c)) ≡ line c
+line-is c = ap (λ (n : ℕ). pos n *ℤ (start_velocity (axis c) +ℤ landing_velocity (axis c) (tick c)))
     c.before.before.before.landing-tick.ensures
 
 under : (c : tie.Then1) → displacement (axis c.before) (tick c.before) <ℤ line c.before
@@ -144,16 +144,16 @@ returns c =
     let v = k.before.before.before.before.before.start-velocity.result in
     let u = k.before.before.before.before.before.before.landing-at.result.velocity in
     let r = k.before.before.displacement.result in
-    let s : to_z w64 (of_z w64 (pos 0 -ℤ to_z w64 (of_z w64 v))) ≡ neg_ℤ (startVelocity x) =
-    exactly (search computed depth 9) tt ∙ +ℤ_idl (neg_ℤ (startVelocity x)) in
-    let e : to_z w64 (of_z w64 (pos 0 -ℤ to_z w64 (of_z w64 u))) ≡ neg_ℤ (landingVelocity x (tick k)) =
-    exactly (search computed depth 9) tt ∙ +ℤ_idl (neg_ℤ (landingVelocity x (tick k))) in
+    let s : to_z w64 (of_z w64 (pos 0 -ℤ to_z w64 (of_z w64 v))) ≡ neg_ℤ (start_velocity x) =
+    exactly (search computed depth 9) tt ∙ +ℤ_idl (neg_ℤ (start_velocity x)) in
+    let e : to_z w64 (of_z w64 (pos 0 -ℤ to_z w64 (of_z w64 u))) ≡ neg_ℤ (landing_velocity x (tick k)) =
+    exactly (search computed depth 9) tt ∙ +ℤ_idl (neg_ℤ (landing_velocity x (tick k))) in
     let d : to_z w64 (of_z w64 (pos 0 -ℤ to_z w64 (of_z w64 r))) ≡ neg_ℤ (displacement x (tick k)) =
     exactly (search computed depth 9) tt ∙ +ℤ_idl _ ∙ ap neg_ℤ (travel-is k) in
     subst (TaskIs x (tick k))
     (sym
     (c.task-with.ensures
-    ∙ (λ i. taskWith x (s i) (e i) (d i) (k.before.before.before.landing-tick.ensures i) (fastest-is k i))))
+    ∙ (λ i. task_with x (s i) (e i) (d i) (k.before.before.before.landing-tick.ensures i) (fastest-is k i))))
     (task-behind x (tick k) (start k).requires.1.1 (start k).requires.0 (start k).requires.1.0
     (fast k) (far k) (under c.before))
 
@@ -168,13 +168,13 @@ returns-2 c =
     let v = k.before.before.before.before.before.start-velocity.result in
     let u = k.before.before.before.before.before.before.landing-at.result.velocity in
     let r = k.before.before.displacement.result in
-    let s : to_z w64 (of_z w64 v) ≡ startVelocity x = exactly (search computed depth 9) tt in
-    let e : to_z w64 (of_z w64 u) ≡ landingVelocity x (tick k) = exactly (search computed depth 9) tt in
+    let s : to_z w64 (of_z w64 v) ≡ start_velocity x = exactly (search computed depth 9) tt in
+    let e : to_z w64 (of_z w64 u) ≡ landing_velocity x (tick k) = exactly (search computed depth 9) tt in
     let d : to_z w64 (of_z w64 r) ≡ displacement x (tick k) = exactly (search computed depth 9) tt ∙ travel-is k in
     subst (TaskIs x (tick k))
     (sym
     (c.task-with2.ensures
-    ∙ (λ i. taskWith x (s i) (e i) (d i) (k.before.before.before.landing-tick.ensures i) (fastest-is k i))))
+    ∙ (λ i. task_with x (s i) (e i) (d i) (k.before.before.before.landing-tick.ensures i) (fastest-is k i))))
     (task-ahead x (tick k) (start k).requires.1.1 (start k).requires.0 (start k).requires.1.0
     (fast k) (far k) (over c.before))
 

@@ -5,7 +5,7 @@ use lib.IntN.{ℤ, pos, ◌+ℤ◌, ◌*ℤ◌}
 use mir.Syntax.{w64}
 use mir.Val.{to_z, of_z}
 use Rattle.whole.proofs.Bounds.{within, exactly, computed}
-use Rattle.model.specs.planning.Motion.{landingAcceleration, arrivalVelocity}
+use Rattle.model.specs.planning.Motion.{landing_acceleration, arrival_velocity}
 use Rattle.theorems.proofs.motions.Grid.{speed-range}
 use Rattle.theorems.proofs.jobs.PassedAxis.{speed-limit}
 use Rattle.motion.specs.declared.Landing.{Landing}
@@ -66,9 +66,9 @@ returns c =
     let n = a.args.n in
     let w : to_z w64 (of_z w64 v.arrival-velocity.result) ≡ arriving e.result d.result =
     exactly (search computed depth 9) tt in
-    let u : arriving e.result d.result ≡ arrivalVelocity x n =
+    let u : arriving e.result d.result ≡ arrival_velocity x n =
     (λ i. e.ensures.velocity.is i +ℤ pos (d.ensures i) *ℤ e.ensures.acceleration.is i) in
-    let α : to_z w64 (of_z w64 e.result.acceleration) ≡ landingAcceleration x n =
+    let α : to_z w64 (of_z w64 e.result.acceleration) ≡ landing_acceleration x n =
     exactly (search computed depth 9) tt in
     last-passing-of x a.requires.0 _ _ _ n a.args.last c.ticks-within.result l.limit-on-grid.ensures
     (w ∙ u) α a.requires.1.0 a.requires.1.1.0

@@ -2,7 +2,7 @@ use Prim.Native.Nat.{ℕ, suc, ◌-◌, ◌<◌, ◌≤◌, max}
 use mathlib.Core.Path.{◌≡◌, sym, ap, ◌∙◌}
 use native.Mathlib.Omega.{arith}
 use Rattle.model.specs.planning.Quantities.{delay}
-use Rattle.model.specs.planning.Refusals.{lastTick}
+use Rattle.model.specs.planning.Refusals.{last_tick}
 use Rattle.motion.proofs.PassedRanges.{ranges-of}
 use Rattle.reach.proofs.Approaching.{nearer}
 use Rattle.reach.proofs.Steady.{none_after}
@@ -46,7 +46,7 @@ next-later-requires c κs =
     let f = c.before.before in
     let a = start f in
     let n = f.first-after.result in
-    nearer c.approach-of.result (lastTick - n) (a.args.last - n) (omega (arith, a.pre.1.1.1))
+    nearer c.approach-of.result (last_tick - n) (a.args.last - n) (omega (arith, a.pre.1.1.1))
     c.approach-of.ensures.approaches
 
 add-result-2 : tie.Need-overflow-add-result-2

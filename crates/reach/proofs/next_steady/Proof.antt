@@ -7,12 +7,12 @@ use mir.Syntax.{w64}
 use mir.Val.{to_z, of_z}
 use Rattle.whole.proofs.Bounds.{within, exactly, computed}
 use Rattle.model.specs.planning.Leg.{required}
-use Rattle.model.specs.planning.Motion.{startPosition, leg, requiredSum, reachable}
+use Rattle.model.specs.planning.Motion.{start_position, leg, required_sum, reachable}
 use Rattle.model.specs.planning.Quantities.{delay}
 use Rattle.profile.specs.declared.Profile.{Profile}
-use Rattle.profile.specs.Profiles.{legOf}
+use Rattle.profile.specs.Profiles.{leg_of}
 use Rattle.whole.specs.Candidates.{Next}
-use Rattle.envelopes.specs.Sums.{betweenAt}
+use Rattle.envelopes.specs.Sums.{between_at}
 use Rattle.envelopes.specs.Skips.{Lasting}
 use Rattle.reach.specs.Drift.{drift}
 use Rattle.motion.proofs.PassedRanges.{ranges-of}
@@ -99,34 +99,34 @@ first c = c.before.before.before.before.before
 abbrev at : tie.After-drift → ℕ
 at c = (first c).before.first-after.result
 
-abbrev sumThere : tie.After-drift → ℤ
-sumThere c = to_z w64 (of_z w64 c.before.required.result)
+abbrev sum_there : tie.After-drift → ℤ
+sum_there c = to_z w64 (of_z w64 c.before.required.result)
 
-sum_is : (c : tie.After-drift) → sumThere c ≡ requiredSum (start (first c)).args.x (at c)
+sum_is : (c : tie.After-drift) → sum_there c ≡ required_sum (start (first c)).args.x (at c)
 sum_is c =
     let f = c.before.before.before.profile-of in
     let l = c.before.before.before.before.landing-at in
     let x = (start (first c)).args.x in
-    let far : to_z w64 (of_z w64 c.before.before.displacement.result) ≡ l.result.position -ℤ startPosition x =
+    let far : to_z w64 (of_z w64 c.before.before.displacement.result) ≡ l.result.position -ℤ start_position x =
     exactly (search computed depth 9) tt in
-    let way = far ∙ ap (λ (z : ℤ). z -ℤ startPosition x) l.ensures.position.is in
-    exactly (search computed depth 9) tt ∙ (λ i. required (legOf (f.ensures.is i)) (way i))
+    let way = far ∙ ap (λ (z : ℤ). z -ℤ start_position x) l.ensures.position.is in
+    exactly (search computed depth 9) tt ∙ (λ i. required (leg_of (f.ensures.is i)) (way i))
 
 change-is : (c : tie.After-drift) → to_z w64 (of_z w64 c.drift.result) ≡ drift (start (first c)).args.x
 change-is c = exactly (search computed depth 9) tt
 
 lasting : (c : tie.After-drift)
     → Lasting
-    (betweenAt (legOf c.before.before.before.profile-of.result) (sumThere c)
+    (between_at (leg_of c.before.before.before.profile-of.result) (sum_there c)
     (to_z w64 (of_z w64 c.drift.result)))
     c.before.before.before.profile-of.result.ticks
 lasting c =
     let a = start (first c) in
     let x = a.args.x in
     subst (λ (p : Profile). Lasting
-    (betweenAt (legOf p) (sumThere c) (to_z w64 (of_z w64 c.drift.result))) p.ticks)
+    (between_at (leg_of p) (sum_there c) (to_z w64 (of_z w64 c.drift.result))) p.ticks)
     (sym c.before.before.before.profile-of.ensures.is)
-    (subst₂ (λ (s d : ℤ). Lasting (betweenAt (leg x (at c)) s d) (at c - delay x)) (sym (sum_is c)) (sym (change-is c))
+    (subst₂ (λ (s d : ℤ). Lasting (between_at (leg x (at c)) s d) (at c - delay x)) (sym (sum_is c)) (sym (change-is c))
     (lasts x a.pre.0 a.pre.1.0 (at c) (first-after (first c))))
 
 next-feasible-requires : tie.Need-next-feasible-requires
@@ -186,12 +186,12 @@ returns-2 c =
     subst (λ (d : ℕ). Next (reachable x) a.args.n last (t + d)) (sym late.ensures)
     (next-arrival x a.pre.0 a.pre.1.0 a.args.n last n t from
     b.if1.false
-    (subst (λ (p : Profile). Next (betweenAt (legOf p) (requiredSum x n) (drift x)) p.ticks (last - delay x) t)
+    (subst (λ (p : Profile). Next (between_at (leg_of p) (required_sum x n) (drift x)) p.ticks (last - delay x) t)
     f.ensures.is
-    (subst (λ (d : ℕ). Next (betweenAt (legOf f.result) (requiredSum x n) (drift x)) f.result.ticks (last - d) t)
+    (subst (λ (d : ℕ). Next (between_at (leg_of f.result) (required_sum x n) (drift x)) f.result.ticks (last - d) t)
     late.ensures
     (subst (λ (g : ℕ → Bool). Next g f.result.ticks (last - late.result) t)
-    (λ i. betweenAt (legOf f.result) (sum_is c.before i) (change-is c.before i))
+    (λ i. between_at (leg_of f.result) (sum_is c.before i) (change-is c.before i))
     c.next-feasible.ensures))))
 
 pub next-steady-spec : {M : Type 1} → statement M

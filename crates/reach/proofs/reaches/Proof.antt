@@ -8,13 +8,13 @@ use mir.Syntax.{w64}
 use mir.Val.{to_z, of_z}
 use Rattle.whole.proofs.Bounds.{within, exactly, computed}
 use Rattle.whole.proofs.Tests.{and_no, and_yes, true-T, ltb_yes, ltb_no}
-use Rattle.model.specs.planning.Leg.{feasible, sumIsWhole}
+use Rattle.model.specs.planning.Leg.{feasible, sum_is_whole}
 use Rattle.model.specs.declared.Axis.{Axis}
-use Rattle.model.specs.planning.Quantities.{delay, speedSteps}
-use Rattle.model.specs.planning.Motion.{startPosition, landingVelocity, arrivalVelocity, leg, displacement}
+use Rattle.model.specs.planning.Quantities.{delay, speed_steps}
+use Rattle.model.specs.planning.Motion.{start_position, landing_velocity, arrival_velocity, leg, displacement}
 use Rattle.theorems.proofs.legs.WholeSum.{sum-is-whole}
 use Rattle.profile.specs.declared.Profile.{Profile}
-use Rattle.profile.specs.Profiles.{legOf}
+use Rattle.profile.specs.Profiles.{leg_of}
 use Rattle.motion.specs.declared.Landing.{Landing}
 use Rattle.motion.proofs.PassedRanges.{ranges-of}
 use Rattle.reach.proofs.Steady.{start-slow}
@@ -23,11 +23,11 @@ use Rattle.reach.proofs.reaches.Statement.{statement}
 use Rattle.reach.proofs.reaches.Tie as tie
 
 -- the two tests of speed
-abbrev landsSlowly : Axis → ℕ → Bool
-landsSlowly x n = leb (nat_abs (landingVelocity x n)) (speedSteps x)
+abbrev lands_slowly : Axis → ℕ → Bool
+lands_slowly x n = leb (nat_abs (landing_velocity x n)) (speed_steps x)
 
-abbrev arrivesSlowly : Axis → ℕ → Bool
-arrivesSlowly x n = leb (nat_abs (arrivalVelocity x n)) (speedSteps x)
+abbrev arrives_slowly : Axis → ℕ → Bool
+arrives_slowly x n = leb (nat_abs (arrival_velocity x n)) (speed_steps x)
 
 delay-of-requires : tie.Need-delay-of-requires
 delay-of-requires c κs = ranges-of c.requires.0
@@ -55,11 +55,11 @@ landing c = c.before.before.before
 abbrev start₁ : tie.After-size-at-most → tie.Start
 start₁ c = start (landing c)
 
-landed : (c : tie.After-size-at-most) → c.size-at-most.result ≡ landsSlowly (start₁ c).args.x (start₁ c).args.n
+landed : (c : tie.After-size-at-most) → c.size-at-most.result ≡ lands_slowly (start₁ c).args.x (start₁ c).args.n
 landed c =
     let a = (start₁ c).args in
     let e = (landing c).landing-at.result in
-    let v : to_z w64 (of_z w64 e.velocity) ≡ landingVelocity a.x a.n = exactly (search computed depth 9) tt in
+    let v : to_z w64 (of_z w64 e.velocity) ≡ landing_velocity a.x a.n = exactly (search computed depth 9) tt in
     c.size-at-most.ensures ∙ (λ i. leb (nat_abs (v i)) (c.before.before.limit-on-grid.ensures i))
 
 arrival-velocity-requires : tie.Need-arrival-velocity-requires
@@ -85,14 +85,14 @@ abbrev arriving : Landing → ℕ → ℤ
 arriving e h = e.velocity +ℤ pos h *ℤ e.acceleration
 
 arrived : (c : tie.After-size-at-most2)
-    → c.size-at-most2.result ≡ arrivesSlowly (start₂ c).args.x (start₂ c).args.n
+    → c.size-at-most2.result ≡ arrives_slowly (start₂ c).args.x (start₂ c).args.n
 arrived c =
     let a = (start₂ c).args in
     let e = (landing (first c)).landing-at in
     let h = (landing (first c)).before.before.delay-of in
     let w : to_z w64 (of_z w64 c.before.arrival-velocity.result) ≡ arriving e.result h.result =
     exactly (search computed depth 9) tt in
-    let u : arriving e.result h.result ≡ arrivalVelocity a.x a.n =
+    let u : arriving e.result h.result ≡ arrival_velocity a.x a.n =
     (λ i. e.ensures.velocity.is i +ℤ pos (h.ensures i) *ℤ e.ensures.acceleration.is i) in
     c.size-at-most2.ensures ∙ (λ i. leb (nat_abs ((w ∙ u) i)) ((first c).before.before.limit-on-grid.ensures i))
 
@@ -117,10 +117,10 @@ travelled c =
     let l = (landing (first (before₂ c))).landing-at in
     let x = (start₂ (before₂ c)).args.x in
     let n = (start₂ (before₂ c)).args.n in
-    let d : to_z w64 (of_z w64 c.displacement.result) ≡ l.result.position -ℤ startPosition x =
+    let d : to_z w64 (of_z w64 c.displacement.result) ≡ l.result.position -ℤ start_position x =
     exactly (search computed depth 9) tt in
-    let e : l.result.position -ℤ startPosition x ≡ displacement x n =
-    (λ i. l.ensures.position.is i -ℤ startPosition x) in
+    let e : l.result.position -ℤ start_position x ≡ displacement x n =
+    (λ i. l.ensures.position.is i -ℤ start_position x) in
     d ∙ e
 
 makes-requires : tie.Need-makes-requires
@@ -129,7 +129,7 @@ makes-requires c κs =
     let s = before₂ c in
     let a = start₂ s in
     let x = a.args.x in
-    let slow : nat_abs (landingVelocity x a.args.n) ≤ speedSteps x =
+    let slow : nat_abs (landing_velocity x a.args.n) ≤ speed_steps x =
     leb→le _ _ (true-T (sym (landed (first s)) ∙ s.before.before.if2.taken)) in (
       p.ranged,
       (
@@ -142,7 +142,7 @@ makes-requires c κs =
               subst (λ (p : Profile). nat_abs p.end ≤ p.speed_limit) (sym p.is) slow,
               (
                 within (search computed depth 9) tt,
-                (λ i. sumIsWhole (legOf (p.is i)) (travelled c i)) ∙ sum-is-whole x a.args.n,
+                (λ i. sum_is_whole (leg_of (p.is i)) (travelled c i)) ∙ sum-is-whole x a.args.n,
               ),
             ),
           ),
@@ -159,7 +159,7 @@ moves a = feasible (leg a.args.x a.args.n) (displacement a.args.x a.args.n)
 
 moved : (c : tie.After-makes) → c.makes.result ≡ moves (start₂ (second c))
 moved c =
-    c.makes.ensures ∙ (λ i. feasible (legOf (c.before.before.profile-of.ensures.is i)) (travelled c.before i))
+    c.makes.ensures ∙ (λ i. feasible (leg_of (c.before.before.profile-of.ensures.is i)) (travelled c.before i))
 
 returns : tie.Need-returns
 returns c =
@@ -182,7 +182,7 @@ returns-3 c =
     let f = c.before in
     let a = start₁ f in
     and_yes _ _ (ltb_yes (after (landing f).before))
-    (and_no _ (arrivesSlowly a.args.x a.args.n && moves a) (sym (landed f) ∙ c.if2.false))
+    (and_no _ (arrives_slowly a.args.x a.args.n && moves a) (sym (landed f) ∙ c.if2.false))
 
 returns-4 : tie.Need-returns-4
 returns-4 c =
@@ -190,7 +190,7 @@ returns-4 c =
     let x = a.args.x in
     let n = a.args.n in
     let early : n ≤ delay x = omega (arith, c.if1.false, c.before.delay-of.ensures) in
-    and_no (ltb (delay x) n) (landsSlowly x n && (arrivesSlowly x n && moves a)) (ltb_no early)
+    and_no (ltb (delay x) n) (lands_slowly x n && (arrives_slowly x n && moves a)) (ltb_no early)
 
 pub reaches-spec : {M : Type 1} → statement M
 reaches-spec =

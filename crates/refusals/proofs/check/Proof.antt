@@ -1,6 +1,6 @@
 use mathlib.Core.Path.{◌∙◌}
 use borrow.Author.Rules.{rules}
-use Rattle.model.specs.planning.Job.{setAxes}
+use Rattle.model.specs.planning.Job.{set_axes}
 use Rattle.refusals.proofs.Ranks.{rank-known, some-refused, none-refused}
 use Rattle.refusals.proofs.check.Statement.{statement}
 use Rattle.refusals.proofs.check.Tie as tie
@@ -28,7 +28,7 @@ returns c =
     let n = d.before.test-count in
     let number = c.before.number_of_lem in
     let axis = c.lowest-axis in
-    let xs = setAxes 0 a.mask a.axes in
+    let xs = set_axes 0 a.mask a.axes in
     some-refused a.resting xs a.windows n.result k.result n.ensures k.ensures d.if1.true
     number.result axis.result
     number.ensures axis.ensures
@@ -43,7 +43,7 @@ returns-2 c =
     let k = d.before.before.least-rank in
     let n = d.before.test-count in
     c.window-refusal.ensures
-    ∙ none-refused a.resting (setAxes 0 a.mask a.axes) a.windows n.result k.result
+    ∙ none-refused a.resting (set_axes 0 a.mask a.axes) a.windows n.result k.result
     n.ensures k.ensures d.if1.false
 
 pub check-spec : {M : Type 1} → statement M

@@ -5,9 +5,9 @@ use mathlib.Core.Path.{◌≡◌}
 use mathlib.Core.Logic.{⊎_elim}
 use lib.ListN.{length}
 use borrow.Author.Rules.{rules}
-use Rattle.model.specs.planning.Job.{setAxes}
-use Rattle.refusals.specs.Checks.{testsFor, leastRank}
-use Rattle.refusals.proofs.Ranks.{leastOn, least-named, least-unnamed, least-none, least-few}
+use Rattle.model.specs.planning.Job.{set_axes}
+use Rattle.refusals.specs.Checks.{tests_for, least_rank}
+use Rattle.refusals.proofs.Ranks.{least_on, least-named, least-unnamed, least-none, least-few}
 use Rattle.refusals.proofs.least_rank.Statement.{statement}
 use Rattle.refusals.proofs.least_rank.Tie as tie
 
@@ -16,8 +16,8 @@ invariant-loop mask resting axes least₀ bits₀ i₀ least bits i =
     record {
       low : i ≤ 6;
       six : length axes ≡ 6;
-      few : least ≤ length (testsFor resting);
-      is : min least (leastOn resting axes i bits) ≡ leastRank (testsFor resting) (setAxes 0 mask axes);
+      few : least ≤ length (tests_for resting);
+      is : min least (least_on resting axes i bits) ≡ least_rank (tests_for resting) (set_axes 0 mask axes);
     }
 
 abbrev decreases-loop : tie.decreases-loop
@@ -33,7 +33,7 @@ loop-holds c =
       low = omega arith;
       six = omega arith;
       few = omega (arith, c.test-count.ensures);
-      is = omega (arith, c.test-count.ensures, least-few (testsFor a.resting) (setAxes 0 a.mask a.t2));
+      is = omega (arith, c.test-count.ensures, least-few (tests_for a.resting) (set_axes 0 a.mask a.t2));
     }
 
 mul-x : tie.Need-overflow-mul-x invariant-loop decreases-loop
@@ -81,7 +81,7 @@ returns c =
     let l = c.before.loop in
     let a = c.before.before.before.args in
     let none = least-none a.resting a.t2 l.i l.bits (omega (arith, l.invariant.six)) in
-    let all : l.least ≡ leastRank (testsFor a.resting) (setAxes 0 a.mask a.t2) =
+    let all : l.least ≡ least_rank (tests_for a.resting) (set_axes 0 a.mask a.t2) =
     omega (arith, l.invariant.few, l.invariant.is, none) in
     all
 

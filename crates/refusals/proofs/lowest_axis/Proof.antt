@@ -5,9 +5,9 @@ use mathlib.Core.Path.{◌≡◌, refl, sym, ◌∙◌}
 use mathlib.Core.Logic.{⊎_elim}
 use lib.ListN.{length}
 use borrow.Author.Rules.{rules}
-use Rattle.model.specs.planning.Job.{setAxes}
-use Rattle.refusals.specs.Checks.{testsFor, lowestAxis}
-use Rattle.refusals.proofs.Ranks.{lowestOn, lowest-here, lowest-later, lowest-unnamed, lowest-none}
+use Rattle.model.specs.planning.Job.{set_axes}
+use Rattle.refusals.specs.Checks.{tests_for, lowest_axis}
+use Rattle.refusals.proofs.Ranks.{lowest_on, lowest-here, lowest-later, lowest-unnamed, lowest-none}
 use Rattle.refusals.proofs.lowest_axis.Statement.{statement}
 use Rattle.refusals.proofs.lowest_axis.Tie as tie
 
@@ -16,7 +16,7 @@ invariant-loop mask resting rank axes bits₀ i₀ bits i =
     record {
       low : i ≤ 6;
       six : length axes ≡ 6;
-      is : lowestOn resting axes rank i bits ≡ lowestAxis (testsFor resting) rank (setAxes 0 mask axes);
+      is : lowest_on resting axes rank i bits ≡ lowest_axis (tests_for resting) rank (set_axes 0 mask axes);
     }
 
 abbrev decreases-loop : tie.decreases-loop

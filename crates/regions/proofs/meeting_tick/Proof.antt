@@ -6,7 +6,7 @@ use mir.Syntax.{w64}
 use mir.Val.{to_z, of_z}
 use Rattle.whole.proofs.Bounds.{sfits, exactly, computed, loose, back-id, cast-up, le-taken, le_left}
 use Rattle.theorems.proofs.legs.Envelopes.{Joined}
-use Rattle.profile.specs.Profiles.{legOf}
+use Rattle.profile.specs.Profiles.{leg_of}
 use Rattle.profile.proofs.FeasibleParts.{ends-joined}
 use Rattle.regions.proofs.ThreeRegions.{meets-up, meets-down, up-some, down-some, up-late, down-late}
 use borrow.Author.Rules.{rules}
@@ -25,8 +25,8 @@ add-way c = sfits (search computed depth 20) tt
 abbrev start : tie.After-change-after → tie.Start
 start c = c.before.before.before
 
-joined : (a : tie.Start) → Joined (legOf a.args.p)
-joined a = ends-joined (legOf a.args.p) a.requires.1.1
+joined : (a : tie.Start) → Joined (leg_of a.args.p)
+joined a = ends-joined (leg_of a.args.p) a.requires.1.1
 
 -- the way that is halved, as the definition has it
 up_is : (c : tie.After-change-after)
@@ -59,7 +59,7 @@ cast-result c =
     let a = start c.before in
     cast-up _ (add-way c)
     (subst (λ (z : ℤ). pos 0 ≤ℤ z) (sym (up_is c.before))
-    (up-some (legOf a.args.p) (joined a) a.pre.1.0 a.args.c))
+    (up-some (leg_of a.args.p) (joined a) a.pre.1.0 a.args.c))
 
 mul-result : tie.Need-overflow-mul-result
 mul-result c = search rules
@@ -71,7 +71,7 @@ returns : tie.Need-returns
 returns c =
     let b = c.before in
     let a = start b.before in
-    let g = legOf a.args.p in
+    let g = leg_of a.args.p in
     let e = ap nat_abs (back-id (add-way b) ∙ up_is b.before) in
     halved_is _ _ _ _ _ e (meets-up g (joined a) a.pre.1.0 a.args.c (below b))
     (up-late g (joined a) a.pre.1.0 a.args.c)
@@ -87,7 +87,7 @@ cast-result-2 c =
     let a = start c.before in
     cast-up _ (add-way-2 c)
     (subst (λ (z : ℤ). pos 0 ≤ℤ z) (sym (down_is c.before))
-    (down-some (legOf a.args.p) (joined a) a.pre.1.0 a.args.c))
+    (down-some (leg_of a.args.p) (joined a) a.pre.1.0 a.args.c))
 
 mul-result-2 : tie.Need-overflow-mul-result-2
 mul-result-2 c = search rules
@@ -99,7 +99,7 @@ returns-2 : tie.Need-returns-2
 returns-2 c =
     let b = c.before in
     let a = start b.before in
-    let g = legOf a.args.p in
+    let g = leg_of a.args.p in
     let e = ap nat_abs (back-id (add-way-2 b) ∙ down_is b.before) in
     halved_is _ _ _ _ _ e (meets-down g (joined a) a.pre.1.0 a.args.c (above b))
     (down-late g (joined a) a.pre.1.0 a.args.c)

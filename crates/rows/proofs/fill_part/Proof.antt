@@ -1,15 +1,15 @@
 use mathlib.Core.Path.{◌∙◌}
 use borrow.Author.Rules.{rules}
-use Rattle.model.specs.planning.Job.{setAxes}
+use Rattle.model.specs.planning.Job.{set_axes}
 use Rattle.rows.proofs.PlannableAxes.{AllPlannable, all-plannable}
 use Rattle.rows.proofs.JobTable.{fillable, plan-arrives, plan-inside, plan-fits, plan-rows}
 use Rattle.rows.proofs.fill_part.Statement.{statement}
 use Rattle.rows.proofs.fill_part.Tie as tie
 
 -- each axis of the mask can be planned
-plannable : (a : tie.Start) → AllPlannable a.args.n (setAxes 0 a.args.mask a.args.axes)
+plannable : (a : tie.Start) → AllPlannable a.args.n (set_axes 0 a.args.mask a.args.axes)
 plannable a =
-    all-plannable a.args.n (setAxes 0 a.args.mask a.args.axes) a.requires.0 a.requires.1.0 a.requires.1.1.0
+    all-plannable a.args.n (set_axes 0 a.args.mask a.args.axes) a.requires.0 a.requires.1.0 a.requires.1.1.0
 
 plan-for-requires : tie.Need-plan-for-requires
 plan-for-requires c κs = search rules

@@ -8,11 +8,11 @@ use borrow.Author.Tests.{eq-eqb, ne_eqb}
 use lib.ListN.{length, get_or, set, take, drop, length-set, length-map, get_or-replicate}
 use lib.Seq.{length-take-le, get_or-set_other}
 use Rattle.model.specs.declared.Axis.{Axis}
-use Rattle.model.specs.planning.Job.{setAxes}
+use Rattle.model.specs.planning.Job.{set_axes}
 use Rattle.planned.specs.declared.AxisPlan.{AxisPlan}
-use Rattle.rows.specs.Plans.{unsetPlan, plansFor}
+use Rattle.rows.specs.Plans.{unset_plan, plans_for}
 use Rattle.rows.proofs.PlannableAxes.{AllPlannable, all-plannable, plannable-here, plannable-next}
-use Rattle.rows.proofs.FrontPlans.{plansFrom, plan-put, plan-left-out, plans-put}
+use Rattle.rows.proofs.FrontPlans.{plans_from, plan-put, plan-left-out, plans-put}
 use Rattle.rows.proofs.plan_for.Statement.{statement}
 use Rattle.rows.proofs.plan_for.Tie as tie
 
@@ -24,9 +24,9 @@ invariant-loop mask n axes plans₀ count₀ rest₀ i₀ plans count rest i =
       few : count ≤ i;
       six : length axes ≡ 6;
       long : length plans ≡ 6;
-      unset : (j : ℕ) → count ≤ j → j < 6 → get_or plans j unsetPlan ≡ unsetPlan;
-      plannable : AllPlannable n (setAxes i rest (drop i axes));
-      done : take count plans ++ plansFrom n i rest axes ≡ plansFor n (setAxes 0 mask axes);
+      unset : (j : ℕ) → count ≤ j → j < 6 → get_or plans j unset_plan ≡ unset_plan;
+      plannable : AllPlannable n (set_axes i rest (drop i axes));
+      done : take count plans ++ plans_from n i rest axes ≡ plans_for n (set_axes 0 mask axes);
     }
 
 abbrev decreases-loop : tie.decreases-loop
@@ -43,8 +43,8 @@ loop-holds c =
       few = omega arith;
       six = omega arith;
       long = refl;
-      unset = λ j h l. get_or-replicate 6 j _ unsetPlan l ∙ c.unset-plan.ensures;
-      plannable = all-plannable a.args.n (setAxes 0 a.args.mask a.args.t2) a.requires.0
+      unset = λ j h l. get_or-replicate 6 j _ unset_plan l ∙ c.unset-plan.ensures;
+      plannable = all-plannable a.args.n (set_axes 0 a.args.mask a.args.t2) a.requires.0
           a.requires.1.0 a.requires.1.1;
       done = refl;
     }
@@ -83,8 +83,8 @@ record Turned (n i rest : ℕ) (axes : List Axis) (plans₀ : List AxisPlan) (co
     (plans : List AxisPlan) (count : ℕ) : Type 0 where
   pub few : count ≤ count₀ + 1
   pub long : length plans ≡ length plans₀
-  pub unset : (j : ℕ) → count ≤ j → j < 6 → get_or plans j unsetPlan ≡ unsetPlan
-  pub done : take count plans ++ plansFrom n (i + 1) (rest / 2) axes ≡ take count₀ plans₀ ++ plansFrom n i rest axes
+  pub unset : (j : ℕ) → count ≤ j → j < 6 → get_or plans j unset_plan ≡ unset_plan
+  pub done : take count plans ++ plans_from n (i + 1) (rest / 2) axes ≡ take count₀ plans₀ ++ plans_from n i rest axes
 
 turned : (c : tie.Joined1 invariant-loop decreases-loop)
     → let a = c.before.before.before.before.args in
@@ -94,14 +94,14 @@ turned c =
     let a = c.before.before.before.before.args in
     let h = c.before.before.loop in
     let here : h.i < length a.t2 = omega (arith, h.invariant.six) in
-    let after = plansFrom a.n (h.i + 1) (h.rest / 2) a.t2 in
+    let after = plans_from a.n (h.i + 1) (h.rest / 2) a.t2 in
     ⊎_elim
     (λ w. let is = w.3 ∙ ap (set h.plans h.count) w.2.ensures in
     record {
       few = omega (arith, w.4);
       long = ap (λ (ps : List AxisPlan). length ps) is ∙ length-set h.plans h.count _;
-      unset = λ j q l. ap (λ (ps : List AxisPlan). get_or ps j unsetPlan) is
-          ∙ get_or-set_other h.plans h.count j _ unsetPlan (λ e. omega (arith, w.4))
+      unset = λ j q l. ap (λ (ps : List AxisPlan). get_or ps j unset_plan) is
+          ∙ get_or-set_other h.plans h.count j _ unset_plan (λ e. omega (arith, w.4))
           ∙ h.invariant.unset j (omega (arith, w.4)) l;
       done =
           ap₂ (λ (k : ℕ) (ps : List AxisPlan). take k ps ++ after) w.4 is
@@ -111,7 +111,7 @@ turned c =
     (λ w. record {
       few = omega (arith, w.2);
       long = ap (λ (ps : List AxisPlan). length ps) w.1;
-      unset = λ j q l. ap (λ (ps : List AxisPlan). get_or ps j unsetPlan) w.1
+      unset = λ j q l. ap (λ (ps : List AxisPlan). get_or ps j unset_plan) w.1
           ∙ h.invariant.unset j (omega (arith, w.2)) l;
       done =
           ap₂ (λ (k : ℕ) (ps : List AxisPlan). take k ps ++ after) w.2 w.1
@@ -147,7 +147,7 @@ returns c =
       count =
           sym (length-take-le h.count h.plans (omega (arith, h.invariant.long, h.invariant.few)))
           ∙ ap length plans
-          ∙ length-map (setAxes 0 a.mask a.t2) _;
+          ∙ length-map (set_axes 0 a.mask a.t2) _;
       few = omega (arith, h.invariant.few);
       unset = h.invariant.unset;
       mask = refl;

@@ -8,7 +8,7 @@ use Rattle.whole.proofs.Bounds.{exact, exactly}
 use Rattle.blended.specs.BlendedStates.{cells_of}
 use Rattle.cells.specs.declared.RowStates.{RowStates}
 use Rattle.cells.specs.Rows.{changed}
-use Rattle.rows.specs.Table.{statesIn}
+use Rattle.rows.specs.Table.{states_in}
 use Rattle.rows.proofs.write_axis.Statement.{statement}
 use Rattle.rows.proofs.write_axis.Tie as tie
 
@@ -18,7 +18,7 @@ change-is a = let w = a.requires.0.change in exactly (search exact depth 9) tt
 
 -- the states are those of the row
 row_is : (c : tie.After-row-states)
-    → let a = c.before.before.args in c.row-states.result ≡ statesIn a.order a.t a.segment
+    → let a = c.before.before.args in c.row-states.result ≡ states_in a.order a.t a.segment
 row_is c =
     let a = c.before.before in
     c.row-states.ensures ∙ ap (changed a.args.order a.args.t) (change-is a)

@@ -1,9 +1,9 @@
 use native.Mathlib.Omega.{arith}
 use mathlib.Core.Path.{◌∙◌}
 use borrow.Author.Rules.{rules}
-use Rattle.model.specs.planning.Job.{setAxes}
+use Rattle.model.specs.planning.Job.{set_axes}
 use Rattle.model.specs.calls.Search.{candidates}
-use Rattle.arrival.specs.Arrivals.{arrivesIn}
+use Rattle.arrival.specs.Arrivals.{arrives_in}
 use Rattle.search.proofs.Reports.{no_more, found-late, found-out, spent-out, nothing-out}
 use Rattle.search.proofs.search_from.Statement.{statement}
 use Rattle.search.proofs.search_from.Tie as tie
@@ -36,7 +36,7 @@ sub-report-of c =
     let n = b.least-common in
     let k = b.before.within-budget in
     let tick = f.least.given in
-    let test = arrivesIn a.windows (setAxes 0 a.mask a.axes) in
+    let test = arrives_in a.windows (set_axes 0 a.mask a.axes) in
     let late = found-late test a.first a.budget k.result n.result k.ensures n.ensures
     tick.0.0 tick.1 in
     omega arith
@@ -55,7 +55,7 @@ returns c =
     let n = b.least-common in
     let k = b.before.within-budget in
     let tick = f.least.given in
-    let test = arrivesIn a.windows (setAxes 0 a.mask a.axes) in
+    let test = arrives_in a.windows (set_axes 0 a.mask a.axes) in
     c.report-of.ensures
     ∙ found-out test a.first a.budget k.result n.result k.ensures n.ensures tick.0.0 tick.1
 
@@ -75,7 +75,7 @@ returns-2 c =
     let a = b.before.before.args in
     let n = b.least-common in
     let k = b.before.within-budget in
-    let test = arrivesIn a.windows (setAxes 0 a.mask a.axes) in
+    let test = arrives_in a.windows (set_axes 0 a.mask a.axes) in
     c.report-of2.ensures
     ∙ spent-out test a.first a.budget k.result n.result k.ensures n.ensures
     f.enum_told.given.1 c.before.if1.true
@@ -90,7 +90,7 @@ returns-3 c =
     let a = b.before.before.args in
     let n = b.least-common in
     let k = b.before.within-budget in
-    let test = arrivesIn a.windows (setAxes 0 a.mask a.axes) in
+    let test = arrives_in a.windows (set_axes 0 a.mask a.axes) in
     c.report-of3.ensures
     ∙ nothing-out test a.first a.budget k.result n.result k.ensures n.ensures
     f.enum_told.given.1 c.before.if1.false

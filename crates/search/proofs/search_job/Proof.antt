@@ -3,11 +3,11 @@ use mathlib.Core.Path.{◌≡◌, sym, ap, ◌∙◌}
 use mathlib.Core.Logic.{⊎_elim}
 use borrow.Author.Rules.{rules}
 use borrow.Author.Tests.{not-true, not-false}
-use Rattle.model.specs.planning.Job.{setAxes}
+use Rattle.model.specs.planning.Job.{set_axes}
 use Rattle.model.specs.planning.Admission.{typed}
-use Rattle.model.specs.calls.Search.{searchAnswer}
+use Rattle.model.specs.calls.Search.{search_answer}
 use Rattle.theorems.proofs.jobs.CheckingOrder.{clear-passed}
-use Rattle.admission.specs.Admitting.{namedWithWeight}
+use Rattle.admission.specs.Admitting.{named_with_weight}
 use Rattle.admission.proofs.Weights.{given-are, given-passed}
 use Rattle.search.proofs.Ways.{promise, job-refused, goes, first_range, first-refused, searched}
 use Rattle.search.proofs.search_job.Statement.{statement}
@@ -59,7 +59,7 @@ with-weight-requires c κs = search rules
 -- worked out, or given already
 with-weight : (c : tie.Joined2) → let t =
     c.before.before.before.before.before.before.before.before.before.args.job in
-    c.if2.given ≡ namedWithWeight t.mask t.axes
+    c.if2.given ≡ named_with_weight t.mask t.axes
 with-weight c =
     let t = c.before.before.before.before.before.before.before.before.before.args.job in
     ⊎_elim
@@ -76,7 +76,7 @@ search-from-requires c κs =
     let t = a.job in
     let q = goes t a.first a.budget k.result k.ensures e.enum_told.given.1 in
     let given = given-passed t.mask t.axes c.if2.given (with-weight c)
-    (clear-passed (setAxes 0 t.mask t.axes) q.clear) in
+    (clear-passed (set_axes 0 t.mask t.axes) q.clear) in
     let range = first_range a.first (sym f.before.first-allowed.ensures ∙ not-false _ f.if1.false) in
     (given, (q.windows, (range.0, omega (arith, range.1))))
 
@@ -94,7 +94,7 @@ returns-3 c =
     let allowed = sym f.before.first-allowed.ensures ∙ not-false _ f.if1.false in
     promise (typed t) a.first a.budget c.answered.result
     (c.answered.ensures
-    ∙ ap (searchAnswer t.mask) c.before.search-from.ensures
+    ∙ ap (search_answer t.mask) c.before.search-from.ensures
     ∙ searched t a.first a.budget k.result k.ensures e.enum_told.given.1 allowed
     d.if2.given (with-weight d))
 

@@ -5,7 +5,7 @@ use mir.Syntax.{w64}
 use mir.Val.{to_z, of_z}
 use Rattle.whole.specs.Ranges.{Is}
 use Rattle.whole.proofs.Bounds.{exact, exactly, within, then_is}
-use Rattle.blended.specs.BlendedStates.{mix, blendedBack}
+use Rattle.blended.specs.BlendedStates.{mix, blended_back}
 use Rattle.segments.specs.Segments.{SegmentAt}
 use Rattle.blended.proofs.BlendedRanges.{weights-small}
 use Rattle.segments.proofs.PlannedSegments.{shared_at, segment-blend}
@@ -61,7 +61,7 @@ returns c =
     let s = b.before.before.before.before.before.segment-back.ensures in
     let t = b.before.before.before.segment-back2.ensures in
     let w = change-is b in
-    subst (SegmentAt (2 ^ 14) (2 ^ 56) (blendedBack a.args.p a.args.d) a.args.k) (sym c.common.ensures)
+    subst (SegmentAt (2 ^ 14) (2 ^ 56) (blended_back a.args.p a.args.d) a.args.k) (sym c.common.ensures)
     (shared_at s t (segment-blend a.args.p a.args.d s.segment t.segment)
     (exactly (search exact depth 9) tt) (record { within = w.within }))
 

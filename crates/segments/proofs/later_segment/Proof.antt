@@ -3,7 +3,7 @@ use Prim.Native.Nat.{ℕ}
 use native.Mathlib.Omega.{arith}
 use lib.IntN.{pos, ◌-ℤ◌}
 use Rattle.whole.proofs.Bounds.{exact, sfits, exactly, within}
-use Rattle.planned.specs.Plans.{plannedAt}
+use Rattle.planned.specs.Plans.{planned_at}
 use Rattle.segments.specs.Segments.{SegmentOf}
 use Rattle.segments.proofs.PlannedSegments.{over, segment-at, segment-falling, fall-first}
 use borrow.Author.Rules.{rules}
@@ -26,7 +26,7 @@ returns c =
     let g = a.requires.0.regions in
     let is = c.fall_begins.ensures in
     segment-at
-    (subst (λ (b : ℕ). SegmentOf (plannedAt p) (over (pos 0 -ℤ p.regions.down) b p.regions.ticks))
+    (subst (λ (b : ℕ). SegmentOf (planned_at p) (over (pos 0 -ℤ p.regions.down) b p.regions.ticks))
     (sym is) (segment-falling p))
     (exactly (search exact depth 9) tt)
     (omega (arith, is, fall-first p.regions a.args.k (omega arith) c.before.if1.true)) (omega arith)

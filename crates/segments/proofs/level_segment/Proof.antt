@@ -2,7 +2,7 @@ use mathlib.Core.Path.{sym, subst}
 use Prim.Native.Nat.{ℕ, ◌+◌, ◌≤◌}
 use native.Mathlib.Omega.{arith}
 use lib.IntN.{pos}
-use Rattle.planned.specs.Plans.{plannedAt}
+use Rattle.planned.specs.Plans.{planned_at}
 use Rattle.segments.specs.Segments.{SegmentOf}
 use Rattle.segments.proofs.PlannedSegments.{over, segment-raised, segment-level, raised-last}
 use borrow.Author.Rules.{rules}
@@ -30,7 +30,7 @@ returns c =
     let l = ends c.before in
     record {
       segment =
-          subst (λ (b : ℕ). SegmentOf (plannedAt p) (over (pos 0) (p.regions.rise + 1) b)) (sym is)
+          subst (λ (b : ℕ). SegmentOf (planned_at p) (over (pos 0) (p.regions.rise + 1) b)) (sym is)
           (segment-raised p a.args.last (omega arith) a.requires.1.1.1);
       from = omega arith;
       until = c.if1.true;
@@ -48,7 +48,7 @@ returns-2 c =
     let p = a.args.p in
     record {
       segment =
-          subst (λ (b : ℕ). SegmentOf (plannedAt p) (over (pos 0) (b + 1) a.args.last))
+          subst (λ (b : ℕ). SegmentOf (planned_at p) (over (pos 0) (b + 1) a.args.last))
           (sym d.raised-until.ensures)
           (segment-level p a.args.last (omega arith) a.requires.1.1.1);
       from = omega arith;

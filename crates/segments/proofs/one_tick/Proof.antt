@@ -4,7 +4,7 @@ use native.Mathlib.Omega.{arith}
 use native.Mathlib.Numerals.{add-one}
 use Rattle.whole.specs.Ranges.{Within, Is}
 use Rattle.whole.proofs.Bounds.{exact, sfits, exactly, within}
-use Rattle.planned.specs.Plans.{plannedAt}
+use Rattle.planned.specs.Plans.{planned_at}
 use Rattle.segments.proofs.PlannedSegments.{segment-at, segment-once}
 use borrow.Author.Rules.{rules}
 use Rattle.segments.proofs.one_tick.Statement.{statement}
@@ -22,12 +22,12 @@ planned-velocity-requires-2 c κs = search rules
 -- the planned velocity one tick on
 abbrev Next : tie.After-planned-velocity2 → Type 0
 Next d = Is (2 ^ 38) d.planned-velocity2.result
-    (plannedAt d.before.before.args.p (suc d.before.before.args.k))
+    (planned_at d.before.before.args.p (suc d.before.before.args.k))
 
 next : (d : tie.After-planned-velocity2) → Next d
 next d =
     let a = d.before.before.args in
-    subst (λ (k : ℕ). Is (2 ^ 38) d.planned-velocity2.result (plannedAt a.p k)) (add-one a.k)
+    subst (λ (k : ℕ). Is (2 ^ 38) d.planned-velocity2.result (planned_at a.p k)) (add-one a.k)
     d.planned-velocity2.ensures
 
 sub-t7 : tie.Need-overflow-sub-t7
@@ -41,9 +41,9 @@ returns c =
     let a = c.before.before in
     let v = c.before.planned-velocity.ensures in
     let w = next c in
-    let now : Within (2 ^ 38) (plannedAt a.args.p a.args.k) = record { within = v.within } in
-    let later : Within (2 ^ 38) (plannedAt a.args.p (suc a.args.k)) = record { within = w.within } in
-    segment-at (segment-once (plannedAt a.args.p) a.args.k)
+    let now : Within (2 ^ 38) (planned_at a.args.p a.args.k) = record { within = v.within } in
+    let later : Within (2 ^ 38) (planned_at a.args.p (suc a.args.k)) = record { within = w.within } in
+    segment-at (segment-once (planned_at a.args.p) a.args.k)
     (exactly (search exact depth 20) tt) (omega arith) (omega arith)
     (omega (arith, a.requires.0.last)) (within (search exact depth 9) tt)
 

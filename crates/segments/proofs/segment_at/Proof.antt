@@ -3,8 +3,8 @@ use Prim.Native.Nat.{◌^◌, ◌≤◌}
 use native.Mathlib.Omega.{arith}
 use Rattle.whole.proofs.Bounds.{exact, sfits, exactly, within}
 use Rattle.model.specs.declared.SecondSway.{SecondSway}
-use Rattle.model.specs.planning.Quantities.{swayDelay}
-use Rattle.blended.specs.BlendedStates.{blendedVelocity}
+use Rattle.model.specs.planning.Quantities.{sway_delay}
+use Rattle.blended.specs.BlendedStates.{blended_velocity}
 use Rattle.segments.specs.Segments.{SegmentAt}
 use Rattle.segments.proofs.PlannedSegments.{shared_at, segment-sum, segment-added}
 use borrow.Author.Rules.{rules}
@@ -23,7 +23,7 @@ enum-known-sway c = search rules
 blended-segment-requires-2 : tie.Need-blended-segment-requires-2
 blended-segment-requires-2 c κs =
     let a = c.before.before.before.before in
-    let short = subst (λ (s : SecondSway). swayDelay s ≤ 256) c.before.sway.given.1 a.requires.0.second_sway in
+    let short = subst (λ (s : SecondSway). sway_delay s ≤ 256) c.before.sway.given.1 a.requires.0.second_sway in
     (a.requires.0, (omega (arith, short), a.requires.1))
 
 add-common : tie.Need-overflow-add-common
@@ -58,7 +58,7 @@ returns-2 c =
     let sway = c.before.before.before.before.before.before.before.sway.given.1 in
     let w = s.small in
     let z = t.small in
-    subst (SegmentAt (2 ^ 14) (2 ^ 57) (blendedVelocity a.args.p) a.args.k) (sym c.common.ensures)
+    subst (SegmentAt (2 ^ 14) (2 ^ 57) (blended_velocity a.args.p) a.args.k) (sym c.common.ensures)
     (shared_at s t (segment-added a.args.p sway (segment-sum s.segment t.segment))
     (exactly (search exact depth 20) tt) (within (search exact depth 9) tt))
 

@@ -2,15 +2,15 @@ use Prim.Native.Nat.{◌-◌, ◌≤◌}
 use native.Mathlib.Omega.{arith}
 use mathlib.Core.Path.{◌≡◌, refl, sym, ap, ◌∙◌}
 use lib.ListN.{length, take, drop}
-use Rattle.model.specs.calls.Tour.{firstLongDwell}
-use Rattle.stops.proofs.Legs.{long-here, long-later, long-nowhere, emptyStop}
+use Rattle.model.specs.calls.Tour.{first_long_dwell}
+use Rattle.stops.proofs.Legs.{long-here, long-later, long-nowhere, empty_stop}
 use Rattle.stops.proofs.first_long_dwell.Statement.{statement}
 use Rattle.stops.proofs.first_long_dwell.Tie as tie
 
 abbrev invariant-loop : tie.invariant-loop
 invariant-loop count stops i₀ i =
     record {
-      first : firstLongDwell i (drop i (take count stops)) ≡ firstLongDwell 0 (take count stops);
+      first : first_long_dwell i (drop i (take count stops)) ≡ first_long_dwell 0 (take count stops);
       low : i ≤ count;
       long : length stops ≡ 64;
     }
@@ -31,7 +31,7 @@ returns : tie.Need-returns invariant-loop decreases-loop
 returns c =
     let l = c.before.before.before.before.loop in
     let a = c.before.before.before.before.before.args in
-    sym (long-here a.t1 a.count (omega arith) l.i emptyStop (omega arith) c.if1.true) ∙ l.invariant.first
+    sym (long-here a.t1 a.count (omega arith) l.i empty_stop (omega arith) c.if1.true) ∙ l.invariant.first
 
 add-i : tie.Need-overflow-add-i invariant-loop decreases-loop
 add-i c = omega arith
@@ -44,7 +44,7 @@ loop-again c =
     let l = c.before.before.before.before.loop in
     let a = c.before.before.before.before.before.args in
     record {
-      first = sym (long-later a.t1 a.count (omega arith) l.i emptyStop (omega arith) c.if1.false)
+      first = sym (long-later a.t1 a.count (omega arith) l.i empty_stop (omega arith) c.if1.false)
           ∙ l.invariant.first;
       low = omega arith;
       long = l.invariant.long;

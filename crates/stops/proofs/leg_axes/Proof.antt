@@ -7,7 +7,7 @@ use lib.ListN.{length, take, length-set, length-map}
 use lib.Seq.{take-length}
 use borrow.Author.Rules.{rules}
 use Rattle.model.specs.declared.Axis.{Axis}
-use Rattle.model.specs.calls.Tour.{legAxes}
+use Rattle.model.specs.calls.Tour.{leg_axes}
 use Rattle.stops.proofs.Legs.{legs-next, legs-long}
 use Rattle.stops.proofs.leg_axes.Statement.{statement}
 use Rattle.stops.proofs.leg_axes.Tie as tie
@@ -20,7 +20,7 @@ invariant-loop settings here there axes₀ i₀ axes i =
       starts : length here ≡ 6;
       ends : length there ≡ 6;
       long : length axes ≡ 6;
-      front : take i axes ≡ take i (legAxes settings.limits here there);
+      front : take i axes ≡ take i (leg_axes settings.limits here there);
     }
 
 abbrev decreases-loop : tie.decreases-loop
@@ -80,7 +80,7 @@ returns c =
     let h = c.before.loop in
     let a = c.before.before.before.args in
     let v = h.invariant in
-    let g = legAxes a.settings.limits a.here a.there in
+    let g = leg_axes a.settings.limits a.here a.there in
     let legs = legs-long a.settings.limits a.here a.there 6 v.limits v.starts v.ends in
     let all : h.i ≡ length h.axes = omega (arith, v.long) in
     let both : h.i ≡ length g = omega (arith, legs) in

@@ -61,7 +61,7 @@ use Rattle.model.specs.declared.Stop.{Stop}
 use Rattle.model.specs.contracts.Stop as S
 use Rattle.model.proofs.Stop.TheLaws as S'
 use Rattle.stops.specs.declared.StopRow.{StopRow}
-use Rattle.stops.specs.Rows.{noStop, held_of, emptyRow, withStop, rowTo, row_of}
+use Rattle.stops.specs.Rows.{no_stop, held_of, empty_row, with_stop, row_to, row_of}
 use Rattle.stops.proofs.Held.{held-64, held_all, row-none, row_more, IsRow, head-is, row_is}
 use Rattle.stops.proofs.Locals.{gave, here, copied, copied-in, plain-owned, word-owned, freed, ended}
 use Rattle.stops.specs.contracts.StopRow as T
@@ -138,15 +138,15 @@ module _ {M : Type 1} {𝓤 : Ura M} (𝓛 : Logic 𝓤) (mem : Memory → SProp
   abbrev WithEnsures : StopRow → ℕ → Stop → StopRow → SProp 𝓤
   WithEnsures p k s = ensured 𝓛 with.ended (with.clauses 𝓛 mem run) tt (p, (k, (s, tt))) tt
 
-  empty-said : (n : ℕ) (r : StopRow) → ent 𝓤 (EmptyEnsures n r) (fact 𝓤 (r ≡ emptyRow n))
-  empty-said n r = ex_e 𝓤 _ (λ ws. snd∗ 𝓤 (sem 𝓛 (lasts empty.ended tt (n, tt) ws)) (fact 𝓤 (r ≡ emptyRow n)))
+  empty-said : (n : ℕ) (r : StopRow) → ent 𝓤 (EmptyEnsures n r) (fact 𝓤 (r ≡ empty_row n))
+  empty-said n r = ex_e 𝓤 _ (λ ws. snd∗ 𝓤 (sem 𝓛 (lasts empty.ended tt (n, tt) ws)) (fact 𝓤 (r ≡ empty_row n)))
 
   held-said : (n h : ℕ) → ent 𝓤 (HeldEnsures n h) (fact 𝓤 (h ≡ held_of n))
   held-said n h = ex_e 𝓤 _ (λ ws. snd∗ 𝓤 (sem 𝓛 (lasts held.ended tt (n, tt) ws)) (fact 𝓤 (h ≡ held_of n)))
 
-  with-said : (p : StopRow) (k : ℕ) (s : Stop) (r : StopRow) → ent 𝓤 (WithEnsures p k s r) (fact 𝓤 (r ≡ withStop p k s))
+  with-said : (p : StopRow) (k : ℕ) (s : Stop) (r : StopRow) → ent 𝓤 (WithEnsures p k s r) (fact 𝓤 (r ≡ with_stop p k s))
   with-said p k s r =
-      ex_e 𝓤 _ (λ ws. snd∗ 𝓤 (sem 𝓛 (lasts with.ended tt (p, (k, (s, tt))) ws)) (fact 𝓤 (r ≡ withStop p k s)))
+      ex_e 𝓤 _ (λ ws. snd∗ 𝓤 (sem 𝓛 (lasts with.ended tt (p, (k, (s, tt))) ws)) (fact 𝓤 (r ≡ with_stop p k s)))
 
   -- the walk's own contract
   abbrev Walk : Contract 𝓤
@@ -224,7 +224,7 @@ module _ {M : Type 1} {𝓤 : Ura M} (𝓛 : Logic 𝓤) (mem : Memory → SProp
     -- ---- the loop
     -- k stops are stored, of those that the row is to hold
     abbrev Upto : Type 0
-    Upto = (k : ℕ) × ((k ≤ held_of count) × IsRow (rowTo ys k))
+    Upto = (k : ℕ) × ((k ≤ held_of count) × IsRow (row_to ys k))
 
     abbrev Nearer : Upto → Upto → Type 0
     Nearer j i = held_of count - j.0 < held_of count - i.0
@@ -254,7 +254,7 @@ module _ {M : Type 1} {𝓤 : Ura M} (𝓛 : Logic 𝓤) (mem : Memory → SProp
           ∷ ‵ (froom T'.mir l₅ 0) ∷ ‵ (fdies T'.mir l₅) ∷ ‵
           (fat full_share word l₄ 0 (vint w64 i.0)) ∷ ‵ (fdies word l₄)
           ∷ ‵ (fat full_share word l₃ 0 (vint w64 (held_of count))) ∷ ‵ (fdies word l₃)
-          ∷ ‵ (fat full_share T'.mir l₂ 0 (T'.lowered (rowTo ys i.0))) ∷ ‵ (fdies T'.mir l₂) ∷ ‵
+          ∷ ‵ (fat full_share T'.mir l₂ 0 (T'.lowered (row_to ys i.0))) ∷ ‵ (fdies T'.mir l₂) ∷ ‵
           (fat full_share slice_of l₁ 0 mach) ∷ ‵ (fdies slice_of l₁)
           ∷ ‵ (froom T'.mir l₀ 0) ∷ ‵ (fdies T'.mir l₀) ∷ []
 
@@ -282,49 +282,49 @@ module _ {M : Type 1} {𝓤 : Ura M} (𝓛 : Logic 𝓤) (mem : Memory → SProp
           looks_slice ! tt S.the_row (Is S.the_row) (shows 𝓛 S.the_row) lower (S'.lowers).val_is
           (LL.copy S.the_type S'.the_copy 𝓛) ys b o (λ q'.
           elem_out ! S.the_row (Is S.the_row) (shows 𝓛 S.the_row) lower
-          (S'.lowers).val_is q' ys k noStop b o (there less) (λ g.
+          (S'.lowers).val_is q' ys k no_stop b o (there less) (λ g.
           -- [stops[k]; what it owns; the others; what shuts; the fractured borrow; what
           -- stops owns; _10; …; _9; …; _8; …]
           assigns ! (of_opd ! (load ! (from ! (hop ! (look ! 8 refl) (stop !))) (look_raw ! 0 refl))) (here !)
           (init ! 6 refl (typed-stop s g)) $
-          elem_back ! S.the_row q' ys k noStop (lower s) b o (there less) $
+          elem_back ! S.the_row q' ys k no_stop (lower s) b o (there less) $
           shuts_slice ! tt S.the_row q' ys b o $ move ! (1 ∷ []) $ drop ! $
-          use0 𝓛 (raw (With.pre (to-with (rowTo ys k) k s))) (goes_with (rowTo ys k) k s i.1.1 (fits less) g) $
+          use0 𝓛 (raw (With.pre (to-with (row_to ys k) k s))) (goes_with (row_to ys k) k s i.1.1 (fits less) g) $
           -- [what with_stop asks; the token; what stops owns; _10; …]
-          calls_at ! (framed 𝓣) With known.of-with (to-with (rowTo ys k) k s)
+          calls_at ! (framed 𝓣) With known.of-with (to-with (row_to ys k) k s)
           (and_then ! (copied ! 19 refl) (and_then ! (copied ! 15 refl) (and_then ! (copied ! 3 refl) (no_more !))))
           (λ u.
-          use1 𝓛 (later (some (gave (‵ ftrue) T.the_row (WithEnsures (rowTo ys k) k s) u))) (id⊢ 𝓤 _) $
+          use1 𝓛 (later (some (gave (‵ ftrue) T.the_row (WithEnsures (row_to ys k) k s) u))) (id⊢ 𝓤 _) $
           await ! tt $ pick ! (λ r.
-          split ! $ move ! (1 ∷ []) $ use1 𝓛 (raw (fact 𝓤 (Stored r))) (with-said (rowTo ys k) k s r) $
+          split ! $ move ! (1 ∷ []) $ use1 𝓛 (raw (fact 𝓤 (Stored r))) (with-said (row_to ys k) k s r) $
           heard ! (Stored r) (λ e. split ! $ drop ! $
           peeks ! T.the_row (Is T.the_row) (shows 𝓛 T.the_row) r (u ∷ []) (λ is.
           land ! (here !) (init ! 13 refl (typed-row r u is)) $ drop ! $
           rewrite ! 12 (λ (v : Val). ‵ (fat full_share T'.mir l₅ 0 v))
           (head-is r u is ∙ ap T'.lowered (e ∙ sym (row_more ys k))) refl $
           assigns ! (of_opd ! (copied ! 12 refl)) (here !)
-          (store ! 18 refl (typed-row (rowTo ys (k + 1)) _ (next less r u e is).1.1)) $
+          (store ! 18 refl (typed-row (row_to ys (k + 1)) _ (next less r u e is).1.1)) $
           assigns_last ! (bin ! (copied ! 14 refl) (lit ! tt) (record { fits = fits_next less })) (here !)
           (store ! 14 refl (tt, record { fits = fits_next less })) $
           forget ! 2 refl $ forget ! 4 refl $ forget ! 6 refl $ forget ! 8 refl $ forget ! 12 refl $
           again ! Nearer At i (next less r u e is) (add-one-dec (held_of count) k (ltb→lt k (held_of count) less)))))))))
           (λ over. jumps ! $ exec ! C Λ En after (at_ret En Post) $
-          assigns ! (of_opd ! (copied ! 18 refl)) (here !) (init ! 22 refl (typed-row (rowTo ys k) _ i.1.1)) $
+          assigns ! (of_opd ! (copied ! 18 refl)) (here !) (init ! 22 refl (typed-row (row_to ys k) _ i.1.1)) $
           returns ! (look ! 22 refl) $ ended ! 22 refl refl $ ended ! 20 refl refl $ ended ! 18 refl refl $
           ended ! 16 refl refl $ ended ! 14 refl refl $
           freed ! 12 refl refl $ ended ! 10 refl refl $ ended ! 8 refl refl $ freed ! 6 refl refl $
           freed ! 4 refl refl $ freed ! 2 refl refl $ free0 ! $
-          by ! (exits (rowTo ys k) i.1.1 (ap (rowTo ys) (le_antisymm i.1.0 (nltb→le k (held_of count) over)))))
+          by ! (exits (row_to ys k) i.1.1 (ap (row_to ys) (le_antisymm i.1.0 (nltb→le k (held_of count) over)))))
         where
           k : ℕ
           k = i.0
 
           s : Stop
-          s = get_or ys k noStop
+          s = get_or ys k no_stop
 
           -- r is the row with one stop more
           Stored : StopRow → Type 0
-          Stored r = r ≡ withStop (rowTo ys k) k s
+          Stored r = r ≡ with_stop (row_to ys k) k s
 
           lower : Stop → List Val
           lower z = S'.lowered z ∷ []
@@ -381,8 +381,8 @@ module _ {M : Type 1} {𝓤 : Ura M} (𝓛 : Logic 𝓤) (mem : Memory → SProp
         use0 𝓛 (raw (Empty.pre to-empty)) (goes-empty room.0) $
         calls_at ! (framed 𝓣) Empty known.of-empty to-empty (and_then ! (copied ! 9 refl) (no_more !)) (λ u.
         use1 𝓛 (later (some (gave (‵ ftrue) T.the_row (EmptyEnsures count) u))) (id⊢ 𝓤 _) $ await ! tt $ pick ! (λ r.
-        split ! $ move ! (1 ∷ []) $ use1 𝓛 (raw (fact 𝓤 (r ≡ emptyRow count))) (empty-said count r) $
-        heard ! (r ≡ emptyRow count) (λ e. split ! $ drop ! $
+        split ! $ move ! (1 ∷ []) $ use1 𝓛 (raw (fact 𝓤 (r ≡ empty_row count))) (empty-said count r) $
+        heard ! (r ≡ empty_row count) (λ e. split ! $ drop ! $
         peeks ! T.the_row (Is T.the_row) (shows 𝓛 T.the_row) r (u ∷ []) (λ is.
         land ! (here !) (init ! 17 refl (typed-row r u is)) $ drop ! $
         -- [_10; …; _3; …; _2; …; _1; …; room for _0; …; the token; what stops owns]

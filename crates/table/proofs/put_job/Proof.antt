@@ -2,7 +2,7 @@ use Prim.Native.Nat.{◌≤◌}
 use lib.ListN.{length, length-replicate}
 use native.Mathlib.Omega.{arith}
 use Rattle.whole.proofs.Lists.{start-length, start-within}
-use Rattle.table.specs.Job.{jobText}
+use Rattle.table.specs.Job.{job_text}
 use Rattle.table.proofs.Text.{whole-printed}
 use borrow.Author.Rules.{rules}
 use Rattle.table.proofs.put_job.Statement.{statement}
@@ -24,7 +24,7 @@ same_length : tie.Need-same-length
 same_length c = search rules
 
 returns : tie.Need-returns
-unfolding jobText
+unfolding job_text
 returns c =
     let s = c.before.before.before.before.before.before.before.before.before.before in
     let r = c.before.before.before.before.before.before.run in

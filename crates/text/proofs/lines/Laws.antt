@@ -13,26 +13,26 @@ use mir.Syntax.{w64}
 use mir.Val.{SFits, to_z, of_z}
 use mir.ValLaws.{to_z-of_z}
 use Rattle.whole.specs.Lists.{up_to, Room, Written, WrittenWithin}
-use Rattle.whole.proofs.Lists.{flatten-upTo, turn-within, written-within, written_one, written_then, room-front}
+use Rattle.whole.proofs.Lists.{flatten-up_to, turn-within, written-within, written_one, written_then, room-front}
 use Rattle.whole.proofs.Lists.{room-then, room-on}
-use Rattle.model.specs.planning.Refusals.{lastTick}
-use Rattle.text.specs.Printed.{ascii, decimal, printedNumber, labelled, cellText, cellsText, row_line, printedRow}
-use Rattle.text.specs.Printed.{arrivalLine, refusalLine}
-use Rattle.text.specs.Enough.{refusalBytes, cellsBytes, rowBytes}
+use Rattle.model.specs.planning.Refusals.{last_tick}
+use Rattle.text.specs.Printed.{ascii, decimal, printed_number, labelled, cell_text, cells_text, row_line, printed_row}
+use Rattle.text.specs.Printed.{arrival_line, refusal_line}
+use Rattle.text.specs.Enough.{refusal_bytes, cells_bytes, row_bytes}
 use Rattle.text.proofs.numbers.Laws.{decimal-most, signed_below, signed-from}
 
 -- ---- the arrival line and a refusal
 
-tick-most : (tick : ℕ) → tick ≤ lastTick → length (decimal tick) ≤ 4
+tick-most : (tick : ℕ) → tick ≤ last_tick → length (decimal tick) ≤ 4
 tick-most tick q = decimal-most 3 tick (omega arith)
 
-pub arrival-most : (n : ℕ) → n ≤ lastTick → length (arrivalLine n) ≤ 13
-unfolding arrivalLine labelled
+pub arrival-most : (n : ℕ) → n ≤ last_tick → length (arrival_line n) ≤ 13
+unfolding arrival_line labelled
 arrival-most n h = simp length-append (omega (arith, tick-most n h))
 
 pub refusal-most : (number place mask arrival : ℕ) → number < 2 ^ 32 → place < 2 ^ 64 → mask < 2 ^ 32 → arrival < 2 ^ 32
-    → length (refusalLine number place mask arrival) ≤ refusalBytes
-unfolding refusalLine labelled
+    → length (refusal_line number place mask arrival) ≤ refusal_bytes
+unfolding refusal_line labelled
 refusal-most number place mask arrival h q m a =
     let d₁ = decimal-most 9 number (omega arith) in
     let d₂ = decimal-most 19 place (omega arith) in
@@ -42,7 +42,7 @@ refusal-most number place mask arrival h q m a =
 
 -- writing a refusal, part by part
 module _ (number place mask arrival : ℕ) {t : List ℕ} {i : ℕ}
-    (h : Room t i (refusalLine number place mask arrival)) where
+    (h : Room t i (refusal_line number place mask arrival)) where
   abbrev one : List ℕ
   one = labelled (ascii "refused ") number
 
@@ -56,7 +56,7 @@ module _ (number place mask arrival : ℕ) {t : List ℕ} {i : ℕ}
   four = three ++ labelled (ascii " arrival ") arrival
 
   room-four : Room t i four
-  unfolding refusalLine
+  unfolding refusal_line
   room-four = room-front four (ascii "\n") h
 
   room-three : Room t i three
@@ -91,35 +91,35 @@ module _ (number place mask arrival : ℕ) {t : List ℕ} {i : ℕ}
           done-four = written_then room-four done-three w₄
 
           pub feed-index : j₄ < length u₄
-          unfolding refusalLine
+          unfolding refusal_line
           feed-index = omega (arith, (room-then {m = ascii "\n"} h done-four).room)
 
-          pub refusal-done : Written t i (refusalLine number place mask arrival) (set u₄ j₄ 10) (j₄ + 1)
-          unfolding refusalLine
+          pub refusal-done : Written t i (refusal_line number place mask arrival) (set u₄ j₄ 10) (j₄ + 1)
+          unfolding refusal_line
           refusal-done = written_then h done-four (written_one feed-index)
 
 -- ---- a cell
 
-signed-most : (z : ℤ) → SFits w64 z → length (printedNumber z) ≤ 20
-unfolding printedNumber
+signed-most : (z : ℤ) → SFits w64 z → length (printed_number z) ≤ 20
+unfolding printed_number
 signed-most (pos n) f = omega (arith, decimal-most 18 n (omega (arith, f.sfits)))
 signed-most (negsuc n) f = omega (arith, decimal-most 18 (suc n) (omega (arith, f.sfits)))
 
-cell-most : (z : ℤ) → SFits w64 z → length (cellText z) ≤ 21
-unfolding cellText
+cell-most : (z : ℤ) → SFits w64 z → length (cell_text z) ≤ 21
+unfolding cell_text
 cell-most z f = omega (arith, signed-most z f)
 
 -- writing it, by its size n: a space, a sign where it is negative, and its digits. The room does
 -- not depend on what was stored.
 module _ (x : ℤ) {n i : ℕ} {t : List ℕ} (f : SFits w64 x) (e : n ≡ nat_abs (to_z w64 (of_z w64 x)))
-    (h : Room t i (cellText x)) where
+    (h : Room t i (cell_text x)) where
   pub space-index : i < length t
-  unfolding cellText
+  unfolding cell_text
   space-index = omega (arith, h.room)
 
   module _ (b : lt_z (to_z w64 (of_z w64 x)) (pos 0) ≡ true) where
-    below : cellText x ≡ ascii " -" ++ decimal n
-    unfolding cellText labelled
+    below : cell_text x ≡ ascii " -" ++ decimal n
+    unfolding cell_text labelled
     below = ap (λ (l : List ℕ). ascii " " ++ l) (signed_below x f b e)
 
     below_all : Room t i (ascii " -" ++ decimal n)
@@ -133,7 +133,7 @@ module _ (x : ℤ) {n i : ℕ} {t : List ℕ} (f : SFits w64 x) (e : n ≡ nat_a
         record { room = omega (arith, below_all.room, length-set t i p, length-set (set t i p) (i + 1) q) }
 
     pub below-done : {v : List ℕ} {r : ℕ} → Written (set (set t i 32) (i + 1) 45) (i + 2) (decimal n) v r
-        → Written t i (cellText x) v r
+        → Written t i (cell_text x) v r
     below-done {v} {r} y = subst (λ (l : List ℕ). Written t i l v r) (sym below) (written_then below_all both y)
       where
         sign : Written (set t i 32) (i + 1) (ascii "-") (set (set t i 32) (i + 1) 45) (i + 2)
@@ -144,8 +144,8 @@ module _ (x : ℤ) {n i : ℕ} {t : List ℕ} (f : SFits w64 x) (e : n ≡ nat_a
             (written_one space-index) sign
 
   module _ (b : lt_z (to_z w64 (of_z w64 x)) (pos 0) ≡ false) where
-    natural : cellText x ≡ ascii " " ++ decimal n
-    unfolding cellText
+    natural : cell_text x ≡ ascii " " ++ decimal n
+    unfolding cell_text
     natural = ap (λ (l : List ℕ). ascii " " ++ l) (signed-from x f b e)
 
     natural-all : Room t i (ascii " " ++ decimal n)
@@ -155,7 +155,7 @@ module _ (x : ℤ) {n i : ℕ} {t : List ℕ} (f : SFits w64 x) (e : n ≡ nat_a
     natural-room p = record { room = omega (arith, natural-all.room, length-set t i p) }
 
     pub natural-done : {v : List ℕ} {r : ℕ} → Written (set t i 32) (i + 1) (decimal n) v r
-        → Written t i (cellText x) v r
+        → Written t i (cell_text x) v r
     natural-done {v} {r} y =
         subst (λ (l : List ℕ). Written t i l v r) (sym natural) (written_then natural-all (written_one space-index) y)
 
@@ -165,23 +165,23 @@ abbrev pub cell_of : List ℤ → ℕ → ℤ
 cell_of cells k = get_or cells k (pos 0)
 
 abbrev pub cell_at : List ℤ → ℕ → List ℕ
-cell_at cells k = cellText (cell_of cells k)
+cell_at cells k = cell_text (cell_of cells k)
 
 -- a turn of the loop, which passes the cell on as its bits
 module _ (cells : List ℤ) {t u : List ℕ} {i j k : ℕ}
-    (h : i + cellsBytes (length cells) ≤ length t) (q : k < length cells)
+    (h : i + cells_bytes (length cells) ≤ length t) (q : k < length cells)
     (w : WrittenWithin (21 * k) t i (up_to (cell_at cells) k) u j) (f : SFits w64 (cell_of cells k)) where
-  passed : cellText (to_z w64 (of_z w64 (cell_of cells k))) ≡ cell_at cells k
-  passed = ap (λ (z : ℤ). cellText z) (to_z-of_z w64 (cell_of cells k) f)
+  passed : cell_text (to_z w64 (of_z w64 (cell_of cells k))) ≡ cell_at cells k
+  passed = ap (λ (z : ℤ). cell_text z) (to_z-of_z w64 (cell_of cells k) f)
 
-  pub cell_room : length u ≡ length t → Room u j (cellText (to_z w64 (of_z w64 (cell_of cells k))))
+  pub cell_room : length u ≡ length t → Room u j (cell_text (to_z w64 (of_z w64 (cell_of cells k))))
   cell_room e =
       subst (Room u j) (sym passed)
       (record {
         room = omega (arith, turn-within (cell_at cells) 21 (length cells) h q w e, cell-most (cell_of cells k) f);
       })
 
-  pub cell-turn : {v : List ℕ} {r : ℕ} → Written u j (cellText (to_z w64 (of_z w64 (cell_of cells k)))) v r
+  pub cell-turn : {v : List ℕ} {r : ℕ} → Written u j (cell_text (to_z w64 (of_z w64 (cell_of cells k)))) v r
       → WrittenWithin (21 * (k + 1)) t i (up_to (cell_at cells) (k + 1)) v r
   cell-turn {v} {r} x =
       written-within (cell_at cells) 21 (length cells) h q w
@@ -189,24 +189,24 @@ module _ (cells : List ℤ) {t u : List ℕ} {i j k : ℕ}
 
 pub cells-done : (cells : List ℤ) {t u : List ℕ} {i j : ℕ} (k : ℕ) → k ≡ length cells
     → WrittenWithin (21 * k) t i (up_to (cell_at cells) k) u j
-    → WrittenWithin (cellsBytes (length cells)) t i (cellsText cells) u j
+    → WrittenWithin (cells_bytes (length cells)) t i (cells_text cells) u j
 cells-done cells {t} {u} {i} {j} k e w =
-    subst (λ (l : List ℕ). WrittenWithin (cellsBytes (length cells)) t i l u j)
-    (sym (flatten-upTo cellText (pos 0) cells))
+    subst (λ (l : List ℕ). WrittenWithin (cells_bytes (length cells)) t i l u j)
+    (sym (flatten-up_to cell_text (pos 0) cells))
     (subst (λ (n : ℕ). WrittenWithin (21 * n) t i (up_to (cell_at cells) n) u j) e w)
 
 -- ---- a row
 
 module _ (tick : ℕ) (cells : List ℤ) {t : List ℕ} {i : ℕ}
-    (h : i + rowBytes (length cells) ≤ length t) (q : tick ≤ lastTick) where
+    (h : i + row_bytes (length cells) ≤ length t) (q : tick ≤ last_tick) where
   pub tick-room : Room t i (decimal tick)
   tick-room = record { room = omega (arith, tick-most tick q) }
 
   module _ {u : List ℕ} {j : ℕ} (w : Written t i (decimal tick) u j) where
-    pub cells-room : length u ≡ length t → j + cellsBytes (length cells) ≤ length u
+    pub cells-room : length u ≡ length t → j + cells_bytes (length cells) ≤ length u
     cells-room e = omega (arith, tick-most tick q, w.next)
 
-    module _ {v : List ℕ} {k : ℕ} (x : WrittenWithin (cellsBytes (length cells)) u j (cellsText cells) v k) where
+    module _ {v : List ℕ} {k : ℕ} (x : WrittenWithin (cells_bytes (length cells)) u j (cells_text cells) v k) where
       ends : k + 1 ≤ length t
       ends = omega (arith, tick-most tick q, w.next, x.most, x.written.next)
 
@@ -214,7 +214,7 @@ module _ (tick : ℕ) (cells : List ℤ) {t : List ℕ} {i : ℕ}
       end-index e = omega (arith, ends)
 
       pub row_done : length v ≡ length t
-          → WrittenWithin (rowBytes (length cells)) t i (row_line tick cells) (set v k 10) (k + 1)
+          → WrittenWithin (row_bytes (length cells)) t i (row_line tick cells) (set v k 10) (k + 1)
       unfolding row_line
       row_done e =
           record {
@@ -222,19 +222,19 @@ module _ (tick : ℕ) (cells : List ℤ) {t : List ℕ} {i : ℕ}
             most = row-most;
           }
         where
-          both : Written t i (decimal tick ++ cellsText cells) v k
-          both = written_then (room-on (cellsText cells) (omega (arith, ends, x.written.next)) w) w x.written
+          both : Written t i (decimal tick ++ cells_text cells) v k
+          both = written_then (room-on (cells_text cells) (omega (arith, ends, x.written.next)) w) w x.written
 
-          row-most : length (decimal tick ++ cellsText cells ++ ascii "\n") ≤ rowBytes (length cells)
+          row-most : length (decimal tick ++ cells_text cells ++ ascii "\n") ≤ row_bytes (length cells)
           row-most = simp length-append (omega (arith, tick-most tick q, x.most))
 
 -- ---- the rows
 
 -- the cells of row k, as a part of the table
-abbrev pub rowPart : ℕ → ℕ → List ℤ → List ℤ
-rowPart w first cells = take (first + w - first) (drop first cells)
+abbrev pub row_part : ℕ → ℕ → List ℤ → List ℤ
+row_part w first cells = take (first + w - first) (drop first cells)
 
-part_length : (w first : ℕ) (cells : List ℤ) → first + w ≤ length cells → length (rowPart w first cells) ≡ w
+part_length : (w first : ℕ) (cells : List ℤ) → first + w ≤ length cells → length (row_part w first cells) ≡ w
 part_length w first cells h = simp (length-take, length-drop) (omega arith)
 
 pub part-ends : (w first k n l : ℕ) → first ≡ w * k → k ≤ n → w * suc n ≤ l → first + w ≤ l
@@ -243,7 +243,7 @@ part-ends w first k n l e q h = omega (arith, mul-add w k 1, mul-le-mul_left {m 
 pub part-next : (w first k : ℕ) → first ≡ w * k → first + w ≡ w * (k + 1)
 part-next w first k e = omega (arith, mul-add w k 1)
 
-row_is : (w first k : ℕ) (cells : List ℤ) → first ≡ w * k → row_line k (rowPart w first cells) ≡ printedRow w cells k
+row_is : (w first k : ℕ) (cells : List ℤ) → first ≡ w * k → row_line k (row_part w first cells) ≡ printed_row w cells k
 row_is w first k cells e =
     ap (λ (n : ℕ). row_line k (take n (drop first cells))) (only w first)
     ∙ ap (λ (n : ℕ). row_line k (take w (drop n cells))) e
@@ -251,19 +251,19 @@ row_is w first k cells e =
     only : (w first : ℕ) → first + w - first ≡ w
     only w first = omega arith
 
-module _ (w n : ℕ) (cells : List ℤ) {t u : List ℕ} {i j k first : ℕ} (h : i + rowBytes w * suc n ≤ length t) (q : k ≤ n)
-    (x : WrittenWithin (rowBytes w * k) t i (up_to (printedRow w cells) k) u j)
+module _ (w n : ℕ) (cells : List ℤ) {t u : List ℕ} {i j k first : ℕ} (h : i + row_bytes w * suc n ≤ length t) (q : k ≤ n)
+    (x : WrittenWithin (row_bytes w * k) t i (up_to (printed_row w cells) k) u j)
     (m : w * suc n ≤ length cells) (e : first ≡ w * k) where
-  part-is : length (rowPart w first cells) ≡ w
+  part-is : length (row_part w first cells) ≡ w
   part-is = part_length w first cells (part-ends w first k n (length cells) e q m)
 
-  pub row_room : length u ≡ length t → j + rowBytes (length (rowPart w first cells)) ≤ length u
-  row_room l = rw part-is (turn-within (printedRow w cells) (rowBytes w) (suc n) h (omega arith) x l)
+  pub row_room : length u ≡ length t → j + row_bytes (length (row_part w first cells)) ≤ length u
+  row_room l = rw part-is (turn-within (printed_row w cells) (row_bytes w) (suc n) h (omega arith) x l)
 
   pub row-turn : {v : List ℕ} {r : ℕ}
-      → WrittenWithin (rowBytes (length (rowPart w first cells))) u j (row_line k (rowPart w first cells)) v r
-      → WrittenWithin (rowBytes w * (k + 1)) t i (up_to (printedRow w cells) (k + 1)) v r
+      → WrittenWithin (row_bytes (length (row_part w first cells))) u j (row_line k (row_part w first cells)) v r
+      → WrittenWithin (row_bytes w * (k + 1)) t i (up_to (printed_row w cells) (k + 1)) v r
   row-turn {v} {r} y =
-      written-within (printedRow w cells) (rowBytes w) (suc n) h (omega arith) x
-      (subst (λ (l : List ℕ). WrittenWithin (rowBytes w) u j l v r) (row_is w first k cells e)
-      (subst (λ (z : ℕ). WrittenWithin (rowBytes z) u j (row_line k (rowPart w first cells)) v r) part-is y))
+      written-within (printed_row w cells) (row_bytes w) (suc n) h (omega arith) x
+      (subst (λ (l : List ℕ). WrittenWithin (row_bytes w) u j l v r) (row_is w first k cells e)
+      (subst (λ (z : ℕ). WrittenWithin (row_bytes z) u j (row_line k (row_part w first cells)) v r) part-is y))

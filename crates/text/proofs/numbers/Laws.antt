@@ -17,19 +17,19 @@ use mir.Val.{SFits, to_z, of_z}
 use mir.ValLaws.{to_z-of_z}
 use Rattle.whole.specs.Lists.{Room, Written}
 use Rattle.whole.proofs.Lists.{written-nil, written_one, written_then, written-copy, room-front, room-then}
-use Rattle.text.specs.Printed.{ascii, digit, decimalDigits, decimal, printedNumber, labelled}
+use Rattle.text.specs.Printed.{ascii, digit, decimal_digits, decimal, printed_number, labelled}
 
 by_size : ℕ → ℕ → Bool → List ℕ
-by_size k n b = elim b [ true ↦ digit n | false ↦ decimalDigits k (n / 10) ++ digit (n % 10) ]
+by_size k n b = elim b [ true ↦ digit n | false ↦ decimal_digits k (n / 10) ++ digit (n % 10) ]
 
 -- what ends the recursion does not matter while it is above the number
-fuel-free : (k m n : ℕ) → n < k → n < m → decimalDigits k n ≡ decimalDigits m n
+fuel-free : (k m n : ℕ) → n < k → n < m → decimal_digits k n ≡ decimal_digits m n
 unfolding by_size
 fuel-free zero m n h q = absurd (omega arith)
 fuel-free (suc k) zero n h q = absurd (omega arith)
 fuel-free (suc k) (suc m) n h q = go (ltb n 10) refl (λ t. fuel-free k m (n / 10) (omega arith) (omega arith))
   where
-    go : (b : Bool) → ltb n 10 ≡ b → (10 ≤ n → decimalDigits k (n / 10) ≡ decimalDigits m (n / 10))
+    go : (b : Bool) → ltb n 10 ≡ b → (10 ≤ n → decimal_digits k (n / 10) ≡ decimal_digits m (n / 10))
         → by_size k n b ≡ by_size m n b
     go true e f = refl
     go false e f = ap (λ (l : List ℕ). l ++ digit (n % 10)) (f (ltb-false n 10 e))
@@ -56,20 +56,20 @@ decimal-most (suc k) n h = go (dec_le 10 n) (decimal-most k (n / 10) shorter)
     go (no t) i = omega (arith, ap length (decimal_digit n (omega arith)))
     go (yes t) i = omega (arith, ap length (decimal-more n t), length-append (decimal (n / 10)) (digit (n % 10)))
 
-signed-negative : (z : ℤ) → lt_z z (pos 0) ≡ true → printedNumber z ≡ labelled (ascii "-") (nat_abs z)
-unfolding printedNumber labelled
+signed-negative : (z : ℤ) → lt_z z (pos 0) ≡ true → printed_number z ≡ labelled (ascii "-") (nat_abs z)
+unfolding printed_number labelled
 signed-negative (pos n) e = absurd (let h = ltb-true n 0 e in omega arith)
 signed-negative (negsuc n) e = refl
 
-signed-natural : (z : ℤ) → lt_z z (pos 0) ≡ false → printedNumber z ≡ decimal (nat_abs z)
-unfolding printedNumber
+signed-natural : (z : ℤ) → lt_z z (pos 0) ≡ false → printed_number z ≡ decimal (nat_abs z)
+unfolding printed_number
 signed-natural (pos n) e = refl
 signed-natural (negsuc n) e = absurd (mathlib.Core.Bool.true≢false e)
 
 -- its text by its size n
 pub signed_below : (x : ℤ) {n : ℕ} → SFits w64 x → lt_z (to_z w64 (of_z w64 x)) (pos 0) ≡ true
     → n ≡ nat_abs (to_z w64 (of_z w64 x))
-    → printedNumber x ≡ labelled (ascii "-") n
+    → printed_number x ≡ labelled (ascii "-") n
 signed_below x {n} f t e =
     let y : to_z w64 (of_z w64 x) ≡ x = to_z-of_z w64 x f in
     signed-negative x (ap (λ (z : ℤ). lt_z z (pos 0)) (sym y) ∙ t)
@@ -77,7 +77,7 @@ signed_below x {n} f t e =
 
 pub signed-from : (x : ℤ) {n : ℕ} → SFits w64 x → lt_z (to_z w64 (of_z w64 x)) (pos 0) ≡ false
     → n ≡ nat_abs (to_z w64 (of_z w64 x))
-    → printedNumber x ≡ decimal n
+    → printed_number x ≡ decimal n
 signed-from x {n} f t e =
     let y : to_z w64 (of_z w64 x) ≡ x = to_z-of_z w64 x f in
     signed-natural x (ap (λ (z : ℤ). lt_z z (pos 0)) (sym y) ∙ t) ∙ ap decimal (sym (e ∙ ap (λ (z : ℤ). nat_abs z) y))

@@ -7,7 +7,7 @@ use lib.ListN.{length, get_or, take, drop, set, length-take, length-drop}
 use lib.Seq.{drop-cons, drop-drop, take_all, take-nil, get_or-take}
 use Rattle.whole.specs.Lists.{Room, Written, WrittenAtStart}
 use Rattle.whole.proofs.Lists.{written-nil, written-copy}
-use Rattle.model.specs.calls.Bytes.{littleEndian, words_of}
+use Rattle.model.specs.calls.Bytes.{little_endian, words_of}
 use Rattle.text.specs.Words.{pair_at, first_word}
 
 -- ---- the first word
@@ -16,7 +16,7 @@ next : (bytes : List ℕ) (i j : ℕ) → suc i ≡ j → i < length bytes → d
 next bytes i j e h = drop-cons bytes i 0 h ∙ ap (λ (n : ℕ). get_or bytes i 0 ∷ drop n bytes) e
 
 pub word-four : (bytes : List ℕ) (i : ℕ) → i + 4 ≤ length bytes
-    → littleEndian (get_or bytes i 0) (get_or bytes (i + 1) 0) (get_or bytes (i + 2) 0) (get_or bytes (i + 3) 0)
+    → little_endian (get_or bytes i 0) (get_or bytes (i + 1) 0) (get_or bytes (i + 2) 0) (get_or bytes (i + 3) 0)
     ≡ first_word (drop i bytes)
 unfolding first_word
 word-four bytes i h =
@@ -39,7 +39,7 @@ word-pairs bytes i {p} {q} h e f =
     (get_or bytes (i + 3) 0) e f last
     ∙ word-four bytes i h
   where
-    joined : (a b c d d' : ℕ) → p ≡ a + 256 * b → q ≡ c + 256 * d → d ≡ d' → p + 65536 * q ≡ littleEndian a b c d'
+    joined : (a b c d d' : ℕ) → p ≡ a + 256 * b → q ≡ c + 256 * d → d ≡ d' → p + 65536 * q ≡ little_endian a b c d'
     joined a b c d d' e f g = omega arith
 
 short : (l : List ℕ) → length l < 4 → first_word l ≡ 0
@@ -105,7 +105,7 @@ words_take (suc n) (a ∷ b ∷ []) = ap (λ (m : ℕ). words_of (take m (a ∷ 
 words_take (suc n) (a ∷ b ∷ c ∷ []) = ap (λ (m : ℕ). words_of (take m (a ∷ b ∷ c ∷ []))) (four-more n) ∙ none n
 words_take (suc n) (a ∷ b ∷ c ∷ d ∷ l) =
     ap (λ (m : ℕ). words_of (take m (a ∷ b ∷ c ∷ d ∷ l))) (four-more n)
-    ∙ ap (λ (ws : List ℕ). littleEndian a b c d ∷ ws) (words_take n l)
+    ∙ ap (λ (ws : List ℕ). little_endian a b c d ∷ ws) (words_take n l)
 
 -- ---- writing the words, as many as the list has entries for
 

@@ -14,14 +14,14 @@ use Rattle.model.specs.declared.SecondSway.TheVariants.{Absent, HalfPeriod}
 use Rattle.model.specs.declared.Target.{Target}
 use Rattle.model.specs.declared.Target.TheVariants.{Fixed, Moving}
 use Rattle.model.specs.declared.Weight.TheVariants.{Given}
-use Rattle.model.specs.planning.Quantities.{asMoving}
-use Rattle.model.specs.planning.Job.{Job, setBits}
-use Rattle.model.specs.planning.Words.{kind, payload, twos, longPosition, longAllowed, firstBadLong, Reading, got}
-use Rattle.model.specs.planning.Words.{wrong, Reader, ◌>>=◌, give, field, signed, next, positionBy, position, swayBy}
-use Rattle.model.specs.planning.Words.{secondSway, target, axis, axes, ending, readJob, afterMask, goodMask, Decoded}
-use Rattle.model.specs.planning.Words.{noMask, job, spelled, decided, decode, word}
-use Rattle.model.specs.calls.Converter.{begins, flyingWord, converted}
-use Rattle.theorems.specs.Converter.{convertedTarget, convertedAxis, convertedAxes, convertedJob}
+use Rattle.model.specs.planning.Quantities.{as_moving}
+use Rattle.model.specs.planning.Job.{Job, set_bits}
+use Rattle.model.specs.planning.Words.{kind, payload, twos, long_position, long_allowed, first_bad_long, Reading, got}
+use Rattle.model.specs.planning.Words.{wrong, Reader, ◌>>=◌, give, field, signed, next, position_by, position, sway_by}
+use Rattle.model.specs.planning.Words.{second_sway, target, axis, axes, ending, read_job, after_mask, good_mask, Decoded}
+use Rattle.model.specs.planning.Words.{no_mask, job, spelled, decided, decode, word}
+use Rattle.model.specs.calls.Converter.{begins, flying_word, converted}
+use Rattle.theorems.specs.Converter.{converted_target, converted_axis, converted_axes, converted_job}
 use Rattle.theorems.proofs.words.Readers.{before}
 use Rattle.theorems.proofs.words.LongWrong.{bad}
 use Rattle.theorems.proofs.words.PositionSpelling.{value_of, rest_of, unread, Clean, clean, clean-tail}
@@ -53,15 +53,15 @@ module _ (n : ℕ) (soon : n ≤ 4096) where
   by-flight : ℕ → List ℕ → Bool → List ℕ
   by-flight w ws b = elim b [ true ↦ w ∷ word 11 0 ∷ word 12 n ∷ conv ws | false ↦ w ∷ conv ws ]
 
-  conv-by : (w : ℕ) (ws : List ℕ) (b : Bool) → flyingWord w ws ≡ b → conv (w ∷ ws) ≡ by-flight w ws b
+  conv-by : (w : ℕ) (ws : List ℕ) (b : Bool) → flying_word w ws ≡ b → conv (w ∷ ws) ≡ by-flight w ws b
   unfolding by-flight
   conv-by w ws b e = ap (by-flight w ws) e
 
-  copied : (w : ℕ) (ws : List ℕ) → flyingWord w ws ≡ false → conv (w ∷ ws) ≡ w ∷ conv ws
+  copied : (w : ℕ) (ws : List ℕ) → flying_word w ws ≡ false → conv (w ∷ ws) ≡ w ∷ conv ws
   unfolding by-flight
   copied w ws e = conv-by w ws false e
 
-  flown : (w : ℕ) (ws : List ℕ) → flyingWord w ws ≡ true → conv (w ∷ ws) ≡ w ∷ word 11 0 ∷ word 12 n ∷ conv ws
+  flown : (w : ℕ) (ws : List ℕ) → flying_word w ws ≡ true → conv (w ∷ ws) ≡ w ∷ word 11 0 ∷ word 12 n ∷ conv ws
   unfolding by-flight
   flown w ws e = conv-by w ws true e
 
@@ -74,12 +74,12 @@ module _ (n : ℕ) (soon : n ≤ 4096) where
   and_none true false = refl
   and_none false b = refl
 
-  other-kind : (w : ℕ) (ws : List ℕ) → (kind w ≡ 10 → ⊥) → flyingWord w ws ≡ false
+  other-kind : (w : ℕ) (ws : List ℕ) → (kind w ≡ 10 → ⊥) → flying_word w ws ≡ false
   other-kind w ws h = ap (λ (b : Bool). b && (not (eqb (payload w) 0) && not (begins 11 ws))) (ne_eqb (kind w) 10 h)
 
   begins-kept : (k : ℕ) (ws : List ℕ) → begins k (conv ws) ≡ begins k ws
   begins-kept k [] = refl
-  begins-kept k (w ∷ ws) = go (flyingWord w ws)
+  begins-kept k (w ∷ ws) = go (flying_word w ws)
     where
       go : (b : Bool)
           → begins k (elim b as (λ _. List ℕ) [ true ↦ w ∷ word 11 0 ∷ word 12 n ∷ conv ws | false ↦ w ∷ conv ws ])
@@ -144,16 +144,16 @@ module _ (n : ℕ) (soon : n ≤ 4096) where
   position-turns : (k : ℕ) → (k ≡ 10 → ⊥) → Turns (position k) (position k) id
   position-turns k h = then (next 14) (next 14) id _ _ id (next-turns 14) by-long
     where
-      by-long : (b : Bool) → Turns (positionBy b k) (positionBy b k) id
+      by-long : (b : Bool) → Turns (position_by b k) (position_by b k) id
       by-long true =
           then (field 14) (field 14) id _ _ id (field-turns 14 (λ e. omega arith))
-          (λ a. then (field k) (field k) id _ _ id (field-turns k h) (λ b. last (longPosition a b) id))
+          (λ a. then (field k) (field k) id _ _ id (field-turns k h) (λ b. last (long_position a b) id))
       by-long false = signed-turns k h
 
-  sway-turns : Turns secondSway secondSway id
+  sway-turns : Turns second_sway second_sway id
   sway-turns = then (next 13) (next 13) id _ _ id (next-turns 13) by_name
     where
-      by_name : (b : Bool) → Turns (swayBy b) (swayBy b) id
+      by_name : (b : Bool) → Turns (sway_by b) (sway_by b) id
       by_name true = then (field 13) (field 13) id _ _ id
           (field-turns 13 (λ e. omega arith)) (λ d. last (HalfPeriod d) id)
       by_name false = last Absent id
@@ -179,11 +179,11 @@ module _ (n : ℕ) (soon : n ≤ 4096) where
       go true f e = f refl
       go false f e = absurd (unread e)
 
-  target-turns : (b : Bool) (p v : ℤ) → b ≡ true → Turns (target b p v) (target b p v) (convertedTarget n)
+  target-turns : (b : Bool) (p v : ℤ) → b ≡ true → Turns (target b p v) (target b p v) (converted_target n)
   target-turns true p v t =
-      then (signed 11) (signed 11) id _ _ (convertedTarget n) (signed-turns 11 (λ e. omega arith))
-      (λ a. then (signed 12) (signed 12) id _ _ (convertedTarget n) (signed-turns 12 (λ e. omega arith))
-      (λ d. last (Moving (record { position = p; velocity = v; acceleration = a; tick = d })) (convertedTarget n)))
+      then (signed 11) (signed 11) id _ _ (converted_target n) (signed-turns 11 (λ e. omega arith))
+      (λ a. then (signed 12) (signed 12) id _ _ (converted_target n) (signed-turns 12 (λ e. omega arith))
+      (λ d. last (Moving (record { position = p; velocity = v; acceleration = a; tick = d })) (converted_target n)))
   target-turns false p v t = absurd (let z : ◌≡◌ {A = ℕ} 0 1 = cc in omega arith)
 
   -- the two words that come after a velocity: an acceleration of 0 and the tick n
@@ -208,7 +208,7 @@ module _ (n : ℕ) (soon : n ≤ 4096) where
           ∙ ap (λ (b : Bool). elim b as (λ _. ℤ) [ true ↦ pos n | false ↦ neg_ℤ (pos (2 ^ 28 - n)) ])
           (lt-ltb n (2 ^ 27) (omega (arith, soon)))
 
-  module _ (X : Target → Axis) (X-is : (g : Target) → X (convertedTarget n g) ≡ convertedAxis n (X g)) (p : ℤ) where
+  module _ (X : Target → Axis) (X-is : (g : Target) → X (converted_target n g) ≡ converted_axis n (X g)) (p : ℤ) where
     -- from the velocity on
     to : ℤ → Reader Axis
     to v = λ i ws. ◌>>=◌ (next 11) (λ b. ◌>>=◌ (target b p v) (λ g. give (X g))) i ws
@@ -223,16 +223,16 @@ module _ (n : ℕ) (soon : n ≤ 4096) where
         (λ _. Reading Axis) [ got b j vs ↦ ◌>>=◌ (target b p v) (λ g. give (X g)) j vs | wrong q ↦ wrong q ])
         (next-is 11 i ws)
 
-    give-turns : (g : Target) → Turns (give (X g)) (give (X (convertedTarget n g))) (convertedAxis n)
+    give-turns : (g : Target) → Turns (give (X g)) (give (X (converted_target n g))) (converted_axis n)
     give-turns g i k ws x j vs e =
-        let q = last (X g) (convertedAxis n) i k ws x j vs e in
+        let q = last (X g) (converted_axis n) i k ws x j vs e in
         (q.0, ap (λ (y : Axis). got y k (conv ws)) (X-is g) ∙ q.1)
 
-    moving-turns : (v : ℤ) → Turns (by_kind true v) (by_kind true v) (convertedAxis n)
+    moving-turns : (v : ℤ) → Turns (by_kind true v) (by_kind true v) (converted_axis n)
     unfolding by_kind
     moving-turns v =
-        then (target true p v) (target true p v) (convertedTarget n) (λ g. give (X g))
-        (λ g. give (X g)) (convertedAxis n)
+        then (target true p v) (target true p v) (converted_target n) (λ g. give (X g))
+        (λ g. give (X g)) (converted_axis n)
         (target-turns true p v refl) give-turns
 
     -- the velocity of w, before the words vs
@@ -260,25 +260,25 @@ module _ (n : ℕ) (soon : n ≤ 4096) where
       r = record { position = p; velocity = twos (payload w) }
 
       by : Bool → Target
-      by c = elim c [ true ↦ Moving (asMoving (Fixed r) n) | false ↦ Fixed r ]
+      by c = elim c [ true ↦ Moving (as_moving (Fixed r) n) | false ↦ Fixed r ]
 
       -- by whether the word is 0
-      turned-to : (z : Bool) → eqb (payload w) 0 ≡ z → by (not z) ≡ convertedTarget n (Fixed r)
+      turned-to : (z : Bool) → eqb (payload w) 0 ≡ z → by (not z) ≡ converted_target n (Fixed r)
       unfolding by
       turned-to z e = sym (ap by (ap not (twos-zero (payload w) (omega arith)) ∙ ap not e))
 
       ended : (z : Bool) → eqb (payload w) 0 ≡ z → (l : ℕ)
-          → got (X (by (not z))) l (conv us) ≡ got (convertedAxis n x) l (conv vs)
+          → got (X (by (not z))) l (conv us) ≡ got (converted_axis n x) l (conv vs)
       ended z e l =
           ap (λ (g : Target). got (X g) l (conv us)) (turned-to z e)
           ∙ ap (λ (y : Axis). got y l (conv us)) (X-is (Fixed r))
-          ∙ (λ m. got (convertedAxis n (value_of q m)) l (conv (rest_of q m)))
+          ∙ (λ m. got (converted_axis n (value_of q m)) l (conv (rest_of q m)))
 
       on-target : Reading Target → Reading Axis
       on-target z = elim z [ got g l ws ↦ got (X g) l ws | wrong m ↦ wrong m ]
 
       fixed-turns : (z : Bool) → eqb (payload w) 0 ≡ z
-          → (l : ℕ) × (◌>>=◌ (signed 10) to k (conv (w ∷ us)) ≡ got (convertedAxis n x) l (conv vs))
+          → (l : ℕ) × (◌>>=◌ (signed 10) to k (conv (w ∷ us)) ≡ got (converted_axis n x) l (conv vs))
       unfolding by_kind by on-target
       fixed-turns true e = (
         suc k,
@@ -288,7 +288,7 @@ module _ (n : ℕ) (soon : n ≤ 4096) where
             ∙ ended true e (suc k),
       )
         where
-          still : flyingWord w us ≡ false
+          still : flying_word w us ≡ false
           still = ap (λ (c : Bool). eqb (kind w) 10 && (not c && not (begins 11 us))) e ∙ and_no (eqb (kind w) 10)
       fixed-turns false e = (
         suc (suc (suc k)),
@@ -298,16 +298,16 @@ module _ (n : ℕ) (soon : n ≤ 4096) where
             ∙ ended false e (suc (suc (suc k))),
       )
         where
-          flying : flyingWord w us ≡ true
+          flying : flying_word w us ≡ true
           flying = (λ m. eq-eqb (kind w) 10 t m && (not (e m) && not (b m)))
 
     by_next : (w : ℕ) (us : List ℕ) (i k : ℕ) (x : Axis) (j : ℕ) (vs : List ℕ) → kind w ≡ 10
         → (b : Bool) → begins 11 us ≡ b
         → by_kind b (twos (payload w)) (suc i) us ≡ got x j vs
-        → (l : ℕ) × (◌>>=◌ (signed 10) to k (conv (w ∷ us)) ≡ got (convertedAxis n x) l (conv vs))
+        → (l : ℕ) × (◌>>=◌ (signed 10) to k (conv (w ∷ us)) ≡ got (converted_axis n x) l (conv vs))
     by_next w us i k x j vs t true e q =
         let m = moving-turns (twos (payload w)) (suc i) (suc k) us x j vs q in
-        let still : flyingWord w us ≡ false =
+        let still : flying_word w us ≡ false =
         ap (λ (c : Bool). eqb (kind w) 10 && (not (eqb (payload w) 0) && not c)) e
         ∙ and_none (eqb (kind w) 10) (not (eqb (payload w) 0)) in (
           m.0,
@@ -319,7 +319,7 @@ module _ (n : ℕ) (soon : n ≤ 4096) where
     by_next w us i k x j vs t false e q =
         fixed-turns w us (suc i) k x j vs t e (fixed-read w us (suc i) ∙ q) (eqb (payload w) 0) refl
 
-    velocity-turns : Turns (λ i ws. ◌>>=◌ (signed 10) to i ws) (λ i ws. ◌>>=◌ (signed 10) to i ws) (convertedAxis n)
+    velocity-turns : Turns (λ i ws. ◌>>=◌ (signed 10) to i ws) (λ i ws. ◌>>=◌ (signed 10) to i ws) (converted_axis n)
     velocity-turns i k [] x j vs e = absurd (unread e)
     velocity-turns i k (w ∷ us) x j vs e =
         let t : kind w ≡ 10 = kind-read 10 i w us _ _ _ (before (signed 10) to i (w ∷ us) x j vs e).first in
@@ -331,17 +331,17 @@ module _ (n : ℕ) (soon : n ≤ 4096) where
 
   -- ---- an axis, the axes, the job
 
-  axis-turns : Turns axis axis (convertedAxis n)
+  axis-turns : Turns axis axis (converted_axis n)
   unfolding to
   axis-turns =
-      then (position 3) (position 3) id _ _ (convertedAxis n) (position-turns 3 (λ e. omega arith))
-      (λ p₀. then (signed 4) (signed 4) id _ _ (convertedAxis n) (signed-turns 4 (λ e. omega arith))
-      (λ v₀. then (field 5) (field 5) id _ _ (convertedAxis n) (field-turns 5 (λ e. omega arith))
-      (λ l. then (field 6) (field 6) id _ _ (convertedAxis n) (field-turns 6 (λ e. omega arith))
-      (λ m. then (field 7) (field 7) id _ _ (convertedAxis n) (field-turns 7 (λ e. omega arith))
-      (λ h. then (field 8) (field 8) id _ _ (convertedAxis n) (field-turns 8 (λ e. omega arith))
-      (λ b. then secondSway secondSway id _ _ (convertedAxis n) sway-turns
-      (λ s. then (position 9) (position 9) id _ _ (convertedAxis n) (position-turns 9 (λ e. omega arith))
+      then (position 3) (position 3) id _ _ (converted_axis n) (position-turns 3 (λ e. omega arith))
+      (λ p₀. then (signed 4) (signed 4) id _ _ (converted_axis n) (signed-turns 4 (λ e. omega arith))
+      (λ v₀. then (field 5) (field 5) id _ _ (converted_axis n) (field-turns 5 (λ e. omega arith))
+      (λ l. then (field 6) (field 6) id _ _ (converted_axis n) (field-turns 6 (λ e. omega arith))
+      (λ m. then (field 7) (field 7) id _ _ (converted_axis n) (field-turns 7 (λ e. omega arith))
+      (λ h. then (field 8) (field 8) id _ _ (converted_axis n) (field-turns 8 (λ e. omega arith))
+      (λ b. then second_sway second_sway id _ _ (converted_axis n) sway-turns
+      (λ s. then (position 9) (position 9) id _ _ (converted_axis n) (position-turns 9 (λ e. omega arith))
       (λ p. velocity-turns
       (λ g. record {
         start = record { position = p₀; velocity = v₀ };
@@ -353,12 +353,12 @@ module _ (n : ℕ) (soon : n ≤ 4096) where
         target = g;
       }) (λ g. refl) p))))))))
 
-  axes-turns : (ns : List ℕ) → Turns (axes ns) (axes ns) (convertedAxes n)
-  axes-turns [] = last [] (convertedAxes n)
+  axes-turns : (ns : List ℕ) → Turns (axes ns) (axes ns) (converted_axes n)
+  axes-turns [] = last [] (converted_axes n)
   axes-turns (k ∷ ns) =
-      then axis axis (convertedAxis n) _ _ (convertedAxes n) axis-turns
-      (λ x. then (axes ns) (axes ns) (convertedAxes n) _ _ (convertedAxes n) (axes-turns ns)
-      (λ xs. last (record { number = k; axis = x } ∷ xs) (convertedAxes n)))
+      then axis axis (converted_axis n) _ _ (converted_axes n) axis-turns
+      (λ x. then (axes ns) (axes ns) (converted_axes n) _ _ (converted_axes n) (axes-turns ns)
+      (λ xs. last (record { number = k; axis = x } ∷ xs) (converted_axes n)))
 
   ending-turns : (j o : Job) (h : Job → Job) → h j ≡ o → Turns (ending j) (ending o) h
   ending-turns j o h q i k [] b l vs e = absurd (unread e)
@@ -383,13 +383,13 @@ module _ (n : ℕ) (soon : n ≤ 4096) where
       go false e = unread e
 
   abbrev turned : Job → Job
-  turned j = record { mask = j.mask; asked = j.asked; axes = convertedAxes n j.axes; windows = j.windows }
+  turned j = record { mask = j.mask; asked = j.asked; axes = converted_axes n j.axes; windows = j.windows }
 
-  job-turns : (m : ℕ) → Turns (afterMask m) (afterMask m) turned
+  job-turns : (m : ℕ) → Turns (after_mask m) (after_mask m) turned
   job-turns m =
       then (field 2) (field 2) id _ _ turned (field-turns 2 (λ e. omega arith))
-      (λ a. then (axes (setBits m)) (axes (setBits m)) (convertedAxes n) _ _ turned (axes-turns (setBits m))
-      (λ xs. ending-turns (readJob m a xs) (readJob m a (convertedAxes n xs)) turned refl))
+      (λ a. then (axes (set_bits m)) (axes (set_bits m)) (converted_axes n) _ _ turned (axes-turns (set_bits m))
+      (λ xs. ending-turns (read_job m a xs) (read_job m a (converted_axes n xs)) turned refl))
 
   -- ---- refusal 14 lets the converted words pass too
 
@@ -408,7 +408,7 @@ module _ (n : ℕ) (soon : n ≤ 4096) where
 
   before-conv : (w : ℕ) (ws : List ℕ) → Before w ws → Before w (conv ws)
   before-conv w [] b = tt
-  before-conv w (u ∷ ws) b = go (flyingWord u ws)
+  before-conv w (u ∷ ws) b = go (flying_word u ws)
     where
       go : (t : Bool)
           → Before w (elim t as (λ _. List ℕ) [ true ↦ u ∷ word 11 0 ∷ word 12 n ∷ conv ws | false ↦ u ∷ conv ws ])
@@ -417,9 +417,9 @@ module _ (n : ℕ) (soon : n ≤ 4096) where
 
   not-14 : (w : ℕ) (vs : List ℕ) → (kind w ≡ 14 → ⊥) → Before w vs
   not-14 w [] h = tt
-  not-14 w (u ∷ vs) h = ap (λ (b : Bool). b && not (longAllowed (payload w) (payload u))) (ne_eqb (kind w) 14 h)
+  not-14 w (u ∷ vs) h = ap (λ (b : Bool). b && not (long_allowed (payload w) (payload u))) (ne_eqb (kind w) 14 h)
 
-  flying-kind : (w : ℕ) (ws : List ℕ) → flyingWord w ws ≡ true → kind w ≡ 10
+  flying-kind : (w : ℕ) (ws : List ℕ) → flying_word w ws ≡ true → kind w ≡ 10
   flying-kind w ws e = go (eqb (kind w) 10) (not (eqb (payload w) 0) && not (begins 11 ws)) (eqb-true (kind w) 10) e
     where
       go : (a b : Bool) → (a ≡ true → kind w ≡ 10) → a && b ≡ true → kind w ≡ 10
@@ -428,9 +428,9 @@ module _ (n : ℕ) (soon : n ≤ 4096) where
 
   clean-conv : (ws : List ℕ) → Clean ws → Clean (conv ws)
   clean-conv [] c = tt
-  clean-conv (w ∷ ws) c = go (flyingWord w ws) refl (clean-conv ws (clean-tail w ws c))
+  clean-conv (w ∷ ws) c = go (flying_word w ws) refl (clean-conv ws (clean-tail w ws c))
     where
-      go : (b : Bool) → flyingWord w ws ≡ b → Clean (conv ws) → Clean (conv (w ∷ ws))
+      go : (b : Bool) → flying_word w ws ≡ b → Clean (conv ws) → Clean (conv (w ∷ ws))
       go true t h =
           subst Clean (sym (flown w ws t))
           (clean-cons w (word 11 0 ∷ word 12 n ∷ conv ws)
@@ -439,45 +439,45 @@ module _ (n : ℕ) (soon : n ≤ 4096) where
           (clean-cons (word 12 n) (conv ws) (not-14 (word 12 n) (conv ws) (λ e. omega (arith, soon))) h)))
       go false t h = subst Clean (sym (copied w ws t)) (clean-cons w (conv ws) (before-conv w ws (clean-head w ws c)) h)
 
-  none_named : (i : ℕ) (ws : List ℕ) → Clean ws → firstBadLong i ws ≡ none
+  none_named : (i : ℕ) (ws : List ℕ) → Clean ws → first_bad_long i ws ≡ none
   none_named i [] c = refl
   none_named i (w ∷ []) c = refl
   none_named i (w ∷ u ∷ ws) c =
-      ap (λ (b : Bool). elim b as (λ _. Option ℕ) [ true ↦ some i | false ↦ firstBadLong (suc i) (u ∷ ws) ]) c.0
+      ap (λ (b : Bool). elim b as (λ _. Option ℕ) [ true ↦ some i | false ↦ first_bad_long (suc i) (u ∷ ws) ]) c.0
       ∙ none_named (suc i) (u ∷ ws) c.1
 
   decoded : (ws : List ℕ) (j : Job) → decode ws ≡ job j → decode (conv ws) ≡ job (turned j)
   decoded [] j e = absurd (let z : ◌≡◌ {A = ℕ} 0 1 = cc in omega arith)
-  decoded (w ∷ ws) j e = go (eqb (kind w) 1) (goodMask (payload w)) refl refl e
+  decoded (w ∷ ws) j e = go (eqb (kind w) 1) (good_mask (payload w)) refl refl e
     where
       by-long : (o : Option ℕ) (i : Job) → spelled o i ≡ job j → (o ≡ none) × (i ≡ j)
       by-long (some p) i e = absurd (let z : ◌≡◌ {A = ℕ} 0 1 = cc in omega arith)
       by-long none i e = (refl, cc)
 
-      by-reading : kind w ≡ 1 → goodMask (payload w) ≡ true → (r : Reading Job)
-          → afterMask (payload w) 1 ws ≡ r → decided (w ∷ ws) r ≡ job j
+      by-reading : kind w ≡ 1 → good_mask (payload w) ≡ true → (r : Reading Job)
+          → after_mask (payload w) 1 ws ≡ r → decided (w ∷ ws) r ≡ job j
           → decode (conv (w ∷ ws)) ≡ job (turned j)
       by-reading t m (got o i vs) q e =
-          let s = by-long (firstBadLong 0 (w ∷ ws)) o e in
+          let s = by-long (first_bad_long 0 (w ∷ ws)) o e in
           let same : conv (w ∷ ws) ≡ w ∷ conv ws = copied w ws (other-kind w ws (λ z. omega arith)) in
           let read = job-turns (payload w) 1 1 ws o i vs q in
-          let passes : firstBadLong 0 (w ∷ conv ws) ≡ none =
+          let passes : first_bad_long 0 (w ∷ conv ws) ≡ none =
           none_named 0 (w ∷ conv ws) (subst Clean same (clean-conv (w ∷ ws) (clean 0 (w ∷ ws) s.0))) in
           ap decode same
           ∙ (λ l. elim (eq-eqb (kind w) 1 t l && m l) as
-          (λ _. Decoded) [ true ↦ decided (w ∷ conv ws) (read.1 l) | false ↦ noMask ])
+          (λ _. Decoded) [ true ↦ decided (w ∷ conv ws) (read.1 l) | false ↦ no_mask ])
           ∙ ap (λ (f : Option ℕ). spelled f (turned o)) passes
           ∙ ap (λ (z : Job). job (turned z)) s.1
       by-reading t m (wrong p) q e = absurd (let z : ◌≡◌ {A = ℕ} 0 1 = cc in omega arith)
 
-      go : (a b : Bool) → eqb (kind w) 1 ≡ a → goodMask (payload w) ≡ b
-          → (elim (a && b) as (λ _. Decoded) [ true ↦ decided (w ∷ ws) (afterMask (payload w) 1 ws) | false ↦ noMask ])
+      go : (a b : Bool) → eqb (kind w) 1 ≡ a → good_mask (payload w) ≡ b
+          → (elim (a && b) as (λ _. Decoded) [ true ↦ decided (w ∷ ws) (after_mask (payload w) 1 ws) | false ↦ no_mask ])
           ≡ job j
           → decode (conv (w ∷ ws)) ≡ job (turned j)
-      go true true t m e = by-reading (eqb-true (kind w) 1 t) m (afterMask (payload w) 1 ws) refl e
+      go true true t m e = by-reading (eqb-true (kind w) 1 t) m (after_mask (payload w) 1 ws) refl e
       go true false t m e = absurd (let z : ◌≡◌ {A = ℕ} 0 1 = cc in omega arith)
       go false b t m e = absurd (let z : ◌≡◌ {A = ℕ} 0 1 = cc in omega arith)
 
 pub converted-words : (ws : List ℕ) (j : Job) → j.asked ≤ 4096 → decode ws ≡ job j
-    → decode (converted j.asked ws) ≡ job (convertedJob j)
+    → decode (converted j.asked ws) ≡ job (converted_job j)
 converted-words ws j h e = decoded j.asked h ws j e

@@ -11,12 +11,12 @@ use Rattle.whole.proofs.Tests.{T_true, true-T}
 use Rattle.model.specs.declared.Axis.{Axis}
 use Rattle.model.specs.declared.Limit.{Limit}
 use Rattle.model.specs.declared.Limit.TheVariants.{Acceleration, Speed}
-use Rattle.model.specs.planning.Quantities.{speedLimit, accelerationLimit, finer}
+use Rattle.model.specs.planning.Quantities.{speed_limit, acceleration_limit, finer}
 use Rattle.model.specs.planning.Motion.{Reachable, reachable}
-use Rattle.theorems.specs.GivenWeights.{withWeight}
-use Rattle.model.specs.planning.Outcome.{leastFrom}
+use Rattle.theorems.specs.GivenWeights.{with_weight}
+use Rattle.model.specs.planning.Outcome.{least_from}
 use Rattle.model.specs.planning.Refusals.{Passed}
-use Rattle.model.specs.calls.Raises.{limitOf, highest, withLimit, raiseOf}
+use Rattle.model.specs.calls.Raises.{limit_of, highest, with_limit, raise_of}
 use Rattle.theorems.specs.Raises.{RaiseIs, raise, no_raise}
 use Rattle.theorems.proofs.jobs.PassedAxis.{speed-limit, some-acceleration, acceleration-limit}
 use Rattle.theorems.proofs.jobs.Verdict.{reach-is}
@@ -25,99 +25,99 @@ use Rattle.theorems.proofs.legs.WiderLimits.{wider-decided, wider-passes}
 
 -- ---- one limit alone, within its range
 
-limit-range : (q : Limit) (x : Axis) → Passed x → limitOf q x ≤ highest q
+limit-range : (q : Limit) (x : Axis) → Passed x → limit_of q x ≤ highest q
 limit-range Acceleration x p = acceleration-limit x p
 limit-range Speed x p = speed-limit x p
 
 -- an axis with a higher limit has passed too
-limit-passes : (q : Limit) (x : Axis) → Passed x → (k : ℕ) → limitOf q x ≤ k → k ≤ highest q → Passed (withLimit q k x)
-limit-passes Acceleration x p k a b = wider-passes x (speedLimit x) k (omega arith) a p (speed-limit x p) b
-limit-passes Speed x p k a b = wider-passes x k (accelerationLimit x) a (omega arith) p b (acceleration-limit x p)
+limit-passes : (q : Limit) (x : Axis) → Passed x → (k : ℕ) → limit_of q x ≤ k → k ≤ highest q → Passed (with_limit q k x)
+limit-passes Acceleration x p k a b = wider-passes x (speed_limit x) k (omega arith) a p (speed-limit x p) b
+limit-passes Speed x p k a b = wider-passes x k (acceleration_limit x) a (omega arith) p b (acceleration-limit x p)
 
 -- with the limit as it is
-own-limit : (q : Limit) (x : Axis) → withLimit q (limitOf q x) x ≡ x
+own-limit : (q : Limit) (x : Axis) → with_limit q (limit_of q x) x ≡ x
 own-limit Acceleration x = refl
 own-limit Speed x = refl
 
 module _ (q : Limit) (x : Axis) (n : ℕ) (p : Passed x) where
   abbrev test : ℕ → Bool
-  test k = reachable (withLimit q k x) n
+  test k = reachable (with_limit q k x) n
 
   -- a limit that is enough stays enough when it is raised
-  rises : (a b : ℕ) → limitOf q x ≤ a → a ≤ b → b ≤ highest q → test a ≡ true → test b ≡ true
+  rises : (a b : ℕ) → limit_of q x ≤ a → a ≤ b → b ≤ highest q → test a ≡ true → test b ≡ true
   rises a b h k m e = T_true (test b) (go q (limit-passes q x p a h (omega arith)) k m (true-T e))
     where
-      go : (q : Limit) → Passed (withLimit q a x) → a ≤ b → b ≤ highest q → T (reachable (withLimit q a x) n)
-          → T (reachable (withLimit q b x) n)
-      go Acceleration s k m = wider-decided (withLimit Acceleration a x) (speedLimit x) b (omega arith) k n
+      go : (q : Limit) → Passed (with_limit q a x) → a ≤ b → b ≤ highest q → T (reachable (with_limit q a x) n)
+          → T (reachable (with_limit q b x) n)
+      go Acceleration s k m = wider-decided (with_limit Acceleration a x) (speed_limit x) b (omega arith) k n
           (some-acceleration _ s) (speed-limit x p)
       go Speed s k m =
-          wider-decided (withLimit Speed a x) b (accelerationLimit x) k (omega arith) n (some-acceleration _ s) m
+          wider-decided (with_limit Speed a x) b (acceleration_limit x) k (omega arith) n (some-acceleration _ s) m
 
   -- ---- what the definition tries
 
   abbrev tried : ℕ → Bool
-  tried r = test (limitOf q x + r)
+  tried r = test (limit_of q x + r)
 
   abbrev most : ℕ
-  most = highest q - limitOf q x
+  most = highest q - limit_of q x
 
   -- the highest of the range is not enough
-  pub raise-missing : reachable (withLimit q (highest q) x) n ≡ false → raiseOf q x n ≡ none
-  unfolding raiseOf
+  pub raise-missing : reachable (with_limit q (highest q) x) n ≡ false → raise_of q x n ≡ none
+  unfolding raise_of
   raise-missing short =
-      one-result tried 1 most (leastFrom tried 1 most) none (result tried 1 most)
+      one-result tried 1 most (least_from tried 1 most) none (result tried 1 most)
       (λ i h k e. false≢true
-      (sym short ∙ rises (limitOf q x + i) (highest q) (omega arith) (omega (arith, range)) (omega arith) e))
+      (sym short ∙ rises (limit_of q x + i) (highest q) (omega arith) (omega (arith, range)) (omega arith) e))
     where
-      range : limitOf q x ≤ highest q
+      range : limit_of q x ≤ highest q
       range = limit-range q x p
 
   -- ---- what the least raise says
 
   abbrev Enough : ℕ → Type 0
-  Enough k = Reachable (withLimit q k x) n
+  Enough k = Reachable (with_limit q k x) n
 
-  decided : (k : ℕ) → limitOf q x ≤ k → k ≤ highest q → Enough k ↔ T (test k)
-  decided k a b = reach-is (withLimit q k x) n (limit-passes q x p k a b)
+  decided : (k : ℕ) → limit_of q x ≤ k → k ≤ highest q → Enough k ↔ T (test k)
+  decided k a b = reach-is (with_limit q k x) n (limit-passes q x p k a b)
 
   pub raise-is : (Reachable x n → ⊥)
-      → RaiseIs (λ k. Reachable (withLimit q k x) n) (limitOf q x) (highest q) (raiseOf q x n)
-  unfolding raiseOf
-  raise-is misses = go (leastFrom tried 1 most) (result tried 1 most)
+      → RaiseIs (λ k. Reachable (with_limit q k x) n) (limit_of q x) (highest q) (raise_of q x n)
+  unfolding raise_of
+  raise-is misses = go (least_from tried 1 most) (result tried 1 most)
     where
-      range : limitOf q x ≤ highest q
+      range : limit_of q x ≤ highest q
       range = limit-range q x p
 
       -- a raise by 0 leaves the limit as it is
-      short : (i : ℕ) → i ≡ 0 → Enough (limitOf q x + i) → ⊥
+      short : (i : ℕ) → i ≡ 0 → Enough (limit_of q x + i) → ⊥
       short i z e =
-          let own : limitOf q x + i ≡ limitOf q x = omega arith in
+          let own : limit_of q x + i ≡ limit_of q x = omega arith in
           misses (subst (λ (y : Axis). Reachable y n) (own-limit q x) (subst Enough own e))
 
       -- what the definition tries, in the words of rule 4
-      no_test : (i : ℕ) → limitOf q x + i ≤ highest q → (tried i ≡ true → ⊥) → Enough (limitOf q x + i) → ⊥
-      no_test i h f e = f (T_true (tried i) ((decided (limitOf q x + i) (omega arith) h).0 e))
+      no_test : (i : ℕ) → limit_of q x + i ≤ highest q → (tried i ≡ true → ⊥) → Enough (limit_of q x + i) → ⊥
+      no_test i h f e = f (T_true (tried i) ((decided (limit_of q x + i) (omega arith) h).0 e))
 
       go : (o : Option ℕ) → Result tried 1 most o
-          → RaiseIs (λ k. Reachable (withLimit q k x) n) (limitOf q x) (highest q) o
+          → RaiseIs (λ k. Reachable (with_limit q k x) n) (limit_of q x) (highest q) o
       go none f = no_raise nowhere
         where
-          nowhere : (i : ℕ) → limitOf q x + i ≤ highest q → Enough (limitOf q x + i) → ⊥
+          nowhere : (i : ℕ) → limit_of q x + i ≤ highest q → Enough (limit_of q x + i) → ⊥
           nowhere zero h = short 0 refl
           nowhere (suc i) h = no_test (suc i) h (f (suc i) (omega arith) (omega arith))
       go (some r) f =
-          let within : limitOf q x + r ≤ highest q = omega (arith, range, f.last) in
+          let within : limit_of q x + r ≤ highest q = omega (arith, range, f.last) in
           raise r f.first within
-          ((decided (limitOf q x + r) (omega arith) within).1 (true-T f.passes)) (below within)
+          ((decided (limit_of q x + r) (omega arith) within).1 (true-T f.passes)) (below within)
         where
-          below : limitOf q x + r ≤ highest q → (i : ℕ) → i < r → Enough (limitOf q x + i) → ⊥
+          below : limit_of q x + r ≤ highest q → (i : ℕ) → i < r → Enough (limit_of q x + i) → ⊥
           below w zero h = short 0 refl
           below w (suc i) h = no_test (suc i) (omega arith) (f.least (suc i) (omega arith) h)
 
 -- ---- damping as measured: the same raise with the number B given
 
-pub raise-with-weight : (q : Limit) (x : Axis) (n : ℕ) → raiseOf q (withWeight x) n ≡ raiseOf q x n
-unfolding raiseOf finer
+pub raise-with-weight : (q : Limit) (x : Axis) (n : ℕ) → raise_of q (with_weight x) n ≡ raise_of q x n
+unfolding raise_of finer
 raise-with-weight Acceleration x n = refl
 raise-with-weight Speed x n = refl

@@ -16,17 +16,17 @@ use lib.Seq.{take-append_seam, drop-append_seam}
 use Rattle.whole.proofs.Tests.{T_true, choice-yes, lt-or-le}
 use Rattle.model.specs.declared.Axis.{Axis}
 use Rattle.model.specs.declared.Order.TheVariants.{Forwards}
-use Rattle.model.specs.planning.Rows.{plannedAxis, cells, row, tabulate, table, part}
-use Rattle.model.specs.planning.Job.{Job, job_of, axesOf}
+use Rattle.model.specs.planning.Rows.{planned_axis, cells, row, tabulate, table, part}
+use Rattle.model.specs.planning.Job.{Job, job_of, axes_of}
 use Rattle.model.specs.planning.Refusals.{AllPassed}
-use Rattle.model.specs.planning.Outcome.{Outcome, Input, words, typed, call, inputJob, inputAxes, cellsNeeded}
-use Rattle.model.specs.planning.Outcome.{allReach, answer_of}
+use Rattle.model.specs.planning.Outcome.{Outcome, Input, words, typed, call, input_job, input_axes, cells_needed}
+use Rattle.model.specs.planning.Outcome.{all_reach, answer_of}
 use Rattle.theorems.specs.Verdict.{Verdict, refused3, refused4, refused12, refused5, refused15, refused6}
 use Rattle.theorems.specs.Verdict.{refused16, refused17, refused13, refused8, refused9, refused10, accepted}
-use Rattle.theorems.specs.Verdict.{CallVerdict, words1, words2, words14, wordsJob, typed1, typedJobs}
+use Rattle.theorems.specs.Verdict.{CallVerdict, words1, words2, words14, words_job, typed1, typed_jobs}
 use Rattle.model.specs.planning.Demand.{Demand3}
-use Rattle.model.specs.calls.Parts.{partRows, PartOutcome, partAccepted, partCall}
-use Rattle.theorems.specs.Parts.{PartOf, PartsHold, nextRow, partsWritten, PartsMakeTheTable}
+use Rattle.model.specs.calls.Parts.{part_rows, PartOutcome, part_accepted, part_call}
+use Rattle.theorems.specs.Parts.{PartOf, PartsHold, next_row, parts_written, PartsMakeTheTable}
 use Rattle.theorems.proofs.tables.CellPlaces.{rows-length, blocks-length}
 use Rattle.theorems.proofs.jobs.Verdict.{reach-all}
 use Rattle.theorems.proofs.words.WordsAre.{job-spelled}
@@ -86,18 +86,18 @@ module _ (b : ℕ) (f : ℕ → List ℤ) (even : (k : ℕ) → length (f k) ≡
 
 pub record Accepted (j : Job) (lent : List ℤ) (o : Outcome) : Type 0 where
   pub passed : AllPassed j.axes
-  pub reach : allReach j.axes o.arrival ≡ true
-  pub cells : o.cells ≡ table Forwards (axesOf j) o.arrival
-      ++ drop (cellsNeeded (length (axesOf j)) o.arrival) lent
+  pub reach : all_reach j.axes o.arrival ≡ true
+  pub cells : o.cells ≡ table Forwards (axes_of j) o.arrival
+      ++ drop (cells_needed (length (axes_of j)) o.arrival) lent
 
 by-verdict : (j : Job) (lent : List ℤ) (o : Outcome) → Verdict Forwards j lent o → o.number ≡ 0 → Accepted j lent o
 by-verdict j lent o (accepted n p w a room e) z =
     record {
       passed = p;
-      reach = subst (λ (m : ℕ). allReach j.axes m ≡ true) (sym e.arrival)
+      reach = subst (λ (m : ℕ). all_reach j.axes m ≡ true) (sym e.arrival)
           (T_true _ (reach-all j.axes n p a.arrives.reached));
       cells = e.cells ∙ ap
-          (λ (m : ℕ). table Forwards (axesOf j) m ++ drop (cellsNeeded (length (axesOf j)) m) lent) (sym e.arrival);
+          (λ (m : ℕ). table Forwards (axes_of j) m ++ drop (cells_needed (length (axes_of j)) m) lent) (sym e.arrival);
     }
 by-verdict j lent o (refused3 a e) z = absurd (let n = e.number in omega arith)
 by-verdict j lent o (refused4 i a b e) z = absurd (let n = e.number in omega arith)
@@ -118,25 +118,25 @@ MaskAllowed (words ws) = Unit
 MaskAllowed (typed t) = (1 ≤ t.mask) × (t.mask ≤ 63)
 
 by_call : (q : Input) (lent : List ℤ) (o : Outcome) → CallVerdict Forwards lent o q → o.number ≡ 0
-    → MaskAllowed q × Accepted (inputJob q) lent o
+    → MaskAllowed q × Accepted (input_job q) lent o
 by_call q lent o (words1 ws a e) z = absurd (let n = e.number in omega arith)
 by_call q lent o (words2 ws p a e) z = absurd (let n = e.number in omega arith)
 by_call q lent o (words14 ws p a e) z = absurd (let n = e.number in omega arith)
-by_call q lent o (wordsJob ws j a v) z =
+by_call q lent o (words_job ws j a v) z =
     (tt, subst (λ (i : Job). Accepted i lent o) (sym (job-spelled ws j a)) (by-verdict j lent o v z))
 by_call q lent o (typed1 t a e) z = absurd (let n = e.number in omega arith)
-by_call q lent o (typedJobs t a b v) z = ((a, b), by-verdict (job_of t) lent o v z)
+by_call q lent o (typed_jobs t a b v) z = ((a, b), by-verdict (job_of t) lent o v z)
 
 -- a job that is answered with number 0
 pub record Passes (q : Input) : Type 0 where
   pub mask : MaskAllowed q
-  pub passed : AllPassed (inputJob q).axes
-  pub reach : allReach (inputJob q).axes (answer_of q).arrival ≡ true
+  pub passed : AllPassed (input_job q).axes
+  pub reach : all_reach (input_job q).axes (answer_of q).arrival ≡ true
 
 pub passes : (q : Input) → (answer_of q).number ≡ 0 → Passes q
 passes q z =
     let n = (answer_of q).arrival in
-    let cells = cellsNeeded (length (inputAxes q)) n in
+    let cells = cells_needed (length (input_axes q)) n in
     let whole = replicate cells (pos 0) in
     let long : length whole ≡ cells = length-replicate cells (pos 0) in
     let a = job-accepted q whole z (omega (arith, long)) in
@@ -144,14 +144,14 @@ passes q z =
     record {
       mask = b.0;
       passed = b.1.passed;
-      reach = subst (λ (m : ℕ). allReach (inputJob q).axes m ≡ true) a.1.0 b.1.reach;
+      reach = subst (λ (m : ℕ). all_reach (input_job q).axes m ≡ true) a.1.0 b.1.reach;
     }
 
 -- ---- the part
 
 module _ (q : Input) (k : ℕ) (lent : List ℤ) where
-  pub part-accepted : (answer_of q).number ≡ 0 → partAccepted (answer_of q) (inputAxes q) k lent ≡ partCall q k lent
-  unfolding partCall
+  pub part-accepted : (answer_of q).number ≡ 0 → part_accepted (answer_of q) (input_axes q) k lent ≡ part_call q k lent
+  unfolding part_call
   part-accepted z = choice-yes (eqb (answer_of q).number 0) _ _ (eq-eqb (answer_of q).number 0 z)
 
 -- ---- of a job that is answered with number 0
@@ -162,25 +162,25 @@ module _ (q : Input) (z : (answer_of q).number ≡ 0) where
   n = (answer_of q).arrival
 
   abbrev xs : List Axis
-  xs = inputAxes q
+  xs = input_axes q
 
   abbrev b : ℕ
   b = 3 * length xs
 
   abbrev f : ℕ → List ℤ
-  f i = row (map (plannedAxis n) xs) i
+  f i = row (map (planned_axis n) xs) i
 
   even : (i : ℕ) → length (f i) ≡ b
-  even i = blocks-length 3 (cells i) (λ t. refl) (map (plannedAxis n) xs)
-      ∙ ap (λ (l : ℕ). 3 * l) (length-map xs (plannedAxis n))
+  even i = blocks-length 3 (cells i) (λ t. refl) (map (planned_axis n) xs)
+      ∙ ap (λ (l : ℕ). 3 * l) (length-map xs (planned_axis n))
 
   -- how many rows a part has
   abbrev count : ℕ → List ℤ → ℕ
-  count k lent = partRows (length xs) n k (length lent)
+  count k lent = part_rows (length xs) n k (length lent)
 
   -- the rows of a part
   part-taken : (k : ℕ) (lent : List ℤ)
-      → take (b * count k lent) (partAccepted (answer_of q) xs k lent).cells ≡ part Forwards xs n k (count k lent)
+      → take (b * count k lent) (part_accepted (answer_of q) xs k lent).cells ≡ part Forwards xs n k (count k lent)
   part-taken k lent =
       let c = count k lent in
       let some = part Forwards xs n k c in
@@ -188,21 +188,21 @@ module _ (q : Input) (z : (answer_of q).number ≡ 0) where
       ∙ take-append_seam some (drop (b * c) lent)
 
   -- the call for all rows, with a table that has room
-  module _ (whole : List ℤ) (room : cellsNeeded (length xs) n ≤ length whole) where
+  module _ (whole : List ℤ) (room : cells_needed (length xs) n ≤ length whole) where
     is-accepted : ((call q whole).number ≡ 0)
         × (((call q whole).arrival ≡ n) × Demand3 Forwards xs n (call q whole).cells)
     is-accepted = job-accepted q whole z room
 
-    all-rows : (call q whole).cells ≡ flatten (tabulate f 0 (suc n)) ++ drop (cellsNeeded (length xs) n) whole
+    all-rows : (call q whole).cells ≡ flatten (tabulate f 0 (suc n)) ++ drop (cells_needed (length xs) n) whole
     all-rows =
         (by_call q whole (call q whole) (call-verdict q whole) is-accepted.0).1.cells
-        ∙ ap (λ (m : ℕ). table Forwards xs m ++ drop (cellsNeeded (length xs) m) whole) is-accepted.1.0
+        ∙ ap (λ (m : ℕ). table Forwards xs m ++ drop (cells_needed (length xs) m) whole) is-accepted.1.0
 
   -- c rows from row k on, of parts that come to row k + c
   record Made (k c : ℕ) (lents : List (List ℤ)) : Type 0 where
-    next : nextRow q k lents ≡ k + c
+    next : next_row q k lents ≡ k + c
     inside : k + c ≤ suc n
-    cells : partsWritten q k lents ≡ part Forwards xs n k c
+    cells : parts_written q k lents ≡ part Forwards xs n k c
 
   -- the rows from row k on that the calls write
   made : (k : ℕ) (lents : List (List ℤ)) → k ≤ suc n → (c : ℕ) × Made k c lents
@@ -214,14 +214,14 @@ module _ (q : Input) (z : (answer_of q).number ≡ 0) where
       let later = made (k + c) lents fits in
       let d = later.0 in
       let is = part-accepted q k lent z in
-      let rows : (partCall q k lent).rows ≡ c = sym (ap (λ (p : PartOutcome). p.rows) is) in (
+      let rows : (part_call q k lent).rows ≡ c = sym (ap (λ (p : PartOutcome). p.rows) is) in (
         c + d,
         record {
-          next = ap (λ (i : ℕ). nextRow q (k + i) lents) rows ∙ later.1.next ∙ omega arith;
+          next = ap (λ (i : ℕ). next_row q (k + i) lents) rows ∙ later.1.next ∙ omega arith;
           inside = let l = later.1.inside in omega arith;
           cells =
-              sym (ap (λ (p : PartOutcome). take (b * p.rows) p.cells ++ partsWritten q (k + p.rows) lents) is)
-              ∙ ap (λ (l : List ℤ). l ++ partsWritten q (k + c) lents) (part-taken k lent)
+              sym (ap (λ (p : PartOutcome). take (b * p.rows) p.cells ++ parts_written q (k + p.rows) lents) is)
+              ∙ ap (λ (l : List ℤ). l ++ parts_written q (k + c) lents) (part-taken k lent)
               ∙ ap (λ (l : List ℤ). part Forwards xs n k c ++ l) later.1.cells
               ∙ sym (parted b f even k c d);
         },
@@ -233,7 +233,7 @@ parts-hold q k lent whole z room =
     (record { number = a.0; arrival = a.1.0; demand3 = a.1.1; rows = go (lt-or-le (suc (n q z)) k) })
   where
     a : ((call q whole).number ≡ 0)
-        × (((call q whole).arrival ≡ n q z) × Demand3 Forwards (inputAxes q) (n q z) (call q whole).cells)
+        × (((call q whole).arrival ≡ n q z) × Demand3 Forwards (input_axes q) (n q z) (call q whole).cells)
     a = is-accepted q z whole room
 
     c : ℕ
@@ -243,20 +243,20 @@ parts-hold q k lent whole z room =
     none m l l' e = ap (λ (i : ℕ). take i l) e ∙ sym (ap (λ (i : ℕ). take i l') e)
 
     go : (suc (n q z) < k) ⊎ (k ≤ suc (n q z))
-        → take (b q z * c) (partAccepted (answer_of q) (inputAxes q) k lent).cells
+        → take (b q z * c) (part_accepted (answer_of q) (input_axes q) k lent).cells
         ≡ take (b q z * c) (drop (b q z * k) (call q whole).cells)
     go (inl h) = let e : c ≡ 0 = omega arith in none (b q z * c) _ _ (ap (λ (i : ℕ). b q z * i) e ∙ mul-zero (b q z))
     go (inr h) =
         part-taken q z k lent
         ∙ sym (taken (b q z) (f q z) (even q z) k c (suc (n q z))
-        (drop (cellsNeeded (length (inputAxes q)) (n q z)) whole) (omega arith))
+        (drop (cells_needed (length (input_axes q)) (n q z)) whole) (omega arith))
         ∙ ap (λ (l : List ℤ). take (b q z * c) (drop (b q z * k) l)) (sym (all-rows q z whole room))
 
 pub parts-make-the-table : PartsMakeTheTable
 parts-make-the-table q lents whole z end long =
-    (same, subst (Demand3 Forwards (inputAxes q) (n q z)) (sym same) (is-accepted q z whole room).1.1)
+    (same, subst (Demand3 Forwards (input_axes q) (n q z)) (sym same) (is-accepted q z whole room).1.1)
   where
-    room : cellsNeeded (length (inputAxes q)) (n q z) ≤ length whole
+    room : cells_needed (length (input_axes q)) (n q z) ≤ length whole
     room = omega (arith, long)
 
     all : (c : ℕ) × Made q z 0 c lents
@@ -265,11 +265,11 @@ parts-make-the-table q lents whole z end long =
     every : all.0 ≡ suc (n q z)
     every = let e = all.1.next in omega (arith, end)
 
-    same : partsWritten q 0 lents ≡ (call q whole).cells
+    same : parts_written q 0 lents ≡ (call q whole).cells
     same =
         all.1.cells
-        ∙ ap (part Forwards (inputAxes q) (n q z) 0) every
-        ∙ sym (append-nil (table Forwards (inputAxes q) (n q z)))
-        ∙ ap (λ (l : List ℤ). table Forwards (inputAxes q) (n q z) ++ l)
-        (sym (drop_of_length-le whole {i = cellsNeeded (length (inputAxes q)) (n q z)} (omega (arith, long))))
+        ∙ ap (part Forwards (input_axes q) (n q z) 0) every
+        ∙ sym (append-nil (table Forwards (input_axes q) (n q z)))
+        ∙ ap (λ (l : List ℤ). table Forwards (input_axes q) (n q z) ++ l)
+        (sym (drop_of_length-le whole {i = cells_needed (length (input_axes q)) (n q z)} (omega (arith, long))))
         ∙ sym (all-rows q z whole room)

@@ -23,17 +23,17 @@ use Rattle.model.specs.declared.AxisRaises.{AxisRaises}
 use Rattle.model.specs.declared.RaisesAnswer.{RaisesAnswer}
 use Rattle.model.specs.declared.Raise.TheVariants.{AccelerationBy, SpeedBy}
 use Rattle.model.specs.planning.Motion.{Reachable, reachable}
-use Rattle.model.specs.planning.Job.{Job, JobAxis, setAxes, job_of, bit}
+use Rattle.model.specs.planning.Job.{Job, JobAxis, set_axes, job_of, bit}
 use Rattle.model.specs.planning.Refusals.{AllPassed, Passed}
-use Rattle.model.specs.planning.Outcome.{Outcome, Input, typed, inputJob, call, beforeTen, answer_of}
-use Rattle.theorems.specs.Verdict.{Among, Names, Refuses, Verdict, CallVerdict, typed1, typedJobs, refused3}
+use Rattle.model.specs.planning.Outcome.{Outcome, Input, typed, input_job, call, before_ten, answer_of}
+use Rattle.theorems.specs.Verdict.{Among, Names, Refuses, Verdict, CallVerdict, typed1, typed_jobs, refused3}
 use Rattle.theorems.specs.Verdict.{refused4, refused12, refused5, refused15, refused6, refused16, refused17}
 use Rattle.theorems.specs.Verdict.{refused13, refused8, refused9, refused10, accepted}
-use Rattle.model.specs.calls.Raises.{limitOf, highest, withLimit, raiseOf, noRaises, inOrder, raisesOf}
-use Rattle.model.specs.calls.Raises.{raisesFrom, noneRaised, raisesWith, raisesCall}
+use Rattle.model.specs.calls.Raises.{limit_of, highest, with_limit, raise_of, no_raises, in_order, raises_of}
+use Rattle.model.specs.calls.Raises.{raises_from, none_raised, raises_with, raises_call}
 use Rattle.theorems.specs.Raises.{RaiseIs, reported, Ordered, neither, acceleration, speed, acceleration-first}
 use Rattle.theorems.specs.Raises.{speed-first}
-use Rattle.theorems.specs.Raises.{RaisesSay, Named, RaisesHold, RaisesVerdict, refuseRaises, RaisesCallVerdict}
+use Rattle.theorems.specs.Raises.{RaisesSay, Named, RaisesHold, RaisesVerdict, refuse_raises, RaisesCallVerdict}
 use Rattle.theorems.proofs.jobs.Masks.{Ascends}
 use Rattle.theorems.proofs.jobs.Verdict.{first-among, later-among, passed-among, reach-is}
 use Rattle.theorems.proofs.calls.CallVerdict.{set-ascends, call-verdict}
@@ -51,7 +51,7 @@ both-raises m l b =
       | false ↦ record { first = SpeedBy l; second = AccelerationBy m }
     ]
 
-ordered-is : (a b : Option ℕ) → Ordered (inOrder a b)
+ordered-is : (a b : Option ℕ) → Ordered (in_order a b)
 ordered-is none none = neither
 ordered-is (some m) none = acceleration m
 ordered-is none (some l) = speed l
@@ -66,7 +66,7 @@ abbrev of-limit : Limit → Option ℕ → Option ℕ → Option ℕ
 of-limit Acceleration a b = a
 of-limit Speed a b = b
 
-reported-is : (q : Limit) (a b : Option ℕ) → reported q (inOrder a b) ≡ of-limit q a b
+reported-is : (q : Limit) (a b : Option ℕ) → reported q (in_order a b) ≡ of-limit q a b
 reported-is Acceleration none none = refl
 reported-is Acceleration (some m) none = refl
 reported-is Acceleration none (some l) = refl
@@ -81,17 +81,17 @@ reported-is q (some m) (some l) = go q (leb m l)
     go Speed true = refl
     go Speed false = refl
 
-raises-say : (x : Axis) (n : ℕ) → Passed x → (Reachable x n → ⊥) → RaisesSay x n (raisesOf x n)
+raises-say : (x : Axis) (n : ℕ) → Passed x → (Reachable x n → ⊥) → RaisesSay x n (raises_of x n)
 raises-say x n p misses =
     record {
-      each = λ q. subst (RaiseIs (λ k. Reachable (withLimit q k x) n) (limitOf q x) (highest q))
+      each = λ q. subst (RaiseIs (λ k. Reachable (with_limit q k x) n) (limit_of q x) (highest q))
           (sym (own q)) (raise-is q x n p misses);
-      ordered = ordered-is (raiseOf Acceleration x n) (raiseOf Speed x n);
+      ordered = ordered-is (raise_of Acceleration x n) (raise_of Speed x n);
     }
   where
-    own : (q : Limit) → reported q (raisesOf x n) ≡ raiseOf q x n
-    own Acceleration = reported-is Acceleration (raiseOf Acceleration x n) (raiseOf Speed x n)
-    own Speed = reported-is Speed (raiseOf Acceleration x n) (raiseOf Speed x n)
+    own : (q : Limit) → reported q (raises_of x n) ≡ raise_of q x n
+    own Acceleration = reported-is Acceleration (raise_of Acceleration x n) (raise_of Speed x n)
+    own Speed = reported-is Speed (raise_of Acceleration x n) (raise_of Speed x n)
 
 -- ---- the entries of all axes
 
@@ -101,26 +101,26 @@ Below k [] = Unit {0}
 Below k (x ∷ xs) = (x.number < k) × Below k xs
 
 -- an empty mask names no axis
-none-set : (i : ℕ) (six : List Axis) → setAxes i 0 six ≡ []
+none-set : (i : ℕ) (six : List Axis) → set_axes i 0 six ≡ []
 none-set i [] = refl
 none-set i (x ∷ six) = none-set (suc i) six
 
 -- a mask of k bits names no axis from number k on
-set_below : (k i m : ℕ) (six : List Axis) → m < 2 ^ k → Below (i + k) (setAxes i m six)
+set_below : (k i m : ℕ) (six : List Axis) → m < 2 ^ k → Below (i + k) (set_axes i m six)
 set_below k i m [] h = tt
 set_below zero i m (x ∷ six) h =
     let empty : m ≡ 0 = omega arith in
-    subst (Below (i + 0)) (sym (ap (λ (b : ℕ). setAxes i b (x ∷ six)) empty ∙ none-set i (x ∷ six))) tt
+    subst (Below (i + 0)) (sym (ap (λ (b : ℕ). set_axes i b (x ∷ six)) empty ∙ none-set i (x ∷ six))) tt
 set_below (suc k) i m (x ∷ six) h =
     let next : suc i + k ≡ i + suc k = omega arith in
     let half : m / 2 < 2 ^ k = omega (arith, h, pow-suc 2 k) in
     go (eqb (m % 2) 1)
-    (subst (λ (c : ℕ). Below c (setAxes (suc i) (m / 2) six)) next (set_below k (suc i) (m / 2) six half))
+    (subst (λ (c : ℕ). Below c (set_axes (suc i) (m / 2) six)) next (set_below k (suc i) (m / 2) six half))
   where
-    go : (b : Bool) → Below (i + suc k) (setAxes (suc i) (m / 2) six)
+    go : (b : Bool) → Below (i + suc k) (set_axes (suc i) (m / 2) six)
         → Below (i + suc k) (elim b as (λ _. List JobAxis) [
-          | true ↦ record { number = i; axis = x } ∷ setAxes (suc i) (m / 2) six
-          | false ↦ setAxes (suc i) (m / 2) six
+          | true ↦ record { number = i; axis = x } ∷ set_axes (suc i) (m / 2) six
+          | false ↦ set_axes (suc i) (m / 2) six
         ])
     go true f = (omega arith, f)
     go false f = f
@@ -128,22 +128,22 @@ set_below (suc k) i m (x ∷ six) h =
 module _ (n : ℕ) where
   abbrev after : JobAxis → List JobAxis → List AxisRaises → Bool → List AxisRaises
   after x xs l b =
-      elim b [ true ↦ raisesFrom n xs l | false ↦ raisesFrom n xs (set l x.number (raisesOf x.axis n)) ]
+      elim b [ true ↦ raises_from n xs l | false ↦ raises_from n xs (set l x.number (raises_of x.axis n)) ]
 
   -- an entry stays where no axis that misses n has its number
   untouched : (xs : List JobAxis) (l : List AxisRaises) (i : ℕ)
       → ((x : JobAxis) → Among xs x → reachable x.axis n ≡ false → x.number ≡ i → ⊥)
-      → get_or (raisesFrom n xs l) i noRaises ≡ get_or l i noRaises
+      → get_or (raises_from n xs l) i no_raises ≡ get_or l i no_raises
   untouched [] l i f = refl
   untouched (x ∷ xs) l i f = go (reachable x.axis n) refl (λ k. untouched xs k i (λ y m. f y (later-among x xs y m)))
     where
       go : (b : Bool) → reachable x.axis n ≡ b
-          → ((k : List AxisRaises) → get_or (raisesFrom n xs k) i noRaises ≡ get_or k i noRaises)
-          → get_or (after x xs l b) i noRaises ≡ get_or l i noRaises
+          → ((k : List AxisRaises) → get_or (raises_from n xs k) i no_raises ≡ get_or k i no_raises)
+          → get_or (after x xs l b) i no_raises ≡ get_or l i no_raises
       go true e h = h l
       go false e h =
-          h (set l x.number (raisesOf x.axis n))
-          ∙ get_or-set_other l x.number i (raisesOf x.axis n) noRaises (λ q. f x (first-among x xs) e (sym q))
+          h (set l x.number (raises_of x.axis n))
+          ∙ get_or-set_other l x.number i (raises_of x.axis n) no_raises (λ q. f x (first-among x xs) e (sym q))
 
   ascending-later : (k : ℕ) (xs : List JobAxis) → Ascends k xs → (x : JobAxis) → Among xs x → k ≤ x.number
   ascending-later k [] a x m = absurd (none-some m.1)
@@ -154,38 +154,38 @@ module _ (n : ℕ) where
   -- an axis that misses n has its raises at its number
   at_own : (k : ℕ) (xs : List JobAxis) (l : List AxisRaises) → Ascends k xs
       → Below (length l) xs → (x : JobAxis) → Among xs x
-      → reachable x.axis n ≡ false → get_or (raisesFrom n xs l) x.number noRaises ≡ raisesOf x.axis n
+      → reachable x.axis n ≡ false → get_or (raises_from n xs l) x.number no_raises ≡ raises_of x.axis n
   at_own k [] l a b x m e = absurd (none-some m.1)
   at_own k (y ∷ xs) l a b x (zero, s) e =
       let q : y ≡ x = cc in
-      subst (λ (z : JobAxis). get_or (raisesFrom n (y ∷ xs) l) z.number noRaises ≡ raisesOf z.axis n) q
+      subst (λ (z : JobAxis). get_or (raises_from n (y ∷ xs) l) z.number no_raises ≡ raises_of z.axis n) q
       (go (reachable y.axis n) (subst (λ (z : JobAxis). reachable z.axis n ≡ false) (sym q) e))
     where
-      go : (t : Bool) → t ≡ false → get_or (after y xs l t) y.number noRaises ≡ raisesOf y.axis n
+      go : (t : Bool) → t ≡ false → get_or (after y xs l t) y.number no_raises ≡ raises_of y.axis n
       go true e = absurd (false≢true (sym e))
       go false e =
-          untouched xs (set l y.number (raisesOf y.axis n)) y.number
+          untouched xs (set l y.number (raises_of y.axis n)) y.number
           (λ z m f q. let h = ascending-later (suc y.number) xs a.1 z m in omega arith)
-          ∙ get_or-set_same l y.number (raisesOf y.axis n) noRaises b.0
+          ∙ get_or-set_same l y.number (raises_of y.axis n) no_raises b.0
   at_own k (y ∷ xs) l a b x (suc i, s) e =
       go (reachable y.axis n) (λ r h. at_own (suc y.number) xs r a.1 h x (i, s) e)
     where
       go : (t : Bool)
           → ((r : List AxisRaises) → Below (length r) xs
-          → get_or (raisesFrom n xs r) x.number noRaises ≡ raisesOf x.axis n)
-          → get_or (after y xs l t) x.number noRaises ≡ raisesOf x.axis n
+          → get_or (raises_from n xs r) x.number no_raises ≡ raises_of x.axis n)
+          → get_or (after y xs l t) x.number no_raises ≡ raises_of x.axis n
       go true h = h l b.1
       go false h =
-          h (set l y.number (raisesOf y.axis n))
-          (subst (λ (c : ℕ). Below c xs) (sym (length-set l y.number (raisesOf y.axis n))) b.1)
+          h (set l y.number (raises_of y.axis n))
+          (subst (λ (c : ℕ). Below c xs) (sym (length-set l y.number (raises_of y.axis n))) b.1)
 
 -- no entry of the list of no raises has any
-of_none : (k i : ℕ) → get_or (replicate k noRaises) i noRaises ≡ noRaises
+of_none : (k i : ℕ) → get_or (replicate k no_raises) i no_raises ≡ no_raises
 of_none zero i = refl
 of_none (suc k) zero = refl
 of_none (suc k) (suc i) = of_none k i
 
-pub none-raised : (i : ℕ) → get_or noneRaised i noRaises ≡ noRaises
+pub none-raised : (i : ℕ) → get_or none_raised i no_raises ≡ no_raises
 none-raised i = of_none 6 i
 
 -- ---- what number 8 says of a job
@@ -230,7 +230,7 @@ module _ (t : Typed.Job) where
       go : o.number ≡ 8 → o.mask ≡ (answer_of (typed t)).mask → CallVerdict Forwards [] o (typed t)
           → Eight (job_of t) (answer_of (typed t)).mask × (t.mask < 64)
       go n m (typed1 _ h r) = let z = r.number in absurd (omega arith)
-      go n m (typedJobs _ h k v) = (subst (Eight (job_of t)) m (by-verdict (job_of t) o n v), omega arith)
+      go n m (typed_jobs _ h k v) = (subst (Eight (job_of t)) m (by-verdict (job_of t) o n v), omega arith)
 
   abbrev xs : List JobAxis
   xs = (job_of t).axes
@@ -242,16 +242,16 @@ module _ (t : Typed.Job) where
   with-list l = record { answer = a; axes = l }
 
   -- any number but 8
-  no_other : (a.number ≡ 8 → ⊥) → RaisesHold (job_of t) (with-list noneRaised)
+  no_other : (a.number ≡ 8 → ⊥) → RaisesHold (job_of t) (with-list none_raised)
   no_other other = record { named = λ x m h. absurd (other h.0); others = λ i h. none-raised i }
 
-  each-named : a.number ≡ 8 → RaisesHold (job_of t) (with-list (raisesFrom t.asked xs noneRaised))
+  each-named : a.number ≡ 8 → RaisesHold (job_of t) (with-list (raises_from t.asked xs none_raised))
   each-named number = go (eight number).0 (eight number).1
     where
       go : Eight (job_of t) a.mask → t.mask < 64
-          → RaisesHold (job_of t) (with-list (raisesFrom t.asked xs noneRaised))
+          → RaisesHold (job_of t) (with-list (raises_from t.asked xs none_raised))
       go g six =
-          record { named = named; others = λ i h. untouched t.asked xs noneRaised i (reached i h) ∙ none-raised i }
+          record { named = named; others = λ i h. untouched t.asked xs none_raised i (reached i h) ∙ none-raised i }
         where
           reach : (x : JobAxis) → Among xs x → Reachable x.axis t.asked ↔ T (reachable x.axis t.asked)
           reach x m = reach-is x.axis t.asked (passed-among xs g.passed x m)
@@ -268,17 +268,17 @@ module _ (t : Typed.Job) where
               )
 
           named : (x : JobAxis) → Among xs x → Named a x.number
-              → RaisesSay x.axis t.asked (get_or (raisesFrom t.asked xs noneRaised) x.number noRaises)
+              → RaisesSay x.axis t.asked (get_or (raises_from t.asked xs none_raised) x.number no_raises)
           named x m h =
               let misses = (g.names.each x m).0 h.1 in
               let missed = T_false (reachable x.axis t.asked) (λ r. misses ((reach x m).1 r)) in
-              let own = at_own t.asked 0 xs noneRaised (set-ascends 0 t.mask t.axes)
+              let own = at_own t.asked 0 xs none_raised (set-ascends 0 t.mask t.axes)
               (set_below 6 0 t.mask t.axes six) x m missed in
               subst (RaisesSay x.axis t.asked) (sym own)
               (raises-say x.axis t.asked (passed-among xs g.passed x m) misses)
 
-  pub raises-hold : RaisesHold (job_of t) (raisesCall (typed t))
-  unfolding raisesCall
+  pub raises-hold : RaisesHold (job_of t) (raises_call (typed t))
+  unfolding raises_call
   raises-hold =
       by_bool (λ (l : List AxisRaises). RaisesHold (job_of t) (with-list l)) (eqb a.number 8) _ _
       (λ y. each-named (eqb→eq a.number 8 y))
@@ -286,32 +286,32 @@ module _ (t : Typed.Job) where
 
 -- ---- what each number says
 
-module _ (q : Input) (r : RaisesAnswer) (is : r ≡ raisesCall q) where
+module _ (q : Input) (r : RaisesAnswer) (is : r ≡ raises_call q) where
   -- a refusal of the words or of the mask is the call's own, and brings no raises
-  refused : (n p : ℕ) → OfWords n → Refuses (call q []) n p 0 0 [] → r ≡ refuseRaises n p
-  unfolding raisesCall answer_of
+  refused : (n p : ℕ) → OfWords n → Refuses (call q []) n p 0 0 [] → r ≡ refuse_raises n p
+  unfolding raises_call answer_of
   refused n p w e =
       is
-      ∙ ap (λ (a : Answer). raisesWith a (inputJob q))
-      (refused-answer (inputJob q).mask (call q []) n p 0 0 [] w.not-10 e)
+      ∙ ap (λ (a : Answer). raises_with a (input_job q))
+      (refused-answer (input_job q).mask (call q []) n p 0 0 [] w.not-10 e)
       ∙ ap (λ (b : Bool). record {
-        answer = (refuseRaises n p).answer;
+        answer = (refuse_raises n p).answer;
         axes = elim b as (λ _. List AxisRaises) [
-          | true ↦ raisesFrom (inputJob q).asked (inputJob q).axes noneRaised
-          | false ↦ noneRaised
+          | true ↦ raises_from (input_job q).asked (input_job q).axes none_raised
+          | false ↦ none_raised
         ];
       }) (ne_eqb n 8 w.not-8)
 
-  judged : RaisesHold (inputJob q) r → (j : Job) → inputJob q ≡ j
+  judged : RaisesHold (input_job q) r → (j : Job) → input_job q ≡ j
       → Verdict Forwards j [] (call q []) → RaisesVerdict j r
-  unfolding raisesCall answer_of
+  unfolding raises_call answer_of
   judged h j e v =
       record {
         outcome = call q [];
         planned = v;
-        answer = ap (λ (a : RaisesAnswer). a.answer) is ∙ ap (λ (i : Job). beforeTen i.mask (call q [])) e;
+        answer = ap (λ (a : RaisesAnswer). a.answer) is ∙ ap (λ (i : Job). before_ten i.mask (call q [])) e;
         holds = subst (λ (i : Job). RaisesHold i r) e h;
       }
 
-  pub raises-verdict : RaisesHold (inputJob q) r → RaisesCallVerdict q r
+  pub raises-verdict : RaisesHold (input_job q) r → RaisesCallVerdict q r
   raises-verdict h = said-too _ _ _ _ q refused (judged h) (call-verdict q [])

@@ -15,15 +15,15 @@ use Rattle.model.specs.declared.Report.{Report}
 use Rattle.model.specs.declared.Report.TheVariants.{Found, Spent, Nothing}
 use Rattle.model.specs.declared.SearchAnswer.{SearchAnswer}
 use Rattle.model.specs.planning.Job.{Job}
-use Rattle.model.specs.planning.Admission.{Input, inputJob, axisRefusals, Admission, tested, jobAdmission, admission}
-use Rattle.model.specs.planning.Outcome.{arrives, leastFrom, outcomeAfter}
+use Rattle.model.specs.planning.Admission.{Input, input_job, axis_refusals, Admission, tested, job_admission, admission}
+use Rattle.model.specs.planning.Outcome.{arrives, least_from, outcome_after}
 use Rattle.theorems.specs.Verdict.{Arrives, Passing}
-use Rattle.model.specs.calls.Search.{candidates, searchFrom, refuseSearch, searchAnswer, firstAllowed, firstChecked}
-use Rattle.model.specs.calls.Search.{asking, searchRules, searchAfter, searchCall}
-use Rattle.theorems.specs.Search.{undivided, after, continued, callsMade}
-use Rattle.theorems.specs.Search.{Continues, ended, goesOn, ContinuingIsUndivided, AtLeast1, EndsWithin4096}
+use Rattle.model.specs.calls.Search.{candidates, search_from, refuse_search, search_answer, first_allowed, first_checked}
+use Rattle.model.specs.calls.Search.{asking, search_rules, search_after, search_call}
+use Rattle.theorems.specs.Search.{undivided, after, continued, calls_made}
+use Rattle.theorems.specs.Search.{Continues, ended, goes_on, ContinuingIsUndivided, AtLeast1, EndsWithin4096}
 use Rattle.theorems.specs.Search.{SearchSays, found, spent, nothing, Planned, SearchVerdict}
-use Rattle.theorems.specs.Search.{refusedAs, refused18, reports, SearchCallVerdict}
+use Rattle.theorems.specs.Search.{refused_as, refused18, reports, SearchCallVerdict}
 use Rattle.theorems.proofs.words.WordsAre.{either-said}
 use Rattle.theorems.proofs.jobs.WindowsInWords.{windows-right}
 use Rattle.theorems.proofs.jobs.CheckingOrder.{lacks, clear-passed}
@@ -33,12 +33,12 @@ use Rattle.theorems.proofs.calls.Budgets.{whole, wholly, whole-search, GoesOn, e
 use Rattle.theorems.proofs.calls.SearchSays.{search-says, planned}
 
 -- a search's tests have no number 0 and no number 10
-pub search-numbered : Numbered searchRules
-search-numbered = record { not-0 = λ n. lacks 0 axisRefusals refl; not-10 = λ n. lacks 10 axisRefusals refl }
+pub search-numbered : Numbered search_rules
+search-numbered = record { not-0 = λ n. lacks 0 axis_refusals refl; not-10 = λ n. lacks 10 axis_refusals refl }
 
 -- ---- 18, or the search
 
-first-wrong : (first : ℕ) → T (not (firstAllowed first)) → (first ≡ 0) ⊎ (4097 < first)
+first-wrong : (first : ℕ) → T (not (first_allowed first)) → (first ≡ 0) ⊎ (4097 < first)
 first-wrong first t = go (ltb 0 first) (leb first 4097) (nltb→le 0 first) (nleb→lt first 4097) t
   where
     go : (a b : Bool) → (T (not a) → first ≤ 0) → (T (not b) → 4097 < first) → T (not (a && b))
@@ -47,7 +47,7 @@ first-wrong first t = go (ltb 0 first) (leb first 4097) (nltb→le 0 first) (nle
     go true false f g t = inr (g tt)
     go false b f g t = let h : first ≤ 0 = f tt in inl (omega arith)
 
-first-right : (first : ℕ) → T (firstAllowed first) → (1 ≤ first) × (first ≤ 4097)
+first-right : (first : ℕ) → T (first_allowed first) → (1 ≤ first) × (first ≤ 4097)
 first-right first t = let b = both (ltb 0 first) (leb first 4097) t in (ltb→lt 0 first b.0, leb→le first 4097 b.1)
 
 module _ (j : Job) (first budget : ℕ) where
@@ -60,16 +60,16 @@ module _ (j : Job) (first budget : ℕ) where
   can-ask p h r tried n (spent a b) e = absurd (let z : ◌≡◌ {A = ℕ} 0 1 = cc in omega arith)
   can-ask p h r tried n (nothing a b) e = absurd (let z : ◌≡◌ {A = ℕ} 0 1 = cc in omega arith)
 
-  job-verdict : SearchVerdict j first budget (searchAfter first budget (jobAdmission searchRules j))
-  job-verdict = go (tested axisRefusals (asking 0 j)) refl (ways axisRefusals (asking 0 j))
+  job-verdict : SearchVerdict j first budget (search_after first budget (job_admission search_rules j))
+  job-verdict = go (tested axis_refusals (asking 0 j)) refl (ways axis_refusals (asking 0 j))
     where
-      go : (a : Admission) → tested axisRefusals (asking 0 j) ≡ a → Way axisRefusals (asking 0 j) a
-          → SearchVerdict j first budget (searchAfter first budget a)
-      go a e (stops n p o) = refusedAs n p o (λ lent. ap (outcomeAfter lent) e) refl
+      go : (a : Admission) → tested axis_refusals (asking 0 j) ≡ a → Way axis_refusals (asking 0 j) a
+          → SearchVerdict j first budget (search_after first budget a)
+      go a e (stops n p o) = refused_as n p o (λ lent. ap (outcome_after lent) e) refl
       go a e (passes c w) =
           let p : Passing (asking 0 j) =
           record { asked = omega arith; axes = clear-passed j.axes c; windows = windows-right j.windows w } in
-          by_bool (SearchVerdict j first budget) (firstAllowed first) _ _
+          by_bool (SearchVerdict j first budget) (first_allowed first) _ _
           (λ t.
           let h = first-right first t in
           let says = search-says j first budget p.axes h.1 in
@@ -79,100 +79,100 @@ module _ (j : Job) (first budget : ℕ) where
 -- ---- a search that is not refused: each search of the same job is what it finds
 
 abbrev answer : Job → ℕ → ℕ → SearchAnswer
-answer j first budget = searchAnswer j.mask (searchFrom (arrives j) first budget)
+answer j first budget = search_answer j.mask (search_from (arrives j) first budget)
 
 abbrev Allowed : ℕ → Type 0
 Allowed first = (1 ≤ first) × (first ≤ 4097)
 
 pub record Searches (q : Input) (first : ℕ) : Type 0 where
   pub allowed : Allowed first
-  pub is : (f b : ℕ) → Allowed f → searchCall q f b ≡ answer (inputJob q) f b
+  pub is : (f b : ℕ) → Allowed f → search_call q f b ≡ answer (input_job q) f b
 
-first_passes : (j : Job) (f b : ℕ) → Allowed f → firstChecked j f b ≡ answer j f b
+first_passes : (j : Job) (f b : ℕ) → Allowed f → first_checked j f b ≡ answer j f b
 first_passes j f b h =
     sym
-    (choice-yes (firstAllowed f) (answer j f b) (refuseSearch 18 0)
-    (T_true (firstAllowed f) (and (ltb 0 f) (leb f 4097) (true-T (ltb_yes h.0)) (true-T (leb_yes h.1)))))
+    (choice-yes (first_allowed f) (answer j f b) (refuse_search 18 0)
+    (T_true (first_allowed f) (and (ltb 0 f) (leb f 4097) (true-T (ltb_yes h.0)) (true-T (leb_yes h.1)))))
 
-pub searches : (q : Input) (first budget : ℕ) → (searchCall q first budget).number ≡ 0 → Searches q first
-unfolding searchCall
-searches q first budget = go (admission searchRules q) refl (comes searchRules search-numbered q)
+pub searches : (q : Input) (first budget : ℕ) → (search_call q first budget).number ≡ 0 → Searches q first
+unfolding search_call
+searches q first budget = go (admission search_rules q) refl (comes search_rules search-numbered q)
   where
     not-18 : (j : Job) (b : Bool) → (T b → Allowed first)
-        → (elim b as (λ _. SearchAnswer) [ true ↦ answer j first budget | false ↦ refuseSearch 18 0 ]).number ≡ 0
+        → (elim b as (λ _. SearchAnswer) [ true ↦ answer j first budget | false ↦ refuse_search 18 0 ]).number ≡ 0
         → Allowed first
     not-18 j true h e = h tt
     not-18 j false h e = absurd (omega arith)
 
-    go : (a : Admission) → admission searchRules q ≡ a → Comes searchRules (inputJob q) a
-        → (searchAfter first budget a).number ≡ 0 → Searches q first
+    go : (a : Admission) → admission search_rules q ≡ a → Comes search_rules (input_job q) a
+        → (search_after first budget a).number ≡ 0 → Searches q first
     go a e (refuses n p h k) z = absurd (h z)
     go a e (goes h c w) z =
         record {
-          allowed = not-18 (asking 0 (inputJob q)) (firstAllowed first) (first-right first) z;
-          is = λ f b l. ap (searchAfter f b) e ∙ first_passes (asking 0 (inputJob q)) f b l;
+          allowed = not-18 (asking 0 (input_job q)) (first_allowed first) (first-right first) z;
+          is = λ f b l. ap (search_after f b) e ∙ first_passes (asking 0 (input_job q)) f b l;
         }
 
 -- ---- calls that go on
 
-module _ (q : Input) (is : (f b : ℕ) → Allowed f → searchCall q f b ≡ answer (inputJob q) f b) where
+module _ (q : Input) (is : (f b : ℕ) → Allowed f → search_call q f b ≡ answer (input_job q) f b) where
   abbrev test : ℕ → Bool
-  test = arrives (inputJob q)
+  test = arrives (input_job q)
 
   abbrev all : ℕ → SearchAnswer
-  all first = searchAnswer (inputJob q).mask (whole test first)
+  all first = search_answer (input_job q).mask (whole test first)
 
   undivided-is : (first : ℕ) → Allowed first → undivided q first ≡ all first
   undivided-is first h =
-      is first 4096 h ∙ ap (searchAnswer (inputJob q).mask) (whole-search test first 4096 (omega (arith, h.0)))
+      is first 4096 h ∙ ap (search_answer (input_job q).mask) (whole-search test first 4096 (omega (arith, h.0)))
 
   turn : List ℕ → SearchAnswer → SearchAnswer
   turn bs a = elim a.report [ Found n ↦ a | Spent next ↦ after a.tried (continued q bs next) | Nothing ↦ a ]
 
   ends : (bs : List ℕ) (first : ℕ) → turn bs (all first) ≡ all first
   unfolding turn
-  ends bs first = go (leastFrom test first (candidates first))
+  ends bs first = go (least_from test first (candidates first))
     where
-      go : (o : Option ℕ) → turn bs (searchAnswer (inputJob q).mask (wholly first o))
-          ≡ searchAnswer (inputJob q).mask (wholly first o)
+      go : (o : Option ℕ) → turn bs (search_answer (input_job q).mask (wholly first o))
+          ≡ search_answer (input_job q).mask (wholly first o)
       go (some n) = refl
       go none = refl
 
   -- a call ends as the undivided one does; or it is spent, and the undivided one
   -- goes on from its next candidate
-  call-goes : (first budget : ℕ) → Allowed first → (searchCall q first budget ≡ all first) ⊎ GoesOn test first budget
+  call-goes : (first budget : ℕ) → Allowed first → (search_call q first budget ≡ all first) ⊎ GoesOn test first budget
   call-goes first budget h = go (either_way test first budget)
     where
-      go : (searchFrom test first budget ≡ whole test first) ⊎ GoesOn test first budget
-          → (searchCall q first budget ≡ all first) ⊎ GoesOn test first budget
-      go (inl e) = inl (is first budget h ∙ ap (searchAnswer (inputJob q).mask) e)
+      go : (search_from test first budget ≡ whole test first) ⊎ GoesOn test first budget
+          → (search_call q first budget ≡ all first) ⊎ GoesOn test first budget
+      go (inl e) = inl (is first budget h ∙ ap (search_answer (input_job q).mask) e)
       go (inr g) = inr g
 
   module _ (first budget : ℕ) (h : Allowed first) (g : GoesOn test first budget) where
     pub next-allowed : Allowed (first + budget)
     next-allowed = (omega (arith, h.0), omega (arith, g.left))
 
-    spends : searchCall q first budget
-        ≡ searchAnswer (inputJob q).mask (record { report = Spent (first + budget); tried = budget })
-    spends = is first budget h ∙ ap (searchAnswer (inputJob q).mask) g.is
+    spends : search_call q first budget
+        ≡ search_answer (input_job q).mask (record { report = Spent (first + budget); tried = budget })
+    spends = is first budget h ∙ ap (search_answer (input_job q).mask) g.is
 
     rest-is : undivided q first ≡ after budget (undivided q (first + budget))
     rest-is =
         undivided-is first h
-        ∙ ap (searchAnswer (inputJob q).mask) g.on
+        ∙ ap (search_answer (input_job q).mask) g.on
         ∙ sym (ap (after budget) (undivided-is (first + budget) next-allowed))
 
-    one_more : (bs : List ℕ) → turn bs (searchCall q first budget) ≡ after budget (continued q bs (first + budget))
+    one_more : (bs : List ℕ) → turn bs (search_call q first budget) ≡ after budget (continued q bs (first + budget))
     unfolding turn
     one_more bs = ap (turn bs) spends
 
     -- the calls after it, from its next candidate on
     onward : (a : SearchAnswer) → Continues q (first + budget) a → Continues q first (after budget a)
     onward a (ended e) = ended (ap (after budget) e ∙ sym rest-is)
-    onward a (goesOn next l t r u) =
+    onward a (goes_on next l t r u) =
         let same : budget + (a.tried + (undivided q next).tried)
         ≡ budget + a.tried + (undivided q next).tried = omega arith in
-        goesOn next l (omega arith) r
+        goes_on next l (omega arith) r
         (rest-is
         ∙ ap (after budget) u
         ∙ (λ i. record {
@@ -188,16 +188,16 @@ module _ (q : Input) (is : (f b : ℕ) → Allowed f → searchCall q f b ≡ an
   unfolding continued turn
   continues [] first h = go (call-goes first 0 h)
     where
-      go : (searchCall q first 0 ≡ all first) ⊎ GoesOn test first 0 → Continues q first (searchCall q first 0)
+      go : (search_call q first 0 ≡ all first) ⊎ GoesOn test first 0 → Continues q first (search_call q first 0)
       go (inl e) = ended (e ∙ sym (undivided-is first h))
       go (inr g) =
           subst (Continues q first) (sym (spends first 0 h g))
-          (goesOn (first + 0) g.left refl refl (rest-is first 0 h g))
+          (goes_on (first + 0) g.left refl refl (rest-is first 0 h g))
   continues (b ∷ bs) first h = go (call-goes first b h) (λ g. continues bs (first + b) (next-allowed first b h g))
     where
-      go : (searchCall q first b ≡ all first) ⊎ GoesOn test first b
+      go : (search_call q first b ≡ all first) ⊎ GoesOn test first b
           → (GoesOn test first b → Continues q (first + b) (continued q bs (first + b)))
-          → Continues q first (turn bs (searchCall q first b))
+          → Continues q first (turn bs (search_call q first b))
       go (inl e) ih = ended (ap (turn bs) e ∙ ends bs first ∙ sym (undivided-is first h))
       go (inr g) ih =
           subst (Continues q first) (sym (one_more first b h g bs))
@@ -209,24 +209,24 @@ module _ (q : Input) (is : (f b : ℕ) → Allowed f → searchCall q f b ≡ an
   unfolding continued turn
   finishes [] first h l c = go (call-goes first 0 h)
     where
-      go : (searchCall q first 0 ≡ all first) ⊎ GoesOn test first 0 → searchCall q first 0 ≡ undivided q first
+      go : (search_call q first 0 ≡ all first) ⊎ GoesOn test first 0 → search_call q first 0 ≡ undivided q first
       go (inl e) = e ∙ sym (undivided-is first h)
       go (inr g) = absurd (omega (arith, g.left))
   finishes (b ∷ bs) first h (l, ls) c =
       go (call-goes first b h) (λ g. finishes bs (first + b) (next-allowed first b h g) ls (omega arith))
     where
-      go : (searchCall q first b ≡ all first) ⊎ GoesOn test first b
+      go : (search_call q first b ≡ all first) ⊎ GoesOn test first b
           → (GoesOn test first b → continued q bs (first + b) ≡ undivided q (first + b))
-          → turn bs (searchCall q first b) ≡ undivided q first
+          → turn bs (search_call q first b) ≡ undivided q first
       go (inl e) ih = ap (turn bs) e ∙ ends bs first ∙ sym (undivided-is first h)
       go (inr g) ih = one_more first b h g bs ∙ ap (after b) (ih g) ∙ sym (rest-is first b h g)
 
   -- each call but the last tries one candidate or more
   count : List ℕ → Report → ℕ
-  count bs r = elim r as (λ _. ℕ) [ Found n ↦ 1 | Spent next ↦ suc (callsMade q bs next) | Nothing ↦ 1 ]
+  count bs r = elim r as (λ _. ℕ) [ Found n ↦ 1 | Spent next ↦ suc (calls_made q bs next) | Nothing ↦ 1 ]
 
-  made : (bs : List ℕ) (first : ℕ) → Allowed first → AtLeast1 bs → callsMade q bs first ≤ suc (candidates first - 1)
-  unfolding callsMade count
+  made : (bs : List ℕ) (first : ℕ) → Allowed first → AtLeast1 bs → calls_made q bs first ≤ suc (candidates first - 1)
+  unfolding calls_made count
   made [] first h l = omega arith
   made (b ∷ bs) first h (l, ls) = go (call-goes first b h) (λ g. made bs (first + b) (next-allowed first b h g) ls)
     where
@@ -234,11 +234,11 @@ module _ (q : Input) (is : (f b : ℕ) → Allowed f → searchCall q f b ≡ an
       one (some n) = refl
       one none = refl
 
-      go : (searchCall q first b ≡ all first) ⊎ GoesOn test first b
-          → (GoesOn test first b → callsMade q bs (first + b) ≤ suc (candidates (first + b) - 1))
-          → count bs (searchCall q first b).report ≤ suc (candidates first - 1)
+      go : (search_call q first b ≡ all first) ⊎ GoesOn test first b
+          → (GoesOn test first b → calls_made q bs (first + b) ≤ suc (candidates (first + b) - 1))
+          → count bs (search_call q first b).report ≤ suc (candidates first - 1)
       go (inl e) ih =
-          let z = ap (λ (a : SearchAnswer). count bs a.report) e ∙ one (leastFrom test first (candidates first)) in
+          let z = ap (λ (a : SearchAnswer). count bs a.report) e ∙ one (least_from test first (candidates first)) in
           omega (arith, z)
       go (inr g) ih =
           let z = ap (λ (a : SearchAnswer). count bs a.report) (spends first b h g) in
@@ -257,10 +257,10 @@ within-4096 q first bs z l c =
       calls = omega (arith, s.allowed.0, made q s.is bs first s.allowed l);
     }
 
-pub search-verdict : (q : Input) (first budget : ℕ) → SearchCallVerdict q first budget (searchCall q first budget)
-unfolding searchCall
+pub search-verdict : (q : Input) (first budget : ℕ) → SearchCallVerdict q first budget (search_call q first budget)
+unfolding search_call
 search-verdict q first budget =
-    after-admission searchRules (searchAfter first budget) (λ a n p. a ≡ refuseSearch n p)
+    after-admission search_rules (search_after first budget) (λ a n p. a ≡ refuse_search n p)
     (λ a j. SearchVerdict j first budget a) (λ n p. refl) q
     (λ j i. job-verdict j first budget)
 
@@ -271,17 +271,17 @@ pub record CallSays (j : Job) (first budget : ℕ) (a : SearchAnswer) : Type 0 w
 
 job-says : (j : Job) (first budget : ℕ) (a : SearchAnswer) → a.number ≡ 0
     → SearchVerdict j first budget a → CallSays j first budget a
-job-says j first budget a z (refusedAs n p k f e) =
-    absurd (not-among 0 axisRefusals n (λ e. omega arith) (lacks 0 axisRefusals refl) k
+job-says j first budget a z (refused_as n p k f e) =
+    absurd (not-among 0 axis_refusals n (λ e. omega arith) (lacks 0 axis_refusals refl) k
     (sym (ap (λ (r : SearchAnswer). r.number) e) ∙ z))
 job-says j first budget a z (refused18 p h e) = absurd (let m = ap (λ (r : SearchAnswer). r.number) e in omega arith)
 job-says j first budget a z (reports p l h k s asked) = record { says = s; asked = asked }
 
 pub call-says : (q : Input) (first budget : ℕ) (a : SearchAnswer) → a.number ≡ 0 → SearchCallVerdict q first budget a
-    → CallSays (inputJob q) first budget a
+    → CallSays (input_job q) first budget a
 call-says q first budget a z =
-    either-said (λ n p. a ≡ refuseSearch n p) (λ j. SearchVerdict j first budget a)
-    (CallSays (inputJob q) first budget a) q
+    either-said (λ n p. a ≡ refuse_search n p) (λ j. SearchVerdict j first budget a)
+    (CallSays (input_job q) first budget a) q
     (λ n p w e. absurd (w.not-0 (sym (ap (λ (r : SearchAnswer). r.number) e) ∙ z)))
     (λ j s v. subst (λ (i : Job). CallSays i first budget a) (sym s) (job-says j first budget a z v))
 

@@ -12,11 +12,11 @@ use lib.Dec.{leb}
 use borrow.Author.Tests.{leb-true}
 use Rattle.model.specs.planning.Windows.{refused13}
 use Rattle.model.specs.planning.Job.{Job, job_of}
-use Rattle.model.specs.planning.Words.{Decoded, noMask, badWord, badLong, job, decode, goodMask}
-use Rattle.model.specs.planning.Refusals.{lastTick}
-use Rattle.model.specs.planning.Admission.{Input, words, typed, jobRead, inputJob, firstAxis, Tests}
-use Rattle.theorems.specs.Search.{numbersOf, OneOf}
-use Rattle.model.specs.planning.Admission.{Admission, refusedAt, admitted, Rules, tested, jobAdmission, admission}
+use Rattle.model.specs.planning.Words.{Decoded, no_mask, bad_word, bad_long, job, decode, good_mask}
+use Rattle.model.specs.planning.Refusals.{last_tick}
+use Rattle.model.specs.planning.Admission.{Input, words, typed, job_read, input_job, first_axis, Tests}
+use Rattle.theorems.specs.Search.{numbers_of, OneOf}
+use Rattle.model.specs.planning.Admission.{Admission, refused_at, admitted, Rules, tested, job_admission, admission}
 use Rattle.theorems.specs.Verdict.{WordsAre, ByInput}
 use Rattle.theorems.proofs.words.WordsAre.{words_are, Says, SaysTyped, by-input}
 use Rattle.theorems.proofs.jobs.OutsideWindows.{Clear}
@@ -26,29 +26,29 @@ use Rattle.theorems.proofs.jobs.CheckingOrder.{Lacks}
 
 -- one of them refuses, or none does
 pub data Way (ts : Tests) (j : Job) : Admission → Type 0 where
-  stops : (n p : ℕ) → OneOf (numbersOf ts) n → Way ts j (refusedAt n p)
+  stops : (n p : ℕ) → OneOf (numbers_of ts) n → Way ts j (refused_at n p)
   passes : Clear ts j.axes → refused13 j.windows ≡ none → Way ts j (admitted j)
 
 pub ways : (ts : Tests) (j : Job) → Way ts j (tested ts j)
 ways [] j = go (refused13 j.windows) refl
   where
     go : (o : Option ℕ) → refused13 j.windows ≡ o
-        → Way [] j (elim o as (λ _. Admission) [ some p ↦ refusedAt 13 p | none ↦ admitted j ])
+        → Way [] j (elim o as (λ _. Admission) [ some p ↦ refused_at 13 p | none ↦ admitted j ])
     go (some p) e = stops 13 p (inl refl)
     go none e = passes tt e
-ways (t ∷ ts) j = go (firstAxis t.1 j.axes) refl (ways ts j)
+ways (t ∷ ts) j = go (first_axis t.1 j.axes) refl (ways ts j)
   where
-    more : (a : Admission) → firstAxis t.1 j.axes ≡ none → Way ts j a → Way (t ∷ ts) j a
+    more : (a : Admission) → first_axis t.1 j.axes ≡ none → Way ts j a → Way (t ∷ ts) j a
     more a e (stops n p o) = stops n p (inr o)
     more a e (passes c w) = passes (e, c) w
 
-    go : (o : Option ℕ) → firstAxis t.1 j.axes ≡ o → Way ts j (tested ts j)
-        → Way (t ∷ ts) j (elim o as (λ _. Admission) [ some i ↦ refusedAt t.0 i | none ↦ tested ts j ])
+    go : (o : Option ℕ) → first_axis t.1 j.axes ≡ o → Way ts j (tested ts j)
+        → Way (t ∷ ts) j (elim o as (λ _. Admission) [ some i ↦ refused_at t.0 i | none ↦ tested ts j ])
     go (some i) e w = stops t.0 i (inl refl)
     go none e w = more (tested ts j) e w
 
 -- a number that is not among the tests' is none of theirs
-pub not-among : (k : ℕ) (ts : Tests) (n : ℕ) → (13 ≡ k → ⊥) → Lacks k ts → OneOf (numbersOf ts) n → n ≡ k → ⊥
+pub not-among : (k : ℕ) (ts : Tests) (n : ℕ) → (13 ≡ k → ⊥) → Lacks k ts → OneOf (numbers_of ts) n → n ≡ k → ⊥
 not-among k [] n h l (inl e) z = h (sym e ∙ z)
 not-among k [] n h l (inr a) z = a
 not-among k (t ∷ ts) n h (l, ls) (inl e) z = l (sym e ∙ z)
@@ -63,47 +63,47 @@ pub record Numbered (r : Rules) : Type 0 where
 
 -- what becomes of the job j
 pub data Comes (r : Rules) (j : Job) : Admission → Type 0 where
-  refuses : (n p : ℕ) → (n ≡ 0 → ⊥) → (n ≡ 10 → ⊥) → Comes r j (refusedAt n p)
-  goes : (r.reads j).asked ≤ lastTick → Clear (r.tests (r.reads j).asked) (r.reads j).axes
+  refuses : (n p : ℕ) → (n ≡ 0 → ⊥) → (n ≡ 10 → ⊥) → Comes r j (refused_at n p)
+  goes : (r.reads j).asked ≤ last_tick → Clear (r.tests (r.reads j).asked) (r.reads j).axes
       → refused13 (r.reads j).windows ≡ none
       → Comes r j (admitted (r.reads j))
 
 module _ (r : Rules) (s : Numbered r) where
-  pub job-comes : (j : Job) → Comes r j (jobAdmission r j)
-  job-comes j = go (leb i.asked lastTick) refl (ways (r.tests i.asked) i)
+  pub job-comes : (j : Job) → Comes r j (job_admission r j)
+  job-comes j = go (leb i.asked last_tick) refl (ways (r.tests i.asked) i)
     where
       i : Job
       i = r.reads j
 
-      of-way : (a : Admission) → i.asked ≤ lastTick → Way (r.tests i.asked) i a → Comes r j a
+      of-way : (a : Admission) → i.asked ≤ last_tick → Way (r.tests i.asked) i a → Comes r j a
       of-way a h (stops n p o) =
           refuses n p (not-among 0 (r.tests i.asked) n (λ e. omega arith) (s.not-0 i.asked) o)
           (not-among 10 (r.tests i.asked) n (λ e. omega arith) (s.not-10 i.asked) o)
       of-way a h (passes c w) = goes h c w
 
-      go : (b : Bool) → leb i.asked lastTick ≡ b → Way (r.tests i.asked) i (tested (r.tests i.asked) i)
-          → Comes r j (elim b as (λ _. Admission) [ true ↦ tested (r.tests i.asked) i | false ↦ refusedAt 3 1 ])
-      go true e w = of-way (tested (r.tests i.asked) i) (leb-true i.asked lastTick e) w
+      go : (b : Bool) → leb i.asked last_tick ≡ b → Way (r.tests i.asked) i (tested (r.tests i.asked) i)
+          → Comes r j (elim b as (λ _. Admission) [ true ↦ tested (r.tests i.asked) i | false ↦ refused_at 3 1 ])
+      go true e w = of-way (tested (r.tests i.asked) i) (leb-true i.asked last_tick e) w
       go false e w = refuses 3 1 (λ z. omega arith) (λ z. omega arith)
 
-  pub comes : (q : Input) → Comes r (inputJob q) (admission r q)
+  pub comes : (q : Input) → Comes r (input_job q) (admission r q)
   comes (words ws) = go (decode ws)
     where
       go : (d : Decoded)
-          → Comes r (jobRead d) (elim d as (λ _. Admission) [
-            | noMask ↦ refusedAt 1 0
-            | badWord p ↦ refusedAt 2 p
-            | badLong p ↦ refusedAt 14 p
-            | job j ↦ jobAdmission r j
+          → Comes r (job_read d) (elim d as (λ _. Admission) [
+            | no_mask ↦ refused_at 1 0
+            | bad_word p ↦ refused_at 2 p
+            | bad_long p ↦ refused_at 14 p
+            | job j ↦ job_admission r j
           ])
-      go noMask = refuses 1 0 (λ z. omega arith) (λ z. omega arith)
-      go (badWord p) = refuses 2 p (λ z. omega arith) (λ z. omega arith)
-      go (badLong p) = refuses 14 p (λ z. omega arith) (λ z. omega arith)
+      go no_mask = refuses 1 0 (λ z. omega arith) (λ z. omega arith)
+      go (bad_word p) = refuses 2 p (λ z. omega arith) (λ z. omega arith)
+      go (bad_long p) = refuses 14 p (λ z. omega arith) (λ z. omega arith)
       go (job j) = job-comes j
-  comes (typed t) = go (goodMask t.mask)
+  comes (typed t) = go (good_mask t.mask)
     where
       go : (b : Bool)
-          → Comes r (job_of t) (elim b as (λ _. Admission) [ true ↦ jobAdmission r (job_of t) | false ↦ refusedAt 1 0 ])
+          → Comes r (job_of t) (elim b as (λ _. Admission) [ true ↦ job_admission r (job_of t) | false ↦ refused_at 1 0 ])
       go true = job-comes (job_of t)
       go false = refuses 1 0 (λ z. omega arith) (λ z. omega arith)
 
@@ -115,8 +115,8 @@ IsJob (words ws) j = WordsAre ws (job j)
 IsJob (typed t) j = job_of t ≡ j
 
 module _ {X : Type 0} (r : Rules) (f : Admission → X) (R : X → ℕ → ℕ → Type 0) (P : X → Job → Type 0)
-    (stop : (n p : ℕ) → R (f (refusedAt n p)) n p) where
-  pub after-admission : (q : Input) → ((j : Job) → IsJob q j → P (f (jobAdmission r j)) j)
+    (stop : (n p : ℕ) → R (f (refused_at n p)) n p) where
+  pub after-admission : (q : Input) → ((j : Job) → IsJob q j → P (f (job_admission r j)) j)
       → ByInput (R (f (admission r q))) (P (f (admission r q))) q
   after-admission (words ws) h =
       by-input (R (f (admission r (words ws)))) (P (f (admission r (words ws)))) (words ws)
@@ -124,22 +124,22 @@ module _ {X : Type 0} (r : Rules) (f : Admission → X) (R : X → ℕ → ℕ �
     where
       by : Decoded → Admission
       by d = elim d [
-        | noMask ↦ refusedAt 1 0
-        | badWord p ↦ refusedAt 2 p
-        | badLong p ↦ refusedAt 14 p
-        | job j ↦ jobAdmission r j
+        | no_mask ↦ refused_at 1 0
+        | bad_word p ↦ refused_at 2 p
+        | bad_long p ↦ refused_at 14 p
+        | job j ↦ job_admission r j
       ]
 
       go : (d : Decoded) → WordsAre ws d → Says (R (f (by d))) (P (f (by d))) d
-      go noMask a = stop 1 0
-      go (badWord p) a = stop 2 p
-      go (badLong p) a = stop 14 p
+      go no_mask a = stop 1 0
+      go (bad_word p) a = stop 2 p
+      go (bad_long p) a = stop 14 p
       go (job j) a = h j a
   after-admission (typed t) h =
-      by-input (R (f (admission r (typed t)))) (P (f (admission r (typed t)))) (typed t) (go (goodMask t.mask))
+      by-input (R (f (admission r (typed t)))) (P (f (admission r (typed t)))) (typed t) (go (good_mask t.mask))
     where
       by : Bool → Admission
-      by b = elim b [ true ↦ jobAdmission r (job_of t) | false ↦ refusedAt 1 0 ]
+      by b = elim b [ true ↦ job_admission r (job_of t) | false ↦ refused_at 1 0 ]
 
       go : (b : Bool) → SaysTyped (R (f (by b))) (P (f (by b))) (job_of t) b
       go true = h (job_of t) refl

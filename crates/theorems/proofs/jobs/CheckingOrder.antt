@@ -8,7 +8,7 @@ use lib.Dec.{eqb}
 use borrow.Author.Tests.{eqb-false}
 use Rattle.model.specs.planning.Job.{JobAxis}
 use Rattle.model.specs.planning.Refusals.{AllPassed}
-use Rattle.model.specs.planning.Admission.{Tests, axisRefusals}
+use Rattle.model.specs.planning.Admission.{Tests, axis_refusals}
 use Rattle.theorems.proofs.jobs.Verdict.{none-refused, all-passed}
 use Rattle.theorems.proofs.jobs.OutsideWindows.{Clear}
 
@@ -31,7 +31,7 @@ lacks k (t ∷ ts) e = go (eqb t.0 k) refl e (lacks k ts)
     go true q e h = absurd (false≢true e)
     go false q e h = (eqb-false t.0 k q, h e)
 
-pub clear-passed : (xs : List JobAxis) → Clear axisRefusals xs → AllPassed xs
+pub clear-passed : (xs : List JobAxis) → Clear axis_refusals xs → AllPassed xs
 clear-passed xs (l, (d, (b, (s, (v, (a, (f, _))))))) =
     all-passed xs (none-refused _ xs l) (none-refused _ xs d) (none-refused _ xs b) (none-refused _ xs s)
     (none-refused _ xs v) (none-refused _ xs a)

@@ -16,18 +16,18 @@ use Rattle.model.specs.declared.SecondSway.{SecondSway}
 use Rattle.model.specs.declared.SecondSway.TheVariants.{Absent, HalfPeriod}
 use Rattle.model.specs.declared.Order.{Order}
 use Rattle.model.specs.declared.Order.TheVariants.{Forwards, Backwards}
-use Rattle.model.specs.planning.Windows.{noWindows}
+use Rattle.model.specs.planning.Windows.{no_windows}
 use Rattle.model.specs.planning.Motion.{Tick}
-use Rattle.model.specs.planning.Rows.{plannedAxis, blend, blendBy, cells}
-use Rattle.model.specs.planning.Job.{Job, JobAxis, setAxes, axesOf}
-use Rattle.theorems.specs.GivenWeights.{withWeight, axesWithWeight, jobWithWeight}
+use Rattle.model.specs.planning.Rows.{planned_axis, blend, blend_by, cells}
+use Rattle.model.specs.planning.Job.{Job, JobAxis, set_axes, axes_of}
+use Rattle.theorems.specs.GivenWeights.{with_weight, axes_with_weight, job_with_weight}
 use Rattle.model.specs.planning.Quantities.{finer}
-use Rattle.model.specs.planning.Refusals.{lastTick, limitsRefused, dampingRefused, blendRefused, swayRefused}
-use Rattle.model.specs.planning.Refusals.{valuesRefused, accelerationRefused, flyingRefused}
-use Rattle.model.specs.planning.Refusals.{restAllowed, targetAllowed, AllPassed}
-use Rattle.model.specs.planning.Outcome.{Outcome, outcomeOf, answer_in, refuse, partOver, ordered, allReach, leastFrom}
-use Rattle.model.specs.planning.Outcome.{arrives, reachesNone, filled, arrived}
-use Rattle.model.specs.planning.Admission.{firstAxis, Tests, axisRefusals, Admission, refusedAt, admitted, tested}
+use Rattle.model.specs.planning.Refusals.{last_tick, limits_refused, damping_refused, blend_refused, sway_refused}
+use Rattle.model.specs.planning.Refusals.{values_refused, acceleration_refused, flying_refused}
+use Rattle.model.specs.planning.Refusals.{rest_allowed, target_allowed, AllPassed}
+use Rattle.model.specs.planning.Outcome.{Outcome, outcome_of, answer_in, refuse, part_over, ordered, all_reach, least_from}
+use Rattle.model.specs.planning.Outcome.{arrives, reaches_none, filled, arrived}
+use Rattle.model.specs.planning.Admission.{first_axis, Tests, axis_refusals, Admission, refused_at, admitted, tested}
 use Rattle.theorems.proofs.jobs.MappedAxes.{cells-alike, Blind, AllBlind, first-mapped}
 use Rattle.theorems.proofs.jobs.MappedAxes.{mask-mapped, reach-mapped, arrives-mapped, over-mapped}
 use Rattle.theorems.proofs.jobs.MappedAxes.{filled-mapped}
@@ -35,14 +35,14 @@ use Rattle.theorems.proofs.jobs.MappedAxes.{asked-mapped, tested-mapped}
 
 -- ---- the axes
 
-target-with-weight : (x : Axis) (t : Target) → targetAllowed (withWeight x) t ≡ targetAllowed x t
+target-with-weight : (x : Axis) (t : Target) → target_allowed (with_weight x) t ≡ target_allowed x t
 target-with-weight x (Fixed r) = refl
 target-with-weight x (Moving m) = refl
 
-values-with-weight : Blind withWeight valuesRefused
-values-with-weight x = ap (λ (b : Bool). not (restAllowed x x.start && b)) (target-with-weight x x.target)
+values-with-weight : Blind with_weight values_refused
+values-with-weight x = ap (λ (b : Bool). not (rest_allowed x x.start && b)) (target-with-weight x x.target)
 
-pub passed-with-weight : (l : List JobAxis) → AllPassed l → AllPassed (axesWithWeight l)
+pub passed-with-weight : (l : List JobAxis) → AllPassed l → AllPassed (axes_with_weight l)
 passed-with-weight [] p = tt
 passed-with-weight (x ∷ l) (p, ps) = (
   record {
@@ -57,138 +57,138 @@ passed-with-weight (x ∷ l) (p, ps) = (
   passed-with-weight l ps,
 )
 
-pub set-with-weight : (i m : ℕ) (six : List Axis) → setAxes i m (map withWeight six) ≡ axesWithWeight (setAxes i m six)
+pub set-with-weight : (i m : ℕ) (six : List Axis) → set_axes i m (map with_weight six) ≡ axes_with_weight (set_axes i m six)
 set-with-weight i m [] = refl
 set-with-weight i m (x ∷ xs) = go (eqb (m % 2) 1) (set-with-weight (suc i) (m / 2) xs)
   where
-    go : (b : Bool) → setAxes (suc i) (m / 2) (map withWeight xs) ≡ axesWithWeight (setAxes (suc i) (m / 2) xs)
+    go : (b : Bool) → set_axes (suc i) (m / 2) (map with_weight xs) ≡ axes_with_weight (set_axes (suc i) (m / 2) xs)
         → (elim b as (λ _. List JobAxis) [
-          | true ↦ record { number = i; axis = withWeight x } ∷ setAxes (suc i) (m / 2) (map withWeight xs)
-          | false ↦ setAxes (suc i) (m / 2) (map withWeight xs)
+          | true ↦ record { number = i; axis = with_weight x } ∷ set_axes (suc i) (m / 2) (map with_weight xs)
+          | false ↦ set_axes (suc i) (m / 2) (map with_weight xs)
         ])
-        ≡ axesWithWeight
+        ≡ axes_with_weight
         (elim b as (λ _. List JobAxis) [
-          | true ↦ record { number = i; axis = x } ∷ setAxes (suc i) (m / 2) xs
-          | false ↦ setAxes (suc i) (m / 2) xs
+          | true ↦ record { number = i; axis = x } ∷ set_axes (suc i) (m / 2) xs
+          | false ↦ set_axes (suc i) (m / 2) xs
         ])
-    go true h = ap (λ (l : List JobAxis). record { number = i; axis = withWeight x } ∷ l) h
+    go true h = ap (λ (l : List JobAxis). record { number = i; axis = with_weight x } ∷ l) h
     go false h = h
 
 -- ---- arrivals
 
 -- of one axis both sides compute to the same
-pub reach-with-weight : (l : List JobAxis) (n : ℕ) → allReach (axesWithWeight l) n ≡ allReach l n
+pub reach-with-weight : (l : List JobAxis) (n : ℕ) → all_reach (axes_with_weight l) n ≡ all_reach l n
 unfolding finer
-reach-with-weight l n = reach-mapped withWeight n (λ x. refl) l
+reach-with-weight l n = reach-mapped with_weight n (λ x. refl) l
 
-pub arrives-with-weight : (j : Job) (n : ℕ) → arrives (jobWithWeight j) n ≡ arrives j n
+pub arrives-with-weight : (j : Job) (n : ℕ) → arrives (job_with_weight j) n ≡ arrives j n
 unfolding finer
-arrives-with-weight j n = arrives-mapped withWeight n (λ x. refl) j
+arrives-with-weight j n = arrives-mapped with_weight n (λ x. refl) j
 
-least-with-weight : (j : Job) → leastFrom (arrives (jobWithWeight j)) 1 lastTick ≡ leastFrom (arrives j) 1 lastTick
-least-with-weight j = ap (λ (t : ℕ → Bool). leastFrom t 1 lastTick) (λ i n. arrives-with-weight j n i)
+least-with-weight : (j : Job) → least_from (arrives (job_with_weight j)) 1 last_tick ≡ least_from (arrives j) 1 last_tick
+least-with-weight j = ap (λ (t : ℕ → Bool). least_from t 1 last_tick) (λ i n. arrives-with-weight j n i)
 
-none-with-weight : Blind withWeight (λ x. reachesNone x)
+none-with-weight : Blind with_weight (λ x. reaches_none x)
 none-with-weight x =
     ap (λ (o : Option ℕ). elim o as (λ _. Bool) [ some n ↦ false | none ↦ true ])
     (least-with-weight
-    (record { mask = 0; asked = 0; axes = record { number = 0; axis = x } ∷ []; windows = noWindows }))
+    (record { mask = 0; asked = 0; axes = record { number = 0; axis = x } ∷ []; windows = no_windows }))
 
 -- ---- the table
 
 blend-with-weight : (n k : ℕ) (x : Axis) (f : Tick → ℤ)
-    → blend (plannedAxis n (withWeight x)) k f ≡ blend (plannedAxis n x) k f
+    → blend (planned_axis n (with_weight x)) k f ≡ blend (planned_axis n x) k f
 unfolding finer
 blend-with-weight n k x f = go x.second_sway
   where
-    go : (s : SecondSway) → blendBy s (plannedAxis n (withWeight x)) k f ≡ blendBy s (plannedAxis n x) k f
+    go : (s : SecondSway) → blend_by s (planned_axis n (with_weight x)) k f ≡ blend_by s (planned_axis n x) k f
     go Absent = refl
     go (HalfPeriod d) = refl
 
-cells-with-weight : (n k : ℕ) (x : Axis) → cells k (plannedAxis n (withWeight x)) ≡ cells k (plannedAxis n x)
+cells-with-weight : (n k : ℕ) (x : Axis) → cells k (planned_axis n (with_weight x)) ≡ cells k (planned_axis n x)
 unfolding finer
-cells-with-weight n k x = cells-alike n k (withWeight x) x (blend-with-weight n k x) refl
+cells-with-weight n k x = cells-alike n k (with_weight x) x (blend-with-weight n k x) refl
 
 -- ---- the outcome
 
-abbrev afterDamping : Tests
-afterDamping =
-    (5, blendRefused) ∷ (15, swayRefused) ∷ (6, valuesRefused) ∷ (16, accelerationRefused) ∷ (17, flyingRefused) ∷ []
+abbrev after_damping : Tests
+after_damping =
+    (5, blend_refused) ∷ (15, sway_refused) ∷ (6, values_refused) ∷ (16, acceleration_refused) ∷ (17, flying_refused) ∷ []
 
-abbrev fromDamping : Tests
-fromDamping = (12, dampingRefused) ∷ afterDamping
+abbrev from_damping : Tests
+from_damping = (12, damping_refused) ∷ after_damping
 
-afterDamping-blind : AllBlind withWeight afterDamping
-afterDamping-blind = ((λ x. refl), ((λ x. refl), (values-with-weight, ((λ x. refl), ((λ x. refl), tt)))))
+after_damping-blind : AllBlind with_weight after_damping
+after_damping-blind = ((λ x. refl), ((λ x. refl), (values-with-weight, ((λ x. refl), ((λ x. refl), tt)))))
 
-pub filled-with-weight : (j : Job) (n : ℕ) (lent : List ℤ) → filled (jobWithWeight j) n lent ≡ filled j n lent
+pub filled-with-weight : (j : Job) (n : ℕ) (lent : List ℤ) → filled (job_with_weight j) n lent ≡ filled j n lent
 unfolding finer
-filled-with-weight j n lent = filled-mapped withWeight n (cells-with-weight n) j lent
+filled-with-weight j n lent = filled-mapped with_weight n (cells-with-weight n) j lent
 
 -- some of its rows
 pub part-with-weight : (o : Order) (j : Job) (n i c : ℕ) (lent : List ℤ)
-    → partOver o (axesOf (jobWithWeight j)) n i c lent ≡ partOver o (axesOf j) n i c lent
+    → part_over o (axes_of (job_with_weight j)) n i c lent ≡ part_over o (axes_of j) n i c lent
 unfolding finer
-part-with-weight o j n i c lent = over-mapped withWeight n (cells-with-weight n) o j i c lent
+part-with-weight o j n i c lent = over-mapped with_weight n (cells-with-weight n) o j i c lent
 
 -- the same with the rows in an order
 pub ordered-with-weight : (o : Order) (j : Job) (lent : List ℤ) (r : Outcome)
-    → ordered o (axesOf (jobWithWeight j)) lent r ≡ ordered o (axesOf j) lent r
+    → ordered o (axes_of (job_with_weight j)) lent r ≡ ordered o (axes_of j) lent r
 unfolding finer
 ordered-with-weight Forwards j lent r = refl
 ordered-with-weight Backwards j lent r =
     λ i.
     elim (eqb r.number 0) as (λ _. Outcome) [
-      | true ↦ outcomeOf (answer_in r)
-          (over-mapped withWeight r.arrival (cells-with-weight r.arrival) Backwards j 0 (suc r.arrival) lent i)
+      | true ↦ outcome_of (answer_in r)
+          (over-mapped with_weight r.arrival (cells-with-weight r.arrival) Backwards j 0 (suc r.arrival) lent i)
       | false ↦ r
     ]
 
 pub arrived-with-weight : (j : Job) (asked : ℕ) (lent : List ℤ)
-    → arrived (jobWithWeight j) asked lent ≡ arrived j asked lent
+    → arrived (job_with_weight j) asked lent ≡ arrived j asked lent
 unfolding finer
 arrived-with-weight j zero lent =
     λ i.
     elim (least-with-weight j i) as (λ _. Outcome) [
       | some n ↦ filled-with-weight j n lent i
-      | none ↦ refuse 9 0 (mask-mapped withWeight (λ x. reachesNone x) none-with-weight j.axes i) 0 lent
+      | none ↦ refuse 9 0 (mask-mapped with_weight (λ x. reaches_none x) none-with-weight j.axes i) 0 lent
     ]
 arrived-with-weight j (suc n) lent =
-    asked-mapped withWeight (suc n) (omega arith) (λ x. refl) (cells-with-weight (suc n)) j lent
+    asked-mapped with_weight (suc n) (omega arith) (λ x. refl) (cells-with-weight (suc n)) j lent
 
 -- ---- the tests of the axes, of any call: it goes on by f, and a refusal by 12 has the number 12
 
-none-refused : (l : List JobAxis) → firstAxis dampingRefused (axesWithWeight l) ≡ none
+none-refused : (l : List JobAxis) → first_axis damping_refused (axes_with_weight l) ≡ none
 none-refused [] = refl
 none-refused (x ∷ l) = none-refused l
 
 module _ {X : Type 0} (f : Admission → X) (number : X → ℕ)
-    (numbered : (p : ℕ) → number (f (refusedAt 12 p)) ≡ 12) (j : Job)
-    (same : f (admitted (jobWithWeight j)) ≡ f (admitted j)) where
+    (numbered : (p : ℕ) → number (f (refused_at 12 p)) ≡ 12) (j : Job)
+    (same : f (admitted (job_with_weight j)) ≡ f (admitted j)) where
   by-damping : Job → Option ℕ → Admission
-  by-damping i o = elim o [ some k ↦ refusedAt 12 k | none ↦ tested afterDamping i ]
+  by-damping i o = elim o [ some k ↦ refused_at 12 k | none ↦ tested after_damping i ]
 
   damping : (o : Option ℕ) → (number (f (by-damping j o)) ≡ 12 → ⊥)
-      → f (tested fromDamping (jobWithWeight j)) ≡ f (by-damping j o)
+      → f (tested from_damping (job_with_weight j)) ≡ f (by-damping j o)
   unfolding by-damping
   damping (some k) h = absurd (h (numbered k))
   damping none h =
-      ap (λ (o : Option ℕ). f (by-damping (jobWithWeight j) o)) (none-refused j.axes)
-      ∙ tested-mapped withWeight f j same afterDamping afterDamping-blind
+      ap (λ (o : Option ℕ). f (by-damping (job_with_weight j) o)) (none-refused j.axes)
+      ∙ tested-mapped with_weight f j same after_damping after_damping-blind
 
   by-limits : Job → Option ℕ → Admission
-  by-limits i o = elim o [ some k ↦ refusedAt 4 k | none ↦ tested fromDamping i ]
+  by-limits i o = elim o [ some k ↦ refused_at 4 k | none ↦ tested from_damping i ]
 
   limits : (o : Option ℕ) → (number (f (by-limits j o)) ≡ 12 → ⊥)
-      → f (by-limits (jobWithWeight j) o) ≡ f (by-limits j o)
+      → f (by-limits (job_with_weight j) o) ≡ f (by-limits j o)
   unfolding by-damping by-limits
   limits (some k) h = refl
-  limits none h = damping (firstAxis dampingRefused j.axes) h
+  limits none h = damping (first_axis damping_refused j.axes) h
 
-  pub tests-with-weight : (number (f (tested axisRefusals j)) ≡ 12 → ⊥)
-      → f (tested axisRefusals (jobWithWeight j)) ≡ f (tested axisRefusals j)
+  pub tests-with-weight : (number (f (tested axis_refusals j)) ≡ 12 → ⊥)
+      → f (tested axis_refusals (job_with_weight j)) ≡ f (tested axis_refusals j)
   unfolding by-limits
   tests-with-weight h =
-      ap (λ (o : Option ℕ). f (by-limits (jobWithWeight j) o))
-      (first-mapped withWeight limitsRefused (λ x. refl) j.axes)
-      ∙ limits (firstAxis limitsRefused j.axes) h
+      ap (λ (o : Option ℕ). f (by-limits (job_with_weight j) o))
+      (first-mapped with_weight limits_refused (λ x. refl) j.axes)
+      ∙ limits (first_axis limits_refused j.axes) h

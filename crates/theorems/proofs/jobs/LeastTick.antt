@@ -7,7 +7,7 @@ use mathlib.Core.Bool.{Bool, true, false, false≢true}
 use mathlib.Core.Logic.{⊎_elim}
 use mathlib.Core.Option.{Option, none, some}
 use Rattle.whole.proofs.Tests.{lt-or-le}
-use Rattle.model.specs.planning.Outcome.{leastFrom}
+use Rattle.model.specs.planning.Outcome.{least_from}
 
 -- n is the least, of count candidates from k on
 pub record Least (test : ℕ → Bool) (k count n : ℕ) : Type 0 where
@@ -20,9 +20,9 @@ abbrev pub Result : (ℕ → Bool) → ℕ → ℕ → Option ℕ → Type 0
 Result test k count none = (i : ℕ) → k ≤ i → i < k + count → test i ≡ true → ⊥
 Result test k count (some n) = Least test k count n
 
-pub result : (test : ℕ → Bool) (k count : ℕ) → Result test k count (leastFrom test k count)
+pub result : (test : ℕ → Bool) (k count : ℕ) → Result test k count (least_from test k count)
 result test k zero = λ i a b e. omega arith
-result test k (suc count) = go (test k) refl (leastFrom test (suc k) count) (result test (suc k) count)
+result test k (suc count) = go (test k) refl (least_from test (suc k) count) (result test (suc k) count)
   where
     -- candidate k does not pass, so that one that does is a later one
     later : test k ≡ false → (i : ℕ) → k ≤ i → test i ≡ true → suc k ≤ i
@@ -44,10 +44,10 @@ result test k (suc count) = go (test k) refl (leastFrom test (suc k) count) (res
         }
 
 -- the same of a search that found n, and of one that found none
-pub least-is : (test : ℕ → Bool) (k count n : ℕ) → leastFrom test k count ≡ some n → Least test k count n
+pub least-is : (test : ℕ → Bool) (k count n : ℕ) → least_from test k count ≡ some n → Least test k count n
 least-is test k count n e = subst (Result test k count) e (result test k count)
 
-pub none_is : (test : ℕ → Bool) (k count : ℕ) → leastFrom test k count ≡ none → Result test k count none
+pub none_is : (test : ℕ → Bool) (k count : ℕ) → least_from test k count ≡ none → Result test k count none
 none_is test k count e = subst (Result test k count) e (result test k count)
 
 pub one-result : (test : ℕ → Bool) (k count : ℕ) (o p : Option ℕ) → Result test k count o

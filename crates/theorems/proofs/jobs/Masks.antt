@@ -13,7 +13,7 @@ use lib.ListN.{get_elem?}
 use borrow.Author.Tests.{eq-eqb}
 use Rattle.whole.proofs.Elements.{none-some}
 use Rattle.model.specs.declared.Axis.{Axis}
-use Rattle.model.specs.planning.Job.{JobAxis, bit, maskWhere}
+use Rattle.model.specs.planning.Job.{JobAxis, bit, mask_where}
 use Rattle.theorems.specs.Verdict.{Among, Names}
 
 -- ---- the bits of a number
@@ -65,9 +65,9 @@ ascends-from k l [] h a = tt
 ascends-from k l (x ∷ xs) h a = (omega (arith, a.0), a.1)
 
 -- the mask without its lowest i bits
-abbrev maskFrom : ℕ → (Axis → Bool) → List JobAxis → ℕ
-maskFrom i f [] = 0
-maskFrom i f (x ∷ xs) = elim (f x.axis) [ true ↦ 2 ^ (x.number - i) + maskFrom i f xs | false ↦ maskFrom i f xs ]
+abbrev mask_from : ℕ → (Axis → Bool) → List JobAxis → ℕ
+mask_from i f [] = 0
+mask_from i f (x ∷ xs) = elim (f x.axis) [ true ↦ 2 ^ (x.number - i) + mask_from i f xs | false ↦ mask_from i f xs ]
 
 -- whether the axis of a number is there and passes the test
 abbrev holds : (Axis → Bool) → ℕ → List JobAxis → Bool
@@ -75,18 +75,18 @@ holds f k [] = false
 holds f k (x ∷ xs) = elim (eqb x.number k) [ true ↦ f x.axis | false ↦ holds f k xs ]
 
 module _ (f : Axis → Bool) where
-  whole-mask : (xs : List JobAxis) → maskFrom 0 f xs ≡ maskWhere f xs
+  whole-mask : (xs : List JobAxis) → mask_from 0 f xs ≡ mask_where f xs
   whole-mask [] = refl
   whole-mask (x ∷ xs) = go (f x.axis) (whole-mask xs)
     where
-      go : (b : Bool) → maskFrom 0 f xs ≡ maskWhere f xs
-          → ◌≡◌ {A = ℕ} (elim b as (λ z. ℕ) [ true ↦ 2 ^ (x.number - 0) + maskFrom 0 f xs | false ↦ maskFrom 0 f xs ])
-          (elim b as (λ z. ℕ) [ true ↦ 2 ^ x.number + maskWhere f xs | false ↦ maskWhere f xs ])
+      go : (b : Bool) → mask_from 0 f xs ≡ mask_where f xs
+          → ◌≡◌ {A = ℕ} (elim b as (λ z. ℕ) [ true ↦ 2 ^ (x.number - 0) + mask_from 0 f xs | false ↦ mask_from 0 f xs ])
+          (elim b as (λ z. ℕ) [ true ↦ 2 ^ x.number + mask_where f xs | false ↦ mask_where f xs ])
       go true e = ap₂ (λ (k m : ℕ). 2 ^ k + m) {x = x.number - 0} {y = x.number} (omega arith) e
       go false e = e
 
   -- where no number is i
-  doubled : (i : ℕ) (xs : List JobAxis) → Ascends (suc i) xs → maskFrom i f xs ≡ 2 * maskFrom (suc i) f xs
+  doubled : (i : ℕ) (xs : List JobAxis) → Ascends (suc i) xs → mask_from i f xs ≡ 2 * mask_from (suc i) f xs
   doubled i [] a = refl
   doubled i (x ∷ xs) a =
       go (f x.axis) (doubled i xs (ascends-from (suc i) (suc x.number) xs (omega (arith, a.0)) a.1))
@@ -95,24 +95,24 @@ module _ (f : Axis → Bool) where
       power = ap (λ (k : ℕ). 2 ^ k) {x = x.number - i} {y = suc (x.number - suc i)} (omega (arith, a.0))
           ∙ N.pow-succ' 2 (x.number - suc i)
 
-      go : (b : Bool) → maskFrom i f xs ≡ 2 * maskFrom (suc i) f xs
-          → (elim b as (λ z. ℕ) [ true ↦ 2 ^ (x.number - i) + maskFrom i f xs | false ↦ maskFrom i f xs ])
+      go : (b : Bool) → mask_from i f xs ≡ 2 * mask_from (suc i) f xs
+          → (elim b as (λ z. ℕ) [ true ↦ 2 ^ (x.number - i) + mask_from i f xs | false ↦ mask_from i f xs ])
           ≡ 2 * (elim b as
-          (λ z. ℕ) [ true ↦ 2 ^ (x.number - suc i) + maskFrom (suc i) f xs | false ↦ maskFrom (suc i) f xs ])
+          (λ z. ℕ) [ true ↦ 2 ^ (x.number - suc i) + mask_from (suc i) f xs | false ↦ mask_from (suc i) f xs ])
       go true e = omega (arith, power, e)
       go false e = e
 
   -- where the first number is i
   with_first : (i : ℕ) (x : JobAxis) (xs : List JobAxis) → x.number ≡ i → Ascends (suc x.number) xs
-      → maskFrom i f (x ∷ xs) ≡ one-if (f x.axis) + 2 * maskFrom (suc i) f xs
+      → mask_from i f (x ∷ xs) ≡ one-if (f x.axis) + 2 * mask_from (suc i) f xs
   with_first i x xs e a = go (f x.axis) (doubled i xs (subst (λ (k : ℕ). Ascends (suc k) xs) e a))
     where
       power : 2 ^ (x.number - i) ≡ 1
       power = ap (λ (k : ℕ). 2 ^ k) {x = x.number - i} {y = 0} (omega arith)
 
-      go : (b : Bool) → maskFrom i f xs ≡ 2 * maskFrom (suc i) f xs
-          → (elim b as (λ z. ℕ) [ true ↦ 2 ^ (x.number - i) + maskFrom i f xs | false ↦ maskFrom i f xs ])
-          ≡ one-if b + 2 * maskFrom (suc i) f xs
+      go : (b : Bool) → mask_from i f xs ≡ 2 * mask_from (suc i) f xs
+          → (elim b as (λ z. ℕ) [ true ↦ 2 ^ (x.number - i) + mask_from i f xs | false ↦ mask_from i f xs ])
+          ≡ one-if b + 2 * mask_from (suc i) f xs
       go true d = omega (arith, power, d)
       go false d = omega (arith, d)
 
@@ -174,35 +174,35 @@ module _ (f : Axis → Bool) where
 
   -- the same one bit on, for the axes from the next number on
   abbrev Bits : ℕ → Type 0
-  Bits d = (i : ℕ) (xs : List JobAxis) → Ascends i xs → bit (maskFrom i f xs) d ≡ holds f (i + d) xs
+  Bits d = (i : ℕ) (xs : List JobAxis) → Ascends i xs → bit (mask_from i f xs) d ≡ holds f (i + d) xs
 
   module _ (i : ℕ) (x : JobAxis) (xs : List JobAxis) where
-    here-zero : x.number ≡ i → Ascends (suc x.number) xs → bit (maskFrom i f (x ∷ xs)) 0 ≡ holds f (i + 0) (x ∷ xs)
+    here-zero : x.number ≡ i → Ascends (suc x.number) xs → bit (mask_from i f (x ∷ xs)) 0 ≡ holds f (i + 0) (x ∷ xs)
     here-zero e a =
         ap (λ (m : ℕ). bit m 0) (with_first i x xs e a)
-        ∙ low_bit (f x.axis) (maskFrom (suc i) f xs)
+        ∙ low_bit (f x.axis) (mask_from (suc i) f xs)
         ∙ sym (at_first (i + 0) x xs (omega arith))
 
     here-suc : (d : ℕ) → Bits d → x.number ≡ i → Ascends (suc x.number) xs
-        → bit (maskFrom i f (x ∷ xs)) (suc d) ≡ holds f (i + suc d) (x ∷ xs)
+        → bit (mask_from i f (x ∷ xs)) (suc d) ≡ holds f (i + suc d) (x ∷ xs)
     here-suc d h e a =
         ap (λ (m : ℕ). bit m (suc d)) (with_first i x xs e a)
-        ∙ high_bit (f x.axis) (maskFrom (suc i) f xs) d
+        ∙ high_bit (f x.axis) (mask_from (suc i) f xs) d
         ∙ h (suc i) xs (subst (λ (k : ℕ). Ascends (suc k) xs) e a)
         ∙ ap (λ (k : ℕ). holds f k xs) {x = suc i + d} {y = i + suc d} (omega arith)
         ∙ sym (past_first (i + suc d) x xs (λ q. omega arith))
 
-    beyond-zero : Ascends (suc i) (x ∷ xs) → bit (maskFrom i f (x ∷ xs)) 0 ≡ holds f (i + 0) (x ∷ xs)
+    beyond-zero : Ascends (suc i) (x ∷ xs) → bit (mask_from i f (x ∷ xs)) 0 ≡ holds f (i + 0) (x ∷ xs)
     beyond-zero a =
-        ap (λ (m : ℕ). bit m 0) (doubled i (x ∷ xs) a ∙ plus_none (maskFrom (suc i) f (x ∷ xs)))
-        ∙ low_bit false (maskFrom (suc i) f (x ∷ xs))
+        ap (λ (m : ℕ). bit m 0) (doubled i (x ∷ xs) a ∙ plus_none (mask_from (suc i) f (x ∷ xs)))
+        ∙ low_bit false (mask_from (suc i) f (x ∷ xs))
         ∙ sym (holds-none (i + 0) (x ∷ xs) (omega (arith, a.0), a.1))
 
     beyond-suc : (d : ℕ) → Bits d → Ascends (suc i) (x ∷ xs)
-        → bit (maskFrom i f (x ∷ xs)) (suc d) ≡ holds f (i + suc d) (x ∷ xs)
+        → bit (mask_from i f (x ∷ xs)) (suc d) ≡ holds f (i + suc d) (x ∷ xs)
     beyond-suc d h a =
-        ap (λ (m : ℕ). bit m (suc d)) (doubled i (x ∷ xs) a ∙ plus_none (maskFrom (suc i) f (x ∷ xs)))
-        ∙ high_bit false (maskFrom (suc i) f (x ∷ xs)) d
+        ap (λ (m : ℕ). bit m (suc d)) (doubled i (x ∷ xs) a ∙ plus_none (mask_from (suc i) f (x ∷ xs)))
+        ∙ high_bit false (mask_from (suc i) f (x ∷ xs)) d
         ∙ h (suc i) (x ∷ xs) a
         ∙ ap (λ (k : ℕ). holds f k (x ∷ xs)) {x = suc i + d} {y = i + suc d} (omega arith)
 
@@ -227,13 +227,13 @@ module _ (f : Axis → Bool) where
   bits-from zero = bits-zero
   bits-from (suc d) = bits-suc d (bits-from d)
 
-  bits_are : (d : ℕ) (xs : List JobAxis) → Ascends 0 xs → bit (maskWhere f xs) d ≡ holds f d xs
+  bits_are : (d : ℕ) (xs : List JobAxis) → Ascends 0 xs → bit (mask_where f xs) d ≡ holds f d xs
   bits_are d xs a = ap (λ (m : ℕ). bit m d) (sym (whole-mask xs)) ∙ bits-from d 0 xs a
       ∙ ap (λ (k : ℕ). holds f k xs) {x = 0 + d} {y = d} (omega arith)
 
   -- the mask of the axes for which the test holds, where the test is true exactly where Q holds
   pub names : (Q : Axis → Type 0) (xs : List JobAxis) → Ascends 0 xs
-      → ((x : JobAxis) → Among xs x → (f x.axis ≡ true) ↔ Q x.axis) → Names Q xs (maskWhere f xs)
+      → ((x : JobAxis) → Among xs x → (f x.axis ≡ true) ↔ Q x.axis) → Names Q xs (mask_where f xs)
   names Q xs a q =
       record {
         each = λ x m. (

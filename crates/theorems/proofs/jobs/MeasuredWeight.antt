@@ -14,33 +14,33 @@ use Rattle.whole.proofs.Tests.{T-iff}
 use Rattle.model.specs.declared.Damping.TheVariants.{Ratio, Peaks}
 use Rattle.model.specs.declared.Weight.{Weight}
 use Rattle.model.specs.declared.Weight.TheVariants.{Measured}
-use Rattle.model.specs.planning.Damping.{meets, largestTo, ratioWeight, weightOf, IsLargest}
+use Rattle.model.specs.planning.Damping.{meets, largest_to, ratio_weight, weight_of, IsLargest}
 
 -- ---- one step of the search from above
 
 step : Float → ℕ → Bool → ℕ
-step r n b = elim b [ true ↦ suc n | false ↦ largestTo r n ]
+step r n b = elim b [ true ↦ suc n | false ↦ largest_to r n ]
 
-largest_step : (r : Float) (n : ℕ) → largestTo r (suc n) ≡ step r n (meets r (suc n))
-unfolding step largestTo
+largest_step : (r : Float) (n : ℕ) → largest_to r (suc n) ≡ step r n (meets r (suc n))
+unfolding step largest_to
 largest_step r n = refl
 
-pub largest-none : (r : Float) → largestTo r 0 ≡ 1
-unfolding largestTo
+pub largest-none : (r : Float) → largest_to r 0 ≡ 1
+unfolding largest_to
 largest-none r = refl
 
-pub largest-here : (r : Float) (n : ℕ) → 0 < n → meets r n ≡ true → largestTo r n ≡ n
+pub largest-here : (r : Float) (n : ℕ) → 0 < n → meets r n ≡ true → largest_to r n ≡ n
 unfolding step
 largest-here r zero h e = absurd (omega arith)
 largest-here r (suc n) h e = largest_step r n ∙ ap (step r n) e
 
-missed : (r : Float) (n : ℕ) → meets r (suc n) ≡ false → largestTo r (suc n) ≡ largestTo r n
+missed : (r : Float) (n : ℕ) → meets r (suc n) ≡ false → largest_to r (suc n) ≡ largest_to r n
 unfolding step
 missed r n e = largest_step r n ∙ ap (step r n) e
 
-pub largest-lower : (r : Float) (n : ℕ) → 0 < n → meets r n ≡ false → largestTo r n ≡ largestTo r (n - 1)
+pub largest-lower : (r : Float) (n : ℕ) → 0 < n → meets r n ≡ false → largest_to r n ≡ largest_to r (n - 1)
 largest-lower r zero h e = absurd (omega arith)
-largest-lower r (suc n) h e = missed r n e ∙ ap (largestTo r) {x = n} {y = suc n - 1} (omega arith)
+largest-lower r (suc n) h e = missed r n e ∙ ap (largest_to r) {x = n} {y = suc n - 1} (omega arith)
 
 -- ---- the method's words
 
@@ -55,7 +55,7 @@ skipped r n c e h lower t = go (leb c n) (leb→le c n) (nleb→lt c n)
         let is : c ≡ suc n = omega arith in
         false≢true (sym e ∙ ap (meets r) (sym is) ∙ (T-iff (meets r c)).0 t)
 
-met-is : (r : Float) (n : ℕ) → meets r (suc n) ≡ true → IsLargest r (suc n) (largestTo r (suc n))
+met-is : (r : Float) (n : ℕ) → meets r (suc n) ≡ true → IsLargest r (suc n) (largest_to r (suc n))
 met-is r n e =
     subst (IsLargest r (suc n)) (sym (largest-here r (suc n) (omega arith) e))
     (record {
@@ -65,10 +65,10 @@ met-is r n e =
       larger = λ c l h t. absurd (omega arith);
     })
 
-largest-is : (r : Float) (n : ℕ) → IsLargest r (suc n) (largestTo r (suc n))
+largest-is : (r : Float) (n : ℕ) → IsLargest r (suc n) (largest_to r (suc n))
 largest-is r zero = go (meets r 1) refl
   where
-    go : (b : Bool) → meets r 1 ≡ b → IsLargest r 1 (largestTo r 1)
+    go : (b : Bool) → meets r 1 ≡ b → IsLargest r 1 (largest_to r 1)
     go true e = met-is r 0 e
     go false e =
         subst (IsLargest r 1) (sym (missed r 0 e ∙ largest-none r))
@@ -80,8 +80,8 @@ largest-is r zero = go (meets r 1) refl
         })
 largest-is r (suc n) = go (meets r (suc (suc n))) refl (largest-is r n)
   where
-    go : (b : Bool) → meets r (suc (suc n)) ≡ b → IsLargest r (suc n) (largestTo r (suc n))
-        → IsLargest r (suc (suc n)) (largestTo r (suc (suc n)))
+    go : (b : Bool) → meets r (suc (suc n)) ≡ b → IsLargest r (suc n) (largest_to r (suc n))
+        → IsLargest r (suc (suc n)) (largest_to r (suc (suc n)))
     go true e i = met-is r (suc n) e
     go false e i =
         subst (IsLargest r (suc (suc n))) (sym (missed r (suc n) e))
@@ -92,7 +92,7 @@ largest-is r (suc n) = go (meets r (suc (suc n))) refl (largest-is r n)
           larger = λ c l h. skipped r (suc n) c e h (i.larger c l);
         })
 
-pub weight-is-largest : (r : Float) → IsLargest r 128 (ratioWeight r)
+pub weight-is-largest : (r : Float) → IsLargest r 128 (ratio_weight r)
 weight-is-largest r = largest-is r 127
 
 -- ---- by computation
@@ -105,10 +105,10 @@ abbrev peaks : ℕ → ℤ → ℕ → ℤ → Weight
 peaks m e n f = Measured (Peaks (fin false m e) (fin false n f))
 
 -- ratios 1, 0.5 and 2⁻²⁰; peaks 3 and 1.5, 3 and 1, and the least float twice
-pub weights : map weightOf
+pub weights : map weight_of
     (ratio 1 (pos 0) ∷ ratio 1 (negsuc 0) ∷ ratio 1 (negsuc 19) ∷ peaks 3 (pos 0) 3
     (negsuc 0) ∷ peaks 3 (pos 0) 1 (pos 0)
     ∷ peaks 1 (negsuc 148) 1 (negsuc 148) ∷ [])
     ≡ (128 ∷ 85 ∷ 1 ∷ 85 ∷ 64 ∷ 128 ∷ [])
-unfolding largestTo meets Ieee.le Ieee.mul Ieee.div Ieee.of_int
+unfolding largest_to meets Ieee.le Ieee.mul Ieee.div Ieee.of_int
 weights = refl

@@ -10,11 +10,11 @@ use Rattle.whole.proofs.Tests.{choice-yes, choice-no}
 use Rattle.model.specs.declared.Axis.{Axis}
 use Rattle.model.specs.declared.Order.{Order}
 use Rattle.model.specs.declared.Order.TheVariants.{Forwards, Backwards}
-use Rattle.model.specs.planning.Outcome.{Outcome, outcomeOf, answer_in, tableOver, ordered}
+use Rattle.model.specs.planning.Outcome.{Outcome, outcome_of, answer_in, table_over, ordered}
 
 -- an accepted job's outcome with its rows backwards
 abbrev pub turned : List Axis → List ℤ → Outcome → Outcome
-turned xs lent r = outcomeOf (answer_in r) (tableOver Backwards xs r.arrival lent)
+turned xs lent r = outcome_of (answer_in r) (table_over Backwards xs r.arrival lent)
 
 module _ (xs : List Axis) (lent : List ℤ) (r : Outcome) where
   pub answer-stays : (o : Order) → answer_in (ordered o xs lent r) ≡ answer_in r

@@ -14,14 +14,14 @@ use Rattle.whole.proofs.Tests.{leb_yes, left, and, T_true, T_false, true-T}
 use Rattle.model.specs.declared.Axis.{Axis}
 use Rattle.model.specs.declared.Windows.{Windows}
 use Rattle.model.specs.planning.Motion.{reachable}
-use Rattle.model.specs.planning.Windows.{inWindows, refused13}
-use Rattle.theorems.specs.Windows.{WindowsWrong, empty, tooMany, longDwell, wrongWindow, WindowsRight}
-use Rattle.model.specs.planning.Job.{Job, JobAxis, maskWhere}
-use Rattle.model.specs.planning.Refusals.{lastTick, limitsRefused, dampingRefused, blendRefused, swayRefused}
-use Rattle.model.specs.planning.Refusals.{valuesRefused, accelerationRefused, flyingRefused, Passed, AllPassed}
-use Rattle.model.specs.planning.Outcome.{Outcome, refuse, accept, allReach, leastFrom, arrives, cellsNeeded}
-use Rattle.model.specs.planning.Outcome.{reachesNone, filled, arrived, outcomeAfter, jobOutcome}
-use Rattle.model.specs.planning.Admission.{firstAxis, Tests, axisRefusals, Admission, refusedAt, admitted}
+use Rattle.model.specs.planning.Windows.{in_windows, refused13}
+use Rattle.theorems.specs.Windows.{WindowsWrong, empty, too_many, long_dwell, wrong_window, WindowsRight}
+use Rattle.model.specs.planning.Job.{Job, JobAxis, mask_where}
+use Rattle.model.specs.planning.Refusals.{last_tick, limits_refused, damping_refused, blend_refused, sway_refused}
+use Rattle.model.specs.planning.Refusals.{values_refused, acceleration_refused, flying_refused, Passed, AllPassed}
+use Rattle.model.specs.planning.Outcome.{Outcome, refuse, accept, all_reach, least_from, arrives, cells_needed}
+use Rattle.model.specs.planning.Outcome.{reaches_none, filled, arrived, outcome_after, job_outcome}
+use Rattle.model.specs.planning.Admission.{first_axis, Tests, axis_refusals, Admission, refused_at, admitted}
 use Rattle.model.specs.planning.Admission.{windowed, tested}
 use Rattle.theorems.specs.Verdict.{Arrives, Passing, OutsideWindows, EightOutside, NineNowhere}
 use Rattle.theorems.proofs.jobs.WindowsInWords.{in-windows, windows-in, windows-wrong}
@@ -34,20 +34,20 @@ not-below h k = omega arith
 -- ---- what every earlier refusal lets pass goes on to 8 and 9
 
 first-none : (f : Axis → Bool) → ((x : Axis) → Passed x → f x ≡ false) → (l : List JobAxis)
-    → AllPassed l → firstAxis f l ≡ none
+    → AllPassed l → first_axis f l ≡ none
 first-none f h [] p = refl
 first-none f h (y ∷ l) p = go (f y.axis) (h y.axis p.0) (first-none f h l p.1)
   where
-    go : (b : Bool) → b ≡ false → firstAxis f l ≡ none
-        → ◌≡◌ {A = Option ℕ} (elim b as (λ _. Option ℕ) [ true ↦ some y.number | false ↦ firstAxis f l ]) none
+    go : (b : Bool) → b ≡ false → first_axis f l ≡ none
+        → ◌≡◌ {A = Option ℕ} (elim b as (λ _. Option ℕ) [ true ↦ some y.number | false ↦ first_axis f l ]) none
     go true e r = absurd (false≢true (sym e))
     go false e r = r
 
 wrong-or-right : (w : Windows) (p : ℕ) → WindowsWrong w p → WindowsRight w → ⊥
-wrong-or-right w p (empty e) r = omega (arith, r.notEmpty)
-wrong-or-right w p (tooMany h) r = omega (arith, r.few)
-wrong-or-right w p (longDwell a b h) r = omega (arith, r.dwell)
-wrong-or-right w p (wrongWindow i a b c f) r =
+wrong-or-right w p (empty e) r = omega (arith, r.not_empty)
+wrong-or-right w p (too_many h) r = omega (arith, r.few)
+wrong-or-right w p (long_dwell a b h) r = omega (arith, r.dwell)
+wrong-or-right w p (wrong_window i a b c f) r =
     let o = r.each i f.window f.here in
     go f.wrong o.closes o.follows
   where
@@ -58,30 +58,30 @@ wrong-or-right w p (wrongWindow i a b c f) r =
 -- no test of a list holds of an axis
 abbrev pub Clear : Tests → List JobAxis → Type 0
 Clear [] xs = Unit
-Clear (t ∷ ts) xs = (firstAxis t.1 xs ≡ none) × Clear ts xs
+Clear (t ∷ ts) xs = (first_axis t.1 xs ≡ none) × Clear ts xs
 
 module _ (j : Job) (lent : List ℤ) (p : Passing j) where
   tests-clear : (ts : Tests) → Clear ts j.axes → tested ts j ≡ windowed j
   tests-clear [] c = refl
   tests-clear (t ∷ ts) (e, c) =
-      ap (λ (o : Option ℕ). elim o as (λ _. Admission) [ some i ↦ refusedAt t.0 i | none ↦ tested ts j ]) e
+      ap (λ (o : Option ℕ). elim o as (λ _. Admission) [ some i ↦ refused_at t.0 i | none ↦ tested ts j ]) e
       ∙ tests-clear ts c
 
   -- of each test that no axis that passed meets
-  clear : (f : Axis → Bool) → ((x : Axis) → Passed x → f x ≡ false) → firstAxis f j.axes ≡ none
+  clear : (f : Axis → Bool) → ((x : Axis) → Passed x → f x ≡ false) → first_axis f j.axes ≡ none
   clear f h = first-none f h j.axes p.axes
 
-  all-clear : Clear axisRefusals j.axes
+  all-clear : Clear axis_refusals j.axes
   all-clear =
-      let last : Clear ((16, accelerationRefused) ∷ (17, flyingRefused) ∷ []) j.axes =
-      (clear accelerationRefused (λ x q. q.acceleration), (clear flyingRefused (λ x q. q.resting), tt)) in
+      let last : Clear ((16, acceleration_refused) ∷ (17, flying_refused) ∷ []) j.axes =
+      (clear acceleration_refused (λ x q. q.acceleration), (clear flying_refused (λ x q. q.resting), tt)) in
       let blends : Clear
-      ((5, blendRefused) ∷ (15, swayRefused) ∷ (6, valuesRefused) ∷ (16, accelerationRefused)
-      ∷ (17, flyingRefused) ∷ []) j.axes = (
-        clear blendRefused (λ x q. q.blend),
-        (clear swayRefused (λ x q. q.sway), (clear valuesRefused (λ x q. q.values), last)),
+      ((5, blend_refused) ∷ (15, sway_refused) ∷ (6, values_refused) ∷ (16, acceleration_refused)
+      ∷ (17, flying_refused) ∷ []) j.axes = (
+        clear blend_refused (λ x q. q.blend),
+        (clear sway_refused (λ x q. q.sway), (clear values_refused (λ x q. q.values), last)),
       ) in
-      (clear limitsRefused (λ x q. q.limits), (clear dampingRefused (λ x q. q.damping), blends))
+      (clear limits_refused (λ x q. q.limits), (clear damping_refused (λ x q. q.damping), blends))
 
   no-thirteen : refused13 j.windows ≡ none
   no-thirteen = go (refused13 j.windows) refl
@@ -91,17 +91,17 @@ module _ (j : Job) (lent : List ℤ) (p : Passing j) where
       go (some k) e = let x = windows-wrong j.windows k e in
           absurd (wrong-or-right j.windows k x.1 (p.windows x.0))
 
-  pub goes_on : jobOutcome j lent ≡ arrived j j.asked lent
+  pub goes_on : job_outcome j lent ≡ arrived j j.asked lent
   goes_on =
-      ap (outcomeAfter lent)
-      (ap (λ (b : Bool). elim b as (λ _. Admission) [ true ↦ tested axisRefusals j | false ↦ refusedAt 3 1 ])
+      ap (outcome_after lent)
+      (ap (λ (b : Bool). elim b as (λ _. Admission) [ true ↦ tested axis_refusals j | false ↦ refused_at 3 1 ])
       (leb_yes p.asked)
-      ∙ tests-clear axisRefusals all-clear
-      ∙ ap (λ (o : Option ℕ). elim o as (λ _. Admission) [ some k ↦ refusedAt 13 k | none ↦ admitted j ]) no-thirteen)
+      ∙ tests-clear axis_refusals all-clear
+      ∙ ap (λ (o : Option ℕ). elim o as (λ _. Admission) [ some k ↦ refused_at 13 k | none ↦ admitted j ]) no-thirteen)
 
   -- where there is an arrival the number is 10 or 0
   not-filled : (n k : ℕ) → (k ≡ 10 → ⊥) → (k ≡ 0 → ⊥) → (filled j n lent).number ≡ k → ⊥
-  not-filled n k a b = go (ltb (length lent) (cellsNeeded (length j.axes) n))
+  not-filled n k a b = go (ltb (length lent) (cells_needed (length j.axes) n))
     where
       go : (t : Bool)
           → (elim t as (λ _. Outcome) [ true ↦ refuse 10 0 0 n lent | false ↦ accept j n lent ]).number ≡ k → ⊥
@@ -115,25 +115,25 @@ power zero = omega arith
 power (suc k) = let h = power k in subst (λ (m : ℕ). 1 ≤ m) (sym (N.pow-succ' 2 k)) (omega arith)
 
 abbrev missed : List JobAxis → ℕ → ℕ
-missed l n = maskWhere (λ x. not (reachable x n)) l
+missed l n = mask_where (λ x. not (reachable x n)) l
 
-none-missed : (l : List JobAxis) (n : ℕ) → missed l n ≡ 0 → T (allReach l n)
+none-missed : (l : List JobAxis) (n : ℕ) → missed l n ≡ 0 → T (all_reach l n)
 none-missed [] n e = tt
 none-missed (y ∷ l) n e = go (reachable y.axis n) e (none-missed l n)
   where
     go : (b : Bool)
         → ◌≡◌ {A = ℕ} (elim (not b) as (λ _. ℕ) [ true ↦ 2 ^ y.number + missed l n | false ↦ missed l n ]) 0
-        → (missed l n ≡ 0 → T (allReach l n))
-        → T (elim b as (λ _. Bool) [ true ↦ allReach l n | false ↦ false ])
+        → (missed l n ≡ 0 → T (all_reach l n))
+        → T (elim b as (λ _. Bool) [ true ↦ all_reach l n | false ↦ false ])
     go true e h = h e
     go false e h = absurd (let k = power y.number in omega arith)
 
-all-reached : (l : List JobAxis) (n : ℕ) → T (allReach l n) → missed l n ≡ 0
+all-reached : (l : List JobAxis) (n : ℕ) → T (all_reach l n) → missed l n ≡ 0
 all-reached [] n t = refl
 all-reached (y ∷ l) n t = go (reachable y.axis n) t (all-reached l n)
   where
-    go : (b : Bool) → T (elim b as (λ _. Bool) [ true ↦ allReach l n | false ↦ false ])
-        → (T (allReach l n) → missed l n ≡ 0)
+    go : (b : Bool) → T (elim b as (λ _. Bool) [ true ↦ all_reach l n | false ↦ false ])
+        → (T (all_reach l n) → missed l n ≡ 0)
         → ◌≡◌ {A = ℕ} (elim (not b) as (λ _. ℕ) [ true ↦ 2 ^ y.number + missed l n | false ↦ missed l n ]) 0
     go true t h = h t
     go false t h = absurd t
@@ -149,28 +149,28 @@ module _ (j : Job) (lent : List ℤ) (p : Passing j) where
   Eight o = (o.number ≡ 8) × (o.mask ≡ 0)
 
   module _ (n : ℕ) where
-    no-window : T (allReach j.axes n) → arrives j n ≡ false → inWindows j.windows n ≡ false
-    no-window t e = T_false (inWindows j.windows n)
-        (λ w. clash (arrives j n) e (and (inWindows j.windows n) (allReach j.axes n) w t))
+    no-window : T (all_reach j.axes n) → arrives j n ≡ false → in_windows j.windows n ≡ false
+    no-window t e = T_false (in_windows j.windows n)
+        (λ w. clash (arrives j n) e (and (in_windows j.windows n) (all_reach j.axes n) w t))
 
-    to-outside : T (allReach j.axes n) → inWindows j.windows n ≡ false → OutsideWindows j n
+    to-outside : T (all_reach j.axes n) → in_windows j.windows n ≡ false → OutsideWindows j n
     to-outside t e =
         record {
           reached = all-reach j.axes n p.axes t;
           given = go j.windows.given refl;
-          outside = λ f. clash (inWindows j.windows n) e (windows-in j.windows n (λ g. f));
+          outside = λ f. clash (in_windows j.windows n) e (windows-in j.windows n (λ g. f));
         }
       where
         go : (b : Bool) → j.windows.given ≡ b → j.windows.given ≡ true
         go true g = g
         go false g = absurd
-            (clash (inWindows j.windows n) e (windows-in j.windows n (λ h. absurd (false≢true (sym g ∙ h)))))
+            (clash (in_windows j.windows n) e (windows-in j.windows n (λ h. absurd (false≢true (sym g ∙ h)))))
 
     of-outside : OutsideWindows j n → arrives j n ≡ false
     of-outside o =
         T_false (arrives j n)
         (λ t. o.outside
-        (in-windows j.windows n (left (inWindows j.windows n) (allReach j.axes n) t) o.given))
+        (in-windows j.windows n (left (in_windows j.windows n) (all_reach j.axes n) t) o.given))
 
     eight-ends : (b : Bool) → arrives j n ≡ b
         → Eight (elim b as (λ _. Outcome) [ true ↦ filled j n lent | false ↦ refuse 8 0 (missed j.axes n) 0 lent ])
@@ -191,18 +191,18 @@ module _ (j : Job) (lent : List ℤ) (p : Passing j) where
   abbrev Nowhere : Type 0
   Nowhere = (n : ℕ) → 1 ≤ n → n ≤ 4096 → Arrives j n → ⊥
 
-  nine-ends : (o : Option ℕ) → leastFrom (arrives j) 1 lastTick ≡ o
+  nine-ends : (o : Option ℕ) → least_from (arrives j) 1 last_tick ≡ o
       → ((elim o as (λ _. Outcome) [
         | some n ↦ filled j n lent
-        | none ↦ refuse 9 0 (maskWhere (λ x. reachesNone x) j.axes) 0 lent
+        | none ↦ refuse 9 0 (mask_where (λ x. reaches_none x) j.axes) 0 lent
       ]).number ≡ 9) ↔ Nowhere
   nine-ends (some n) e =
-      let l = least-is (arrives j) 1 lastTick n e in (
+      let l = least-is (arrives j) 1 last_tick n e in (
         λ h. absurd (not-filled j lent p n 9 (λ k. omega arith) (λ k. omega arith) h),
         λ h. absurd (h n l.first (omega (arith, l.last)) (arrives-is j n p.axes (true-T l.passes))),
       )
   nine-ends none e = (
-    λ h n a b r. none_is (arrives j) 1 lastTick e n a (omega arith) (T_true (arrives j n) (is-arrives j n p.axes r)),
+    λ h n a b r. none_is (arrives j) 1 last_tick e n a (omega arith) (T_true (arrives j n) (is-arrives j n p.axes r)),
     λ h. refl,
   )
 
@@ -214,4 +214,4 @@ pub nine-nowhere : NineNowhere
 nine-nowhere j lent p z =
     subst (λ (o : Outcome). (o.number ≡ 9) ↔ Nowhere j lent p)
     (sym (goes_on j lent p ∙ ap (λ (n : ℕ). arrived j n lent) z))
-    (nine-ends j lent p (leastFrom (arrives j) 1 lastTick) refl)
+    (nine-ends j lent p (least_from (arrives j) 1 last_tick) refl)

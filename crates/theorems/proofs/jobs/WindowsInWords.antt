@@ -14,10 +14,10 @@ use Rattle.whole.proofs.Tests.{both, and, true-T}
 use Rattle.whole.proofs.Elements.{none-some}
 use Rattle.model.specs.declared.Window.{Window}
 use Rattle.model.specs.declared.Windows.{Windows}
-use Rattle.model.specs.planning.Windows.{fitsWindow, fitsOne, inWindows, inOrderAfter, firstWrongWindow, windowsRefused}
-use Rattle.theorems.specs.Windows.{FitsOne, InOrder, FirstWrongWindow, WindowsWrong, WindowsRight, empty, tooMany}
+use Rattle.model.specs.planning.Windows.{fits_window, fits_one, in_windows, in_order_after, first_wrong_window, windows_refused}
+use Rattle.theorems.specs.Windows.{FitsOne, InOrder, FirstWrongWindow, WindowsWrong, WindowsRight, empty, too_many}
 use Rattle.model.specs.planning.Windows.{refused13, brought}
-use Rattle.theorems.specs.Windows.{longDwell, wrongWindow}
+use Rattle.theorems.specs.Windows.{long_dwell, wrong_window}
 
 -- ---- one window, the one before it having closed at tick c
 
@@ -27,7 +27,7 @@ Right c w = (w.opening < w.closing) × (c ≤ w.opening)
 abbrev Wrong : ℕ → Window → Type 0
 Wrong c w = (w.closing ≤ w.opening) ⊎ (w.opening < c)
 
-right_is : (c : ℕ) (w : Window) → inOrderAfter c w ≡ true → Right c w
+right_is : (c : ℕ) (w : Window) → in_order_after c w ≡ true → Right c w
 right_is c w e = go (ltb w.opening w.closing) (leb c w.opening)
     (ltb-true w.opening w.closing) (leb-true c w.opening) e
   where
@@ -35,7 +35,7 @@ right_is c w e = go (ltb w.opening w.closing) (leb c w.opening)
     go true b f g e = (f refl, g e)
     go false b f g e = absurd (false≢true e)
 
-wrong-is : (c : ℕ) (w : Window) → inOrderAfter c w ≡ false → Wrong c w
+wrong-is : (c : ℕ) (w : Window) → in_order_after c w ≡ false → Wrong c w
 wrong-is c w e = go (ltb w.opening w.closing) (leb c w.opening)
     (ltb-false w.opening w.closing) (leb-false c w.opening) e
   where
@@ -47,25 +47,25 @@ wrong-is c w e = go (ltb w.opening w.closing) (leb c w.opening)
 -- ---- an arrival that fits
 
 module _ (n dwell : ℕ) where
-  fits-is : (w : Window) → T (fitsWindow n dwell w) → (w.opening ≤ n) × (n < w.closing) × (n + dwell ≤ w.closing)
+  fits-is : (w : Window) → T (fits_window n dwell w) → (w.opening ≤ n) × (n < w.closing) × (n + dwell ≤ w.closing)
   fits-is w t =
       let a = both (leb w.opening n) (ltb n w.closing && leb (n + dwell) w.closing) t in
       let b = both (ltb n w.closing) (leb (n + dwell) w.closing) a.1 in
       (leb→le w.opening n a.0, ltb→lt n w.closing b.0, leb→le (n + dwell) w.closing b.1)
 
-  is-fits : (w : Window) → w.opening ≤ n → n < w.closing → n + dwell ≤ w.closing → T (fitsWindow n dwell w)
+  is-fits : (w : Window) → w.opening ≤ n → n < w.closing → n + dwell ≤ w.closing → T (fits_window n dwell w)
   is-fits w a b c =
       and (leb w.opening n) (ltb n w.closing && leb (n + dwell) w.closing) (true-T (le-leb w.opening n a))
       (and (ltb n w.closing) (leb (n + dwell) w.closing) (true-T (lt-ltb n w.closing b))
       (true-T (le-leb (n + dwell) w.closing c)))
 
-  one-is : (l : List Window) → T (fitsOne n dwell l) → FitsOne n dwell l
+  one-is : (l : List Window) → T (fits_one n dwell l) → FitsOne n dwell l
   one-is [] t = absurd t
-  one-is (w ∷ l) t = go (fitsWindow n dwell w) (fits-is w) t (one-is l)
+  one-is (w ∷ l) t = go (fits_window n dwell w) (fits-is w) t (one-is l)
     where
       go : (b : Bool) → (T b → (w.opening ≤ n) × (n < w.closing) × (n + dwell ≤ w.closing))
-          → T (elim b as (λ _. Bool) [ true ↦ true | false ↦ fitsOne n dwell l ])
-          → (T (fitsOne n dwell l) → FitsOne n dwell l) → FitsOne n dwell (w ∷ l)
+          → T (elim b as (λ _. Bool) [ true ↦ true | false ↦ fits_one n dwell l ])
+          → (T (fits_one n dwell l) → FitsOne n dwell l) → FitsOne n dwell (w ∷ l)
       go true f t h = let r = f tt in
           record { index = 0; window = w; here = refl; opened = r.0; below = r.1; stays = r.2 }
       go false f t h =
@@ -80,34 +80,34 @@ module _ (n dwell : ℕ) where
           }
 
   is_one : (l : List Window) (k : ℕ) (v : Window) → get_elem? l k ≡ some v
-      → T (fitsWindow n dwell v) → T (fitsOne n dwell l)
+      → T (fits_window n dwell v) → T (fits_one n dwell l)
   is_one [] k v e t = absurd (none-some e)
   is_one (w ∷ l) zero v e t =
-      go (fitsWindow n dwell w) (let s : v ≡ w = cc in subst (λ (u : Window). T (fitsWindow n dwell u)) s t)
+      go (fits_window n dwell w) (let s : v ≡ w = cc in subst (λ (u : Window). T (fits_window n dwell u)) s t)
     where
-      go : (b : Bool) → T b → T (elim b as (λ _. Bool) [ true ↦ true | false ↦ fitsOne n dwell l ])
+      go : (b : Bool) → T b → T (elim b as (λ _. Bool) [ true ↦ true | false ↦ fits_one n dwell l ])
       go true t = tt
       go false t = absurd t
-  is_one (w ∷ l) (suc k) v e t = go (fitsWindow n dwell w) (is_one l k v e t)
+  is_one (w ∷ l) (suc k) v e t = go (fits_window n dwell w) (is_one l k v e t)
     where
-      go : (b : Bool) → T (fitsOne n dwell l) → T (elim b as (λ _. Bool) [ true ↦ true | false ↦ fitsOne n dwell l ])
+      go : (b : Bool) → T (fits_one n dwell l) → T (elim b as (λ _. Bool) [ true ↦ true | false ↦ fits_one n dwell l ])
       go true h = tt
       go false h = h
 
 module _ (w : Windows) (n : ℕ) where
-  pub in-windows : T (inWindows w n) → w.given ≡ true → FitsOne n w.dwell (brought w)
+  pub in-windows : T (in_windows w n) → w.given ≡ true → FitsOne n w.dwell (brought w)
   in-windows t g = go w.given g t
     where
-      go : (b : Bool) → b ≡ true → T (elim b as (λ _. Bool) [ true ↦ fitsOne n w.dwell (brought w) | false ↦ true ])
+      go : (b : Bool) → b ≡ true → T (elim b as (λ _. Bool) [ true ↦ fits_one n w.dwell (brought w) | false ↦ true ])
           → FitsOne n w.dwell (brought w)
       go true g t = one-is n w.dwell (brought w) t
       go false g t = absurd (false≢true g)
 
-  pub windows-in : (w.given ≡ true → FitsOne n w.dwell (brought w)) → T (inWindows w n)
+  pub windows-in : (w.given ≡ true → FitsOne n w.dwell (brought w)) → T (in_windows w n)
   windows-in f = go w.given f
     where
       go : (b : Bool) → (b ≡ true → FitsOne n w.dwell (brought w))
-          → T (elim b as (λ _. Bool) [ true ↦ fitsOne n w.dwell (brought w) | false ↦ true ])
+          → T (elim b as (λ _. Bool) [ true ↦ fits_one n w.dwell (brought w) | false ↦ true ])
       go true f =
           let r = f refl in
           is_one n w.dwell (brought w) r.index r.window r.here
@@ -123,26 +123,26 @@ in_order c w l r zero v e h = let s : w ≡ v = cc in
     subst (InOrder c (w ∷ l) 0) s (record { closes = r.0; follows = r.1 })
 in_order c w l r (suc k) v e h = let o = h k refl e in record { closes = o.closes; follows = o.follows }
 
-pub none-wrong : (i c : ℕ) (l : List Window) → firstWrongWindow i c l ≡ none → (k : ℕ) (v : Window)
+pub none-wrong : (i c : ℕ) (l : List Window) → first_wrong_window i c l ≡ none → (k : ℕ) (v : Window)
     → get_elem? l k ≡ some v → InOrder c l k v
 none-wrong i c [] e = λ k v q. absurd (none-some q)
-none-wrong i c (w ∷ l) e = go (inOrderAfter c w) (right_is c w) e (none-wrong (suc i) w.closing l)
+none-wrong i c (w ∷ l) e = go (in_order_after c w) (right_is c w) e (none-wrong (suc i) w.closing l)
   where
     go : (b : Bool) → (b ≡ true → Right c w)
         → ◌≡◌ {A = Option ℕ}
-        (elim b as (λ _. Option ℕ) [ true ↦ firstWrongWindow (suc i) w.closing l | false ↦ some i ]) none
-        → (firstWrongWindow (suc i) w.closing l ≡ none → (k : ℕ) (v : Window)
+        (elim b as (λ _. Option ℕ) [ true ↦ first_wrong_window (suc i) w.closing l | false ↦ some i ]) none
+        → (first_wrong_window (suc i) w.closing l ≡ none → (k : ℕ) (v : Window)
         → get_elem? l k ≡ some v → InOrder w.closing l k v)
         → (k : ℕ) (v : Window) → get_elem? (w ∷ l) k ≡ some v → InOrder c (w ∷ l) k v
     go true f e h = λ k v q. in_order c w l (f refl) k v q (λ m s p. h e m v p)
     go false f e h = absurd (none-some (sym e))
 
 -- the first wrong window of those from index i on, counted from there
-first-wrong : (i c : ℕ) (l : List Window) (p : ℕ) → firstWrongWindow i c l ≡ some p
+first-wrong : (i c : ℕ) (l : List Window) (p : ℕ) → first_wrong_window i c l ≡ some p
     → (q : ℕ) × ((p ≡ i + q) × FirstWrongWindow c l q)
 first-wrong i c [] p e = absurd (none-some e)
 first-wrong i c (w ∷ l) p e =
-    go (inOrderAfter c w) (right_is c w) (wrong-is c w) e (first-wrong (suc i) w.closing l p)
+    go (in_order_after c w) (right_is c w) (wrong-is c w) e (first-wrong (suc i) w.closing l p)
   where
     later : Right c w → (q : ℕ) → FirstWrongWindow w.closing l q → FirstWrongWindow c (w ∷ l) (suc q)
     later r q f =
@@ -155,8 +155,8 @@ first-wrong i c (w ∷ l) p e =
 
     go : (b : Bool) → (b ≡ true → Right c w) → (b ≡ false → Wrong c w)
         → ◌≡◌ {A = Option ℕ}
-        (elim b as (λ _. Option ℕ) [ true ↦ firstWrongWindow (suc i) w.closing l | false ↦ some i ]) (some p)
-        → (firstWrongWindow (suc i) w.closing l ≡ some p
+        (elim b as (λ _. Option ℕ) [ true ↦ first_wrong_window (suc i) w.closing l | false ↦ some i ]) (some p)
+        → (first_wrong_window (suc i) w.closing l ≡ some p
         → (q : ℕ) × ((p ≡ suc i + q) × FirstWrongWindow w.closing l q))
         → (q : ℕ) × ((p ≡ i + q) × FirstWrongWindow c (w ∷ l) q)
     go true f g e h = let r = h e in let s : p ≡ suc i + r.0 = r.1.0 in
@@ -179,7 +179,7 @@ positive (suc n) h = omega arith
 module _ (w : Windows) where
   -- by the tests of the count and the dwell
   by : Bool → Bool → Option ℕ
-  by a b = elim a [ true ↦ some 0 | false ↦ elim b [ true ↦ firstWrongWindow 0 0 (brought w) | false ↦ some 32 ] ]
+  by a b = elim a [ true ↦ some 0 | false ↦ elim b [ true ↦ first_wrong_window 0 0 (brought w) | false ↦ some 32 ] ]
 
   wrong : (a b c : Bool) (p : ℕ) → eqb w.count 0 ≡ a → leb w.count 32 ≡ b → leb w.dwell 4096 ≡ c
       → by a (b && c) ≡ some p → WindowsWrong w p
@@ -190,13 +190,13 @@ module _ (w : Windows) where
       let s : r.0 ≡ p = omega (arith, r.1.0) in
       let n = eqb-false w.count 0 e in
       subst (WindowsWrong w) s
-      (wrongWindow r.0 (positive w.count n) (leb-true w.count 32 f) (leb-true w.dwell 4096 g) r.1.1)
+      (wrong_window r.0 (positive w.count n) (leb-true w.count 32 f) (leb-true w.dwell 4096 g) r.1.1)
   wrong false true false p e f g h =
       let s : 32 ≡ p = cc in
       let n = eqb-false w.count 0 e in
       subst (WindowsWrong w) s
-      (longDwell (positive w.count n) (leb-true w.count 32 f) (leb-false w.dwell 4096 g))
-  wrong false false c p e f g h = let s : 32 ≡ p = cc in subst (WindowsWrong w) s (tooMany (leb-false w.count 32 f))
+      (long_dwell (positive w.count n) (leb-true w.count 32 f) (leb-false w.dwell 4096 g))
+  wrong false false c p e f g h = let s : 32 ≡ p = cc in subst (WindowsWrong w) s (too_many (leb-false w.count 32 f))
 
   right : (a b c : Bool) → eqb w.count 0 ≡ a → leb w.count 32 ≡ b → leb w.dwell 4096 ≡ c
       → by a (b && c) ≡ none → WindowsRight w
@@ -205,7 +205,7 @@ module _ (w : Windows) where
   right false true true e f g h =
       let n = eqb-false w.count 0 e in
       record {
-        notEmpty = positive w.count n;
+        not_empty = positive w.count n;
         few = leb-true w.count 32 f;
         dwell = leb-true w.dwell 4096 g;
         each = none-wrong 0 0 (brought w) h;
@@ -218,7 +218,7 @@ module _ (w : Windows) where
   windows-wrong p e = go w.given refl e
     where
       go : (b : Bool) → w.given ≡ b
-          → ◌≡◌ {A = Option ℕ} (elim b as (λ _. Option ℕ) [ true ↦ windowsRefused w | false ↦ none ]) (some p)
+          → ◌≡◌ {A = Option ℕ} (elim b as (λ _. Option ℕ) [ true ↦ windows_refused w | false ↦ none ]) (some p)
           → (w.given ≡ true) × WindowsWrong w p
       go true g e = (g, wrong (eqb w.count 0) (leb w.count 32) (leb w.dwell 4096) p refl refl refl e)
       go false g e = absurd (none-some e)
@@ -228,6 +228,6 @@ module _ (w : Windows) where
   windows-right e t = go w.given t e
     where
       go : (b : Bool) → b ≡ true → ◌≡◌ {A = Option ℕ}
-          (elim b as (λ _. Option ℕ) [ true ↦ windowsRefused w | false ↦ none ]) none → WindowsRight w
+          (elim b as (λ _. Option ℕ) [ true ↦ windows_refused w | false ↦ none ]) none → WindowsRight w
       go true t e = right (eqb w.count 0) (leb w.count 32) (leb w.dwell 4096) refl refl refl e
       go false t e = absurd (false≢true t)

@@ -9,15 +9,15 @@ use lib.Dec.{T}
 use lib.ListN.{length, get_or, length-append}
 use lib.IntN.{ℤ, pos, ◌+ℤ◌, ◌-ℤ◌, ◌*ℤ◌}
 use lib.Signed.{◌≤ℤ◌, ◌<ℤ◌, yes_non_neg, pos-nat_abs}
-use Rattle.whole.specs.Integers.{sumTo}
+use Rattle.whole.specs.Integers.{sum_to}
 use Rattle.whole.proofs.Differences.{whole, all₁}
 use Rattle.whole.proofs.Laws.{≤ℤ-trans, ≤ℤ-total, <ℤ-weaken, add-sub, sub-nonneg}
 use Rattle.whole.proofs.Ring.{pol, same}
 use Rattle.whole.proofs.Rounding.{twice_half}
 use Rattle.model.specs.planning.Leg.{Leg, Meets, feasible, travelled, sum_at, cruise, IsCruise, required}
-use Rattle.model.specs.planning.Leg.{twiceRequired, raised, remainder, chosen}
+use Rattle.model.specs.planning.Leg.{twice_required, raised, remainder, chosen}
 use Rattle.theorems.proofs.legs.Envelopes.{Joined, highest-sum}
-use Rattle.theorems.proofs.legs.CruiseIsLargest.{sumAt-mono}
+use Rattle.theorems.proofs.legs.CruiseIsLargest.{sum_at-mono}
 use Rattle.theorems.proofs.legs.RaisedList.{along, along-end, along-speed, along-change, along-sum, total, Kept}
 use Rattle.theorems.proofs.legs.RaisedList.{raised-total, raised-length, raised-kept}
 use Rattle.theorems.proofs.legs.FeasibleTests.{feasible-joined, feasible-even, feasible-below, feasible-cruise}
@@ -34,7 +34,7 @@ chosen-length g s some =
     plain : (a k : ℕ) → a ≡ k - 1 → 0 < k → a + 1 ≡ k
     plain a k e h = omega arith
 
-module _ (g : Leg) (δ : ℤ) (range : g.speedLimit ≤ 2 ^ 37) (t : T (feasible g δ)) where
+module _ (g : Leg) (δ : ℤ) (range : g.speed_limit ≤ 2 ^ 37) (t : T (feasible g δ)) where
   abbrev S : ℤ
   S = required g δ
 
@@ -50,7 +50,7 @@ module _ (g : Leg) (δ : ℤ) (range : g.speedLimit ≤ 2 ^ 37) (t : T (feasible
       fits = sub-nonneg (sum_at g (cruise g S)) S cruise-largest.fits
 
 module _ (g : Leg) (δ : ℤ) (some : 0 < g.ticks)
-    (hA : 0 < g.accelerationLimit) (range : g.speedLimit ≤ 2 ^ 37) (t : T (feasible g δ)) where
+    (hA : 0 < g.acceleration_limit) (range : g.speed_limit ≤ 2 ^ 37) (t : T (feasible g δ)) where
   -- the required sum, its cruise, what the cruise leaves of the sum, and the
   -- number of ticks between the ends
   abbrev s : ℤ
@@ -80,20 +80,20 @@ module _ (g : Leg) (δ : ℤ) (some : 0 < g.ticks)
   -- the upper envelope's sum is enough
   enough : s ≤ℤ sum_at g (c +ℤ pos 1)
   enough =
-      ⊎_elim (λ (q : (c +ℤ pos 1) ≤ℤ pos g.speedLimit). larger q) top (≤ℤ-total (c +ℤ pos 1) (pos g.speedLimit))
+      ⊎_elim (λ (q : (c +ℤ pos 1) ≤ℤ pos g.speed_limit). larger q) top (≤ℤ-total (c +ℤ pos 1) (pos g.speed_limit))
     where
       beyond : (c : ℤ) → (c +ℤ pos 1) ≤ℤ c → ⊥
       beyond = all₁ _ (λ a b. simp whole (omega arith))
 
-      larger : (c +ℤ pos 1) ≤ℤ pos g.speedLimit → s ≤ℤ sum_at g (c +ℤ pos 1)
+      larger : (c +ℤ pos 1) ≤ℤ pos g.speed_limit → s ≤ℤ sum_at g (c +ℤ pos 1)
       larger q = ⊎_elim
           (λ (f : sum_at g (c +ℤ pos 1) ≤ℤ s). absurd (beyond c (C.largest (c +ℤ pos 1) q f))) <ℤ-weaken
           (≤ℤ-total (sum_at g (c +ℤ pos 1)) s)
 
-      top : pos g.speedLimit <ℤ (c +ℤ pos 1) → s ≤ℤ sum_at g (c +ℤ pos 1)
+      top : pos g.speed_limit <ℤ (c +ℤ pos 1) → s ≤ℤ sum_at g (c +ℤ pos 1)
       top q =
           ≤ℤ-trans (subst (λ (z : ℤ). s ≤ℤ z) (sym (highest-sum g joined)) (feasible-below g δ t))
-          (sumAt-mono g (pos g.speedLimit) (c +ℤ pos 1) (<ℤ-weaken q))
+          (sum_at-mono g (pos g.speed_limit) (c +ℤ pos 1) (<ℤ-weaken q))
 
   -- the velocities of ticks 1 to T − 1
   middle : List ℤ
@@ -110,7 +110,7 @@ module _ (g : Leg) (δ : ℤ) (some : 0 < g.ticks)
   unfolding middle
   middle-total = raised-total g c n left (subst (λ (z : ℤ). z ≤ℤ sum_at g (c +ℤ pos 1)) (sym left_is) enough) ∙ left_is
 
-  kept : Kept g.speedLimit g.accelerationLimit g.start middle g.end
+  kept : Kept g.speed_limit g.acceleration_limit g.start middle g.end
   unfolding middle
   kept = raised-kept g c joined hA n left shape
 
@@ -124,15 +124,15 @@ module _ (g : Leg) (δ : ℤ) (some : 0 < g.ticks)
       record {
         starts = refl;
         ends = end_of;
-        speeds = λ k h. along-speed g.speedLimit g.accelerationLimit g.start middle g.end kept k
+        speeds = λ k h. along-speed g.speed_limit g.acceleration_limit g.start middle g.end kept k
             (omega (arith, middle-length));
-        changes = λ k h. along-change g.speedLimit g.accelerationLimit g.start middle g.end kept k
+        changes = λ k h. along-change g.speed_limit g.acceleration_limit g.start middle g.end kept k
             (omega (arith, middle-length));
         travels = travels-is;
       }
     where
-      sum_of : sumTo w n ≡ s
-      sum_of = subst (λ (k : ℕ). sumTo w k ≡ s) middle-length (along-sum g.start middle g.end ∙ middle-total)
+      sum_of : sum_to w n ≡ s
+      sum_of = subst (λ (k : ℕ). sum_to w k ≡ s) middle-length (along-sum g.start middle g.end ∙ middle-total)
 
       last_of : w (suc n) ≡ g.end
       last_of = subst (λ (k : ℕ). w (suc k) ≡ g.end) middle-length (along-end g.start middle g.end)
@@ -145,7 +145,7 @@ module _ (g : Leg) (δ : ℤ) (some : 0 < g.ticks)
           ap (travelled w) (sym shape)
           ∙ travelled-is w n
           ∙ ap₂ (λ (a b : ℤ). g.start +ℤ pos 2 *ℤ a +ℤ b) sum_of last_of
-          ∙ ap (λ (a : ℤ). g.start +ℤ a +ℤ g.end) (twice_half (twiceRequired g δ) (feasible-even g δ t))
+          ∙ ap (λ (a : ℤ). g.start +ℤ a +ℤ g.end) (twice_half (twice_required g δ) (feasible-even g δ t))
           ∙ same (g.start ∷ g.end ∷ δ ∷ []) (search pol depth 20 fits 9000) tt
 
   pub chosen-meets : Meets g δ (λ k. get_or (g.start ∷ chosen g (required g δ)) k (pos 0))

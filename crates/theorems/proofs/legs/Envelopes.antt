@@ -8,7 +8,7 @@ use native.Mathlib.Omega.{arith}
 use native.Mathlib.Nat.{add_comm, mul-suc, mul-add, mul-zero, sub_self, sub-zero}
 use lib.IntN.{ℤ, pos, neg_ℤ, nat_abs, ◌+ℤ◌, ◌-ℤ◌}
 use lib.Signed.{◌≤ℤ◌}
-use Rattle.whole.specs.Integers.{least, greatest, clamp, sumTo}
+use Rattle.whole.specs.Integers.{least, greatest, clamp, sum_to}
 use Rattle.whole.specs.Ranges.{Within}
 use Rattle.whole.proofs.Differences.{whole, all₁, all₂, all₃, all₄}
 use Rattle.whole.proofs.Sums.{sum_same}
@@ -61,10 +61,10 @@ near-minus A a b = all₁ _ (λ c d. simp (whole, near-iff) (omega arith))
 
 module _ (g : Leg) where
   abbrev L : ℕ
-  L = g.speedLimit
+  L = g.speed_limit
 
   abbrev A : ℕ
-  A = g.accelerationLimit
+  A = g.acceleration_limit
 
   -- what the start and the end allow at tick k: A k and A (T − k)
   abbrev pub since : ℕ → ℕ
@@ -111,9 +111,9 @@ module _ (g : Leg) where
 -- ---- the ends can be joined: so the envelopes do not cross, and meet at both ends
 
 pub record Joined (g : Leg) : Type 0 where
-  pub start : nat_abs g.start ≤ g.speedLimit
-  pub end : nat_abs g.end ≤ g.speedLimit
-  pub apart : nat_abs (g.end -ℤ g.start) ≤ g.accelerationLimit * g.ticks
+  pub start : nat_abs g.start ≤ g.speed_limit
+  pub end : nat_abs g.end ≤ g.speed_limit
+  pub apart : nat_abs (g.end -ℤ g.start) ≤ g.acceleration_limit * g.ticks
 
 -- the envelopes of one tick: the speed limit l, the ends s and e, and what is allowed
 -- since the start and until the end
@@ -154,57 +154,57 @@ within-limit l a b = all₂ _ (λ c d e f. simp whole (omega arith))
 clamp-within : (l : ℕ) (x y c : ℤ) → Within l x → Within l (clamp x (least (pos l) y) c)
 clamp-within l = all₃ _ (λ a b c d e f. simp whole (omega arith))
 
-module _ (g : Leg) (hs : nat_abs g.start ≤ g.speedLimit) (he : nat_abs g.end ≤ g.speedLimit) where
+module _ (g : Leg) (hs : nat_abs g.start ≤ g.speed_limit) (he : nat_abs g.end ≤ g.speed_limit) where
   -- no velocity exceeds the speed limit
-  pub clamped-within : (c : ℤ) (k : ℕ) → Within g.speedLimit (clamped g c k)
+  pub clamped-within : (c : ℤ) (k : ℕ) → Within g.speed_limit (clamped g c k)
   clamped-within c k =
-      clamp-within g.speedLimit (lower g k) (least (g.start +ℤ pos (since g k)) (g.end +ℤ pos (until g k))) c
-      (within-limit g.speedLimit (since g k) (until g k) g.start g.end
+      clamp-within g.speed_limit (lower g k) (least (g.start +ℤ pos (since g k)) (g.end +ℤ pos (until g k))) c
+      (within-limit g.speed_limit (since g k) (until g k) g.start g.end
       (record { within = hs }) (record { within = he }))
 
 -- at the lowest cruise the velocities are the lower envelope
-pub clamped-lowest : (g : Leg) (k : ℕ) → clamped g (neg_ℤ (pos g.speedLimit)) k ≡ lower g k
+pub clamped-lowest : (g : Leg) (k : ℕ) → clamped g (neg_ℤ (pos g.speed_limit)) k ≡ lower g k
 clamped-lowest g k =
-    clamp-lowest g.speedLimit (greatest (g.start -ℤ pos (since g k)) (g.end -ℤ pos (until g k))) (upper g k)
+    clamp-lowest g.speed_limit (greatest (g.start -ℤ pos (since g k)) (g.end -ℤ pos (until g k))) (upper g k)
 
-pub lowest-sum : (g : Leg) → sum_at g (neg_ℤ (pos g.speedLimit)) ≡ sumTo (lower g) (g.ticks - 1)
-lowest-sum g = sum_same (clamped g (neg_ℤ (pos g.speedLimit))) (lower g) (g.ticks - 1) (λ k h. clamped-lowest g k)
+pub lowest-sum : (g : Leg) → sum_at g (neg_ℤ (pos g.speed_limit)) ≡ sum_to (lower g) (g.ticks - 1)
+lowest-sum g = sum_same (clamped g (neg_ℤ (pos g.speed_limit))) (lower g) (g.ticks - 1) (λ k h. clamped-lowest g k)
 
 module _ (g : Leg) (j : Joined g) where
   pub apart-at : (k : ℕ) → k ≤ g.ticks → Within (since g k + until g k) (g.end -ℤ g.start)
   apart-at k h =
       record { within = subst (λ (n : ℕ). nat_abs (g.end -ℤ g.start) ≤ n) (sym (since-until g k h)) j.apart }
 
-  start-within : Within g.speedLimit g.start
+  start-within : Within g.speed_limit g.start
   start-within = record { within = j.start }
 
-  end-within : Within g.speedLimit g.end
+  end-within : Within g.speed_limit g.end
   end-within = record { within = j.end }
 
   lower-upper : (k : ℕ) → k ≤ g.ticks → lower g k ≤ℤ upper g k
   lower-upper k h =
-      ordered g.speedLimit (since g k) (until g k) g.start g.end start-within end-within (apart-at k h)
+      ordered g.speed_limit (since g k) (until g k) g.start g.end start-within end-within (apart-at k h)
 
   -- at the highest cruise they are the upper envelope
-  pub clamped-highest : (k : ℕ) → k ≤ g.ticks → clamped g (pos g.speedLimit) k ≡ upper g k
+  pub clamped-highest : (k : ℕ) → k ≤ g.ticks → clamped g (pos g.speed_limit) k ≡ upper g k
   clamped-highest k h =
-      clamp-highest g.speedLimit (lower g k)
+      clamp-highest g.speed_limit (lower g k)
       (least (g.start +ℤ pos (since g k)) (g.end +ℤ pos (until g k))) (lower-upper k h)
 
-  pub highest-sum : sum_at g (pos g.speedLimit) ≡ sumTo (upper g) (g.ticks - 1)
+  pub highest-sum : sum_at g (pos g.speed_limit) ≡ sum_to (upper g) (g.ticks - 1)
   highest-sum =
-      sum_same (clamped g (pos g.speedLimit)) (upper g) (g.ticks - 1) (λ k h. clamped-highest k (omega arith))
+      sum_same (clamped g (pos g.speed_limit)) (upper g) (g.ticks - 1) (λ k h. clamped-highest k (omega arith))
 
   -- at ticks 0 and T they are the ends, whatever the cruise
   pub clamped-start : (c : ℤ) → clamped g c 0 ≡ g.start
   clamped-start c = ap₂ (λ (x y : ℤ). clamp x y c) low high ∙ pinched g.start c
     where
       low : lower g 0 ≡ g.start
-      low = lowest_start g.speedLimit (since g 0) (until g 0) g.start g.end
+      low = lowest_start g.speed_limit (since g 0) (until g 0) g.start g.end
           (mul-zero (A g)) start-within (apart-at 0 (omega arith))
 
       high : upper g 0 ≡ g.start
-      high = highest-start g.speedLimit (since g 0) (until g 0) g.start g.end
+      high = highest-start g.speed_limit (since g 0) (until g 0) g.start g.end
           (mul-zero (A g)) start-within (apart-at 0 (omega arith))
 
   pub clamped-end : (c : ℤ) → clamped g c g.ticks ≡ g.end
@@ -215,12 +215,12 @@ module _ (g : Leg) (j : Joined g) where
 
       low : lower g g.ticks ≡ g.end
       low =
-          lowest-end g.speedLimit (since g g.ticks) (until g g.ticks) g.start g.end none end-within
+          lowest-end g.speed_limit (since g g.ticks) (until g g.ticks) g.start g.end none end-within
           (apart-at g.ticks (omega arith))
 
       high : upper g g.ticks ≡ g.end
       high =
-          highest-end g.speedLimit (since g g.ticks) (until g g.ticks) g.start g.end none end-within
+          highest-end g.speed_limit (since g g.ticks) (until g g.ticks) g.start g.end none end-within
           (apart-at g.ticks (omega arith))
 
 -- ---- a list that meets rule 4 lies between the envelopes
@@ -255,25 +255,25 @@ module _ (g : Leg) (δ : ℤ) (w : ℕ → ℤ) (m : Meets g δ w) where
       e : g.ticks - (g.ticks - k) ≡ k
       e = omega arith
 
-  entry-within : (k : ℕ) → k ≤ g.ticks → Within g.speedLimit (w k)
+  entry-within : (k : ℕ) → k ≤ g.ticks → Within g.speed_limit (w k)
   entry-within k h = record { within = m.speeds k h }
 
   pub above_lower : (k : ℕ) → k ≤ g.ticks → lower g k ≤ℤ w k
   above_lower k h =
-      lowest-below g.speedLimit (since g k) (until g k) g.start g.end (w k)
+      lowest-below g.speed_limit (since g k) (until g k) g.start g.end (w k)
       (entry-within k h) (from_start k h) (to_end k h)
 
   pub below-upper : (k : ℕ) → k ≤ g.ticks → w k ≤ℤ upper g k
   below-upper k h =
-      highest-above g.speedLimit (since g k) (until g k) g.start g.end (w k)
+      highest-above g.speed_limit (since g k) (until g k) g.start g.end (w k)
       (entry-within k h) (from_start k h) (to_end k h)
 
   -- so its ends can be joined
   pub meets-joined : Joined g
   meets-joined =
       record {
-        start = subst (λ (z : ℤ). nat_abs z ≤ g.speedLimit) m.starts (m.speeds 0 (omega arith));
-        end = subst (λ (z : ℤ). nat_abs z ≤ g.speedLimit) m.ends (m.speeds g.ticks (omega arith));
+        start = subst (λ (z : ℤ). nat_abs z ≤ g.speed_limit) m.starts (m.speeds 0 (omega arith));
+        end = subst (λ (z : ℤ). nat_abs z ≤ g.speed_limit) m.ends (m.speeds g.ticks (omega arith));
         apart = subst (λ (z : ℤ). nat_abs (z -ℤ g.start) ≤ A g * g.ticks) m.ends
             (from_start g.ticks (omega arith)).apart.within;
       }

@@ -9,7 +9,7 @@ use lib.Dec.{T, ltb, ltb→lt, nltb→le}
 use lib.ListN.{get_or, length}
 use lib.IntN.{ℤ, pos, nat_abs, ◌+ℤ◌, ◌-ℤ◌, +ℤ_assoc}
 use lib.Signed.{lt_z, lt_z_yes, lt_z_no, ◌≤ℤ◌, ◌<ℤ◌, ≤ℤ_refl}
-use Rattle.whole.specs.Integers.{sumTo}
+use Rattle.whole.specs.Integers.{sum_to}
 use Rattle.whole.specs.Ranges.{Within}
 use Rattle.whole.proofs.Tests.{by_bool, both}
 use Rattle.whole.proofs.Differences.{whole, all₂, all₃, all₄}
@@ -53,23 +53,23 @@ along-change s A v [] e f (suc k) h = absurd (omega arith)
 along-change s A v (x ∷ xs) e f zero h = f.1.0.apart.within
 along-change s A v (x ∷ xs) e f (suc k) h = along-change s A x xs e f.1.1 k (omega arith)
 
-pub along-sum : (v : ℤ) (xs : List ℤ) (e : ℤ) → sumTo (along v xs e) (length xs) ≡ total xs
+pub along-sum : (v : ℤ) (xs : List ℤ) (e : ℤ) → sum_to (along v xs e) (length xs) ≡ total xs
 along-sum v [] e = refl
 along-sum v (x ∷ xs) e = sum_first (along v (x ∷ xs) e) (length xs) ∙ ap (λ (z : ℤ). x +ℤ z) (along-sum x xs e)
 
 -- ---- a sum from its first tick on: f k + .. + f (k + n − 1)
 
-abbrev sumFrom : (ℕ → ℤ) → ℕ → ℕ → ℤ
-sumFrom f k zero = pos 0
-sumFrom f k (suc n) = f k +ℤ sumFrom f (suc k) n
+abbrev sum_from : (ℕ → ℤ) → ℕ → ℕ → ℤ
+sum_from f k zero = pos 0
+sum_from f k (suc n) = f k +ℤ sum_from f (suc k) n
 
-sumFrom-next : (f : ℕ → ℤ) (k n : ℕ) → sumFrom (λ i. f (suc i)) k n ≡ sumFrom f (suc k) n
-sumFrom-next f k zero = refl
-sumFrom-next f k (suc n) = ap (λ (z : ℤ). f (suc k) +ℤ z) (sumFrom-next f (suc k) n)
+sum_from-next : (f : ℕ → ℤ) (k n : ℕ) → sum_from (λ i. f (suc i)) k n ≡ sum_from f (suc k) n
+sum_from-next f k zero = refl
+sum_from-next f k (suc n) = ap (λ (z : ℤ). f (suc k) +ℤ z) (sum_from-next f (suc k) n)
 
-sumTo-from : (f : ℕ → ℤ) (n : ℕ) → sumTo f n ≡ sumFrom f 1 n
-sumTo-from f zero = refl
-sumTo-from f (suc n) = sum_first f n ∙ ap (λ (z : ℤ). f 1 +ℤ z) (sumTo-from (λ k. f (suc k)) n ∙ sumFrom-next f 1 n)
+sum_to-from : (f : ℕ → ℤ) (n : ℕ) → sum_to f n ≡ sum_from f 1 n
+sum_to-from f zero = refl
+sum_to-from f (suc n) = sum_first f n ∙ ap (λ (z : ℤ). f 1 +ℤ z) (sum_to-from (λ k. f (suc k)) n ∙ sum_from-next f 1 n)
 
 -- ---- the ticks raised
 
@@ -112,40 +112,40 @@ module _ (g : Leg) (c : ℤ) where
   unfolding low high
   high-low k = clamp-next (lower g k) (upper g k) c
 
-  sum-low-high : (k n : ℕ) → sumFrom low k n ≤ℤ sumFrom high k n
+  sum-low-high : (k n : ℕ) → sum_from low k n ≤ℤ sum_from high k n
   sum-low-high k zero = ≤ℤ_refl (pos 0)
   sum-low-high k (suc n) = +ℤ-mono (low-high k) (sum-low-high (suc k) n)
 
   -- where r more does not exceed the sum at c + 1, the list raised has the sum at c and r more
-  total-is : (n k r : ℕ) → (sumFrom low k n +ℤ pos r) ≤ℤ sumFrom high k n
-      → total (raised g c n k r) ≡ sumFrom low k n +ℤ pos r
+  total-is : (n k r : ℕ) → (sum_from low k n +ℤ pos r) ≤ℤ sum_from high k n
+      → total (raised g c n k r) ≡ sum_from low k n +ℤ pos r
   unfolding low high
   total-is zero k r h = none r h
     where
       none : (r : ℕ) → (pos 0 +ℤ pos r) ≤ℤ pos 0 → pos 0 ≡ pos 0 +ℤ pos r
       none r = simp whole (omega arith)
   total-is (suc n) k r h =
-      by_bool (λ (l : List ℤ). total l ≡ sumFrom low k (suc n) +ℤ pos r) (ltb 0 r && lt_z (low k) (high k)) _ _
+      by_bool (λ (l : List ℤ). total l ≡ sum_from low k (suc n) +ℤ pos r) (ltb 0 r && lt_z (low k) (high k)) _ _
       (λ t.
       let p : 0 < r = ltb→lt 0 r (both (ltb 0 r) (lt_z (low k) (high k)) t).0 in
-      one-raised r (low k) (sumFrom low (suc k) n) (total (raised g c n (suc k) (r - 1))) p
+      one-raised r (low k) (sum_from low (suc k) n) (total (raised g c n (suc k) (r - 1))) p
       (total-is n (suc k) (r - 1)
-      (one_less r (low k) (high k) (sumFrom low (suc k) n) (sumFrom high (suc k) n) p (high-low k) h)))
+      (one_less r (low k) (high k) (sum_from low (suc k) n) (sum_from high (suc k) n) p (high-low k) h)))
       (λ t.
       ap (λ (z : ℤ). low k +ℤ z) (total-is n (suc k) r (rest (not-raised r (low k) (high k) t)))
-      ∙ sym (+ℤ_assoc (low k) (sumFrom low (suc k) n) (pos r)))
+      ∙ sym (+ℤ_assoc (low k) (sum_from low (suc k) n) (pos r)))
     where
-      rest : (r ≡ 0) ⊎ (high k ≤ℤ low k) → (sumFrom low (suc k) n +ℤ pos r) ≤ℤ sumFrom high (suc k) n
+      rest : (r ≡ 0) ⊎ (high k ≤ℤ low k) → (sum_from low (suc k) n +ℤ pos r) ≤ℤ sum_from high (suc k) n
       rest = ⊎_elim
-          (λ e. none_left r (sumFrom low (suc k) n) (sumFrom high (suc k) n) e (sum-low-high (suc k) n))
-          (λ q. none-less r (low k) (high k) (sumFrom low (suc k) n) (sumFrom high (suc k) n) q h)
+          (λ e. none_left r (sum_from low (suc k) n) (sum_from high (suc k) n) e (sum-low-high (suc k) n))
+          (λ q. none-less r (low k) (high k) (sum_from low (suc k) n) (sum_from high (suc k) n) q h)
 
-  pub raised-total : (n r : ℕ) → (sumTo (clamped g c) n +ℤ pos r) ≤ℤ sumTo (clamped g (c +ℤ pos 1)) n
-      → total (raised g c n 1 r) ≡ sumTo (clamped g c) n +ℤ pos r
+  pub raised-total : (n r : ℕ) → (sum_to (clamped g c) n +ℤ pos r) ≤ℤ sum_to (clamped g (c +ℤ pos 1)) n
+      → total (raised g c n 1 r) ≡ sum_to (clamped g c) n +ℤ pos r
   unfolding low high
   raised-total n r h =
-      total-is n 1 r (subst₂ (λ (x y : ℤ). (x +ℤ pos r) ≤ℤ y) (sumTo-from low n) (sumTo-from high n) h)
-      ∙ ap (λ (z : ℤ). z +ℤ pos r) (sym (sumTo-from low n))
+      total-is n 1 r (subst₂ (λ (x y : ℤ). (x +ℤ pos r) ≤ℤ y) (sum_to-from low n) (sum_to-from high n) h)
+      ∙ ap (λ (z : ℤ). z +ℤ pos r) (sym (sum_to-from low n))
 
   pub raised-length : (n k r : ℕ) → length (raised g c n k r) ≡ n
   raised-length zero k r = refl
@@ -159,16 +159,16 @@ module _ (g : Leg) (c : ℤ) where
   Before : ℕ → ℕ → ℤ → Type 0
   Before k r v = (v ≡ high k) ⊎ ((r ≡ 0) × (v ≡ low k))
 
-  module _ (j : Joined g) (hA : 0 < g.accelerationLimit) where
-    to_low : (k r : ℕ) (v : ℤ) → k < g.ticks → Before k r v → Near g.accelerationLimit v (low (suc k))
+  module _ (j : Joined g) (hA : 0 < g.acceleration_limit) where
+    to_low : (k r : ℕ) (v : ℤ) → k < g.ticks → Before k r v → Near g.acceleration_limit v (low (suc k))
     unfolding low high Before
-    to_low k r v h (inl e) = rw e (clamped-near g (c +ℤ pos 1) c k h (near-sym (near_next g.accelerationLimit c hA)))
-    to_low k r v h (inr e) = rw e.1 (clamped-near g c c k h (near-refl g.accelerationLimit c))
+    to_low k r v h (inl e) = rw e (clamped-near g (c +ℤ pos 1) c k h (near-sym (near_next g.acceleration_limit c hA)))
+    to_low k r v h (inr e) = rw e.1 (clamped-near g c c k h (near-refl g.acceleration_limit c))
 
-    to_high : (k r : ℕ) (v : ℤ) → k < g.ticks → 0 < r → Before k r v → Near g.accelerationLimit v (high (suc k))
+    to_high : (k r : ℕ) (v : ℤ) → k < g.ticks → 0 < r → Before k r v → Near g.acceleration_limit v (high (suc k))
     unfolding low high Before
     to_high k r v h p (inl e) =
-        rw e (clamped-near g (c +ℤ pos 1) (c +ℤ pos 1) k h (near-refl g.accelerationLimit (c +ℤ pos 1)))
+        rw e (clamped-near g (c +ℤ pos 1) (c +ℤ pos 1) k h (near-refl g.acceleration_limit (c +ℤ pos 1)))
     to_high k r v h p (inr e) = let z : r ≡ 0 = e.0 in absurd (omega arith)
 
     unraised : (k r : ℕ) → (r ≡ 0) ⊎ (high k ≤ℤ low k) → Before k r (low k)
@@ -176,19 +176,19 @@ module _ (g : Leg) (c : ℤ) where
     unraised k r (inl e) = inr (e, refl)
     unraised k r (inr h) = inl (≤ℤ-antisym (low-high k) h)
 
-    low-within : (k : ℕ) → Within g.speedLimit (low k)
+    low-within : (k : ℕ) → Within g.speed_limit (low k)
     unfolding low
     low-within k = clamped-within g j.start j.end c k
 
-    high-within : (k : ℕ) → Within g.speedLimit (high k)
+    high-within : (k : ℕ) → Within g.speed_limit (high k)
     unfolding high
     high-within k = clamped-within g j.start j.end (c +ℤ pos 1) k
 
-    kept : (n k r : ℕ) (v : ℤ) → suc k + n ≡ g.ticks → Within g.speedLimit v → Before k r v
-        → Kept g.speedLimit g.accelerationLimit v (raised g c n (suc k) r) g.end
+    kept : (n k r : ℕ) (v : ℤ) → suc k + n ≡ g.ticks → Within g.speed_limit v → Before k r v
+        → Kept g.speed_limit g.acceleration_limit v (raised g c n (suc k) r) g.end
     unfolding low high Before
     kept zero k r v h w b =
-        (w, (record { within = j.end }, subst (Near g.accelerationLimit v) last (to_low k r v (omega arith) b)))
+        (w, (record { within = j.end }, subst (Near g.acceleration_limit v) last (to_low k r v (omega arith) b)))
       where
         last : low (suc k) ≡ g.end
         last = ap low (plain k g.ticks h) ∙ clamped-end g j c
@@ -196,7 +196,7 @@ module _ (g : Leg) (c : ℤ) where
             plain : (k t : ℕ) → suc k + 0 ≡ t → suc k ≡ t
             plain k t e = omega arith
     kept (suc n) k r v h w b =
-        by_bool (λ (l : List ℤ). Kept g.speedLimit g.accelerationLimit v l g.end)
+        by_bool (λ (l : List ℤ). Kept g.speed_limit g.acceleration_limit v l g.end)
         (ltb 0 r && lt_z (low (suc k)) (high (suc k))) _ _
         (λ t.
         let p : T (ltb 0 r) × T (lt_z (low (suc k)) (high (suc k))) =
@@ -205,9 +205,9 @@ module _ (g : Leg) (c : ℤ) where
         one-above (low (suc k)) (high (suc k)) (lt_z_yes p.1) (high-low (suc k)) in (
           w,
           (
-            subst (Near g.accelerationLimit v) (sym e) (to_high k r v (omega arith) (ltb→lt 0 r p.0) b),
+            subst (Near g.acceleration_limit v) (sym e) (to_high k r v (omega arith) (ltb→lt 0 r p.0) b),
             kept n (suc k) (r - 1) (low (suc k) +ℤ pos 1) (omega arith)
-                (subst (Within g.speedLimit) (sym e) (high-within (suc k))) (inl e),
+                (subst (Within g.speed_limit) (sym e) (high-within (suc k))) (inl e),
           ),
         ))
         (λ t. (
@@ -224,7 +224,7 @@ module _ (g : Leg) (c : ℤ) where
 
     -- the list raised from tick 1 on, between the ends
     pub raised-kept : (n r : ℕ) → suc n ≡ g.ticks
-        → Kept g.speedLimit g.accelerationLimit g.start (raised g c n 1 r) g.end
+        → Kept g.speed_limit g.acceleration_limit g.start (raised g c n 1 r) g.end
     unfolding high Before
     raised-kept n r h =
         kept n 0 r g.start (omega arith) (record { within = j.start }) (inl (sym (clamped-start g j (c +ℤ pos 1))))

@@ -11,11 +11,11 @@ use Rattle.whole.proofs.Ring.{same, pol}
 use Rattle.whole.proofs.Rounding.{twice-even}
 use Rattle.model.specs.declared.Axis.{Axis}
 use Rattle.model.specs.declared.State.{State}
-use Rattle.model.specs.planning.Quantities.{halfPeriod, secondWeight, secondHalfPeriod, asMoving, twicePositionAt}
-use Rattle.model.specs.planning.Quantities.{velocityAt, swaySteps, finestSteps, finer, onGrid}
-use Rattle.model.specs.planning.Leg.{twiceRequired, sumIsWhole}
-use Rattle.model.specs.planning.Motion.{shift, landingTick, leg, displacement}
-use Rattle.theorems.proofs.motions.Grid.{Grid, twoSways, still, unblended, undamped, corrected, grid}
+use Rattle.model.specs.planning.Quantities.{half_period, second_weight, second_half_period, as_moving, twice_position_at}
+use Rattle.model.specs.planning.Quantities.{velocity_at, sway_steps, finest_steps, finer, on_grid}
+use Rattle.model.specs.planning.Leg.{twice_required, sum_is_whole}
+use Rattle.model.specs.planning.Motion.{shift, landing_tick, leg, displacement}
+use Rattle.theorems.proofs.motions.Grid.{Grid, two_sways, still, unblended, undamped, corrected, grid}
 
 -- z is twice some number
 record Even (z : ℤ) : Type 0 where
@@ -24,23 +24,23 @@ record Even (z : ℤ) : Type 0 where
 
 -- ---- the shift's part of the landing velocity: f grid steps in a fine step, B, h, h₂ and a
 
-shift-even : (x : Axis) (n : ℕ) → Even (onGrid x (shift x *ℤ (asMoving x.target n).acceleration))
+shift-even : (x : Axis) (n : ℕ) → Even (on_grid x (shift x *ℤ (as_moving x.target n).acceleration))
 shift-even x n = go (grid x)
   where
     F : ℤ
     F = pos (finer x)
 
     b : ℤ
-    b = pos (secondWeight x)
+    b = pos (second_weight x)
 
     h : ℤ
-    h = pos (halfPeriod x)
+    h = pos (half_period x)
 
     s : ℤ
-    s = pos (secondHalfPeriod x)
+    s = pos (second_half_period x)
 
     a : ℤ
-    a = (asMoving x.target n).acceleration
+    a = (as_moving x.target n).acceleration
 
     nothing : (f s : ℤ) → f *ℤ (s *ℤ pos 0) ≡ pos 2 *ℤ pos 0
     nothing f s = same (f ∷ s ∷ []) (search pol depth 20 fits 9000) tt
@@ -56,8 +56,8 @@ shift-even x n = go (grid x)
     even-grid c s a = same (c ∷ s ∷ a ∷ []) (search pol depth 20 fits 9000) tt
 
     go : Grid x → Even (F *ℤ (shift x *ℤ a))
-    go (twoSways d e t) =
-        let half = pos (swaySteps / 2) in
+    go (two_sways d e t) =
+        let half = pos (sway_steps / 2) in
         record {
           half = half *ℤ (shift x *ℤ a);
           twice = ap (λ (k : ℕ). pos k *ℤ (shift x *ℤ a)) e
@@ -75,7 +75,7 @@ shift-even x n = go (grid x)
           twice = ap (λ (k : ℕ). F *ℤ ((pos k *ℤ h +ℤ pos 128 *ℤ s) *ℤ a)) z ∙ equal F h s a;
         }
     go (corrected e t) =
-        let half = pos (finestSteps / 2) in
+        let half = pos (finest_steps / 2) in
         record {
           half = half *ℤ (shift x *ℤ a);
           twice = ap (λ (k : ℕ). pos k *ℤ (shift x *ℤ a)) e
@@ -86,17 +86,17 @@ shift-even x n = go (grid x)
 
 -- f grid steps in a fine step; y is twice the target's position at the landing tick, v its velocity
 -- there, s the shift, w the shift's part, c half the correction, p₀ and v₀ are the start's
-abbrev twiceSum : ℤ → ℤ → ℤ → ℤ → ℤ → ℤ → ℤ → ℤ → ℤ
-twiceSum f y v s w c p₀ v₀ =
+abbrev twice_sum : ℤ → ℤ → ℤ → ℤ → ℤ → ℤ → ℤ → ℤ → ℤ
+twice_sum f y v s w c p₀ v₀ =
     (f *ℤ (pos 256 *ℤ y +ℤ pos 2 *ℤ (s *ℤ v)) +ℤ pos 2 *ℤ c -ℤ f *ℤ (pos 512 *ℤ p₀ +ℤ pos 2 *ℤ (s *ℤ v₀)))
     -ℤ f *ℤ (pos 256 *ℤ v₀)
     -ℤ f *ℤ (pos 256 *ℤ v +ℤ w)
 
-all-even : (f y v s w c p₀ v₀ : ℤ) → Even (f *ℤ w) → Even (twiceSum f y v s w c p₀ v₀)
+all-even : (f y v s w c p₀ v₀ : ℤ) → Even (f *ℤ w) → Even (twice_sum f y v s w c p₀ v₀)
 all-even f y v s w c p₀ v₀ e =
     record {
       half = half f y v s c p₀ v₀ e.half;
-      twice = apart f y v s w c p₀ v₀ ∙ ap (λ (z : ℤ). twiceSum f y v s (pos 0) c p₀ v₀ -ℤ z) e.twice
+      twice = apart f y v s w c p₀ v₀ ∙ ap (λ (z : ℤ). twice_sum f y v s (pos 0) c p₀ v₀ -ℤ z) e.twice
           ∙ joined f y v s c p₀ v₀ e.half;
     }
   where
@@ -104,29 +104,29 @@ all-even f y v s w c p₀ v₀ e =
     half f y v s c p₀ v₀ e =
         f *ℤ (pos 128 *ℤ y +ℤ s *ℤ v -ℤ pos 256 *ℤ p₀ -ℤ s *ℤ v₀ -ℤ pos 128 *ℤ v₀ -ℤ pos 128 *ℤ v) +ℤ c -ℤ e
 
-    apart : (f y v s w c p₀ v₀ : ℤ) → twiceSum f y v s w c p₀ v₀ ≡ twiceSum f y v s (pos 0) c p₀ v₀ -ℤ f *ℤ w
+    apart : (f y v s w c p₀ v₀ : ℤ) → twice_sum f y v s w c p₀ v₀ ≡ twice_sum f y v s (pos 0) c p₀ v₀ -ℤ f *ℤ w
     apart f y v s w c p₀ v₀ = same (f ∷ y ∷ v ∷ s ∷ w ∷ c ∷ p₀ ∷ v₀ ∷ []) (search pol depth 30 fits 9000) tt
 
-    joined : (f y v s c p₀ v₀ e : ℤ) → twiceSum f y v s (pos 0) c p₀ v₀ -ℤ pos 2 *ℤ e ≡ pos 2 *ℤ half f y v s c p₀ v₀ e
+    joined : (f y v s c p₀ v₀ e : ℤ) → twice_sum f y v s (pos 0) c p₀ v₀ -ℤ pos 2 *ℤ e ≡ pos 2 *ℤ half f y v s c p₀ v₀ e
     joined f y v s c p₀ v₀ e = same (f ∷ y ∷ v ∷ s ∷ c ∷ p₀ ∷ v₀ ∷ e ∷ []) (search pol depth 30 fits 9000) tt
 
 whole-half : (z : ℤ) → Even z → eqb (nat_abs z % 2) 0 ≡ true
 whole-half z e = ap (λ (n : ℕ). eqb n 0) (ap (λ (y : ℤ). nat_abs y % 2) e.twice ∙ twice-even e.half)
 
-pub sum-is-whole : (x : Axis) (n : ℕ) → sumIsWhole (leg x n) (displacement x n) ≡ true
+pub sum-is-whole : (x : Axis) (n : ℕ) → sum_is_whole (leg x n) (displacement x n) ≡ true
 sum-is-whole x n =
-    whole-half (twiceRequired (leg x n) (displacement x n))
-    (all-even (pos (finer x)) (twicePositionAt m k) (velocityAt m k) (shift x) (shift x *ℤ m.acceleration)
+    whole-half (twice_required (leg x n) (displacement x n))
+    (all-even (pos (finer x)) (twice_position_at m k) (velocity_at m k) (shift x) (shift x *ℤ m.acceleration)
     (b *ℤ (h *ℤ h) *ℤ (b -ℤ pos 128) *ℤ m.acceleration) x.start.position x.start.velocity (shift-even x n))
   where
     m : State
-    m = asMoving x.target n
+    m = as_moving x.target n
 
     k : ℤ
-    k = pos (landingTick x n)
+    k = pos (landing_tick x n)
 
     b : ℤ
-    b = pos (secondWeight x)
+    b = pos (second_weight x)
 
     h : ℤ
-    h = pos (halfPeriod x)
+    h = pos (half_period x)

@@ -12,21 +12,21 @@ use Rattle.model.specs.declared.Axis.{Axis}
 use Rattle.model.specs.declared.RestPoint.{RestPoint}
 use Rattle.model.specs.declared.Target.{Target}
 use Rattle.model.specs.declared.Target.TheVariants.{Fixed, Moving}
-use Rattle.model.specs.planning.Quantities.{fineSteps, speedLimit, accelerationLimit, finer, speedSteps}
-use Rattle.model.specs.planning.Quantities.{accelerationSteps}
+use Rattle.model.specs.planning.Quantities.{fine_steps, speed_limit, acceleration_limit, finer, speed_steps}
+use Rattle.model.specs.planning.Quantities.{acceleration_steps}
 use Rattle.model.specs.planning.Leg.{Leg, Feasible}
 use Rattle.model.specs.planning.Motion.{Reachable, reachable, leg, displacement}
-use Rattle.model.specs.calls.Raises.{withLimits}
-use Rattle.model.specs.planning.Refusals.{within, lastTick, positionAllowed, velocityAllowed, restAllowed}
-use Rattle.model.specs.planning.Refusals.{motionAllowed, targetAllowed, Passed}
+use Rattle.model.specs.calls.Raises.{with_limits}
+use Rattle.model.specs.planning.Refusals.{within, last_tick, position_allowed, velocity_allowed, rest_allowed}
+use Rattle.model.specs.planning.Refusals.{motion_allowed, target_allowed, Passed}
 use Rattle.theorems.proofs.jobs.PassedAxis.{some-speed, some-acceleration}
 use Rattle.theorems.proofs.motions.Reaches.{reachable-is}
 
 -- a leg with other limits
 abbrev limited : Leg → ℕ → ℕ → Leg
-limited g l a = record { ticks = g.ticks; start = g.start; end = g.end; speedLimit = l; accelerationLimit = a }
+limited g l a = record { ticks = g.ticks; start = g.start; end = g.end; speed_limit = l; acceleration_limit = a }
 
-wider : (g : Leg) (δ : ℤ) (l a : ℕ) → g.speedLimit ≤ l → g.accelerationLimit ≤ a
+wider : (g : Leg) (δ : ℤ) (l a : ℕ) → g.speed_limit ≤ l → g.acceleration_limit ≤ a
     → Feasible g δ → Feasible (limited g l a) δ
 wider g δ l a hl ha (w, m) = (
   w,
@@ -53,55 +53,55 @@ follows m a b h t = le→leb m b (le_trans (leb→le m a t) h)
 in-range : (a b n : ℕ) → a ≤ n → n ≤ b → T (within a b n)
 in-range a b n h k = and (leb a n) (leb n b) (le→leb a n h) (le→leb n b k)
 
-module _ (x : Axis) (l a : ℕ) (faster : speedLimit x ≤ l) (stronger : accelerationLimit x ≤ a) where
+module _ (x : Axis) (l a : ℕ) (faster : speed_limit x ≤ l) (stronger : acceleration_limit x ≤ a) where
   abbrev y : Axis
-  y = withLimits l a x
+  y = with_limits l a x
 
   -- ---- arrivals
 
-  pub wider-reaches : (n : ℕ) → Reachable x n → Reachable (withLimits l a x) n
+  pub wider-reaches : (n : ℕ) → Reachable x n → Reachable (with_limits l a x) n
   unfolding finer
   wider-reaches n r =
       record {
         after = r.after;
         landed = le_trans r.landed speeds;
         arrived = le_trans r.arrived speeds;
-        moves = wider (leg x n) (displacement x n) (finer x * (fineSteps * l))
-            (finer x * (fineSteps * a)) speeds changes r.moves;
+        moves = wider (leg x n) (displacement x n) (finer x * (fine_steps * l))
+            (finer x * (fine_steps * a)) speeds changes r.moves;
       }
     where
-      speeds : speedSteps x ≤ finer x * (fineSteps * l)
-      speeds = mul-le-mul_left (finer x) (mul-le-mul_left fineSteps faster)
+      speeds : speed_steps x ≤ finer x * (fine_steps * l)
+      speeds = mul-le-mul_left (finer x) (mul-le-mul_left fine_steps faster)
 
-      changes : accelerationSteps x ≤ finer x * (fineSteps * a)
-      changes = mul-le-mul_left (finer x) (mul-le-mul_left fineSteps stronger)
+      changes : acceleration_steps x ≤ finer x * (fine_steps * a)
+      changes = mul-le-mul_left (finer x) (mul-le-mul_left fine_steps stronger)
 
   -- the same of the decision
-  pub wider-decided : (n : ℕ) → 0 < accelerationLimit x → l ≤ 1048576 → T (reachable x n)
-      → T (reachable (withLimits l a x) n)
+  pub wider-decided : (n : ℕ) → 0 < acceleration_limit x → l ≤ 1048576 → T (reachable x n)
+      → T (reachable (with_limits l a x) n)
   wider-decided n some range t =
       (reachable-is y n (omega arith) range).0 (wider-reaches n ((reachable-is x n some (omega arith)).1 t))
 
   -- ---- refusals
 
-  rest-follows : (p : RestPoint) → T (restAllowed x p) → T (restAllowed y p)
+  rest-follows : (p : RestPoint) → T (rest_allowed x p) → T (rest_allowed y p)
   rest-follows p =
-      both-follow (positionAllowed p.position) (velocityAllowed x p.velocity) (positionAllowed p.position)
-      (velocityAllowed y p.velocity)
-      (λ t. t) (follows (nat_abs p.velocity) (speedLimit x) l faster)
+      both-follow (position_allowed p.position) (velocity_allowed x p.velocity) (position_allowed p.position)
+      (velocity_allowed y p.velocity)
+      (λ t. t) (follows (nat_abs p.velocity) (speed_limit x) l faster)
 
-  target-follows : (g : Target) → T (targetAllowed x g) → T (targetAllowed y g)
+  target-follows : (g : Target) → T (target_allowed x g) → T (target_allowed y g)
   target-follows (Fixed p) = rest-follows p
   target-follows (Moving m) =
-      both-follow (restAllowed x at) (motionAllowed x m) (restAllowed y at) (motionAllowed y m) (rest-follows at)
-      (both-follow (leb (nat_abs m.acceleration) (accelerationLimit x)) (leb (nat_abs m.tick) lastTick)
-      (leb (nat_abs m.acceleration) a) (leb (nat_abs m.tick) lastTick)
-      (follows (nat_abs m.acceleration) (accelerationLimit x) a stronger) (λ t. t))
+      both-follow (rest_allowed x at) (motion_allowed x m) (rest_allowed y at) (motion_allowed y m) (rest-follows at)
+      (both-follow (leb (nat_abs m.acceleration) (acceleration_limit x)) (leb (nat_abs m.tick) last_tick)
+      (leb (nat_abs m.acceleration) a) (leb (nat_abs m.tick) last_tick)
+      (follows (nat_abs m.acceleration) (acceleration_limit x) a stronger) (λ t. t))
     where
       at : RestPoint
       at = record { position = m.position; velocity = m.velocity }
 
-  pub wider-passes : Passed x → l ≤ 1048576 → a ≤ 65536 → Passed (withLimits l a x)
+  pub wider-passes : Passed x → l ≤ 1048576 → a ≤ 65536 → Passed (with_limits l a x)
   wider-passes p hl ha =
       record {
         limits =
@@ -112,11 +112,11 @@ module _ (x : Axis) (l a : ℕ) (faster : speedLimit x ≤ l) (stronger : accele
         blend = p.blend;
         sway = p.sway;
         values =
-            not-refused (restAllowed y x.start && targetAllowed y x.target)
-            (both-follow (restAllowed x x.start) (targetAllowed x x.target)
-            (restAllowed y x.start) (targetAllowed y x.target)
+            not-refused (rest_allowed y x.start && target_allowed y x.target)
+            (both-follow (rest_allowed x x.start) (target_allowed x x.target)
+            (rest_allowed y x.start) (target_allowed y x.target)
             (rest-follows x.start) (target-follows x.target)
-            (not-false-T (restAllowed x x.start && targetAllowed x x.target) p.values));
+            (not-false-T (rest_allowed x x.start && target_allowed x x.target) p.values));
         acceleration = p.acceleration;
         resting = p.resting;
       }

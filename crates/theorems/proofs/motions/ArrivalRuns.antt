@@ -9,7 +9,7 @@ use Rattle.whole.proofs.Tests.{T_true, true-T}
 use Rattle.model.specs.declared.Axis.{Axis}
 use Rattle.model.specs.planning.Job.{JobAxis}
 use Rattle.model.specs.planning.Refusals.{Passed, AllPassed}
-use Rattle.model.specs.planning.Outcome.{allReach}
+use Rattle.model.specs.planning.Outcome.{all_reach}
 use Rattle.theorems.specs.Verdict.{AllReachable}
 use Rattle.theorems.specs.Threshold.{OneRun, ReachGoesOn, ArrivalsAreRuns}
 use Rattle.theorems.proofs.motions.Threshold.{reach-goes-on, slow-between, slow-of, reach-is-a-threshold}
@@ -32,9 +32,9 @@ arrivals-are-runs j p =
     record { each = λ x m. goes_on x.axis (passed-among j.axes p x m); together = together j.axes p }
 
 -- the same of the decision
-pub all-between : (xs : List JobAxis) → AllPassed xs → (i n k : ℕ) → i ≤ n → n ≤ k → allReach xs i ≡ true
-    → allReach xs k ≡ true → allReach xs n ≡ true
+pub all-between : (xs : List JobAxis) → AllPassed xs → (i n k : ℕ) → i ≤ n → n ≤ k → all_reach xs i ≡ true
+    → all_reach xs k ≡ true → all_reach xs n ≡ true
 all-between xs p i n k a b d e =
-    T_true (allReach xs n)
+    T_true (all_reach xs n)
     (reach-all xs n p
     (together xs p i n k (omega arith) a b (all-reach xs i p (true-T d)) (all-reach xs k p (true-T e))))

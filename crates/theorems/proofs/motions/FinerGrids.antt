@@ -8,14 +8,14 @@ use native.Mathlib.Omega.{arith}
 use lib.IntN.{pos, ◌*ℤ◌}
 use Rattle.whole.proofs.Tests.{T_true, true-T}
 use Rattle.model.specs.declared.Axis.{Axis}
-use Rattle.model.specs.planning.Quantities.{delay, speedSteps}
+use Rattle.model.specs.planning.Quantities.{delay, speed_steps}
 use Rattle.model.specs.planning.Leg.{Feasible}
-use Rattle.model.specs.planning.Motion.{Reachable, leg, displacement, landingVelocity, arrivalVelocity}
+use Rattle.model.specs.planning.Motion.{Reachable, leg, displacement, landing_velocity, arrival_velocity}
 use Rattle.model.specs.planning.Job.{Job, JobAxis}
-use Rattle.model.specs.planning.Refusals.{lastTick, Passed, AllPassed}
+use Rattle.model.specs.planning.Refusals.{last_tick, Passed, AllPassed}
 use Rattle.model.specs.planning.Outcome.{arrives}
 use Rattle.theorems.specs.Verdict.{Among, AllReachable, Arrives}
-use Rattle.theorems.specs.Finer.{finerLeg, ReachableOn, AllReachableOn, ArrivesOn, IsLeast, SameArrivals}
+use Rattle.theorems.specs.Finer.{finer_leg, ReachableOn, AllReachableOn, ArrivesOn, IsLeast, SameArrivals}
 use Rattle.theorems.specs.Finer.{FinerGainsNothing}
 use Rattle.theorems.proofs.motions.Grid.{speed-range, acceleration-some}
 use Rattle.theorems.proofs.jobs.PassedAxis.{speed-limit, some-acceleration}
@@ -31,20 +31,20 @@ finer-reaches f x n hf p = (
   λ r.
       record {
         after = r.after;
-        landed = (size-times f (speedSteps x) (landingVelocity x n) hf).0 r.landed;
-        arrived = (size-times f (speedSteps x) (arrivalVelocity x n) hf).0 r.arrived;
+        landed = (size-times f (speed_steps x) (landing_velocity x n) hf).0 r.landed;
+        arrived = (size-times f (speed_steps x) (arrival_velocity x n) hf).0 r.arrived;
         moves = (moves r.after).0 r.moves;
       },
   λ r.
       record {
         after = r.after;
-        landed = (size-times f (speedSteps x) (landingVelocity x n) hf).1 r.landed;
-        arrived = (size-times f (speedSteps x) (arrivalVelocity x n) hf).1 r.arrived;
+        landed = (size-times f (speed_steps x) (landing_velocity x n) hf).1 r.landed;
+        arrived = (size-times f (speed_steps x) (arrival_velocity x n) hf).1 r.arrived;
         moves = (moves r.after).1 r.moves;
       },
 )
   where
-    moves : delay x < n → Feasible (finerLeg f (leg x n)) (pos f *ℤ displacement x n)
+    moves : delay x < n → Feasible (finer_leg f (leg x n)) (pos f *ℤ displacement x n)
         ↔ Feasible (leg x n) (displacement x n)
     moves h =
         finer-feasible f (leg x n) (displacement x n) hf (omega arith) (acceleration-some x (some-acceleration x p))
@@ -82,7 +82,7 @@ module _ (f : ℕ) (hf : 1 ≤ f) (j : Job) (p : AllPassed j.axes) where
   decided : (n : ℕ) → ArrivesOn f j n → arrives j n ≡ true
   decided n a = T_true (arrives j n) (is-arrives j n p ((in-windows n).0 a))
 
-  found : (n : ℕ) → Least (arrives j) 1 lastTick n → IsLeast (ArrivesOn f j) n
+  found : (n : ℕ) → Least (arrives j) 1 last_tick n → IsLeast (ArrivesOn f j) n
   found n l =
       record {
         first = l.first;
@@ -95,7 +95,7 @@ finer-gains-nothing f j hf p =
     record {
       each = λ x m. same-arrivals (ReachableOn f x.axis) (Reachable x.axis) (each f hf j p x m);
       together = same-arrivals (AllReachableOn f j.axes) (AllReachable j.axes) (together f hf j p);
-      inWindows = same-arrivals (ArrivesOn f j) (Arrives j) (in-windows f hf j p);
-      found = λ n e. found f hf j p n (least-is (arrives j) 1 lastTick n e);
-      missed = λ e n a b r. none_is (arrives j) 1 lastTick e n a (omega arith) (decided f hf j p n r);
+      in_windows = same-arrivals (ArrivesOn f j) (Arrives j) (in-windows f hf j p);
+      found = λ n e. found f hf j p n (least-is (arrives j) 1 last_tick n e);
+      missed = λ e n a b r. none_is (arrives j) 1 last_tick e n a (omega arith) (decided f hf j p n r);
     }

@@ -12,16 +12,16 @@ use native.Mathlib.Nat.{le_refl, mul_assoc, le_of_mul-le-mul_left}
 use lib.Dec.{T, le→leb, eqb→eq}
 use lib.IntN.{ℤ, pos, neg_ℤ, nat_abs, ◌+ℤ◌, ◌-ℤ◌, ◌*ℤ◌}
 use lib.Signed.{le_z, shr_z, ◌≤ℤ◌}
-use Rattle.whole.specs.Integers.{least, greatest, sumTo}
+use Rattle.whole.specs.Integers.{least, greatest, sum_to}
 use Rattle.whole.proofs.Differences.{whole, all₂}
-use Rattle.whole.proofs.Laws.{*ℤ-+ℤ, *ℤ-cancel, ≤ℤ-trans, natAbs-*}
+use Rattle.whole.proofs.Laws.{*ℤ-+ℤ, *ℤ-cancel, ≤ℤ-trans, nat_abs-*}
 use Rattle.whole.proofs.Bounds.{mul_holds}
 use Rattle.whole.proofs.Ring.{pol, same}
 use Rattle.whole.proofs.Rounding.{half_twice, twice_half}
 use Rattle.whole.proofs.Sums.{sum_mono, sum-times}
-use Rattle.model.specs.planning.Leg.{Leg, Meets, Feasible, travelled, upper, lower, twiceRequired, required}
-use Rattle.model.specs.planning.Leg.{sumIsWhole, tests, feasible}
-use Rattle.theorems.specs.Finer.{finerLeg}
+use Rattle.model.specs.planning.Leg.{Leg, Meets, Feasible, travelled, upper, lower, twice_required, required}
+use Rattle.model.specs.planning.Leg.{sum_is_whole, tests, feasible}
+use Rattle.theorems.specs.Finer.{finer_leg}
 use Rattle.theorems.proofs.legs.Envelopes.{Joined}
 use Rattle.theorems.proofs.legs.FeasibleTests.{every, feasible-joined, feasible-above, feasible-below}
 use Rattle.theorems.proofs.legs.FeasibleIsExistence.{feasible-is, meets-feasible}
@@ -40,20 +40,20 @@ apart-times f a b = same (f ∷ a ∷ b ∷ []) (search pol depth 20 fits 9000) 
 -- a size in steps f times finer
 pub size-times : (f l : ℕ) (z : ℤ) → 1 ≤ f → (nat_abs (pos f *ℤ z) ≤ f * l) ↔ (nat_abs z ≤ l)
 size-times f l z hf = (
-  λ h. le_of_mul-le-mul_left (subst (λ (n : ℕ). n ≤ f * l) (natAbs-* (pos f) z) h) hf,
+  λ h. le_of_mul-le-mul_left (subst (λ (n : ℕ). n ≤ f * l) (nat_abs-* (pos f) z) h) hf,
   λ h. mul_holds (pos f) z f l (le_refl f) h,
 )
 
 coarse-meets : (f : ℕ) (g : Leg) (δ : ℤ) (w : ℕ → ℤ) → 1 ≤ f → Meets g δ w
-    → Meets (finerLeg f g) (pos f *ℤ δ) (λ k. pos f *ℤ w k)
+    → Meets (finer_leg f g) (pos f *ℤ δ) (λ k. pos f *ℤ w k)
 coarse-meets f g δ w hf m =
     record {
       starts = ap (λ (z : ℤ). pos f *ℤ z) m.starts;
       ends = ap (λ (z : ℤ). pos f *ℤ z) m.ends;
-      speeds = λ k h. (size-times f g.speedLimit (w k) hf).1 (m.speeds k h);
+      speeds = λ k h. (size-times f g.speed_limit (w k) hf).1 (m.speeds k h);
       changes = λ k h.
-          subst (λ (z : ℤ). nat_abs z ≤ f * g.accelerationLimit) (apart-times (pos f) (w (suc k)) (w k))
-          ((size-times f g.accelerationLimit (w (suc k) -ℤ w k) hf).1 (m.changes k h));
+          subst (λ (z : ℤ). nat_abs z ≤ f * g.acceleration_limit) (apart-times (pos f) (w (suc k)) (w k))
+          ((size-times f g.acceleration_limit (w (suc k) -ℤ w k) hf).1 (m.changes k h));
       travels = travelled-times (pos f) w g.ticks ∙ ap (λ (z : ℤ). pos f *ℤ z) m.travels;
     }
 
@@ -119,46 +119,46 @@ module _ (f : ℕ) (g : Leg) where
 
   -- what an end z allows k ticks away
   plus_times : (z : ℤ) (k : ℕ)
-      → F *ℤ z +ℤ pos (f * g.accelerationLimit * k) ≡ F *ℤ (z +ℤ pos (g.accelerationLimit * k))
+      → F *ℤ z +ℤ pos (f * g.acceleration_limit * k) ≡ F *ℤ (z +ℤ pos (g.acceleration_limit * k))
   plus_times z k =
-      ap (λ (n : ℕ). F *ℤ z +ℤ pos n) (mul_assoc f g.accelerationLimit k)
-      ∙ sym (*ℤ-+ℤ F z (pos (g.accelerationLimit * k)))
+      ap (λ (n : ℕ). F *ℤ z +ℤ pos n) (mul_assoc f g.acceleration_limit k)
+      ∙ sym (*ℤ-+ℤ F z (pos (g.acceleration_limit * k)))
 
   minus-times : (z : ℤ) (k : ℕ)
-      → F *ℤ z -ℤ pos (f * g.accelerationLimit * k) ≡ F *ℤ (z -ℤ pos (g.accelerationLimit * k))
+      → F *ℤ z -ℤ pos (f * g.acceleration_limit * k) ≡ F *ℤ (z -ℤ pos (g.acceleration_limit * k))
   minus-times z k =
-      ap (λ (n : ℕ). F *ℤ z -ℤ pos n) (mul_assoc f g.accelerationLimit k)
-      ∙ sym (apart-times F z (pos (g.accelerationLimit * k)))
+      ap (λ (n : ℕ). F *ℤ z -ℤ pos n) (mul_assoc f g.acceleration_limit k)
+      ∙ sym (apart-times F z (pos (g.acceleration_limit * k)))
 
-  upper-times : (k : ℕ) → upper (finerLeg f g) k ≤ℤ (F *ℤ upper g k)
+  upper-times : (k : ℕ) → upper (finer_leg f g) k ≤ℤ (F *ℤ upper g k)
   upper-times k =
       subst (λ (z : ℤ). z ≤ℤ (F *ℤ upper g k))
-      (sym (ap₂ (λ (y z : ℤ). least (pos (f * g.speedLimit)) (least y z)) (plus_times g.start k)
+      (sym (ap₂ (λ (y z : ℤ). least (pos (f * g.speed_limit)) (least y z)) (plus_times g.start k)
       (plus_times g.end (g.ticks - k))))
-      (least-times-3 F (pos g.speedLimit) (g.start +ℤ pos (g.accelerationLimit * k))
-      (g.end +ℤ pos (g.accelerationLimit * (g.ticks - k))))
+      (least-times-3 F (pos g.speed_limit) (g.start +ℤ pos (g.acceleration_limit * k))
+      (g.end +ℤ pos (g.acceleration_limit * (g.ticks - k))))
 
-  lower-times : (k : ℕ) → (F *ℤ lower g k) ≤ℤ lower (finerLeg f g) k
+  lower-times : (k : ℕ) → (F *ℤ lower g k) ≤ℤ lower (finer_leg f g) k
   lower-times k =
       subst (λ (z : ℤ). (F *ℤ lower g k) ≤ℤ z)
       (sym
-      (ap₂ (λ (y z : ℤ). greatest (neg_ℤ (pos (f * g.speedLimit))) (greatest y z)) (minus-times g.start k)
+      (ap₂ (λ (y z : ℤ). greatest (neg_ℤ (pos (f * g.speed_limit))) (greatest y z)) (minus-times g.start k)
       (minus-times g.end (g.ticks - k))
-      ∙ ap (λ (x : ℤ). greatest x (greatest (F *ℤ from) (F *ℤ to))) (neg-times f g.speedLimit)))
-      (greatest-times-3 F (neg_ℤ (pos g.speedLimit)) from to)
+      ∙ ap (λ (x : ℤ). greatest x (greatest (F *ℤ from) (F *ℤ to))) (neg-times f g.speed_limit)))
+      (greatest-times-3 F (neg_ℤ (pos g.speed_limit)) from to)
     where
       from : ℤ
-      from = g.start -ℤ pos (g.accelerationLimit * k)
+      from = g.start -ℤ pos (g.acceleration_limit * k)
 
       to : ℤ
-      to = g.end -ℤ pos (g.accelerationLimit * (g.ticks - k))
+      to = g.end -ℤ pos (g.acceleration_limit * (g.ticks - k))
 
 -- ---- so where the finer leg can be made, the coarse one can
 
-module _ (f : ℕ) (hf : 1 ≤ f) (g : Leg) (δ : ℤ) (even : T (sumIsWhole g δ))
-    (t : T (feasible (finerLeg f g) (pos f *ℤ δ))) where
+module _ (f : ℕ) (hf : 1 ≤ f) (g : Leg) (δ : ℤ) (even : T (sum_is_whole g δ))
+    (t : T (feasible (finer_leg f g) (pos f *ℤ δ))) where
   abbrev fine : Leg
-  fine = finerLeg f g
+  fine = finer_leg f g
 
   -- the finer grid's required sum is f times the coarse one
   required-times : required fine (pos f *ℤ δ) ≡ pos f *ℤ required g δ
@@ -166,7 +166,7 @@ module _ (f : ℕ) (hf : 1 ≤ f) (g : Leg) (δ : ℤ) (even : T (sumIsWhole g �
       ap (λ (z : ℤ). shr_z z 2)
       (spread (pos f) δ g.start g.end
       ∙ ap (λ (z : ℤ). pos f *ℤ z)
-      (sym (twice_half (twiceRequired g δ) (eqb→eq (nat_abs (twiceRequired g δ) % 2) 0 even)))
+      (sym (twice_half (twice_required g δ) (eqb→eq (nat_abs (twice_required g δ) % 2) 0 even)))
       ∙ across (pos f) (required g δ))
       ∙ half_twice (pos f *ℤ required g δ)
     where
@@ -176,16 +176,16 @@ module _ (f : ℕ) (hf : 1 ≤ f) (g : Leg) (δ : ℤ) (even : T (sumIsWhole g �
       across : (f r : ℤ) → f *ℤ (pos 2 *ℤ r) ≡ pos 2 *ℤ (f *ℤ r)
       across f r = same (f ∷ r ∷ []) (search pol depth 20 fits 9000) tt
 
-  high : required g δ ≤ℤ sumTo (upper g) (g.ticks - 1)
+  high : required g δ ≤ℤ sum_to (upper g) (g.ticks - 1)
   high =
-      *ℤ-cancel (required g δ) (sumTo (upper g) (g.ticks - 1)) f hf
+      *ℤ-cancel (required g δ) (sum_to (upper g) (g.ticks - 1)) f hf
       (subst₂ (λ (y z : ℤ). y ≤ℤ z) required-times (sum-times (pos f) (upper g) (g.ticks - 1))
       (≤ℤ-trans (feasible-below fine (pos f *ℤ δ) t)
       (sum_mono (upper fine) (λ k. pos f *ℤ upper g k) (g.ticks - 1) (λ k h. upper-times f g k))))
 
-  low : sumTo (lower g) (g.ticks - 1) ≤ℤ required g δ
+  low : sum_to (lower g) (g.ticks - 1) ≤ℤ required g δ
   low =
-      *ℤ-cancel (sumTo (lower g) (g.ticks - 1)) (required g δ) f hf
+      *ℤ-cancel (sum_to (lower g) (g.ticks - 1)) (required g δ) f hf
       (subst₂ (λ (y z : ℤ). y ≤ℤ z) (sum-times (pos f) (lower g) (g.ticks - 1)) required-times
       (≤ℤ-trans (sum_mono (λ k. pos f *ℤ lower g k) (lower fine) (g.ticks - 1) (λ k h. lower-times f g k))
       (feasible-above fine (pos f *ℤ δ) t)))
@@ -194,34 +194,34 @@ module _ (f : ℕ) (hf : 1 ≤ f) (g : Leg) (δ : ℤ) (even : T (sumIsWhole g �
   joined =
       let j : Joined fine = feasible-joined fine (pos f *ℤ δ) t in
       record {
-        start = (size-times f g.speedLimit g.start hf).0 j.start;
-        end = (size-times f g.speedLimit g.end hf).0 j.end;
-        apart = (size-times f (g.accelerationLimit * g.ticks) (g.end -ℤ g.start) hf).0
+        start = (size-times f g.speed_limit g.start hf).0 j.start;
+        end = (size-times f g.speed_limit g.end hf).0 j.end;
+        apart = (size-times f (g.acceleration_limit * g.ticks) (g.end -ℤ g.start) hf).0
             (subst₂ (λ (z : ℤ) (n : ℕ). nat_abs z ≤ n) (sym (apart-times (pos f) g.end g.start))
-            (mul_assoc f g.accelerationLimit g.ticks)
+            (mul_assoc f g.acceleration_limit g.ticks)
             j.apart);
       }
 
   coarse-feasible : T (feasible g δ)
   coarse-feasible =
       every (tests g δ) (
-        le→leb (nat_abs g.start) g.speedLimit joined.start,
+        le→leb (nat_abs g.start) g.speed_limit joined.start,
         (
-          le→leb (nat_abs g.end) g.speedLimit joined.end,
+          le→leb (nat_abs g.end) g.speed_limit joined.end,
           (
-            le→leb (nat_abs (g.end -ℤ g.start)) (g.accelerationLimit * g.ticks) joined.apart,
+            le→leb (nat_abs (g.end -ℤ g.start)) (g.acceleration_limit * g.ticks) joined.apart,
             (even, (low.le, (high.le, tt))),
           ),
         ),
       )
 
 -- no bound on f
-pub finer-feasible : (f : ℕ) (g : Leg) (δ : ℤ) → 1 ≤ f → 0 < g.ticks → 0 < g.accelerationLimit
-    → g.speedLimit ≤ 2 ^ 37 → T (sumIsWhole g δ)
-    → Feasible (finerLeg f g) (pos f *ℤ δ) ↔ Feasible g δ
+pub finer-feasible : (f : ℕ) (g : Leg) (δ : ℤ) → 1 ≤ f → 0 < g.ticks → 0 < g.acceleration_limit
+    → g.speed_limit ≤ 2 ^ 37 → T (sum_is_whole g δ)
+    → Feasible (finer_leg f g) (pos f *ℤ δ) ↔ Feasible g δ
 finer-feasible f g δ hf h hA small even = (
   λ p. (feasible-is g δ h hA small).1
-      (coarse-feasible f hf g δ even (meets-feasible (finerLeg f g) (g.ticks - 1) shape (pos f *ℤ δ) p.0 p.1)),
+      (coarse-feasible f hf g δ even (meets-feasible (finer_leg f g) (g.ticks - 1) shape (pos f *ℤ δ) p.0 p.1)),
   λ p. ((λ k. pos f *ℤ p.0 k), coarse-meets f g δ p.0 hf p.1),
 )
   where

@@ -8,43 +8,43 @@ use native.Mathlib.Nat.{mul-le-mul, le_trans}
 use lib.Dec.{T, eqb, eqb→eq}
 use lib.IntN.{pos, nat_abs}
 use Rattle.whole.proofs.Tests.{not-false-T}
-use Rattle.whole.proofs.Laws.{natAbs-zero}
+use Rattle.whole.proofs.Laws.{nat_abs-zero}
 use Rattle.model.specs.declared.Axis.{Axis}
 use Rattle.model.specs.declared.SecondSway.{SecondSway}
 use Rattle.model.specs.declared.SecondSway.TheVariants.{Absent, HalfPeriod}
 use Rattle.model.specs.declared.Target.{Target}
 use Rattle.model.specs.declared.Target.TheVariants.{Fixed, Moving}
-use Rattle.model.specs.planning.Quantities.{fineSteps, speedLimit, accelerationLimit, halfPeriod, secondWeight}
-use Rattle.model.specs.planning.Quantities.{asMoving, accelerates, swaySteps, finestSteps, finer, finerBy, speedSteps}
-use Rattle.model.specs.planning.Quantities.{accelerationSteps}
+use Rattle.model.specs.planning.Quantities.{fine_steps, speed_limit, acceleration_limit, half_period, second_weight}
+use Rattle.model.specs.planning.Quantities.{as_moving, accelerates, sway_steps, finest_steps, finer, finer_by, speed_steps}
+use Rattle.model.specs.planning.Quantities.{acceleration_steps}
 
 pub data Grid (x : Axis) : Type 0 where
-  twoSways : (d : ℕ) → finer x ≡ swaySteps → x.second_sway ≡ HalfPeriod d → Grid x
+  two_sways : (d : ℕ) → finer x ≡ sway_steps → x.second_sway ≡ HalfPeriod d → Grid x
   -- one sway: the fine grid has one of three reasons
-  still : finer x ≡ 1 → x.second_sway ≡ Absent → ((n : ℕ) → (asMoving x.target n).acceleration ≡ pos 0) → Grid x
-  unblended : finer x ≡ 1 → x.second_sway ≡ Absent → halfPeriod x ≡ 0 → Grid x
-  undamped : finer x ≡ 1 → x.second_sway ≡ Absent → secondWeight x ≡ 128 → Grid x
-  corrected : finer x ≡ finestSteps → x.second_sway ≡ Absent → Grid x
+  still : finer x ≡ 1 → x.second_sway ≡ Absent → ((n : ℕ) → (as_moving x.target n).acceleration ≡ pos 0) → Grid x
+  unblended : finer x ≡ 1 → x.second_sway ≡ Absent → half_period x ≡ 0 → Grid x
+  undamped : finer x ≡ 1 → x.second_sway ≡ Absent → second_weight x ≡ 128 → Grid x
+  corrected : finer x ≡ finest_steps → x.second_sway ≡ Absent → Grid x
 
-pub no-acceleration : (t : Target) → accelerates t ≡ false → (n : ℕ) → (asMoving t n).acceleration ≡ pos 0
+pub no-acceleration : (t : Target) → accelerates t ≡ false → (n : ℕ) → (as_moving t n).acceleration ≡ pos 0
 no-acceleration (Fixed r) e n = refl
-no-acceleration (Moving m) e n = natAbs-zero m.acceleration
+no-acceleration (Moving m) e n = nat_abs-zero m.acceleration
     (eqb→eq (nat_abs m.acceleration) 0 (not-false-T (eqb (nat_abs m.acceleration) 0) e))
 
 module _ (x : Axis) where
   pub grid : Grid x
   unfolding finer
   grid =
-      go x.second_sway (accelerates x.target) (eqb (halfPeriod x) 0)
-      (eqb (secondWeight x) 128) (no-acceleration x.target)
-      (eqb→eq (halfPeriod x) 0) (eqb→eq (secondWeight x) 128) refl refl refl
+      go x.second_sway (accelerates x.target) (eqb (half_period x) 0)
+      (eqb (second_weight x) 128) (no-acceleration x.target)
+      (eqb→eq (half_period x) 0) (eqb→eq (second_weight x) 128) refl refl refl
     where
       go : (s : SecondSway) (moves h0 b128 : Bool)
-          → (accelerates x.target ≡ false → (n : ℕ) → (asMoving x.target n).acceleration ≡ pos 0)
-          → (T h0 → halfPeriod x ≡ 0) → (T b128 → secondWeight x ≡ 128) → x.second_sway ≡ s
+          → (accelerates x.target ≡ false → (n : ℕ) → (as_moving x.target n).acceleration ≡ pos 0)
+          → (T h0 → half_period x ≡ 0) → (T b128 → second_weight x ≡ 128) → x.second_sway ≡ s
           → accelerates x.target ≡ moves
-          → finer x ≡ finerBy s (moves && (not h0 && not b128)) → Grid x
-      go (HalfPeriod d) moves h0 b128 f g h s e r = twoSways d r s
+          → finer x ≡ finer_by s (moves && (not h0 && not b128)) → Grid x
+      go (HalfPeriod d) moves h0 b128 f g h s e r = two_sways d r s
       go Absent false h0 b128 f g h s e r = still r s (f e)
       go Absent true true b128 f g h s e r = unblended r s (g tt)
       go Absent true false true f g h s e r = undamped r s (h tt)
@@ -56,24 +56,24 @@ module _ (x : Axis) where
   finer-range = go grid
     where
       go : Grid x → (1 ≤ finer x) × (finer x ≤ 256)
-      go (twoSways d e s) = (omega arith, omega arith)
+      go (two_sways d e s) = (omega arith, omega arith)
       go (still e s a) = (omega arith, omega arith)
       go (unblended e s a) = (omega arith, omega arith)
       go (undamped e s a) = (omega arith, omega arith)
       go (corrected e s) = (omega arith, omega arith)
 
   -- 36 bits
-  pub speed-range : speedLimit x ≤ 1048576 → speedSteps x ≤ 2 ^ 37
+  pub speed-range : speed_limit x ≤ 1048576 → speed_steps x ≤ 2 ^ 37
   speed-range h =
-      let l : fineSteps * speedLimit x ≤ 268435456 = omega arith in
+      let l : fine_steps * speed_limit x ≤ 268435456 = omega arith in
       le_trans (mul-le-mul finer-range.1 l) (omega arith)
 
   -- 32 bits
-  pub acceleration-range : accelerationLimit x ≤ 65536 → accelerationSteps x ≤ 2 ^ 33
+  pub acceleration-range : acceleration_limit x ≤ 65536 → acceleration_steps x ≤ 2 ^ 33
   acceleration-range h =
-      let l : fineSteps * accelerationLimit x ≤ 16777216 = omega arith in
+      let l : fine_steps * acceleration_limit x ≤ 16777216 = omega arith in
       le_trans (mul-le-mul finer-range.1 l) (omega arith)
 
-  pub acceleration-some : 0 < accelerationLimit x → 0 < accelerationSteps x
-  acceleration-some h = let l : 1 ≤ fineSteps * accelerationLimit x = omega arith in
+  pub acceleration-some : 0 < acceleration_limit x → 0 < acceleration_steps x
+  acceleration-some h = let l : 1 ≤ fine_steps * acceleration_limit x = omega arith in
       le_trans (omega arith) (mul-le-mul finer-range.0 l)

@@ -11,7 +11,7 @@ use lib.IntN.{ℤ, pos, ◌+ℤ◌, ◌-ℤ◌, ◌*ℤ◌, +ℤ_idr}
 use Rattle.whole.proofs.Laws.{add-sub}
 use Rattle.whole.proofs.Ring.{pol, same}
 use Rattle.model.specs.planning.Leg.{travelled}
-use Rattle.model.specs.planning.Motion.{Tick, run, changesFrom}
+use Rattle.model.specs.planning.Motion.{Tick, run, changes_from}
 use Rattle.theorems.proofs.motions.Travel.{travelled-first}
 
 -- ---- rule 1
@@ -45,11 +45,11 @@ distance v [] = pos 0
 distance v (w ∷ ws) = pos 2 *ℤ v +ℤ (w -ℤ v) +ℤ distance w ws
 
 pub run-over : (q v : ℤ) (ws αs : List ℤ) (d : Tick) (j : ℕ)
-    → get_or (run q v (changesFrom v ws ++ αs)) (length ws + j) d ≡ get_or (run (q +ℤ distance v ws) (final v ws) αs) j d
+    → get_or (run q v (changes_from v ws ++ αs)) (length ws + j) d ≡ get_or (run (q +ℤ distance v ws) (final v ws) αs) j d
 run-over q v [] αs d j = ap₂ (λ (x : ℤ) (i : ℕ). get_or (run x v αs) i d) (sym (+ℤ_idr q)) (zero-add j)
 run-over q v (w ∷ ws) αs d j =
-    ap (λ (i : ℕ). get_or (run q v (changesFrom v (w ∷ ws) ++ αs)) i d) (suc-add (length ws) j)
-    ∙ ap (λ (x : ℤ). get_or (run (q +ℤ pos 2 *ℤ v +ℤ (w -ℤ v)) x (changesFrom w ws ++ αs)) (length ws + j) d)
+    ap (λ (i : ℕ). get_or (run q v (changes_from v (w ∷ ws) ++ αs)) i d) (suc-add (length ws) j)
+    ∙ ap (λ (x : ℤ). get_or (run (q +ℤ pos 2 *ℤ v +ℤ (w -ℤ v)) x (changes_from w ws ++ αs)) (length ws + j) d)
     (add-sub v w)
     ∙ run-over (q +ℤ pos 2 *ℤ v +ℤ (w -ℤ v)) w ws αs d j
     ∙ ap (λ (x : ℤ). get_or (run x (final w ws) αs) j d) further
@@ -70,15 +70,15 @@ final-is v (w ∷ ws) = final-is w ws
 -- ---- over a constant acceleration
 
 -- j ticks after position q and velocity v
-abbrev pub steadyTick : ℤ → ℤ → ℤ → ℕ → Tick
-steadyTick q v α j =
+abbrev pub steady_tick : ℤ → ℤ → ℤ → ℕ → Tick
+steady_tick q v α j =
     record {
       position = q +ℤ pos 2 *ℤ (pos j *ℤ v) +ℤ α *ℤ (pos j *ℤ pos j);
       velocity = v +ℤ pos j *ℤ α;
       acceleration = α;
     }
 
-pub run-steady : (q v α : ℤ) (n j : ℕ) (d : Tick) → j < n → get_or (run q v (replicate n α)) j d ≡ steadyTick q v α j
+pub run-steady : (q v α : ℤ) (n j : ℕ) (d : Tick) → j < n → get_or (run q v (replicate n α)) j d ≡ steady_tick q v α j
 run-steady q v α zero j d h = absurd (omega arith)
 run-steady q v α (suc n) zero d h =
     ap₂ (λ (x y : ℤ). record { position = x; velocity = y; acceleration = α }) place speed

@@ -7,9 +7,9 @@ use native.Mathlib.Omega.{arith}
 use lib.Dec.{T, ltb, leb, lt→ltb, leb→le, le→leb}
 use lib.IntN.{nat_abs}
 use Rattle.model.specs.declared.Axis.{Axis}
-use Rattle.model.specs.planning.Quantities.{speedLimit, accelerationLimit, delay, speedSteps}
+use Rattle.model.specs.planning.Quantities.{speed_limit, acceleration_limit, delay, speed_steps}
 use Rattle.model.specs.planning.Leg.{feasible, Feasible}
-use Rattle.model.specs.planning.Motion.{Reachable, reachable, leg, displacement, landingVelocity, arrivalVelocity}
+use Rattle.model.specs.planning.Motion.{Reachable, reachable, leg, displacement, landing_velocity, arrival_velocity}
 use Rattle.whole.proofs.Tests.{both, and}
 use Rattle.theorems.proofs.legs.FeasibleIsExistence.{feasible-is}
 use Rattle.theorems.proofs.motions.Grid.{speed-range, acceleration-some}
@@ -26,10 +26,10 @@ module _ (x : Axis) (n : ℕ) where
   late = ltb (delay x) n
 
   abbrev lands : Bool
-  lands = leb (nat_abs (landingVelocity x n)) (speedSteps x)
+  lands = leb (nat_abs (landing_velocity x n)) (speed_steps x)
 
   abbrev arrives : Bool
-  arrives = leb (nat_abs (arrivalVelocity x n)) (speedSteps x)
+  arrives = leb (nat_abs (arrival_velocity x n)) (speed_steps x)
 
   abbrev moves : Bool
   moves = feasible (leg x n) (displacement x n)
@@ -37,26 +37,26 @@ module _ (x : Axis) (n : ℕ) where
   pub reach-after : T (reachable x n) → delay x < n
   reach-after = simp (and-iff, leb-iff) (omega arith)
 
-  pub reach-lands : T (reachable x n) → nat_abs (landingVelocity x n) ≤ speedSteps x
+  pub reach-lands : T (reachable x n) → nat_abs (landing_velocity x n) ≤ speed_steps x
   reach-lands = simp (and-iff, leb-iff) (omega arith)
 
-  pub reach-arrives : T (reachable x n) → nat_abs (arrivalVelocity x n) ≤ speedSteps x
+  pub reach-arrives : T (reachable x n) → nat_abs (arrival_velocity x n) ≤ speed_steps x
   reach-arrives = simp (and-iff, leb-iff) (omega arith)
 
   pub reach-feasible : T (reachable x n) → T (feasible (leg x n) (displacement x n))
   reach-feasible t =
       (both arrives moves (both lands (arrives && moves) (both late (lands && (arrives && moves)) t).1).1).1
 
-  decides : 0 < accelerationLimit x → speedLimit x ≤ 1048576 → delay x < n
+  decides : 0 < acceleration_limit x → speed_limit x ≤ 1048576 → delay x < n
       → Feasible (leg x n) (displacement x n) ↔ T moves
   decides hA hL h = feasible-is (leg x n) (displacement x n) (omega arith) (acceleration-some x hA) (speed-range x hL)
 
-  pub reachable-is : 0 < accelerationLimit x → speedLimit x ≤ 1048576 → Reachable x n ↔ T (reachable x n)
+  pub reachable-is : 0 < acceleration_limit x → speed_limit x ≤ 1048576 → Reachable x n ↔ T (reachable x n)
   reachable-is hA hL = (
     λ r.
         and late (lands && (arrives && moves)) (lt→ltb (delay x) n r.after)
-        (and lands (arrives && moves) (le→leb (nat_abs (landingVelocity x n)) (speedSteps x) r.landed)
-        (and arrives moves (le→leb (nat_abs (arrivalVelocity x n)) (speedSteps x) r.arrived)
+        (and lands (arrives && moves) (le→leb (nat_abs (landing_velocity x n)) (speed_steps x) r.landed)
+        (and arrives moves (le→leb (nat_abs (arrival_velocity x n)) (speed_steps x) r.arrived)
         ((decides hA hL r.after).0 r.moves))),
     λ t.
         record {

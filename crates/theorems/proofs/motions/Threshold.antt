@@ -12,7 +12,7 @@ use native.Mathlib.Numerals.{add-one}
 use lib.Dec.{T, leb, eqb, eqb→eq}
 use lib.IntN.{ℤ, pos, negsuc, nat_abs, ◌+ℤ◌, ◌-ℤ◌, ◌*ℤ◌}
 use Rattle.whole.proofs.Differences.{whole, all₁}
-use Rattle.whole.proofs.Laws.{natAbs-zero, natAbs-*}
+use Rattle.whole.proofs.Laws.{nat_abs-zero, nat_abs-*}
 use Rattle.whole.proofs.Ring.{pol, same}
 use Rattle.whole.proofs.Tests.{T_true, T_false, true-T, not-false-T, choice-yes, choice-no, leb_yes, leb_no, lt-or-le}
 use Rattle.model.specs.declared.Axis.{Axis}
@@ -20,11 +20,11 @@ use Rattle.model.specs.declared.RestPoint.{RestPoint}
 use Rattle.model.specs.declared.State.{State}
 use Rattle.model.specs.declared.Target.{Target}
 use Rattle.model.specs.declared.Target.TheVariants.{Fixed, Moving}
-use Rattle.model.specs.planning.Quantities.{fineSteps, accelerationLimit, halfPeriod, secondWeight, delay, asMoving}
-use Rattle.model.specs.planning.Quantities.{finer, speedSteps, accelerationSteps}
+use Rattle.model.specs.planning.Quantities.{fine_steps, acceleration_limit, half_period, second_weight, delay, as_moving}
+use Rattle.model.specs.planning.Quantities.{finer, speed_steps, acceleration_steps}
 use Rattle.model.specs.planning.Leg.{Leg, Meets, Feasible, travelled}
-use Rattle.model.specs.planning.Motion.{shift, startPosition, startVelocity, landingPosition, landingVelocity}
-use Rattle.model.specs.planning.Motion.{landingAcceleration, arrivalVelocity, leg, displacement, Reachable, reachable}
+use Rattle.model.specs.planning.Motion.{shift, start_position, start_velocity, landing_position, landing_velocity}
+use Rattle.model.specs.planning.Motion.{landing_acceleration, arrival_velocity, leg, displacement, Reachable, reachable}
 use Rattle.model.specs.planning.Refusals.{flies, Passed}
 use Rattle.theorems.specs.Threshold.{Slow}
 use Rattle.theorems.proofs.jobs.PassedAxis.{some-acceleration, speed-limit, target-acceleration}
@@ -52,21 +52,21 @@ travelled-same u w (suc n) e =
     λ i. t i +ℤ (pos 2 *ℤ a i +ℤ (b i -ℤ a i))
 
 -- the leg with one tick more, at whose end the velocity is α more
-abbrev oneMore : Leg → ℤ → Leg
-oneMore g α =
+abbrev one_tick_more : Leg → ℤ → Leg
+one_tick_more g α =
     record {
       ticks = suc g.ticks;
       start = g.start;
       end = g.end +ℤ α;
-      speedLimit = g.speedLimit;
-      accelerationLimit = g.accelerationLimit;
+      speed_limit = g.speed_limit;
+      acceleration_limit = g.acceleration_limit;
     }
 
 more-after : (e α : ℤ) → (e +ℤ α) -ℤ e ≡ α
 more-after e α = same (e ∷ α ∷ []) (search pol depth 20 fits 9000) tt
 
-module _ (g : Leg) (d α : ℤ) (w : ℕ → ℤ) (m : Meets g d w) (slow : nat_abs (g.end +ℤ α) ≤ g.speedLimit)
-    (small : nat_abs α ≤ g.accelerationLimit) where
+module _ (g : Leg) (d α : ℤ) (w : ℕ → ℤ) (m : Meets g d w) (slow : nat_abs (g.end +ℤ α) ≤ g.speed_limit)
+    (small : nat_abs α ≤ g.acceleration_limit) where
   abbrev u : ℕ → ℤ
   u = further w g.ticks (g.end +ℤ α)
 
@@ -82,7 +82,7 @@ module _ (g : Leg) (d α : ℤ) (w : ℕ → ℤ) (m : Meets g d w) (slow : nat_
   last-change : u (suc g.ticks) -ℤ u g.ticks ≡ α
   last-change = (λ i. last i -ℤ ended i) ∙ more-after g.end α
 
-  one_more : Meets (oneMore g α) (d +ℤ (pos 2 *ℤ g.end +ℤ α)) u
+  one_more : Meets (one_tick_more g α) (d +ℤ (pos 2 *ℤ g.end +ℤ α)) u
   one_more =
       record {
         starts = was 0 (omega arith) ∙ m.starts;
@@ -92,61 +92,61 @@ module _ (g : Leg) (d α : ℤ) (w : ℕ → ℤ) (m : Meets g d w) (slow : nat_
         travels = travels;
       }
     where
-      speeds : (k : ℕ) → k ≤ suc g.ticks → nat_abs (u k) ≤ g.speedLimit
+      speeds : (k : ℕ) → k ≤ suc g.ticks → nat_abs (u k) ≤ g.speed_limit
       speeds k h = go (lt-or-le g.ticks k)
         where
-          go : (g.ticks < k) ⊎ (k ≤ g.ticks) → nat_abs (u k) ≤ g.speedLimit
+          go : (g.ticks < k) ⊎ (k ≤ g.ticks) → nat_abs (u k) ≤ g.speed_limit
           go (inl l) =
               let e : suc g.ticks ≡ k = omega arith in
-              subst (λ (j : ℕ). nat_abs (u j) ≤ g.speedLimit) e
-              (subst (λ (z : ℤ). nat_abs z ≤ g.speedLimit) (sym last) slow)
-          go (inr l) = subst (λ (z : ℤ). nat_abs z ≤ g.speedLimit) (sym (was k l)) (m.speeds k l)
+              subst (λ (j : ℕ). nat_abs (u j) ≤ g.speed_limit) e
+              (subst (λ (z : ℤ). nat_abs z ≤ g.speed_limit) (sym last) slow)
+          go (inr l) = subst (λ (z : ℤ). nat_abs z ≤ g.speed_limit) (sym (was k l)) (m.speeds k l)
 
-      changes : (k : ℕ) → k < suc g.ticks → nat_abs (u (suc k) -ℤ u k) ≤ g.accelerationLimit
+      changes : (k : ℕ) → k < suc g.ticks → nat_abs (u (suc k) -ℤ u k) ≤ g.acceleration_limit
       changes k h = go (lt-or-le k g.ticks)
         where
-          go : (k < g.ticks) ⊎ (g.ticks ≤ k) → nat_abs (u (suc k) -ℤ u k) ≤ g.accelerationLimit
+          go : (k < g.ticks) ⊎ (g.ticks ≤ k) → nat_abs (u (suc k) -ℤ u k) ≤ g.acceleration_limit
           go (inl l) =
               let a = was k (omega arith) in
               let b = was (suc k) l in
-              subst (λ (z : ℤ). nat_abs z ≤ g.accelerationLimit) (sym (λ i. b i -ℤ a i)) (m.changes k l)
+              subst (λ (z : ℤ). nat_abs z ≤ g.acceleration_limit) (sym (λ i. b i -ℤ a i)) (m.changes k l)
           go (inr l) =
               let e : g.ticks ≡ k = omega arith in
-              subst (λ (j : ℕ). nat_abs (u (suc j) -ℤ u j) ≤ g.accelerationLimit) e
-              (subst (λ (z : ℤ). nat_abs z ≤ g.accelerationLimit) (sym last-change) small)
+              subst (λ (j : ℕ). nat_abs (u (suc j) -ℤ u j) ≤ g.acceleration_limit) e
+              (subst (λ (z : ℤ). nat_abs z ≤ g.acceleration_limit) (sym last-change) small)
 
       travels : travelled u (suc g.ticks) ≡ d +ℤ (pos 2 *ℤ g.end +ℤ α)
       travels = let t = travelled-same u w g.ticks was ∙ m.travels in
           λ i. t i +ℤ (pos 2 *ℤ ended i +ℤ last-change i)
 
-feasible-on : (g : Leg) (d α : ℤ) → nat_abs (g.end +ℤ α) ≤ g.speedLimit → nat_abs α ≤ g.accelerationLimit
-    → Feasible g d → Feasible (oneMore g α) (d +ℤ (pos 2 *ℤ g.end +ℤ α))
+feasible-on : (g : Leg) (d α : ℤ) → nat_abs (g.end +ℤ α) ≤ g.speed_limit → nat_abs α ≤ g.acceleration_limit
+    → Feasible g d → Feasible (one_tick_more g α) (d +ℤ (pos 2 *ℤ g.end +ℤ α))
 feasible-on g d α slow small p = (u g d α p.0 p.1 slow small, one_more g d α p.0 p.1 slow small)
 
 -- ---- the landings of all arrivals lie on one uniformly accelerated motion: f grid steps
 -- in a fine step, the shift s, the correction c, and a target at p with velocity v and
 -- acceleration a, d ticks after its own
 
-abbrev landsAt : ℤ → ℤ → ℤ → ℤ → ℤ → ℤ → ℤ → ℤ
-landsAt f s c p v a d =
+abbrev lands_at : ℤ → ℤ → ℤ → ℤ → ℤ → ℤ → ℤ → ℤ
+lands_at f s c p v a d =
     f *ℤ (pos 256 *ℤ (pos 2 *ℤ p +ℤ pos 2 *ℤ (v *ℤ d) +ℤ a *ℤ (d *ℤ d)) +ℤ pos 2 *ℤ (s *ℤ (v +ℤ a *ℤ d))) +ℤ c
 
-abbrev landsWith : ℤ → ℤ → ℤ → ℤ → ℤ → ℤ
-landsWith f s v a d = f *ℤ (pos 256 *ℤ (v +ℤ a *ℤ d) +ℤ s *ℤ a)
+abbrev lands_with : ℤ → ℤ → ℤ → ℤ → ℤ → ℤ
+lands_with f s v a d = f *ℤ (pos 256 *ℤ (v +ℤ a *ℤ d) +ℤ s *ℤ a)
 
-moving-velocity : (f s v a d : ℤ) → landsWith f s v a (d +ℤ pos 1) ≡ landsWith f s v a d +ℤ f *ℤ (pos 256 *ℤ a)
+moving-velocity : (f s v a d : ℤ) → lands_with f s v a (d +ℤ pos 1) ≡ lands_with f s v a d +ℤ f *ℤ (pos 256 *ℤ a)
 moving-velocity f s v a d = same (f ∷ s ∷ v ∷ a ∷ d ∷ []) (search pol depth 30 fits 9000) tt
 
 moving-position : (f s c p v a d : ℤ)
-    → landsAt f s c p v a (d +ℤ pos 1) ≡ landsAt f s c p v a d +ℤ (pos 2 *ℤ landsWith f s v a d +ℤ f *ℤ (pos 256 *ℤ a))
+    → lands_at f s c p v a (d +ℤ pos 1) ≡ lands_at f s c p v a d +ℤ (pos 2 *ℤ lands_with f s v a d +ℤ f *ℤ (pos 256 *ℤ a))
 moving-position f s c p v a d = same (f ∷ s ∷ c ∷ p ∷ v ∷ a ∷ d ∷ []) (search pol depth 30 fits 9000) tt
 
-fixed-velocity : (f s v d e : ℤ) → landsWith f s v (pos 0) e ≡ landsWith f s v (pos 0) d +ℤ f *ℤ (pos 256 *ℤ pos 0)
+fixed-velocity : (f s v d e : ℤ) → lands_with f s v (pos 0) e ≡ lands_with f s v (pos 0) d +ℤ f *ℤ (pos 256 *ℤ pos 0)
 fixed-velocity f s v d e = same (f ∷ s ∷ v ∷ d ∷ e ∷ []) (search pol depth 30 fits 9000) tt
 
 resting-position : (f s c p d e : ℤ)
-    → landsAt f s c p (pos 0) (pos 0) e
-    ≡ landsAt f s c p (pos 0) (pos 0) d +ℤ (pos 2 *ℤ landsWith f s (pos 0) (pos 0) d +ℤ f *ℤ (pos 256 *ℤ pos 0))
+    → lands_at f s c p (pos 0) (pos 0) e
+    ≡ lands_at f s c p (pos 0) (pos 0) d +ℤ (pos 2 *ℤ lands_with f s (pos 0) (pos 0) d +ℤ f *ℤ (pos 256 *ℤ pos 0))
 resting-position f s c p d e = same (f ∷ s ∷ c ∷ p ∷ d ∷ e ∷ []) (search pol depth 30 fits 9000) tt
 
 tick-on : (n h : ℕ) (t : ℤ) → h ≤ n → pos (suc n - h) -ℤ t ≡ (pos (n - h) -ℤ t) +ℤ pos 1
@@ -156,55 +156,55 @@ tick-on n h t p = ap (λ (i : ℕ). pos i -ℤ t) {x = suc n - h} {y = n - h + 1
     swap x t = same (x ∷ t ∷ []) (search pol depth 20 fits 9000) tt
 
 rests : (r : RestPoint) → flies (Fixed r) ≡ false → r.velocity ≡ pos 0
-rests r e = natAbs-zero r.velocity (eqb→eq (nat_abs r.velocity) 0 (not-false-T (eqb (nat_abs r.velocity) 0) e))
+rests r e = nat_abs-zero r.velocity (eqb→eq (nat_abs r.velocity) 0 (not-false-T (eqb (nat_abs r.velocity) 0) e))
 
 module _ (x : Axis) where
   abbrev F : ℤ
   F = pos (finer x)
 
-  abbrev correctionOf : ℤ → ℤ
-  correctionOf a =
-      let h : ℤ = pos (halfPeriod x) in
-      let b : ℤ = pos (secondWeight x) in
+  abbrev correction_of : ℤ → ℤ
+  correction_of a =
+      let h : ℤ = pos (half_period x) in
+      let b : ℤ = pos (second_weight x) in
       pos 2 *ℤ (b *ℤ (h *ℤ h) *ℤ (b -ℤ pos 128) *ℤ a)
 
   abbrev position_of : Target → ℕ → ℤ
   position_of t n =
-      let m : State = asMoving t n in
-      landsAt F (shift x) (correctionOf m.acceleration) m.position m.velocity m.acceleration
+      let m : State = as_moving t n in
+      lands_at F (shift x) (correction_of m.acceleration) m.position m.velocity m.acceleration
       (pos (n - delay x) -ℤ m.tick)
 
-  abbrev velocityOf : Target → ℕ → ℤ
-  velocityOf t n =
-      let m : State = asMoving t n in
-      landsWith F (shift x) m.velocity m.acceleration (pos (n - delay x) -ℤ m.tick)
+  abbrev velocity_of : Target → ℕ → ℤ
+  velocity_of t n =
+      let m : State = as_moving t n in
+      lands_with F (shift x) m.velocity m.acceleration (pos (n - delay x) -ℤ m.tick)
 
-  abbrev accelerationOf : Target → ℕ → ℤ
-  accelerationOf t n = F *ℤ (pos 256 *ℤ (asMoving t n).acceleration)
+  abbrev acceleration_of : Target → ℕ → ℤ
+  acceleration_of t n = F *ℤ (pos 256 *ℤ (as_moving t n).acceleration)
 
-  velocity-on : (t : Target) (n : ℕ) → delay x ≤ n → velocityOf t (suc n) ≡ velocityOf t n +ℤ accelerationOf t n
+  velocity-on : (t : Target) (n : ℕ) → delay x ≤ n → velocity_of t (suc n) ≡ velocity_of t n +ℤ acceleration_of t n
   velocity-on (Fixed r) n h =
       fixed-velocity F (shift x) r.velocity (pos (n - delay x) -ℤ pos n) (pos (suc n - delay x) -ℤ pos (suc n))
   velocity-on (Moving m) n h =
-      ap (landsWith F (shift x) m.velocity m.acceleration) (tick-on n (delay x) m.tick h)
+      ap (lands_with F (shift x) m.velocity m.acceleration) (tick-on n (delay x) m.tick h)
       ∙ moving-velocity F (shift x) m.velocity m.acceleration (pos (n - delay x) -ℤ m.tick)
 
   position-on : (t : Target) → flies t ≡ false → (n : ℕ) → delay x ≤ n
-      → position_of t (suc n) ≡ position_of t n +ℤ (pos 2 *ℤ velocityOf t n +ℤ accelerationOf t n)
+      → position_of t (suc n) ≡ position_of t n +ℤ (pos 2 *ℤ velocity_of t n +ℤ acceleration_of t n)
   position-on (Fixed r) e n h =
       let d : ℤ = pos (n - delay x) -ℤ pos n in
       let l : ℤ = pos (suc n - delay x) -ℤ pos (suc n) in
-      subst (λ (v : ℤ). landsAt F (shift x) (correctionOf (pos 0)) r.position v (pos 0) l
-      ≡ landsAt F (shift x) (correctionOf (pos 0)) r.position v (pos 0) d
-      +ℤ (pos 2 *ℤ landsWith F (shift x) v (pos 0) d +ℤ F *ℤ (pos 256 *ℤ pos 0)))
-      (sym (rests r e)) (resting-position F (shift x) (correctionOf (pos 0)) r.position d l)
+      subst (λ (v : ℤ). lands_at F (shift x) (correction_of (pos 0)) r.position v (pos 0) l
+      ≡ lands_at F (shift x) (correction_of (pos 0)) r.position v (pos 0) d
+      +ℤ (pos 2 *ℤ lands_with F (shift x) v (pos 0) d +ℤ F *ℤ (pos 256 *ℤ pos 0)))
+      (sym (rests r e)) (resting-position F (shift x) (correction_of (pos 0)) r.position d l)
   position-on (Moving m) e n h =
-      ap (landsAt F (shift x) (correctionOf m.acceleration) m.position m.velocity m.acceleration)
+      ap (lands_at F (shift x) (correction_of m.acceleration) m.position m.velocity m.acceleration)
       (tick-on n (delay x) m.tick h)
-      ∙ moving-position F (shift x) (correctionOf m.acceleration) m.position m.velocity m.acceleration
+      ∙ moving-position F (shift x) (correction_of m.acceleration) m.position m.velocity m.acceleration
       (pos (n - delay x) -ℤ m.tick)
 
-  same-acceleration : (t : Target) (n k : ℕ) → accelerationOf t n ≡ accelerationOf t k
+  same-acceleration : (t : Target) (n k : ℕ) → acceleration_of t n ≡ acceleration_of t k
   same-acceleration (Fixed r) n k = refl
   same-acceleration (Moving m) n k = refl
 
@@ -226,38 +226,38 @@ line-between l i k u (negsuc a) h p q = line-down l (suc a) i k u (mul-le-mul h 
 -- ---- an axis that passed: from an arrival after the delay to the next
 
 module _ (x : Axis) (passed : Passed x) where
-  small : (n : ℕ) → nat_abs (landingAcceleration x n) ≤ accelerationSteps x
-  small n = go (finer x) (asMoving x.target n).acceleration (accelerationLimit x) (target-acceleration x passed n)
+  small : (n : ℕ) → nat_abs (landing_acceleration x n) ≤ acceleration_steps x
+  small n = go (finer x) (as_moving x.target n).acceleration (acceleration_limit x) (target-acceleration x passed n)
     where
-      go : (f : ℕ) (a : ℤ) (m : ℕ) → nat_abs a ≤ m → nat_abs (pos f *ℤ (pos fineSteps *ℤ a)) ≤ f * (fineSteps * m)
+      go : (f : ℕ) (a : ℤ) (m : ℕ) → nat_abs a ≤ m → nat_abs (pos f *ℤ (pos fine_steps *ℤ a)) ≤ f * (fine_steps * m)
       go f a m h =
-          let fine : nat_abs (pos fineSteps *ℤ a) ≤ fineSteps * m = rw natAbs-* (omega arith) in
+          let fine : nat_abs (pos fine_steps *ℤ a) ≤ fine_steps * m = rw nat_abs-* (omega arith) in
           let same-grid : f ≤ f = omega arith in
-          rw natAbs-* (mul-le-mul same-grid fine)
+          rw nat_abs-* (mul-le-mul same-grid fine)
 
-  pub landing-on : (n : ℕ) → delay x ≤ n → landingVelocity x (suc n) ≡ landingVelocity x n +ℤ landingAcceleration x n
+  pub landing-on : (n : ℕ) → delay x ≤ n → landing_velocity x (suc n) ≡ landing_velocity x n +ℤ landing_acceleration x n
   landing-on n h = velocity-on x x.target n h
 
-  pub acceleration-same : (n k : ℕ) → landingAcceleration x n ≡ landingAcceleration x k
+  pub acceleration-same : (n k : ℕ) → landing_acceleration x n ≡ landing_acceleration x k
   acceleration-same n k = same-acceleration x x.target n k
 
-  leg-on : (n : ℕ) → delay x ≤ n → oneMore (leg x n) (landingAcceleration x n) ≡ leg x (suc n)
+  leg-on : (n : ℕ) → delay x ≤ n → one_tick_more (leg x n) (landing_acceleration x n) ≡ leg x (suc n)
   leg-on n h =
       let t : suc (n - delay x) ≡ suc n - delay x = omega arith in
       let v = sym (landing-on n h) in
       λ i. record {
         ticks = t i;
-        start = startVelocity x;
+        start = start_velocity x;
         end = v i;
-        speedLimit = speedSteps x;
-        accelerationLimit = accelerationSteps x;
+        speed_limit = speed_steps x;
+        acceleration_limit = acceleration_steps x;
       }
 
   way_on : (n : ℕ) → delay x ≤ n
-      → displacement x n +ℤ (pos 2 *ℤ landingVelocity x n +ℤ landingAcceleration x n) ≡ displacement x (suc n)
+      → displacement x n +ℤ (pos 2 *ℤ landing_velocity x n +ℤ landing_acceleration x n) ≡ displacement x (suc n)
   way_on n h =
-      swap (landingPosition x n) (startPosition x) (pos 2 *ℤ landingVelocity x n +ℤ landingAcceleration x n)
-      ∙ ap (λ (z : ℤ). z -ℤ startPosition x) (sym (position-on x x.target passed.resting n h))
+      swap (landing_position x n) (start_position x) (pos 2 *ℤ landing_velocity x n +ℤ landing_acceleration x n)
+      ∙ ap (λ (z : ℤ). z -ℤ start_position x) (sym (position-on x x.target passed.resting n h))
     where
       swap : (p q d : ℤ) → (p -ℤ q) +ℤ d ≡ (p +ℤ d) -ℤ q
       swap p q d = same (p ∷ q ∷ d ∷ []) (search pol depth 20 fits 9000) tt
@@ -272,38 +272,38 @@ module _ (x : Axis) (passed : Passed x) where
         arrived = s.arrived;
         moves =
             subst (λ (g : Leg). Feasible g (displacement x (suc n))) (leg-on n h)
-            (subst (Feasible (oneMore (leg x n) (landingAcceleration x n))) (way_on n h)
-            (feasible-on (leg x n) (displacement x n) (landingAcceleration x n)
-            (subst (λ (z : ℤ). nat_abs z ≤ speedSteps x) (landing-on n h) s.landed) (small n) r.moves));
+            (subst (Feasible (one_tick_more (leg x n) (landing_acceleration x n))) (way_on n h)
+            (feasible-on (leg x n) (displacement x n) (landing_acceleration x n)
+            (subst (λ (z : ℤ). nat_abs z ≤ speed_steps x) (landing-on n h) s.landed) (small n) r.moves));
       }
 
   -- ---- the ticks at which the target is not too fast are one run
 
   pub landing-later : (n i : ℕ) → delay x ≤ n
-      → landingVelocity x (n + i) ≡ landingVelocity x n +ℤ pos i *ℤ landingAcceleration x n
+      → landing_velocity x (n + i) ≡ landing_velocity x n +ℤ pos i *ℤ landing_acceleration x n
   landing-later n zero h =
       let e : n + 0 ≡ n = omega arith in
-      ap (landingVelocity x) e ∙ none (landingVelocity x n) (landingAcceleration x n)
+      ap (landing_velocity x) e ∙ none (landing_velocity x n) (landing_acceleration x n)
     where
       none : (v a : ℤ) → v ≡ v +ℤ pos 0 *ℤ a
       none v a = same (v ∷ a ∷ []) (search pol depth 20 fits 9000) tt
   landing-later n (suc i) h =
       let e : pos i +ℤ pos 1 ≡ pos (suc i) = ap pos (add-one i) in
       let k : n + suc i ≡ suc (n + i) = omega arith in
-      ap (landingVelocity x) k
+      ap (landing_velocity x) k
       ∙ landing-on (n + i) (omega arith)
       ∙ (λ j. landing-later n i h j +ℤ acceleration-same (n + i) n j)
-      ∙ more (landingVelocity x n) (pos i) (landingAcceleration x n)
-      ∙ ap (λ (z : ℤ). landingVelocity x n +ℤ z *ℤ landingAcceleration x n) e
+      ∙ more (landing_velocity x n) (pos i) (landing_acceleration x n)
+      ∙ ap (λ (z : ℤ). landing_velocity x n +ℤ z *ℤ landing_acceleration x n) e
     where
       more : (v i a : ℤ) → (v +ℤ i *ℤ a) +ℤ a ≡ v +ℤ (i +ℤ pos 1) *ℤ a
       more v i a = same (v ∷ i ∷ a ∷ []) (search pol depth 20 fits 9000) tt
 
   pub arrival-later : (n i : ℕ) → delay x ≤ n
-      → arrivalVelocity x (n + i) ≡ arrivalVelocity x n +ℤ pos i *ℤ landingAcceleration x n
+      → arrival_velocity x (n + i) ≡ arrival_velocity x n +ℤ pos i *ℤ landing_acceleration x n
   arrival-later n i h =
       (λ j. landing-later n i h j +ℤ pos (delay x) *ℤ acceleration-same (n + i) n j)
-      ∙ swap (landingVelocity x n) (pos i *ℤ landingAcceleration x n) (pos (delay x) *ℤ landingAcceleration x n)
+      ∙ swap (landing_velocity x n) (pos i *ℤ landing_acceleration x n) (pos (delay x) *ℤ landing_acceleration x n)
     where
       swap : (v d e : ℤ) → (v +ℤ d) +ℤ e ≡ (v +ℤ e) +ℤ d
       swap v d e = same (v ∷ d ∷ e ∷ []) (search pol depth 20 fits 9000) tt
@@ -311,27 +311,27 @@ module _ (x : Axis) (passed : Passed x) where
   pub slow-between : (n j k : ℕ) → delay x ≤ n → n ≤ j → j ≤ k → Slow x n → Slow x k → Slow x j
   slow-between n j k h p q s t =
       record {
-        landed = part (landingVelocity x) (λ i. landing-later n i h) s.landed t.landed;
-        arrived = part (arrivalVelocity x) (λ i. arrival-later n i h) s.arrived t.arrived;
+        landed = part (landing_velocity x) (λ i. landing-later n i h) s.landed t.landed;
+        arrived = part (arrival_velocity x) (λ i. arrival-later n i h) s.arrived t.arrived;
       }
     where
-      part : (f : ℕ → ℤ) → ((i : ℕ) → f (n + i) ≡ f n +ℤ pos i *ℤ landingAcceleration x n) → nat_abs (f n) ≤ speedSteps x
-          → nat_abs (f k) ≤ speedSteps x → nat_abs (f j) ≤ speedSteps x
+      part : (f : ℕ → ℤ) → ((i : ℕ) → f (n + i) ≡ f n +ℤ pos i *ℤ landing_acceleration x n) → nat_abs (f n) ≤ speed_steps x
+          → nat_abs (f k) ≤ speed_steps x → nat_abs (f j) ≤ speed_steps x
       part f e a b =
           let j-is : n + (j - n) ≡ j = omega arith in
           let k-is : n + (k - n) ≡ k = omega arith in
-          subst (λ (z : ℤ). nat_abs z ≤ speedSteps x) (sym (e (j - n)) ∙ ap f j-is)
-          (line-between (speedSteps x) (j - n) (k - n) (f n) (landingAcceleration x n) (omega arith) a
-          (subst (λ (z : ℤ). nat_abs z ≤ speedSteps x) (sym (ap f k-is) ∙ e (k - n)) b))
+          subst (λ (z : ℤ). nat_abs z ≤ speed_steps x) (sym (e (j - n)) ∙ ap f j-is)
+          (line-between (speed_steps x) (j - n) (k - n) (f n) (landing_acceleration x n) (omega arith) a
+          (subst (λ (z : ℤ). nat_abs z ≤ speed_steps x) (sym (ap f k-is) ∙ e (k - n)) b))
 
   -- where the target was not too fast to land, and is not too fast at a later arrival, it is
   -- not too fast to land then either
-  pub slow-ahead : (n k : ℕ) → delay x ≤ n → n ≤ k → nat_abs (landingVelocity x n) ≤ speedSteps x
-      → nat_abs (arrivalVelocity x k) ≤ speedSteps x → Slow x k
+  pub slow-ahead : (n k : ℕ) → delay x ≤ n → n ≤ k → nat_abs (landing_velocity x n) ≤ speed_steps x
+      → nat_abs (arrival_velocity x k) ≤ speed_steps x → Slow x k
   slow-ahead n k h p a b =
       record {
-        landed = subst (λ (z : ℤ). nat_abs z ≤ speedSteps x) (sym at-k)
-            (line-between (speedSteps x) i (i + delay x) v α (omega arith) a far);
+        landed = subst (λ (z : ℤ). nat_abs z ≤ speed_steps x) (sym at-k)
+            (line-between (speed_steps x) i (i + delay x) v α (omega arith) a far);
         arrived = b;
       }
     where
@@ -339,22 +339,22 @@ module _ (x : Axis) (passed : Passed x) where
       i = k - n
 
       v : ℤ
-      v = landingVelocity x n
+      v = landing_velocity x n
 
       α : ℤ
-      α = landingAcceleration x n
+      α = landing_acceleration x n
 
-      at-k : landingVelocity x k ≡ v +ℤ pos i *ℤ α
+      at-k : landing_velocity x k ≡ v +ℤ pos i *ℤ α
       at-k =
           let e : k ≡ n + i = omega arith in
-          ap (landingVelocity x) e ∙ landing-later n i h
+          ap (landing_velocity x) e ∙ landing-later n i h
 
       more : (v i d α : ℤ) → (v +ℤ i *ℤ α) +ℤ d *ℤ α ≡ v +ℤ (i +ℤ d) *ℤ α
       more v i d α = same (v ∷ i ∷ d ∷ α ∷ []) (search pol depth 20 fits 9000) tt
 
-      far : nat_abs (v +ℤ pos (i + delay x) *ℤ α) ≤ speedSteps x
+      far : nat_abs (v +ℤ pos (i + delay x) *ℤ α) ≤ speed_steps x
       far =
-          subst (λ (z : ℤ). nat_abs z ≤ speedSteps x)
+          subst (λ (z : ℤ). nat_abs z ≤ speed_steps x)
           ((λ j. at-k j +ℤ pos (delay x) *ℤ acceleration-same k n j) ∙ more v (pos i) (pos (delay x)) α) b
 
   pub slow-of : (n : ℕ) → Reachable x n → Slow x n

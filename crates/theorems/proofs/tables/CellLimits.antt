@@ -8,20 +8,20 @@ use native.Mathlib.Nat as N
 use lib.Dec.{T, ltb, ltb→lt, nltb→le}
 use lib.ListN.{get_or, length, replicate}
 use lib.IntN.{ℤ, pos, negsuc, neg_ℤ, nat_abs, ◌+ℤ◌, ◌-ℤ◌, ◌*ℤ◌}
-use Rattle.whole.specs.Integers.{nearestQuotient}
+use Rattle.whole.specs.Integers.{nearest_quotient}
 use Rattle.whole.proofs.Differences.{whole, all₁}
 use Rattle.whole.proofs.Laws.{add-sub}
 use Rattle.whole.proofs.Bounds.{add_holds, mul_holds}
 use Rattle.whole.proofs.Rounding.{nearest-half, half-size}
 use Rattle.model.specs.declared.Axis.{Axis}
-use Rattle.model.specs.planning.Quantities.{fineSteps, speedLimit, accelerationLimit, halfPeriod, secondWeight}
-use Rattle.model.specs.planning.Quantities.{secondHalfPeriod, delay, asMoving, finer, speedSteps, accelerationSteps}
+use Rattle.model.specs.planning.Quantities.{fine_steps, speed_limit, acceleration_limit, half_period, second_weight}
+use Rattle.model.specs.planning.Quantities.{second_half_period, delay, as_moving, finer, speed_steps, acceleration_steps}
 use Rattle.model.specs.planning.Leg.{Meets, chosen}
-use Rattle.model.specs.planning.Motion.{Tick, run, changesFrom, leg, displacement, requiredSum, earlier, landingTick}
-use Rattle.model.specs.planning.Motion.{startPosition, startVelocity, landingVelocity, landingAcceleration}
-use Rattle.model.specs.planning.Rows.{plannedAxis, tickAt, tickBack, blendOnce}
+use Rattle.model.specs.planning.Motion.{Tick, run, changes_from, leg, displacement, required_sum, earlier, landing_tick}
+use Rattle.model.specs.planning.Motion.{start_position, start_velocity, landing_velocity, landing_acceleration}
+use Rattle.model.specs.planning.Rows.{planned_axis, tick_at, tick_back, blend_once}
 use Rattle.model.specs.planning.Refusals.{Plannable}
-use Rattle.theorems.proofs.tables.TwoBlends.{both, bothDivisor, both_some}
+use Rattle.theorems.proofs.tables.TwoBlends.{both, both_divisor, both_some}
 use Rattle.theorems.proofs.jobs.PassedAxis.{target-acceleration}
 use Rattle.theorems.proofs.jobs.PlannableAxis as R
 use Rattle.theorems.proofs.motions.Reaches.{reach-lands, reach-arrives}
@@ -31,22 +31,22 @@ use Rattle.theorems.proofs.motions.PlannedTarget as P
 -- ---- a run over the changes of a list of velocities has these velocities and changes
 
 run-velocity : (q v : ℤ) (ws : List ℤ) (α : ℤ) (αs : List ℤ) (d : Tick) (k : ℕ) → k ≤ length ws
-    → (get_or (run q v (changesFrom v ws ++ (α ∷ αs))) k d).velocity ≡ get_or (v ∷ ws) k (pos 0)
+    → (get_or (run q v (changes_from v ws ++ (α ∷ αs))) k d).velocity ≡ get_or (v ∷ ws) k (pos 0)
 run-velocity q v [] α αs d zero h = refl
 run-velocity q v [] α αs d (suc k) h = absurd (omega arith)
 run-velocity q v (w ∷ ws) α αs d zero h = refl
 run-velocity q v (w ∷ ws) α αs d (suc k) h =
-    ap (λ (u : ℤ). (get_or (run (q +ℤ pos 2 *ℤ v +ℤ (w -ℤ v)) u (changesFrom w ws ++ (α ∷ αs))) k d).velocity)
+    ap (λ (u : ℤ). (get_or (run (q +ℤ pos 2 *ℤ v +ℤ (w -ℤ v)) u (changes_from w ws ++ (α ∷ αs))) k d).velocity)
     (add-sub v w)
     ∙ run-velocity (q +ℤ pos 2 *ℤ v +ℤ (w -ℤ v)) w ws α αs d k (omega arith)
 
 run-change : (q v : ℤ) (ws αs : List ℤ) (d : Tick) (k : ℕ) → k < length ws
-    → (get_or (run q v (changesFrom v ws ++ αs)) k d).acceleration
+    → (get_or (run q v (changes_from v ws ++ αs)) k d).acceleration
     ≡ get_or (v ∷ ws) (suc k) (pos 0) -ℤ get_or (v ∷ ws) k (pos 0)
 run-change q v [] αs d k h = absurd (omega arith)
 run-change q v (w ∷ ws) αs d zero h = refl
 run-change q v (w ∷ ws) αs d (suc k) h =
-    ap (λ (u : ℤ). (get_or (run (q +ℤ pos 2 *ℤ v +ℤ (w -ℤ v)) u (changesFrom w ws ++ αs)) k d).acceleration) (add-sub v w)
+    ap (λ (u : ℤ). (get_or (run (q +ℤ pos 2 *ℤ v +ℤ (w -ℤ v)) u (changes_from w ws ++ αs)) k d).acceleration) (add-sub v w)
     ∙ run-change (q +ℤ pos 2 *ℤ v +ℤ (w -ℤ v)) w ws αs d k (omega arith)
 
 -- ---- sizes
@@ -90,103 +90,103 @@ by-landing Q T k f g = go (ltb k T) (ltb→lt k T) (nltb→le k T)
 
 module _ (x : Axis) (n : ℕ) (r : Plannable x n) where
   W : ℕ → ℤ
-  W k = get_or (startVelocity x ∷ chosen (leg x n) (requiredSum x n)) k (pos 0)
+  W k = get_or (start_velocity x ∷ chosen (leg x n) (required_sum x n)) k (pos 0)
 
   meets : Meets (leg x n) (displacement x n) W
   unfolding W
   meets = P.meets x n r
 
-  long : length (chosen (leg x n) (requiredSum x n)) ≡ landingTick x n
+  long : length (chosen (leg x n) (required_sum x n)) ≡ landing_tick x n
   long = velocities-length x n r
 
-  late : (j : ℕ) → j ≤ delay x → tickAt (plannedAxis n x) (landingTick x n + j) ≡ landed x n j
+  late : (j : ℕ) → j ≤ delay x → tick_at (planned_axis n x) (landing_tick x n + j) ≡ landed x n j
   late j h = tick-landed x n r j h
 
-  landing-acceleration : nat_abs (landingAcceleration x n) ≤ accelerationSteps x
+  landing-acceleration : nat_abs (landing_acceleration x n) ≤ acceleration_steps x
   landing-acceleration =
-      mul_holds (pos (finer x)) (pos fineSteps *ℤ (asMoving x.target n).acceleration) (finer x)
-      (fineSteps * accelerationLimit x) (omega arith)
-      (mul_holds (pos fineSteps) (asMoving x.target n).acceleration fineSteps (accelerationLimit x) (omega arith)
+      mul_holds (pos (finer x)) (pos fine_steps *ℤ (as_moving x.target n).acceleration) (finer x)
+      (fine_steps * acceleration_limit x) (omega arith)
+      (mul_holds (pos fine_steps) (as_moving x.target n).acceleration fine_steps (acceleration_limit x) (omega arith)
       (target-acceleration x r.passed n))
 
-  now-velocity : (k : ℕ) → k ≤ n → nat_abs (tickAt (plannedAxis n x) k).velocity ≤ speedSteps x
+  now-velocity : (k : ℕ) → k ≤ n → nat_abs (tick_at (planned_axis n x) k).velocity ≤ speed_steps x
   unfolding W
   now-velocity k h =
-      by-landing (λ k. k ≤ n → nat_abs (tickAt (plannedAxis n x) k).velocity ≤ speedSteps x) (landingTick x n) k
+      by-landing (λ k. k ≤ n → nat_abs (tick_at (planned_axis n x) k).velocity ≤ speed_steps x) (landing_tick x n) k
       (λ q l.
-      subst (λ (v : ℤ). nat_abs v ≤ speedSteps x)
+      subst (λ (v : ℤ). nat_abs v ≤ speed_steps x)
       (sym
-      (run-velocity (startPosition x) (startVelocity x) (chosen (leg x n) (requiredSum x n)) (landingAcceleration x n)
-      (replicate (delay x) (landingAcceleration x n)) (earlier x 0) k (omega (arith, long))))
+      (run-velocity (start_position x) (start_velocity x) (chosen (leg x n) (required_sum x n)) (landing_acceleration x n)
+      (replicate (delay x) (landing_acceleration x n)) (earlier x 0) k (omega (arith, long))))
       (meets.speeds k (omega arith)))
       (λ j e l.
-      subst (λ (t : Tick). nat_abs t.velocity ≤ speedSteps x) (sym (late j (omega arith)))
-      (between (landingVelocity x n) (landingAcceleration x n) j (delay x) (speedSteps x) (omega arith)
+      subst (λ (t : Tick). nat_abs t.velocity ≤ speed_steps x) (sym (late j (omega arith)))
+      (between (landing_velocity x n) (landing_acceleration x n) j (delay x) (speed_steps x) (omega arith)
       (reach-lands x n (R.reached x n r)) (reach-arrives x n (R.reached x n r))))
       h
 
   -- before the landing
-  pub planned-change : (k : ℕ) → k < landingTick x n
-      → (tickAt (plannedAxis n x) k).acceleration
-      ≡ get_or (startVelocity x ∷ chosen (leg x n) (requiredSum x n)) (suc k) (pos 0)
-      -ℤ get_or (startVelocity x ∷ chosen (leg x n) (requiredSum x n)) k (pos 0)
+  pub planned-change : (k : ℕ) → k < landing_tick x n
+      → (tick_at (planned_axis n x) k).acceleration
+      ≡ get_or (start_velocity x ∷ chosen (leg x n) (required_sum x n)) (suc k) (pos 0)
+      -ℤ get_or (start_velocity x ∷ chosen (leg x n) (required_sum x n)) k (pos 0)
   planned-change k h =
-      run-change (startPosition x) (startVelocity x) (chosen (leg x n) (requiredSum x n))
-      (replicate (suc (delay x)) (landingAcceleration x n)) (earlier x 0)
+      run-change (start_position x) (start_velocity x) (chosen (leg x n) (required_sum x n))
+      (replicate (suc (delay x)) (landing_acceleration x n)) (earlier x 0)
       k (omega (arith, long))
 
-  pub now-acceleration : (k : ℕ) → k ≤ n → nat_abs (tickAt (plannedAxis n x) k).acceleration ≤ accelerationSteps x
+  pub now-acceleration : (k : ℕ) → k ≤ n → nat_abs (tick_at (planned_axis n x) k).acceleration ≤ acceleration_steps x
   unfolding W
   now-acceleration k h =
-      by-landing (λ k. k ≤ n → nat_abs (tickAt (plannedAxis n x) k).acceleration ≤ accelerationSteps x)
-      (landingTick x n) k
+      by-landing (λ k. k ≤ n → nat_abs (tick_at (planned_axis n x) k).acceleration ≤ acceleration_steps x)
+      (landing_tick x n) k
       (λ q l.
-      subst (λ (v : ℤ). nat_abs v ≤ accelerationSteps x) (sym (planned-change k q)) (meets.changes k q))
-      (λ j e l. subst (λ (t : Tick). nat_abs t.acceleration ≤ accelerationSteps x)
+      subst (λ (v : ℤ). nat_abs v ≤ acceleration_steps x) (sym (planned-change k q)) (meets.changes k q))
+      (λ j e l. subst (λ (t : Tick). nat_abs t.acceleration ≤ acceleration_steps x)
       (sym (late j (omega arith))) landing-acceleration)
       h
 
   -- a cell of what is at most c fine steps in size before tick 0 and at every tick
   cell : (f : Tick → ℤ) (c : ℕ) → ((j : ℕ) → nat_abs (f (earlier x j)) ≤ finer x * c)
-      → ((k : ℕ) → k ≤ n → nat_abs (f (tickAt (plannedAxis n x) k)) ≤ finer x * c)
-      → (k : ℕ) → k ≤ n → nat_abs (nearestQuotient (both (plannedAxis n x) k f) (bothDivisor x)) ≤ c
+      → ((k : ℕ) → k ≤ n → nat_abs (f (tick_at (planned_axis n x) k)) ≤ finer x * c)
+      → (k : ℕ) → k ≤ n → nat_abs (nearest_quotient (both (planned_axis n x) k f) (both_divisor x)) ≤ c
   cell f c a b k h =
-      half-size c (both_some x) total (nearest-half (both (plannedAxis n x) k f) (bothDivisor x) (both_some x))
+      half-size c (both_some x) total (nearest-half (both (planned_axis n x) k f) (both_divisor x) (both_some x))
     where
-      back : (d : ℕ) → nat_abs (f (tickBack (plannedAxis n x) k d)) ≤ finer x * c
+      back : (d : ℕ) → nat_abs (f (tick_back (planned_axis n x) k d)) ≤ finer x * c
       back d = go (ltb k d)
         where
           go : (t : Bool)
               → nat_abs
-              (f (elim t as (λ y. Tick) [ true ↦ earlier x (d - k) | false ↦ tickAt (plannedAxis n x) (k - d) ]))
+              (f (elim t as (λ y. Tick) [ true ↦ earlier x (d - k) | false ↦ tick_at (planned_axis n x) (k - d) ]))
               ≤ finer x * c
           go true = a (d - k)
           go false = b (k - d) (omega arith)
 
-      once : (d : ℕ) → nat_abs (blendOnce (plannedAxis n x) k d f) ≤ 256 * (finer x * c)
+      once : (d : ℕ) → nat_abs (blend_once (planned_axis n x) k d f) ≤ 256 * (finer x * c)
       once d =
-          blend-within (secondWeight x) (f (tickBack (plannedAxis n x) k d))
-          (f (tickBack (plannedAxis n x) k (d + halfPeriod x))) (finer x * c)
-          (R.weight-range x n r) (back d) (back (d + halfPeriod x))
+          blend-within (second_weight x) (f (tick_back (planned_axis n x) k d))
+          (f (tick_back (planned_axis n x) k (d + half_period x))) (finer x * c)
+          (R.weight-range x n r) (back d) (back (d + half_period x))
 
       sized : (f c : ℕ) → 256 * (f * c) + 256 * (f * c) ≡ 512 * f * c
       sized f c = omega arith
 
-      total : nat_abs (both (plannedAxis n x) k f) ≤ bothDivisor x * c
+      total : nat_abs (both (planned_axis n x) k f) ≤ both_divisor x * c
       total =
-          subst (λ (m : ℕ). nat_abs (both (plannedAxis n x) k f) ≤ m) (sized (finer x) c)
-          (add_holds (blendOnce (plannedAxis n x) k 0 f) (blendOnce (plannedAxis n x) k (secondHalfPeriod x) f)
+          subst (λ (m : ℕ). nat_abs (both (planned_axis n x) k f) ≤ m) (sized (finer x) c)
+          (add_holds (blend_once (planned_axis n x) k 0 f) (blend_once (planned_axis n x) k (second_half_period x) f)
           (256 * (finer x * c)) (256 * (finer x * c)) (once 0)
-          (once (secondHalfPeriod x)))
+          (once (second_half_period x)))
 
-  start-speed : nat_abs (startVelocity x) ≤ speedSteps x
+  start-speed : nat_abs (start_velocity x) ≤ speed_steps x
   unfolding W
   start-speed = meets.speeds 0 (omega arith)
 
   pub velocity-cell : (k : ℕ) → k ≤ n
-      → nat_abs (nearestQuotient (both (plannedAxis n x) k (λ s. s.velocity)) (bothDivisor x)) ≤ 256 * speedLimit x
-  velocity-cell = cell (λ s. s.velocity) (256 * speedLimit x) (λ j. start-speed) now-velocity
+      → nat_abs (nearest_quotient (both (planned_axis n x) k (λ s. s.velocity)) (both_divisor x)) ≤ 256 * speed_limit x
+  velocity-cell = cell (λ s. s.velocity) (256 * speed_limit x) (λ j. start-speed) now-velocity
 
   pub acceleration-cell : (k : ℕ) → k ≤ n → nat_abs
-      (nearestQuotient (both (plannedAxis n x) k (λ s. s.acceleration)) (bothDivisor x)) ≤ 256 * accelerationLimit x
-  acceleration-cell = cell (λ s. s.acceleration) (256 * accelerationLimit x) (λ j. omega arith) now-acceleration
+      (nearest_quotient (both (planned_axis n x) k (λ s. s.acceleration)) (both_divisor x)) ≤ 256 * acceleration_limit x
+  acceleration-cell = cell (λ s. s.acceleration) (256 * acceleration_limit x) (λ j. omega arith) now-acceleration

@@ -12,7 +12,7 @@ use Rattle.whole.proofs.Elements.{none-some, at-below, map_at}
 use Rattle.model.specs.declared.Axis.{Axis}
 use Rattle.model.specs.declared.Order.{Order}
 use Rattle.model.specs.declared.Order.TheVariants.{Forwards, Backwards}
-use Rattle.model.specs.planning.Rows.{PlannedAxis, plannedAxis, cells, tabulate, row, row_at, table}
+use Rattle.model.specs.planning.Rows.{PlannedAxis, planned_axis, cells, tabulate, row, row_at, table}
 
 -- ---- lists of blocks of one length
 
@@ -92,33 +92,33 @@ row_back Backwards n k h = omega arith
 
 module _ (o : Order) (xs : List Axis) (n : ℕ) where
   ts : List PlannedAxis
-  ts = map (plannedAxis n) xs
+  ts = map (planned_axis n) xs
 
   row-length : (k : ℕ) → length (row ts k) ≡ 3 * length xs
   unfolding ts
-  row-length k = blocks-length 3 (cells k) (λ t. refl) ts ∙ ap (λ (l : ℕ). 3 * l) (length-map xs (plannedAxis n))
+  row-length k = blocks-length 3 (cells k) (λ t. refl) ts ∙ ap (λ (l : ℕ). 3 * l) (length-map xs (planned_axis n))
 
-  rowFrom : ℕ → List ℤ
-  rowFrom j = row ts (row_at o n j)
+  row_from : ℕ → List ℤ
+  row_from j = row ts (row_at o n j)
 
-  row-from-length : (j : ℕ) → length (rowFrom j) ≡ 3 * length xs
-  unfolding rowFrom
+  row-from-length : (j : ℕ) → length (row_from j) ≡ 3 * length xs
+  unfolding row_from
   row-from-length j = row-length (row_at o n j)
 
   pub table-length : length (table o xs n) ≡ 3 * length xs * suc n
-  unfolding ts rowFrom
-  table-length = rows-length (3 * length xs) rowFrom row-from-length 0 (suc n)
+  unfolding ts row_from
+  table-length = rows-length (3 * length xs) row_from row-from-length 0 (suc n)
 
   pub table_at : (i j k : ℕ) (x : Axis) (d : ℤ) → get_elem? xs i ≡ some x → j < 3 → k ≤ n
-      → get_or (table o xs n) (3 * (length xs * row_at o n k + i) + j) d ≡ get_or (cells k (plannedAxis n x)) j d
-  unfolding ts rowFrom
+      → get_or (table o xs n) (3 * (length xs * row_at o n k + i) + j) d ≡ get_or (cells k (planned_axis n x)) j d
+  unfolding ts row_from
   table_at i j k x d e hj hk =
       ap (λ (z : ℕ). get_or (table o xs n) z d) (place (row_at o n k))
-      ∙ rows_at (3 * length xs) rowFrom row-from-length 0 (suc n) (row_at o n k) (3 * i + j) d
+      ∙ rows_at (3 * length xs) row_from row-from-length 0 (suc n) (row_at o n k) (3 * i + j) d
       (within (row-place o n k hk)) (omega (arith, at-below xs i x e))
       ∙ ap (λ (z : ℕ). get_or (row ts (row_at o n z)) (3 * i + j) d) (zero-add (row_at o n k))
       ∙ ap (λ (z : ℕ). get_or (row ts z) (3 * i + j) d) (row_back o n k hk)
-      ∙ blocks_at 3 (cells k) (λ t. refl) ts i j d (plannedAxis n x) (map_at (plannedAxis n) xs i x e) hj
+      ∙ blocks_at 3 (cells k) (λ t. refl) ts i j d (planned_axis n x) (map_at (planned_axis n) xs i x e) hj
     where
       place : (r : ℕ) → 3 * (length xs * r + i) + j ≡ 3 * length xs * r + (3 * i + j)
       place r = omega (arith, mul_assoc 3 (length xs) r)

@@ -16,16 +16,16 @@ use Rattle.model.specs.declared.Axis.{Axis}
 use Rattle.model.specs.declared.Answer.{Answer}
 use Rattle.model.specs.declared.Order.{Order}
 use Rattle.model.specs.declared.Order.TheVariants.{Forwards, Backwards}
-use Rattle.whole.specs.Integers.{nearestQuotient}
-use Rattle.model.specs.planning.Rows.{plannedAxis, blend, divisor, cells, row_at, table}
-use Rattle.theorems.specs.Rows.{fromLanding, SameRows, CellsFromLanding}
-use Rattle.model.specs.planning.Job.{Job, JobAxis, axesOf}
+use Rattle.whole.specs.Integers.{nearest_quotient}
+use Rattle.model.specs.planning.Rows.{planned_axis, blend, divisor, cells, row_at, table}
+use Rattle.theorems.specs.Rows.{from_landing, SameRows, CellsFromLanding}
+use Rattle.model.specs.planning.Job.{Job, JobAxis, axes_of}
 use Rattle.model.specs.planning.Motion.{reachable}
-use Rattle.model.specs.planning.Demand.{tableIn, cell_at, positionCell, velocityCell, accelerationCell, Lands, Carries}
+use Rattle.model.specs.planning.Demand.{table_in, cell_at, position_cell, velocity_cell, acceleration_cell, Lands, Carries}
 use Rattle.model.specs.planning.Demand.{SwayCancelled, sway, Demand3, Demand3Holds, CellLimits, CellLimitsHold}
 use Rattle.model.specs.planning.Demand.{ExactStart, ExactStartHolds}
-use Rattle.theorems.specs.Misfit.{plannedVariation, roundingLeft, SwayLeft, SwayLeftHolds}
-use Rattle.model.specs.planning.Outcome.{Outcome, Input, call, call_in, inputAxes, cellsNeeded}
+use Rattle.theorems.specs.Misfit.{planned_variation, rounding_left, SwayLeft, SwayLeftHolds}
+use Rattle.model.specs.planning.Outcome.{Outcome, Input, call, call_in, input_axes, cells_needed}
 use Rattle.whole.proofs.Tests.{T_true}
 use Rattle.whole.proofs.Elements.{at-below, element}
 use Rattle.theorems.proofs.tables.CellPlaces.{row-place, table-length, table_at}
@@ -33,13 +33,13 @@ use Rattle.model.specs.planning.Refusals.{Plannable, AllPassed}
 use Rattle.theorems.specs.Verdict.{Among, IsArrival, Refuses, Verdict, CallVerdict, accepted, refused3, refused4}
 use Rattle.theorems.specs.Verdict.{refused12, refused5, refused15, refused6, refused16, refused17, refused13}
 use Rattle.theorems.specs.Verdict.{refused8, refused9, refused10}
-use Rattle.model.specs.planning.Quantities.{speedLimit, accelerationLimit}
+use Rattle.model.specs.planning.Quantities.{speed_limit, acceleration_limit}
 use Rattle.theorems.proofs.tables.CellLimits as L
 use Rattle.theorems.proofs.tables.ExactStart as S
 use Rattle.theorems.proofs.jobs.Verdict.{passed-among, reach-is}
 use Rattle.theorems.proofs.words.WordsAre.{either-said}
 use Rattle.theorems.proofs.calls.CallVerdict.{call-verdict}
-use Rattle.theorems.proofs.tables.TwoBlends.{both, bothDivisor, cell-both, position-both}
+use Rattle.theorems.proofs.tables.TwoBlends.{both, both_divisor, cell-both, position-both}
 use Rattle.theorems.proofs.tables.Landing.{lands-position, lands-velocity, lands-acceleration}
 use Rattle.theorems.proofs.tables.FromLanding.{sums-from-landing}
 use Rattle.theorems.proofs.tables.Carry.{carries-position, carries-velocity}
@@ -54,7 +54,7 @@ module _ (o : Order) (xs : List Axis) (n : ℕ) (lent rest : List ℤ) (is : len
   place_of i j r = 3 * (length xs * r + i) + j
 
   place_inside : (i j r : ℕ) (x : Axis) → get_elem? xs i ≡ some x → j < 3 → r ≤ n
-      → place_of i j r < cellsNeeded (length xs) n
+      → place_of i j r < cells_needed (length xs) n
   place_inside i j r x e hj h =
       omega (
         arith,
@@ -66,11 +66,11 @@ module _ (o : Order) (xs : List Axis) (n : ℕ) (lent rest : List ℤ) (is : len
 
   -- a cell of the row of tick k
   cell-is : (i j k : ℕ) (x : Axis) → get_elem? xs i ≡ some x → j < 3 → k ≤ n
-      → cell_at (tableIn o xs n lent) i j k ≡ get_or (cells k (plannedAxis n x)) j (pos 0)
+      → cell_at (table_in o xs n lent) i j k ≡ get_or (cells k (planned_axis n x)) j (pos 0)
   cell-is i j k x e hj hk =
       let at : ℕ = place_of i j (row_at o n k) in
-      let inside : at < cellsNeeded (length xs) n = place_inside i j (row_at o n k) x e hj (row-place o n k hk) in
-      get_or-take (cellsNeeded (length xs) n) lent at (pos 0) inside
+      let inside : at < cells_needed (length xs) n = place_inside i j (row_at o n k) x e hj (row-place o n k hk) in
+      get_or-take (cells_needed (length xs) n) lent at (pos 0) inside
       ∙ ap (λ (l : List ℤ). get_or l at (pos 0)) is
       ∙ get_or-append (table o xs n) rest (pos 0) at (subst (λ (m : ℕ). at < m) (sym (table-length o xs n)) inside)
       ∙ table_at o xs n i j k x (pos 0) e hj hk
@@ -81,36 +81,36 @@ module _ (o : Order) (xs : List Axis) (n : ℕ) (lent rest : List ℤ) (is : len
 
     -- the cells of row k, from the two blends
     p : ℕ → ℤ
-    p k = nearestQuotient (both (plannedAxis n x) k (λ s. s.position)) (2 * bothDivisor x)
+    p k = nearest_quotient (both (planned_axis n x) k (λ s. s.position)) (2 * both_divisor x)
 
     v : ℕ → ℤ
-    v k = nearestQuotient (both (plannedAxis n x) k (λ s. s.velocity)) (bothDivisor x)
+    v k = nearest_quotient (both (planned_axis n x) k (λ s. s.velocity)) (both_divisor x)
 
     a : ℕ → ℤ
-    a k = nearestQuotient (both (plannedAxis n x) k (λ s. s.acceleration)) (bothDivisor x)
+    a k = nearest_quotient (both (planned_axis n x) k (λ s. s.acceleration)) (both_divisor x)
 
-    position-is : (k : ℕ) → k ≤ n → positionCell (tableIn o xs n lent) i k ≡ p k
+    position-is : (k : ℕ) → k ≤ n → position_cell (table_in o xs n lent) i k ≡ p k
     unfolding p
-    position-is k h = cell-is i 0 k x e (omega arith) h ∙ position-both (plannedAxis n x) k (λ s. s.position)
+    position-is k h = cell-is i 0 k x e (omega arith) h ∙ position-both (planned_axis n x) k (λ s. s.position)
 
-    velocity-is : (k : ℕ) → k ≤ n → velocityCell (tableIn o xs n lent) i k ≡ v k
+    velocity-is : (k : ℕ) → k ≤ n → velocity_cell (table_in o xs n lent) i k ≡ v k
     unfolding v
-    velocity-is k h = cell-is i 1 k x e (omega arith) h ∙ cell-both (plannedAxis n x) k (λ s. s.velocity)
+    velocity-is k h = cell-is i 1 k x e (omega arith) h ∙ cell-both (planned_axis n x) k (λ s. s.velocity)
 
-    acceleration-is : (k : ℕ) → k ≤ n → accelerationCell (tableIn o xs n lent) i k ≡ a k
+    acceleration-is : (k : ℕ) → k ≤ n → acceleration_cell (table_in o xs n lent) i k ≡ a k
     unfolding a
-    acceleration-is k h = cell-is i 2 k x e (omega arith) h ∙ cell-both (plannedAxis n x) k (λ s. s.acceleration)
+    acceleration-is k h = cell-is i 2 k x e (omega arith) h ∙ cell-both (planned_axis n x) k (λ s. s.acceleration)
 
-    p-is : (k : ℕ) → k ≤ n → p k ≡ positionCell (tableIn o xs n lent) i k
+    p-is : (k : ℕ) → k ≤ n → p k ≡ position_cell (table_in o xs n lent) i k
     p-is k h = sym (position-is k h)
 
-    v-is : (k : ℕ) → k ≤ n → v k ≡ velocityCell (tableIn o xs n lent) i k
+    v-is : (k : ℕ) → k ≤ n → v k ≡ velocity_cell (table_in o xs n lent) i k
     v-is k h = sym (velocity-is k h)
 
-    a-is : (k : ℕ) → k ≤ n → a k ≡ accelerationCell (tableIn o xs n lent) i k
+    a-is : (k : ℕ) → k ≤ n → a k ≡ acceleration_cell (table_in o xs n lent) i k
     a-is k h = sym (acceleration-is k h)
 
-    lands : Lands x i n (tableIn o xs n lent)
+    lands : Lands x i n (table_in o xs n lent)
     unfolding p v a
     lands =
         record {
@@ -127,7 +127,7 @@ module _ (o : Order) (xs : List Axis) (n : ℕ) (lent rest : List ℤ) (is : len
     unfolding v a
     miss-v k h = carries-velocity x n g k h
 
-    carries : (k : ℕ) → k < n → Carries i k (tableIn o xs n lent)
+    carries : (k : ℕ) → k < n → Carries i k (table_in o xs n lent)
     carries k h =
         record {
           position = subst (λ (z : ℤ). nat_abs z ≤ 3)
@@ -143,28 +143,28 @@ module _ (o : Order) (xs : List Axis) (n : ℕ) (lent rest : List ℤ) (is : len
               (miss-v k h);
         }
 
-    stills : SwayCancelled x i n (tableIn o xs n lent)
+    stills : SwayCancelled x i n (table_in o xs n lent)
     unfolding a
     stills =
         record {
           once = λ k h. cell-is i 2 k x e (omega arith) h;
           exact = λ m w h s. cancelled-exact x n g m w h s;
           rounded = λ m G w h s b.
-              subst (λ (z : ℤ). nat_abs z ≤ n * G) (sway-same a (accelerationCell (tableIn o xs n lent) i) w m n a-is)
+              subst (λ (z : ℤ). nat_abs z ≤ n * G) (sway-same a (acceleration_cell (table_in o xs n lent) i) w m n a-is)
               (cancelled-rounded x n g m G w h s b);
         }
 
-    left : SwayLeft plannedVariation x i n (tableIn o xs n lent)
+    left : SwayLeft planned_variation x i n (table_in o xs n lent)
     unfolding a
     left =
         record {
           exact = λ m E w h f. left-exact x n g m E w h f;
           rounded = λ m E G w h f b.
-              subst (λ (z : ℤ). divisor x * nat_abs z ≤ plannedVariation x n * E + divisor x * roundingLeft n G)
-              (sway-same a (accelerationCell (tableIn o xs n lent) i) w m n a-is) (left-rounded x n g m E G w h f b);
+              subst (λ (z : ℤ). divisor x * nat_abs z ≤ planned_variation x n * E + divisor x * rounding_left n G)
+              (sway-same a (acceleration_cell (table_in o xs n lent) i) w m n a-is) (left-rounded x n g m E G w h f b);
         }
 
-  whole : cellsNeeded (length xs) n ≤ length lent
+  whole : cells_needed (length xs) n ≤ length lent
   whole = omega (arith, table-length o xs n, ap length is ∙ length-append (table o xs n) rest)
 
   pub demanded : Demand3 o xs n lent
@@ -182,10 +182,10 @@ module _ (o : Order) (xs : List Axis) (n : ℕ) (lent rest : List ℤ) (is : len
   limited =
       record {
         velocities = λ i k x e h.
-            subst (λ (z : ℤ). nat_abs z ≤ 256 * speedLimit x) (sym (velocity-is i x e k h))
+            subst (λ (z : ℤ). nat_abs z ≤ 256 * speed_limit x) (sym (velocity-is i x e k h))
             (L.velocity-cell x n (plannable i x e) k h);
         accelerations = λ i k x e h.
-            subst (λ (z : ℤ). nat_abs z ≤ 256 * accelerationLimit x) (sym (acceleration-is i x e k h))
+            subst (λ (z : ℤ). nat_abs z ≤ 256 * acceleration_limit x) (sym (acceleration-is i x e k h))
             (L.acceleration-cell x n (plannable i x e) k h);
       }
 
@@ -206,7 +206,7 @@ unnumbered (y ∷ l) (suc i) x e = let r = unnumbered l i x e in (r.0, ((suc r.1
 
 -- an accepted job's axes can all be planned
 pub all-plannable : (j : Job) (n : ℕ) → AllPassed j.axes → IsArrival j n → (i : ℕ) (x : Axis)
-    → get_elem? (axesOf j) i ≡ some x → Plannable x n
+    → get_elem? (axes_of j) i ≡ some x → Plannable x n
 all-plannable j n p a i x q =
     let y = unnumbered j.axes i x q in
     let g = passed-among j.axes p y.0 y.1.0 in
@@ -224,10 +224,10 @@ module _ (Claim : List Axis → ℕ → List ℤ → Type 0)
     → ((i : ℕ) (x : Axis) → get_elem? xs i ≡ some x → Plannable x n) → Claim xs n lent) where
   -- only an accepted job has number 0
   by-verdict : (j : Job) (lent : List ℤ) (o : Outcome) → Verdict Forwards j lent o → o.number ≡ 0
-      → Claim (axesOf j) o.arrival o.cells
+      → Claim (axes_of j) o.arrival o.cells
   by-verdict j lent o (accepted n p w a room e) z =
-      subst (λ (m : ℕ). Claim (axesOf j) m o.cells) (sym e.arrival)
-      (holds (axesOf j) n o.cells (drop (cellsNeeded (length (axesOf j)) n) lent) e.cells (all-plannable j n p a))
+      subst (λ (m : ℕ). Claim (axes_of j) m o.cells) (sym e.arrival)
+      (holds (axes_of j) n o.cells (drop (cells_needed (length (axes_of j)) n) lent) e.cells (all-plannable j n p a))
   by-verdict j lent o (refused3 a e) z = absurd (let n = e.number in omega arith)
   by-verdict j lent o (refused4 i a b e) z = absurd (let n = e.number in omega arith)
   by-verdict j lent o (refused12 i a b c e) z = absurd (let n = e.number in omega arith)
@@ -242,22 +242,22 @@ module _ (Claim : List Axis → ℕ → List ℤ → Type 0)
   by-verdict j lent o (refused10 n a w b c e) z = absurd (let n = e.number in omega arith)
 
   by_call : (q : Input) (lent : List ℤ) (o : Outcome) → CallVerdict Forwards lent o q → o.number ≡ 0
-      → Claim (inputAxes q) o.arrival o.cells
+      → Claim (input_axes q) o.arrival o.cells
   by_call q lent o v z =
       either-said (λ n p. Refuses o n p 0 0 lent) (λ j. Verdict Forwards j lent o)
-      (Claim (inputAxes q) o.arrival o.cells) q
+      (Claim (input_axes q) o.arrival o.cells) q
       (λ n p w r. absurd (w.not-0 (sym r.number ∙ z)))
-      (λ j e w. subst (λ (i : Job). Claim (axesOf i) o.arrival o.cells) (sym e) (by-verdict j lent o w z)) v
+      (λ j e w. subst (λ (i : Job). Claim (axes_of i) o.arrival o.cells) (sym e) (by-verdict j lent o w z)) v
 
   of-forward-calls : (q : Input) (lent : List ℤ) → (call q lent).number ≡ 0
-      → Claim (inputAxes q) (call q lent).arrival (call q lent).cells
+      → Claim (input_axes q) (call q lent).arrival (call q lent).cells
   of-forward-calls q lent z = by_call q lent (call q lent) (call-verdict q lent) z
 
 -- an accepted call's axes can all be planned
 abbrev pub Planned : List Axis → ℕ → Type 0
 Planned xs n = (i : ℕ) (x : Axis) → get_elem? xs i ≡ some x → Plannable x n
 
-planned-axes : (q : Input) (lent : List ℤ) → (call q lent).number ≡ 0 → Planned (inputAxes q) (call q lent).arrival
+planned-axes : (q : Input) (lent : List ℤ) → (call q lent).number ≡ 0 → Planned (input_axes q) (call q lent).arrival
 planned-axes = of-forward-calls (λ xs n cells. Planned xs n) (λ xs n lent rest is plannable. plannable)
 
 -- the same in either order
@@ -265,18 +265,18 @@ module _ (Claim : Order → List Axis → ℕ → List ℤ → Type 0)
     (holds : (o : Order) (xs : List Axis) (n : ℕ) (lent rest : List ℤ) → lent ≡ table o xs n ++ rest
     → Planned xs n → Claim o xs n lent) where
   of_calls : (o : Order) (q : Input) (lent : List ℤ) → (call_in o q lent).number ≡ 0
-      → Claim o (inputAxes q) (call_in o q lent).arrival (call_in o q lent).cells
+      → Claim o (input_axes q) (call_in o q lent).arrival (call_in o q lent).cells
   of_calls Forwards q lent z = of-forward-calls (Claim Forwards) (holds Forwards) q lent z
   of_calls Backwards q lent z =
-      let xs = inputAxes q in
+      let xs = input_axes q in
       let r = call q lent in
       let zero : r.number ≡ 0 = sym (ap (λ (a : Answer). a.number) (answer-stays xs lent r Backwards)) ∙ z in
       subst (λ (s : Outcome). Claim Backwards xs s.arrival s.cells) (rows-turn xs lent r zero)
-      (holds Backwards xs r.arrival _ (drop (cellsNeeded (length xs) r.arrival) lent) refl
+      (holds Backwards xs r.arrival _ (drop (cells_needed (length xs) r.arrival) lent) refl
       (planned-axes q lent zero))
 
 pub plannable-axes : (o : Order) (q : Input) (lent : List ℤ) → (call_in o q lent).number ≡ 0
-    → Planned (inputAxes q) (call_in o q lent).arrival
+    → Planned (input_axes q) (call_in o q lent).arrival
 plannable-axes = of_calls (λ o xs n lent. Planned xs n) (λ o xs n lent rest is plannable. plannable)
 
 pub demand3 : Demand3Holds
@@ -288,25 +288,25 @@ cell-limits = of_calls CellLimits limited
 pub exact-start : ExactStartHolds
 exact-start = of_calls ExactStart started
 
-pub sway-left : SwayLeftHolds plannedVariation
+pub sway-left : SwayLeftHolds planned_variation
 sway-left =
     of_calls (λ o xs n lent. (i : ℕ) (x : Axis) → get_elem? xs i ≡ some x
-    → SwayLeft plannedVariation x i n (tableIn o xs n lent)) left
+    → SwayLeft planned_variation x i n (table_in o xs n lent)) left
 
 -- ---- each row is that of its tick, in either order
 
 abbrev CellsByTick : Order → List Axis → ℕ → List ℤ → Type 0
 CellsByTick o xs n lent =
     (i j k : ℕ) (x : Axis) → get_elem? xs i ≡ some x → j < 3 → k ≤ n
-    → cell_at (tableIn o xs n lent) i j k ≡ get_or (cells k (plannedAxis n x)) j (pos 0)
+    → cell_at (table_in o xs n lent) i j k ≡ get_or (cells k (planned_axis n x)) j (pos 0)
 
 cells-by-tick : (o : Order) (q : Input) (lent : List ℤ) → (call_in o q lent).number ≡ 0
-    → CellsByTick o (inputAxes q) (call_in o q lent).arrival (call_in o q lent).cells
+    → CellsByTick o (input_axes q) (call_in o q lent).arrival (call_in o q lent).cells
 cells-by-tick = of_calls CellsByTick cell-is
 
 pub same_rows : SameRows
 same_rows q lent z i j k h hj hk =
-    let xs = inputAxes q in
+    let xs = input_axes q in
     let r = call q lent in
     let answer = answer-stays xs lent r Backwards in
     let y : (x : Axis) × (get_elem? xs i ≡ some x) = element xs i h in
@@ -320,16 +320,16 @@ same_rows q lent z i j k h hj hk =
 abbrev FromLanding : Order → List Axis → ℕ → List ℤ → Type 0
 FromLanding o xs n lent =
     (i k : ℕ) (x : Axis) → get_elem? xs i ≡ some x → k ≤ n
-    → positionCell (tableIn o xs n lent) i k ≡ nearestQuotient (fromLanding x n (n - k)) (2 * divisor x)
+    → position_cell (table_in o xs n lent) i k ≡ nearest_quotient (from_landing x n (n - k)) (2 * divisor x)
 
 from-landing : (o : Order) (xs : List Axis) (n : ℕ) (lent rest : List ℤ) → lent ≡ table o xs n ++ rest
     → Planned xs n → FromLanding o xs n lent
 from-landing o xs n lent rest is plannable i k x e h =
     let back : n - (n - k) ≡ k = omega (arith, h) in
     cell-is o xs n lent rest is plannable i 0 k x e (omega arith) h
-    ∙ ap (λ (z : ℤ). nearestQuotient z (2 * divisor x))
+    ∙ ap (λ (z : ℤ). nearest_quotient z (2 * divisor x))
     (sym (sums-from-landing x n (plannable i x e) (n - k) (omega arith)
-    ∙ ap (λ (j : ℕ). blend (plannedAxis n x) j (λ s. s.position)) back))
+    ∙ ap (λ (j : ℕ). blend (planned_axis n x) j (λ s. s.position)) back))
 
 pub cells-from-landing : CellsFromLanding
 cells-from-landing = of_calls FromLanding from-landing

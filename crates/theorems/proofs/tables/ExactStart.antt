@@ -7,61 +7,61 @@ use mathlib.Core.List.{[], ◌∷◌}
 use native.Mathlib.Omega.{arith}
 use lib.Dec.{T, ltb, nltb→le}
 use lib.IntN.{ℤ, pos, ◌+ℤ◌, ◌-ℤ◌, ◌*ℤ◌}
-use Rattle.whole.specs.Integers.{nearestQuotient}
+use Rattle.whole.specs.Integers.{nearest_quotient}
 use Rattle.whole.proofs.Ring.{pol, same}
 use Rattle.whole.proofs.Rounding.{nearest-whole}
 use Rattle.model.specs.declared.Axis.{Axis}
-use Rattle.model.specs.planning.Quantities.{halfPeriod, secondWeight, secondHalfPeriod, finer}
-use Rattle.model.specs.planning.Motion.{Tick, earlier, startPosition, startVelocity}
-use Rattle.model.specs.planning.Rows.{plannedAxis, tickAt, tickBack}
+use Rattle.model.specs.planning.Quantities.{half_period, second_weight, second_half_period, finer}
+use Rattle.model.specs.planning.Motion.{Tick, earlier, start_position, start_velocity}
+use Rattle.model.specs.planning.Rows.{planned_axis, tick_at, tick_back}
 use Rattle.model.specs.planning.Refusals.{Plannable}
-use Rattle.theorems.proofs.tables.TwoBlends.{both, bothDivisor, both_some}
+use Rattle.theorems.proofs.tables.TwoBlends.{both, both_divisor, both_some}
 use Rattle.theorems.proofs.jobs.PlannableAxis as R
 use Rattle.theorems.proofs.tables.BlendTicks.{tick-start}
 use Rattle.theorems.proofs.tables.Landing.{weights}
 
 module _ (x : Axis) (n : ℕ) (r : Plannable x n) where
   abbrev h : ℕ
-  h = halfPeriod x
+  h = half_period x
 
   abbrev s : ℕ
-  s = secondHalfPeriod x
+  s = second_half_period x
 
   abbrev b : ℕ
-  b = secondWeight x
+  b = second_weight x
 
   -- d ticks before tick 0
-  abbrev earlierPosition : ℕ → ℤ
-  earlierPosition d = startPosition x -ℤ pos 2 *ℤ (pos d *ℤ startVelocity x)
+  abbrev earlier_position : ℕ → ℤ
+  earlier_position d = start_position x -ℤ pos 2 *ℤ (pos d *ℤ start_velocity x)
 
-  before-start : (d : ℕ) → ((tickBack (plannedAxis n x) 0 d).position ≡ earlierPosition d)
-      × ((tickBack (plannedAxis n x) 0 d).velocity ≡ startVelocity x)
+  before-start : (d : ℕ) → ((tick_back (planned_axis n x) 0 d).position ≡ earlier_position d)
+      × ((tick_back (planned_axis n x) 0 d).velocity ≡ start_velocity x)
   before-start d = go (ltb 0 d) (nltb→le 0 d)
     where
       none : (q v : ℤ) → q ≡ q -ℤ pos 2 *ℤ (pos 0 *ℤ v)
       none q v = same (q ∷ v ∷ []) (search pol depth 20 fits 9000) tt
 
-      at_zero : d ≤ 0 → tickAt (plannedAxis n x) (0 - d) ≡ tickAt (plannedAxis n x) 0
-      at_zero z = ap (tickAt (plannedAxis n x)) {x = 0 - d} {y = 0} (omega arith)
+      at_zero : d ≤ 0 → tick_at (planned_axis n x) (0 - d) ≡ tick_at (planned_axis n x) 0
+      at_zero z = ap (tick_at (planned_axis n x)) {x = 0 - d} {y = 0} (omega arith)
 
       go : (t : Bool) → (T (not t) → d ≤ 0)
-          → ((elim t as (λ y. Tick) [ true ↦ earlier x (d - 0) | false ↦ tickAt (plannedAxis n x) (0 - d) ]).position
-          ≡ earlierPosition d)
-          × ((elim t as (λ y. Tick) [ true ↦ earlier x (d - 0) | false ↦ tickAt (plannedAxis n x) (0 - d) ]).velocity
-          ≡ startVelocity x)
-      go true f = (ap earlierPosition {x = d - 0} {y = d} (omega arith), refl)
+          → ((elim t as (λ y. Tick) [ true ↦ earlier x (d - 0) | false ↦ tick_at (planned_axis n x) (0 - d) ]).position
+          ≡ earlier_position d)
+          × ((elim t as (λ y. Tick) [ true ↦ earlier x (d - 0) | false ↦ tick_at (planned_axis n x) (0 - d) ]).velocity
+          ≡ start_velocity x)
+      go true f = (ap earlier_position {x = d - 0} {y = d} (omega arith), refl)
       go false f =
           let z : d ≤ 0 = f tt in (
             ap (λ (s : Tick). s.position) (at_zero z)
                 ∙ (tick-start x n).0
-                ∙ none (startPosition x) (startVelocity x)
-                ∙ ap earlierPosition {x = 0} {y = d} (omega arith),
+                ∙ none (start_position x) (start_velocity x)
+                ∙ ap earlier_position {x = 0} {y = d} (omega arith),
             ap (λ (s : Tick). s.velocity) (at_zero z) ∙ (tick-start x n).1,
           )
 
   -- the two blends there, with A written 256 − B
-  blended : (f : Tick → ℤ) (u : ℕ → ℤ) → ((d : ℕ) → f (tickBack (plannedAxis n x) 0 d) ≡ u d)
-      → both (plannedAxis n x) 0 f
+  blended : (f : Tick → ℤ) (u : ℕ → ℤ) → ((d : ℕ) → f (tick_back (planned_axis n x) 0 d) ≡ u d)
+      → both (planned_axis n x) 0 f
       ≡ (pos 256 -ℤ pos b) *ℤ u 0 +ℤ pos b *ℤ u (0 + h) +ℤ ((pos 256 -ℤ pos b) *ℤ u s +ℤ pos b *ℤ u (s + h))
   blended f u p =
       ap₂ (λ (y z : ℤ). y +ℤ z) (ap₂ (λ (y z : ℤ). pos (256 - b) *ℤ y +ℤ pos b *ℤ z) (p 0) (p (0 + h)))
@@ -69,13 +69,13 @@ module _ (x : Axis) (n : ℕ) (r : Plannable x n) where
       ∙ ap (λ (a : ℤ). a *ℤ u 0 +ℤ pos b *ℤ u (0 + h) +ℤ (a *ℤ u s +ℤ pos b *ℤ u (s + h)))
       (weights b (R.weight-range x n r))
 
-  pub start-position : nearestQuotient (both (plannedAxis n x) 0 (λ s. s.position)) (2 * bothDivisor x)
+  pub start-position : nearest_quotient (both (planned_axis n x) 0 (λ s. s.position)) (2 * both_divisor x)
       ≡ pos 256 *ℤ x.start.position
   start-position =
-      ap (λ (z : ℤ). nearestQuotient z (2 * bothDivisor x))
-      (blended (λ s. s.position) earlierPosition (λ d. (before-start d).0)
+      ap (λ (z : ℤ). nearest_quotient z (2 * both_divisor x))
+      (blended (λ s. s.position) earlier_position (λ d. (before-start d).0)
       ∙ taken_back (pos (finer x)) (pos b) (pos h) (pos s) x.start.position x.start.velocity)
-      ∙ nearest-whole (2 * bothDivisor x) (pos 256 *ℤ x.start.position) (omega (arith, both_some x))
+      ∙ nearest-whole (2 * both_divisor x) (pos 256 *ℤ x.start.position) (omega (arith, both_some x))
     where
       taken_back : (f b h s p v : ℤ)
           → (pos 256 -ℤ b)
@@ -90,13 +90,13 @@ module _ (x : Axis) (n : ℕ) (r : Plannable x n) where
           ≡ pos 2 *ℤ (pos 512 *ℤ f) *ℤ (pos 256 *ℤ p)
       taken_back f b h s p v = same (f ∷ b ∷ h ∷ s ∷ p ∷ v ∷ []) (search pol depth 30 fits 9000) tt
 
-  pub start-velocity : nearestQuotient (both (plannedAxis n x) 0 (λ s. s.velocity)) (bothDivisor x)
+  pub start-velocity : nearest_quotient (both (planned_axis n x) 0 (λ s. s.velocity)) (both_divisor x)
       ≡ pos 256 *ℤ x.start.velocity
   start-velocity =
-      ap (λ (z : ℤ). nearestQuotient z (bothDivisor x))
-      (blended (λ s. s.velocity) (λ d. startVelocity x) (λ d. (before-start d).1)
+      ap (λ (z : ℤ). nearest_quotient z (both_divisor x))
+      (blended (λ s. s.velocity) (λ d. start_velocity x) (λ d. (before-start d).1)
       ∙ as_one (pos (finer x)) (pos b) x.start.velocity)
-      ∙ nearest-whole (bothDivisor x) (pos 256 *ℤ x.start.velocity) (both_some x)
+      ∙ nearest-whole (both_divisor x) (pos 256 *ℤ x.start.velocity) (both_some x)
     where
       as_one : (f b v : ℤ)
           → (pos 256 -ℤ b) *ℤ (f *ℤ (pos 256 *ℤ v)) +ℤ b *ℤ (f *ℤ (pos 256 *ℤ v))

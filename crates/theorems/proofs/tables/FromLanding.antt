@@ -10,31 +10,31 @@ use Rattle.model.specs.declared.Axis.{Axis}
 use Rattle.model.specs.declared.SecondSway.{SecondSway}
 use Rattle.model.specs.declared.SecondSway.TheVariants.{Absent, HalfPeriod}
 use Rattle.model.specs.planning.Motion.{Tick}
-use Rattle.model.specs.planning.Rows.{plannedAxis, blendOnce, blendBy, blend}
-use Rattle.theorems.specs.Rows.{fromLanding, SumsFromLanding}
+use Rattle.model.specs.planning.Rows.{planned_axis, blend_once, blend_by, blend}
+use Rattle.theorems.specs.Rows.{from_landing, SumsFromLanding}
 use Rattle.model.specs.planning.Refusals.{Plannable}
 use Rattle.theorems.proofs.tables.Landing.{exact-blend}
 use Rattle.theorems.proofs.tables.Carry.{once-position, once-velocity}
 
 module _ (x : Axis) (n : ℕ) (r : Plannable x n) where
   abbrev position : ℕ → ℤ
-  position k = blend (plannedAxis n x) k (λ s. s.position)
+  position k = blend (planned_axis n x) k (λ s. s.position)
 
   abbrev velocity : ℕ → ℤ
-  velocity k = blend (plannedAxis n x) k (λ s. s.velocity)
+  velocity k = blend (planned_axis n x) k (λ s. s.velocity)
 
   -- one tick goes on by the velocities at its two ends
   once-ends : (d k : ℕ) → k < n
-      → blendOnce (plannedAxis n x) (suc k) d (λ s. s.position)
-      ≡ blendOnce (plannedAxis n x) k d (λ s. s.position) +ℤ blendOnce (plannedAxis n x) k d (λ s. s.velocity)
-      +ℤ blendOnce (plannedAxis n x) (suc k) d (λ s. s.velocity)
+      → blend_once (planned_axis n x) (suc k) d (λ s. s.position)
+      ≡ blend_once (planned_axis n x) k d (λ s. s.position) +ℤ blend_once (planned_axis n x) k d (λ s. s.velocity)
+      +ℤ blend_once (planned_axis n x) (suc k) d (λ s. s.velocity)
   once-ends d k q =
       once-position x n r d k q
       ∙ parted (once (λ s. s.position)) (once (λ s. s.velocity)) (once (λ s. s.acceleration))
       ∙ ap (λ (z : ℤ). once (λ s. s.position) +ℤ once (λ s. s.velocity) +ℤ z) (sym (once-velocity x n r d k q))
     where
       once : (Tick → ℤ) → ℤ
-      once f = blendOnce (plannedAxis n x) k d f
+      once f = blend_once (planned_axis n x) k d f
 
       parted : (q v a : ℤ) → q +ℤ pos 2 *ℤ v +ℤ a ≡ q +ℤ v +ℤ (v +ℤ a)
       parted q v a = same (q ∷ v ∷ a ∷ []) (search pol depth 20 fits 9000) tt
@@ -46,11 +46,11 @@ module _ (x : Axis) (n : ℕ) (r : Plannable x n) where
       sorted q v w r y z = same (q ∷ v ∷ w ∷ r ∷ y ∷ z ∷ []) (search pol depth 20 fits 9000) tt
 
       at : ℕ → ℕ → (Tick → ℤ) → ℤ
-      at j d f = blendOnce (plannedAxis n x) j d f
+      at j d f = blend_once (planned_axis n x) j d f
 
-      go : (s : SecondSway) → blendBy s (plannedAxis n x) (suc k) (λ t. t.position)
-          ≡ blendBy s (plannedAxis n x) k (λ t. t.position) +ℤ blendBy s (plannedAxis n x) k (λ t. t.velocity)
-          +ℤ blendBy s (plannedAxis n x) (suc k) (λ t. t.velocity)
+      go : (s : SecondSway) → blend_by s (planned_axis n x) (suc k) (λ t. t.position)
+          ≡ blend_by s (planned_axis n x) k (λ t. t.position) +ℤ blend_by s (planned_axis n x) k (λ t. t.velocity)
+          +ℤ blend_by s (planned_axis n x) (suc k) (λ t. t.velocity)
       go Absent = once-ends 0 k q
       go (HalfPeriod d) =
           ap₂ (λ (y z : ℤ). y +ℤ z) (once-ends 0 k q) (once-ends d k q)
@@ -58,7 +58,7 @@ module _ (x : Axis) (n : ℕ) (r : Plannable x n) where
           (at (suc k) 0 (λ t. t.velocity)) (at k d (λ t. t.position))
           (at k d (λ t. t.velocity)) (at (suc k) d (λ t. t.velocity))
 
-  back : (i : ℕ) → i ≤ n → fromLanding x n i ≡ position (n - i)
+  back : (i : ℕ) → i ≤ n → from_landing x n i ≡ position (n - i)
   back zero h = sym (exact-blend x n r) ∙ ap position (let e : n ≡ n - 0 = omega arith in e)
   back (suc i) h =
       let e : n - i ≡ suc (n - suc i) = omega (arith, h) in

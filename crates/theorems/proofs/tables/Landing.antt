@@ -5,19 +5,19 @@ use mathlib.Core.Path.{◌≡◌, ap, ap₂, ◌∙◌}
 use mathlib.Core.List.{[], ◌∷◌}
 use native.Mathlib.Omega.{arith}
 use lib.IntN.{ℤ, pos, ◌+ℤ◌, ◌-ℤ◌, ◌*ℤ◌, +ℤ_idr}
-use Rattle.whole.specs.Integers.{nearestQuotient}
+use Rattle.whole.specs.Integers.{nearest_quotient}
 use Rattle.whole.proofs.Differences.{whole}
 use Rattle.whole.proofs.Ring.{pol, same}
 use Rattle.whole.proofs.Rounding.{nearest-whole}
 use Rattle.model.specs.declared.Axis.{Axis}
 use Rattle.model.specs.declared.State.{State}
-use Rattle.model.specs.planning.Quantities.{halfPeriod, secondWeight, swayDelay, secondHalfPeriod, asMoving}
-use Rattle.model.specs.planning.Quantities.{twicePositionAt, velocityAt, finestSteps, finer}
-use Rattle.model.specs.planning.Motion.{Tick, landingTick}
-use Rattle.model.specs.planning.Rows.{plannedAxis, tickBack, blend, divisor}
+use Rattle.model.specs.planning.Quantities.{half_period, second_weight, sway_delay, second_half_period, as_moving}
+use Rattle.model.specs.planning.Quantities.{twice_position_at, velocity_at, finest_steps, finer}
+use Rattle.model.specs.planning.Motion.{Tick, landing_tick}
+use Rattle.model.specs.planning.Rows.{planned_axis, tick_back, blend, divisor}
 use Rattle.model.specs.planning.Refusals.{Passed, Plannable}
-use Rattle.theorems.proofs.motions.Grid.{Grid, twoSways, still, unblended, undamped, corrected, grid}
-use Rattle.theorems.proofs.tables.TwoBlends.{both, bothDivisor, both_some, blend-of-both}
+use Rattle.theorems.proofs.motions.Grid.{Grid, two_sways, still, unblended, undamped, corrected, grid}
+use Rattle.theorems.proofs.tables.TwoBlends.{both, both_divisor, both_some, blend-of-both}
 use Rattle.theorems.proofs.jobs.PassedAxis.{second-still}
 use Rattle.theorems.proofs.jobs.PlannableAxis as R
 use Rattle.theorems.proofs.tables.BlendTicks.{tick-after}
@@ -59,44 +59,44 @@ module _ (f b h s p v a l t : ℤ) where
   abbrev place : ℤ → ℤ
   place k = pos 2 *ℤ p +ℤ pos 2 *ℤ (v *ℤ (k -ℤ t)) +ℤ a *ℤ ((k -ℤ t) *ℤ (k -ℤ t))
 
-  abbrev landingSpeed : ℤ
-  landingSpeed = f *ℤ (pos 256 *ℤ speed l +ℤ (b *ℤ h +ℤ pos 128 *ℤ s) *ℤ a)
+  abbrev landing_speed : ℤ
+  landing_speed = f *ℤ (pos 256 *ℤ speed l +ℤ (b *ℤ h +ℤ pos 128 *ℤ s) *ℤ a)
 
-  abbrev landingPlace : ℤ
-  landingPlace =
+  abbrev landing_place : ℤ
+  landing_place =
       f *ℤ (pos 256 *ℤ place l +ℤ pos 2 *ℤ ((b *ℤ h +ℤ pos 128 *ℤ s) *ℤ speed l))
       +ℤ pos 2 *ℤ (b *ℤ (h *ℤ h) *ℤ (b -ℤ pos 128) *ℤ a)
 
   abbrev steady : ℤ
   steady = f *ℤ (pos 256 *ℤ a)
 
-  blended-velocity : fourfold b (λ j. landingSpeed +ℤ j *ℤ steady) h s
+  blended-velocity : fourfold b (λ j. landing_speed +ℤ j *ℤ steady) h s
       ≡ pos 512 *ℤ f *ℤ (pos 256 *ℤ speed (l +ℤ (h +ℤ s)))
   blended-velocity = same (f ∷ b ∷ h ∷ s ∷ v ∷ a ∷ l ∷ t ∷ []) (search pol depth 30 fits 9000) tt
 
-  blended-position : fourfold b (λ j. landingPlace +ℤ pos 2 *ℤ (j *ℤ landingSpeed) +ℤ steady *ℤ (j *ℤ j)) h s
+  blended-position : fourfold b (λ j. landing_place +ℤ pos 2 *ℤ (j *ℤ landing_speed) +ℤ steady *ℤ (j *ℤ j)) h s
       ≡ pos 2 *ℤ (pos 512 *ℤ f) *ℤ (pos 128 *ℤ place (l +ℤ (h +ℤ s))) +ℤ leftover f b h s a
   blended-position = same (f ∷ b ∷ h ∷ s ∷ p ∷ v ∷ a ∷ l ∷ t ∷ []) (search pol depth 40 fits 9000) tt
 
 no-leftover : (x : Axis) (n : ℕ) → Passed x
-    → leftover (pos (finer x)) (pos (secondWeight x)) (pos (halfPeriod x)) (pos (secondHalfPeriod x))
-    (asMoving x.target n).acceleration ≡ pos 0
+    → leftover (pos (finer x)) (pos (second_weight x)) (pos (half_period x)) (pos (second_half_period x))
+    (as_moving x.target n).acceleration ≡ pos 0
 no-leftover x n p = go (grid x)
   where
     F : ℤ
     F = pos (finer x)
 
     b : ℤ
-    b = pos (secondWeight x)
+    b = pos (second_weight x)
 
     h : ℤ
-    h = pos (halfPeriod x)
+    h = pos (half_period x)
 
     s : ℤ
-    s = pos (secondHalfPeriod x)
+    s = pos (second_half_period x)
 
     a : ℤ
-    a = (asMoving x.target n).acceleration
+    a = (as_moving x.target n).acceleration
 
     no-acceleration : (f b h s : ℤ) → leftover f b h s (pos 0) ≡ pos 0
     no-acceleration f b h s = same (f ∷ b ∷ h ∷ s ∷ []) (search pol depth 30 fits 9000) tt
@@ -107,50 +107,50 @@ no-leftover x n p = go (grid x)
     equal : (f h a : ℤ) → leftover f (pos 128) h (pos 0) a ≡ pos 0
     equal f h a = same (f ∷ h ∷ a ∷ []) (search pol depth 30 fits 9000) tt
 
-    finer-grid : (b h a : ℤ) → leftover (pos finestSteps) b h (pos 0) a ≡ pos 0
+    finer-grid : (b h a : ℤ) → leftover (pos finest_steps) b h (pos 0) a ≡ pos 0
     finer-grid b h a = same (b ∷ h ∷ a ∷ []) (search pol depth 30 fits 9000) tt
 
     go : Grid x → leftover F b h s a ≡ pos 0
-    go (twoSways d e z) = ap (λ (y : ℤ). leftover F b h s y) (second-still x p d z n) ∙ no-acceleration F b h s
+    go (two_sways d e z) = ap (λ (y : ℤ). leftover F b h s y) (second-still x p d z n) ∙ no-acceleration F b h s
     go (still e y z) = ap (λ (y : ℤ). leftover F b h s y) (z n) ∙ no-acceleration F b h s
-    go (unblended e y z) = ap₂ (λ (j k : ℕ). leftover F b (pos j) (pos k) a) z (ap swayDelay y) ∙ no-delay F b a
-    go (undamped e y z) = ap₂ (λ (j k : ℕ). leftover F (pos j) h (pos k) a) z (ap swayDelay y) ∙ equal F h a
-    go (corrected e y) = ap₂ (λ (j k : ℕ). leftover (pos j) b h (pos k) a) e (ap swayDelay y) ∙ finer-grid b h a
+    go (unblended e y z) = ap₂ (λ (j k : ℕ). leftover F b (pos j) (pos k) a) z (ap sway_delay y) ∙ no-delay F b a
+    go (undamped e y z) = ap₂ (λ (j k : ℕ). leftover F (pos j) h (pos k) a) z (ap sway_delay y) ∙ equal F h a
+    go (corrected e y) = ap₂ (λ (j k : ℕ). leftover (pos j) b h (pos k) a) e (ap sway_delay y) ∙ finer-grid b h a
 
 module _ (x : Axis) (n : ℕ) (r : Plannable x n) where
   abbrev h : ℕ
-  h = halfPeriod x
+  h = half_period x
 
   abbrev s : ℕ
-  s = secondHalfPeriod x
+  s = second_half_period x
 
   abbrev B : ℤ
-  B = pos (secondWeight x)
+  B = pos (second_weight x)
 
   abbrev F : ℤ
   F = pos (finer x)
 
   abbrev m : State
-  m = asMoving x.target n
+  m = as_moving x.target n
 
-  arrival : landingTick x n + (h + s) ≡ n
+  arrival : landing_tick x n + (h + s) ≡ n
   arrival = omega (arith, R.after x n r)
 
   abbrev at : ℕ → Tick
   at j = landed x n j
 
   -- the planned tick d before N
-  back-N : (d j : ℕ) → d + j ≡ h + s → tickBack (plannedAxis n x) n d ≡ at j
-  back-N d j e = tick-after (plannedAxis n x) n d (landingTick x n + j) (omega (arith, arrival))
+  back-N : (d j : ℕ) → d + j ≡ h + s → tick_back (planned_axis n x) n d ≡ at j
+  back-N d j e = tick-after (planned_axis n x) n d (landing_tick x n + j) (omega (arith, arrival))
       ∙ tick-landed x n r j (omega arith)
 
   -- the planned ticks of row N
   row-N : (f : Tick → ℤ)
-      → both (plannedAxis n x) n f
+      → both (planned_axis n x) n f
       ≡ (pos 256 -ℤ B) *ℤ f (at (h + s)) +ℤ B *ℤ f (at s) +ℤ ((pos 256 -ℤ B) *ℤ f (at h) +ℤ B *ℤ f (at 0))
   row-N f =
       ap (λ (a : ℤ). a *ℤ f (back 0) +ℤ B *ℤ f (back (0 + h)) +ℤ (a *ℤ f (back s) +ℤ B *ℤ f (back (s + h))))
-      (weights (secondWeight x) (R.weight-range x n r))
+      (weights (second_weight x) (R.weight-range x n r))
       ∙ ap₂ (λ (a b : Tick). (pos 256 -ℤ B) *ℤ f a +ℤ B *ℤ f b
       +ℤ ((pos 256 -ℤ B) *ℤ f (back s) +ℤ B *ℤ f (back (s + h))))
       (back-N 0 (h + s) (omega arith)) (back-N (0 + h) s (omega arith))
@@ -158,50 +158,50 @@ module _ (x : Axis) (n : ℕ) (r : Plannable x n) where
       (back-N s h (omega arith)) (back-N (s + h) 0 (omega arith))
     where
       back : ℕ → Tick
-      back d = tickBack (plannedAxis n x) n d
+      back d = tick_back (planned_axis n x) n d
 
-  pub exact-acceleration : both (plannedAxis n x) n (λ s. s.acceleration)
-      ≡ pos (bothDivisor x) *ℤ (pos 256 *ℤ m.acceleration)
+  pub exact-acceleration : both (planned_axis n x) n (λ s. s.acceleration)
+      ≡ pos (both_divisor x) *ℤ (pos 256 *ℤ m.acceleration)
   exact-acceleration = row-N (λ s. s.acceleration) ∙ blended-acceleration F B m.acceleration
 
-  pub lands-acceleration : nearestQuotient (both (plannedAxis n x) n (λ s. s.acceleration)) (bothDivisor x)
+  pub lands-acceleration : nearest_quotient (both (planned_axis n x) n (λ s. s.acceleration)) (both_divisor x)
       ≡ pos 256 *ℤ m.acceleration
   lands-acceleration =
-      ap (λ (z : ℤ). nearestQuotient z (bothDivisor x)) exact-acceleration
-      ∙ nearest-whole (bothDivisor x) (pos 256 *ℤ m.acceleration) (both_some x)
+      ap (λ (z : ℤ). nearest_quotient z (both_divisor x)) exact-acceleration
+      ∙ nearest-whole (both_divisor x) (pos 256 *ℤ m.acceleration) (both_some x)
 
-  pos-N : pos (landingTick x n) +ℤ (pos h +ℤ pos s) ≡ pos n
+  pos-N : pos (landing_tick x n) +ℤ (pos h +ℤ pos s) ≡ pos n
   pos-N = ap pos arrival
 
-  pub lands-velocity : nearestQuotient (both (plannedAxis n x) n (λ s. s.velocity)) (bothDivisor x)
-      ≡ pos 256 *ℤ velocityAt m (pos n)
-  lands-velocity = ap (λ (z : ℤ). nearestQuotient z (bothDivisor x)) exact
-      ∙ nearest-whole (bothDivisor x) (pos 256 *ℤ velocityAt m (pos n)) (both_some x)
+  pub lands-velocity : nearest_quotient (both (planned_axis n x) n (λ s. s.velocity)) (both_divisor x)
+      ≡ pos 256 *ℤ velocity_at m (pos n)
+  lands-velocity = ap (λ (z : ℤ). nearest_quotient z (both_divisor x)) exact
+      ∙ nearest-whole (both_divisor x) (pos 256 *ℤ velocity_at m (pos n)) (both_some x)
     where
-      exact : both (plannedAxis n x) n (λ s. s.velocity) ≡ pos (bothDivisor x) *ℤ (pos 256 *ℤ velocityAt m (pos n))
+      exact : both (planned_axis n x) n (λ s. s.velocity) ≡ pos (both_divisor x) *ℤ (pos 256 *ℤ velocity_at m (pos n))
       exact =
           row-N (λ s. s.velocity)
           ∙ blended-velocity F B (pos h) (pos s) m.position m.velocity m.acceleration
-          (pos (landingTick x n)) m.tick
-          ∙ ap (λ (z : ℤ). pos (bothDivisor x) *ℤ (pos 256 *ℤ velocityAt m z)) pos-N
+          (pos (landing_tick x n)) m.tick
+          ∙ ap (λ (z : ℤ). pos (both_divisor x) *ℤ (pos 256 *ℤ velocity_at m z)) pos-N
 
-  exact-position : both (plannedAxis n x) n (λ s. s.position)
-      ≡ pos (2 * bothDivisor x) *ℤ (pos 128 *ℤ twicePositionAt m (pos n))
+  exact-position : both (planned_axis n x) n (λ s. s.position)
+      ≡ pos (2 * both_divisor x) *ℤ (pos 128 *ℤ twice_position_at m (pos n))
   exact-position =
       row-N (λ s. s.position)
       ∙ blended-position F B (pos h) (pos s) m.position m.velocity m.acceleration
-      (pos (landingTick x n)) m.tick
-      ∙ ap₂ (λ (k z : ℤ). pos (2 * bothDivisor x) *ℤ (pos 128 *ℤ twicePositionAt m k) +ℤ z) pos-N
+      (pos (landing_tick x n)) m.tick
+      ∙ ap₂ (λ (k z : ℤ). pos (2 * both_divisor x) *ℤ (pos 128 *ℤ twice_position_at m k) +ℤ z) pos-N
       (no-leftover x n r.passed)
-      ∙ +ℤ_idr (pos (2 * bothDivisor x) *ℤ (pos 128 *ℤ twicePositionAt m (pos n)))
+      ∙ +ℤ_idr (pos (2 * both_divisor x) *ℤ (pos 128 *ℤ twice_position_at m (pos n)))
 
-  pub exact-blend : blend (plannedAxis n x) n (λ s. s.position)
-      ≡ pos (2 * divisor x) *ℤ (pos 128 *ℤ twicePositionAt m (pos n))
+  pub exact-blend : blend (planned_axis n x) n (λ s. s.position)
+      ≡ pos (2 * divisor x) *ℤ (pos 128 *ℤ twice_position_at m (pos n))
   exact-blend =
-      blend-of-both (plannedAxis n x) n (λ s. s.position) (pos 128 *ℤ twicePositionAt m (pos n)) exact-position
+      blend-of-both (planned_axis n x) n (λ s. s.position) (pos 128 *ℤ twice_position_at m (pos n)) exact-position
 
-  pub lands-position : nearestQuotient (both (plannedAxis n x) n (λ s. s.position)) (2 * bothDivisor x)
-      ≡ pos 128 *ℤ twicePositionAt m (pos n)
+  pub lands-position : nearest_quotient (both (planned_axis n x) n (λ s. s.position)) (2 * both_divisor x)
+      ≡ pos 128 *ℤ twice_position_at m (pos n)
   lands-position =
-      ap (λ (z : ℤ). nearestQuotient z (2 * bothDivisor x)) exact-position
-      ∙ nearest-whole (2 * bothDivisor x) (pos 128 *ℤ twicePositionAt m (pos n)) (omega (arith, both_some x))
+      ap (λ (z : ℤ). nearest_quotient z (2 * both_divisor x)) exact-position
+      ∙ nearest-whole (2 * both_divisor x) (pos 128 *ℤ twice_position_at m (pos n)) (omega (arith, both_some x))

@@ -9,19 +9,19 @@ use native.Mathlib.Nat.{le_trans, add-mul, mul-add, mul-le-mul_left, mul-le-mul_
 use lib.IntN.{ℤ, pos, neg_ℤ, nat_abs, ◌+ℤ◌, ◌-ℤ◌, ◌*ℤ◌, +ℤ_invr}
 use Rattle.whole.proofs.Differences.{whole, all₂}
 use Rattle.whole.proofs.Bounds.{add_holds, mul_holds, neg-holds}
-use Rattle.whole.proofs.Laws.{natAbs-*}
+use Rattle.whole.proofs.Laws.{nat_abs-*}
 use Rattle.whole.proofs.Ring.{pol, same}
 use Rattle.whole.proofs.Tests.{lt-or-le}
 use Rattle.model.specs.declared.Axis.{Axis}
 use Rattle.model.specs.declared.SecondSway.{SecondSway}
 use Rattle.model.specs.declared.SecondSway.TheVariants.{Absent, HalfPeriod}
-use Rattle.model.specs.planning.Quantities.{halfPeriod, secondWeight, swayDelay, secondHalfPeriod, delay}
-use Rattle.model.specs.planning.Rows.{plannedAxis, blend, divisor}
-use Rattle.model.specs.planning.Demand.{CellTable, accelerationCell, sway}
+use Rattle.model.specs.planning.Quantities.{half_period, second_weight, sway_delay, second_half_period, delay}
+use Rattle.model.specs.planning.Rows.{planned_axis, blend, divisor}
+use Rattle.model.specs.planning.Demand.{CellTable, acceleration_cell, sway}
 use Rattle.theorems.proofs.tables.SwayExact.{sway-weighted}
-use Rattle.theorems.specs.Misfit.{misfitOnce, misfitBy, misfit, Misfits, Entries, apart, Gentle, TruePole}
-use Rattle.theorems.specs.Misfit.{weights, SwayOf, weighted, byTick, measuredMisfit, firstMisfitBy, firstMisfit}
-use Rattle.theorems.specs.Misfit.{secondMisfit, MeasuredMisfits, roundingLeft, SwayLeft, PoleLeft, MeasuredLeft}
+use Rattle.theorems.specs.Misfit.{misfit_once, misfit_by, misfit, Misfits, Entries, apart, Gentle, TruePole}
+use Rattle.theorems.specs.Misfit.{weights, SwayOf, weighted, by_tick, measured_misfit, first_misfit_by, first_misfit}
+use Rattle.theorems.specs.Misfit.{second_misfit, MeasuredMisfits, rounding_left, SwayLeft, PoleLeft, MeasuredLeft}
 
 -- ---- entries k apart
 
@@ -64,20 +64,20 @@ module _ (w : ℕ → ℤ) (m D : ℕ) (gentle : Gentle m D w) where
 
 module _ (x : Axis) where
   abbrev h : ℕ
-  h = halfPeriod x
+  h = half_period x
 
   abbrev A : ℤ
-  A = pos (256 - secondWeight x)
+  A = pos (256 - second_weight x)
 
   abbrev B : ℤ
-  B = pos (secondWeight x)
+  B = pos (second_weight x)
 
   -- the misfit of two blends, by the pairs of the second
   pub second-misfit : (d : ℕ) (w : ℕ → ℤ) (i : ℕ) → x.second_sway ≡ HalfPeriod d
       → misfit x w i ≡ A *ℤ (pos 1 *ℤ w (i + h + d) +ℤ pos 1 *ℤ w (i + h)) +ℤ B *ℤ (pos 1 *ℤ w (i + d) +ℤ pos 1 *ℤ w i)
   second-misfit d w i e =
       let order : i + d + h ≡ i + h + d = omega arith in
-      ap (λ (u : SecondSway). misfitBy u x w i) e
+      ap (λ (u : SecondSway). misfit_by u x w i) e
       ∙ same (A ∷ B ∷ w (i + d + h) ∷ w (i + d) ∷ w (i + h) ∷ w i ∷ []) (search pol depth 20 fits 9000) tt
       ∙ ap (λ (k : ℕ). A *ℤ (pos 1 *ℤ w k +ℤ pos 1 *ℤ w (i + h)) +ℤ B *ℤ (pos 1 *ℤ w (i + d) +ℤ pos 1 *ℤ w i)) order
 
@@ -89,9 +89,9 @@ module _ (t : TruePole) (m G D : ℕ) (u : ℕ → ℤ) (is : SwayOf t m G D u) 
   inside i q = let l : t.entries * i ≤ t.entries * m = mul-le-mul_left t.entries q in omega arith
 
   one-blend : (A B h j : ℕ) → j + h ≤ m
-      → nat_abs (pos A *ℤ weighted t u (j + h) +ℤ pos B *ℤ weighted t u j) ≤ measuredMisfit A B h t G D
+      → nat_abs (pos A *ℤ weighted t u (j + h) +ℤ pos B *ℤ weighted t u j) ≤ measured_misfit A B h t G D
   one-blend A B h j q =
-      subst (λ (k : ℤ). nat_abs k ≤ measuredMisfit A B h t G D) (sym split)
+      subst (λ (k : ℤ). nat_abs k ≤ measured_misfit A B h t G D) (sym split)
       (le_trans
       (add_holds (pos (c * A) *ℤ (y -ℤ z)) (off *ℤ (z -ℤ v))
       (c * A * (apart t.turn (t.entries * h) * D)) (size-of-off * (G + G))
@@ -149,30 +149,30 @@ module _ (t : TruePole) (m G D : ℕ) (u : ℕ → ℤ) (is : SwayOf t m G D u) 
           (is.fits at (inside j (omega arith)))
           ∙ none (pos (c * A) *ℤ (y -ℤ z) +ℤ off *ℤ (z -ℤ v)) (pos (A + B))
 
-module _ (x : Axis) (weight : secondWeight x ≤ 256) where
+module _ (x : Axis) (weight : second_weight x ≤ 256) where
   -- ---- the first rate
 
   -- what one blend of a list is at most, and two
-  both-blends : (w : ℕ → ℤ) (i m E : ℕ) → ((j : ℕ) → i ≤ j → j + h x ≤ m → nat_abs (misfitOnce x w j) ≤ E)
-      → i + delay x ≤ m → nat_abs (misfit x w i) ≤ firstMisfitBy x.second_sway E
+  both-blends : (w : ℕ → ℤ) (i m E : ℕ) → ((j : ℕ) → i ≤ j → j + h x ≤ m → nat_abs (misfit_once x w j) ≤ E)
+      → i + delay x ≤ m → nat_abs (misfit x w i) ≤ first_misfit_by x.second_sway E
   both-blends w i m E once q = go x.second_sway q
     where
       twice : (a : ℕ) → a + a ≤ 2 * a
       twice a = omega arith
 
-      go : (u : SecondSway) → i + (h x + swayDelay u) ≤ m → nat_abs (misfitBy u x w i) ≤ firstMisfitBy u E
+      go : (u : SecondSway) → i + (h x + sway_delay u) ≤ m → nat_abs (misfit_by u x w i) ≤ first_misfit_by u E
       go Absent l = once i (omega arith) (omega arith)
       go (HalfPeriod d) l =
           le_trans
-          (add_holds (misfitOnce x w (i + d)) (misfitOnce x w i) E E (once (i + d) (omega arith) (omega arith))
+          (add_holds (misfit_once x w (i + d)) (misfit_once x w i) E E (once (i + d) (omega arith) (omega arith))
           (once i (omega arith) (omega arith)))
           (twice E)
 
   near_first : (t : TruePole) (n m G D : ℕ) (u : ℕ → ℤ) → SwayOf t m G D u
-      → Misfits x n m (firstMisfit x t G D) (weighted t u)
+      → Misfits x n m (first_misfit x t G D) (weighted t u)
   near_first t n m G D u is i l q =
       both-blends (weighted t u) i m _
-      (λ j a p. one-blend t m G D u is (256 - secondWeight x) (secondWeight x) (h x) j p) q
+      (λ j a p. one-blend t m G D u is (256 - second_weight x) (second_weight x) (h x) j p) q
 
   -- ---- the second rate
 
@@ -180,21 +180,21 @@ module _ (x : Axis) (weight : secondWeight x ≤ 256) where
   mixed : (y z : ℤ) (e : ℕ) → nat_abs y ≤ e → nat_abs z ≤ e → nat_abs (A x *ℤ y +ℤ B x *ℤ z) ≤ 256 * e
   mixed y z e p q =
       le_trans
-      (add_holds (A x *ℤ y) (B x *ℤ z) ((256 - secondWeight x) * e) (secondWeight x * e)
-      (mul_holds (A x) y (256 - secondWeight x) e (omega arith) p)
-      (mul_holds (B x) z (secondWeight x) e (omega arith) q))
-      (sum (secondWeight x) e weight)
+      (add_holds (A x *ℤ y) (B x *ℤ z) ((256 - second_weight x) * e) (second_weight x * e)
+      (mul_holds (A x) y (256 - second_weight x) e (omega arith) p)
+      (mul_holds (B x) z (second_weight x) e (omega arith) q))
+      (sum (second_weight x) e weight)
     where
       sum : (b c : ℕ) → b ≤ 256 → (256 - b) * c + b * c ≤ 256 * c
       sum b c l = let u : 256 - b + b ≤ 256 = omega arith in
           le_trans (omega (arith, add-mul (256 - b) b c)) (mul-le-mul_right c u)
 
   near-second : (d : ℕ) (t : TruePole) (n m G D : ℕ) (u : ℕ → ℤ) → x.second_sway ≡ HalfPeriod d → SwayOf t m G D u
-      → Misfits x n m (secondMisfit d t G D) (weighted t u)
+      → Misfits x n m (second_misfit d t G D) (weighted t u)
   near-second d t n m G D u e is i l q =
-      let last : secondHalfPeriod x ≡ d = ap swayDelay e in
-      subst (λ (z : ℤ). nat_abs z ≤ secondMisfit d t G D) (sym (second-misfit x d (weighted t u) i e))
-      (mixed (pair (i + h x)) (pair i) (measuredMisfit 1 1 d t G D)
+      let last : second_half_period x ≡ d = ap sway_delay e in
+      subst (λ (z : ℤ). nat_abs z ≤ second_misfit d t G D) (sym (second-misfit x d (weighted t u) i e))
+      (mixed (pair (i + h x)) (pair i) (measured_misfit 1 1 d t G D)
       (one-blend t m G D u is 1 1 d (i + h x) (omega arith))
       (one-blend t m G D u is 1 1 d i (omega arith)))
     where
@@ -203,7 +203,7 @@ module _ (x : Axis) (weight : secondWeight x ≤ 256) where
 
   -- ---- whatever it fits
 
-  near-any : (n m G : ℕ) (w : ℕ → ℤ) → Entries n m G w → Misfits x n m (firstMisfitBy x.second_sway (256 * G)) w
+  near-any : (n m G : ℕ) (w : ℕ → ℤ) → Entries n m G w → Misfits x n m (first_misfit_by x.second_sway (256 * G)) w
   near-any n m G w small i l q =
       both-blends w i m (256 * G)
       (λ j a p. mixed (w (j + h x)) (w j) G (small (j + h x) (omega arith) p) (small j (omega arith) (omega arith))) q
@@ -213,32 +213,32 @@ module _ (x : Axis) (weight : secondWeight x ≤ 256) where
 
 -- ---- what is left of such a sway
 
-module _ (most : Axis → ℕ → ℕ) (x : Axis) (weight : secondWeight x ≤ 256) (k n : ℕ) (g : CellTable)
+module _ (most : Axis → ℕ → ℕ) (x : Axis) (weight : second_weight x ≤ 256) (k n : ℕ) (g : CellTable)
     (left : SwayLeft most x k n g) where
   by-misfits : (t : TruePole) (m G D E : ℕ) (u : ℕ → ℤ) → n ≤ m → SwayOf t m G D u → Misfits x n m E (weighted t u)
       → PoleLeft x k n g t m G (most x n * E) u
   by-misfits t m G D E u q is f =
       record {
-        exact = subst (λ (z : ℕ). z ≤ most x n * E) (times (λ k. blend (plannedAxis n x) k (λ s. s.acceleration)))
+        exact = subst (λ (z : ℕ). z ≤ most x n * E) (times (λ k. blend (planned_axis n x) k (λ s. s.acceleration)))
             (left.exact m E (weighted t u) q f);
-        rounded = subst (λ (z : ℕ). divisor x * z ≤ most x n * E + divisor x * roundingLeft n (weights t * G))
-            (times (accelerationCell g k))
+        rounded = subst (λ (z : ℕ). divisor x * z ≤ most x n * E + divisor x * rounding_left n (weights t * G))
+            (times (acceleration_cell g k))
             (left.rounded m E (weights t * G) (weighted t u) q f entries);
       }
     where
-      times : (a : ℕ → ℤ) → nat_abs (sway a (weighted t u) m n) ≡ weights t * nat_abs (sway a (byTick t u) m n)
-      times a = ap nat_abs (sway-weighted (pos (weights t)) a (byTick t u) m n)
-          ∙ natAbs-* (pos (weights t)) (sway a (byTick t u) m n)
+      times : (a : ℕ → ℤ) → nat_abs (sway a (weighted t u) m n) ≡ weights t * nat_abs (sway a (by_tick t u) m n)
+      times a = ap nat_abs (sway-weighted (pos (weights t)) a (by_tick t u) m n)
+          ∙ nat_abs-* (pos (weights t)) (sway a (by_tick t u) m n)
 
       entries : Entries n m (weights t * G) (weighted t u)
       entries i l p =
-          mul_holds (pos (weights t)) (byTick t u i) (weights t) G (omega arith)
+          mul_holds (pos (weights t)) (by_tick t u i) (weights t) G (omega arith)
           (is.small (t.entries * i) (omega (arith, inside t m G D u is i p)))
 
   pub measured-left : MeasuredLeft most x k n g
   measured-left =
       record {
-        first = λ t m G D u q is. by-misfits t m G D (firstMisfit x t G D) u q is (near_first x weight t n m G D u is);
-        second = λ d t m G D u q e is. by-misfits t m G D (secondMisfit d t G D) u q is
+        first = λ t m G D u q is. by-misfits t m G D (first_misfit x t G D) u q is (near_first x weight t n m G D u is);
+        second = λ d t m G D u q e is. by-misfits t m G D (second_misfit d t G D) u q is
             (near-second x weight d t n m G D u e is);
       }

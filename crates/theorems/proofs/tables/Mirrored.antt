@@ -7,8 +7,8 @@ use native.Mathlib.Omega.{arith}
 use lib.Dec.{ltb, eqb}
 use lib.ListN.{get_or}
 use lib.IntN.{ℤ, pos, neg_ℤ, ◌+ℤ◌, ◌-ℤ◌, ◌*ℤ◌, neg_ℤ-+ℤ}
-use Rattle.whole.specs.Integers.{nearestQuotient}
-use Rattle.whole.proofs.Laws.{natAbs-neg}
+use Rattle.whole.specs.Integers.{nearest_quotient}
+use Rattle.whole.proofs.Laws.{nat_abs-neg}
 use Rattle.whole.proofs.Ring.{pol, same}
 use Rattle.whole.proofs.Rounding.{nearest-neg}
 use Rattle.model.specs.declared.Axis.{Axis}
@@ -16,27 +16,27 @@ use Rattle.model.specs.declared.SecondSway.{SecondSway}
 use Rattle.model.specs.declared.SecondSway.TheVariants.{Absent, HalfPeriod}
 use Rattle.model.specs.declared.Target.{Target}
 use Rattle.model.specs.declared.Target.TheVariants.{Fixed, Moving}
-use Rattle.model.specs.planning.Quantities.{halfPeriod, secondWeight, accelerates, damped, finer, finerBy}
+use Rattle.model.specs.planning.Quantities.{half_period, second_weight, accelerates, damped, finer, finer_by}
 use Rattle.model.specs.planning.Motion.{Tick, earlier, shift}
-use Rattle.model.specs.planning.Rows.{PlannedAxis, tickAt, tickBack, blendOnce, blendBy, weightsBy, blend}
-use Rattle.theorems.specs.Mirror.{negatedTick, negatedTarget, negatedAxis, negatedPlan, Mirrored}
+use Rattle.model.specs.planning.Rows.{PlannedAxis, tick_at, tick_back, blend_once, blend_by, weights_by, blend}
+use Rattle.theorems.specs.Mirror.{negated_tick, negated_target, negated_axis, negated_plan, Mirrored}
 use Rattle.theorems.proofs.tables.TwoBlends.{divisor-some}
 
-map-getD : (l : List Tick) (k : ℕ) (d : Tick) → get_or (map negatedTick l) k (negatedTick d) ≡ negatedTick (get_or l k d)
-map-getD [] k d = refl
-map-getD (s ∷ l) zero d = refl
-map-getD (s ∷ l) (suc k) d = map-getD l k d
+map-get_or : (l : List Tick) (k : ℕ) (d : Tick) → get_or (map negated_tick l) k (negated_tick d) ≡ negated_tick (get_or l k d)
+map-get_or [] k d = refl
+map-get_or (s ∷ l) zero d = refl
+map-get_or (s ∷ l) (suc k) d = map-get_or l k d
 
-accelerates-negated : (t : Target) → accelerates (negatedTarget t) ≡ accelerates t
+accelerates-negated : (t : Target) → accelerates (negated_target t) ≡ accelerates t
 accelerates-negated (Fixed r) = refl
-accelerates-negated (Moving m) = ap (λ (n : ℕ). not (eqb n 0)) (natAbs-neg m.acceleration)
+accelerates-negated (Moving m) = ap (λ (n : ℕ). not (eqb n 0)) (nat_abs-neg m.acceleration)
 
 -- the grid stays
-finer-negated : (x : Axis) → finer (negatedAxis x) ≡ finer x
+finer-negated : (x : Axis) → finer (negated_axis x) ≡ finer x
 unfolding finer
-finer-negated x = ap (λ (b : Bool). finerBy x.second_sway (b && damped x)) (accelerates-negated x.target)
+finer-negated x = ap (λ (b : Bool). finer_by x.second_sway (b && damped x)) (accelerates-negated x.target)
 
-earlier-negated : (x : Axis) (j : ℕ) → earlier (negatedAxis x) j ≡ negatedTick (earlier x j)
+earlier-negated : (x : Axis) (j : ℕ) → earlier (negated_axis x) j ≡ negated_tick (earlier x j)
 earlier-negated x j =
     ap (λ (f : ℕ). started (pos f)) (finer-negated x)
     ∙ ap₂ (λ (q v : ℤ). record { position = q; velocity = v; acceleration = pos 0 })
@@ -61,60 +61,60 @@ earlier-negated x j =
     speed f v = same (f ∷ v ∷ []) (search pol depth 20 fits 9000) tt
 
 module _ (t : PlannedAxis) where
-  now-negated : (k : ℕ) → tickAt (negatedPlan t) k ≡ negatedTick (tickAt t k)
+  now-negated : (k : ℕ) → tick_at (negated_plan t) k ≡ negated_tick (tick_at t k)
   now-negated k =
-      ap (λ (d : Tick). get_or (map negatedTick t.ticks) k d) (earlier-negated t.axis 0)
-      ∙ map-getD t.ticks k (earlier t.axis 0)
+      ap (λ (d : Tick). get_or (map negated_tick t.ticks) k d) (earlier-negated t.axis 0)
+      ∙ map-get_or t.ticks k (earlier t.axis 0)
 
-  back-negated : (k h : ℕ) → tickBack (negatedPlan t) k h ≡ negatedTick (tickBack t k h)
+  back-negated : (k h : ℕ) → tick_back (negated_plan t) k h ≡ negated_tick (tick_back t k h)
   back-negated k h = go (ltb k h)
     where
       go : (b : Bool)
           → (elim b as
-          (λ _. Tick) [ true ↦ earlier (negatedAxis t.axis) (h - k) | false ↦ tickAt (negatedPlan t) (k - h) ])
-          ≡ negatedTick (elim b as (λ _. Tick) [ true ↦ earlier t.axis (h - k) | false ↦ tickAt t (k - h) ])
+          (λ _. Tick) [ true ↦ earlier (negated_axis t.axis) (h - k) | false ↦ tick_at (negated_plan t) (k - h) ])
+          ≡ negated_tick (elim b as (λ _. Tick) [ true ↦ earlier t.axis (h - k) | false ↦ tick_at t (k - h) ])
       go true = earlier-negated t.axis (h - k)
       go false = now-negated (k - h)
 
-  module _ (k : ℕ) (f : Tick → ℤ) (odd : (s : Tick) → f (negatedTick s) ≡ neg_ℤ (f s)) where
-    once-negated : (d : ℕ) → blendOnce (negatedPlan t) k d f ≡ neg_ℤ (blendOnce t k d f)
+  module _ (k : ℕ) (f : Tick → ℤ) (odd : (s : Tick) → f (negated_tick s) ≡ neg_ℤ (f s)) where
+    once-negated : (d : ℕ) → blend_once (negated_plan t) k d f ≡ neg_ℤ (blend_once t k d f)
     once-negated d =
-        ap₂ (λ (y z : ℤ). pos (256 - secondWeight t.axis) *ℤ y +ℤ pos (secondWeight t.axis) *ℤ z) (at d)
-        (at (d + halfPeriod t.axis))
-        ∙ turned (pos (256 - secondWeight t.axis)) (pos (secondWeight t.axis)) (f (tickBack t k d))
-        (f (tickBack t k (d + halfPeriod t.axis)))
+        ap₂ (λ (y z : ℤ). pos (256 - second_weight t.axis) *ℤ y +ℤ pos (second_weight t.axis) *ℤ z) (at d)
+        (at (d + half_period t.axis))
+        ∙ turned (pos (256 - second_weight t.axis)) (pos (second_weight t.axis)) (f (tick_back t k d))
+        (f (tick_back t k (d + half_period t.axis)))
       where
-        at : (d : ℕ) → f (tickBack (negatedPlan t) k d) ≡ neg_ℤ (f (tickBack t k d))
-        at d = ap f (back-negated k d) ∙ odd (tickBack t k d)
+        at : (d : ℕ) → f (tick_back (negated_plan t) k d) ≡ neg_ℤ (f (tick_back t k d))
+        at d = ap f (back-negated k d) ∙ odd (tick_back t k d)
 
         turned : (a b y z : ℤ) → a *ℤ neg_ℤ y +ℤ b *ℤ neg_ℤ z ≡ neg_ℤ (a *ℤ y +ℤ b *ℤ z)
         turned a b y z = same (a ∷ b ∷ y ∷ z ∷ []) (search pol depth 20 fits 9000) tt
 
-    blend-negated : blend (negatedPlan t) k f ≡ neg_ℤ (blend t k f)
+    blend-negated : blend (negated_plan t) k f ≡ neg_ℤ (blend t k f)
     blend-negated = go t.axis.second_sway
       where
-        go : (s : SecondSway) → blendBy s (negatedPlan t) k f ≡ neg_ℤ (blendBy s t k f)
+        go : (s : SecondSway) → blend_by s (negated_plan t) k f ≡ neg_ℤ (blend_by s t k f)
         go Absent = once-negated 0
         go (HalfPeriod d) = ap₂ (λ (y z : ℤ). y +ℤ z) (once-negated 0) (once-negated d)
-            ∙ sym (neg_ℤ-+ℤ (blendOnce t k 0 f) (blendOnce t k d f))
+            ∙ sym (neg_ℤ-+ℤ (blend_once t k 0 f) (blend_once t k d f))
 
     cell-negated : (d : ℕ) → 0 < d
-        → nearestQuotient (blend (negatedPlan t) k f) d ≡ neg_ℤ (nearestQuotient (blend t k f) d)
-    cell-negated d h = ap (λ (z : ℤ). nearestQuotient z d) blend-negated ∙ nearest-neg (blend t k f) d h
+        → nearest_quotient (blend (negated_plan t) k f) d ≡ neg_ℤ (nearest_quotient (blend t k f) d)
+    cell-negated d h = ap (λ (z : ℤ). nearest_quotient z d) blend-negated ∙ nearest-neg (blend t k f) d h
 
 pub mirrored : Mirrored
 mirrored t k =
-    λ i. cell t (λ s. s.position) (λ s. refl) (λ f. 2 * (weightsBy t.axis.second_sway * f))
+    λ i. cell t (λ s. s.position) (λ s. refl) (λ f. 2 * (weights_by t.axis.second_sway * f))
     (omega (arith, divisor-some t.axis)) i
-    ∷ cell t (λ s. s.velocity) (λ s. refl) (λ f. weightsBy t.axis.second_sway * f) (divisor-some t.axis) i
-    ∷ cell t (λ s. s.acceleration) (λ s. refl) (λ f. weightsBy t.axis.second_sway * f) (divisor-some t.axis) i
+    ∷ cell t (λ s. s.velocity) (λ s. refl) (λ f. weights_by t.axis.second_sway * f) (divisor-some t.axis) i
+    ∷ cell t (λ s. s.acceleration) (λ s. refl) (λ f. weights_by t.axis.second_sway * f) (divisor-some t.axis) i
     ∷ []
   where
     -- the divisor is one of the grid
-    cell : (t : PlannedAxis) (f : Tick → ℤ) → ((s : Tick) → f (negatedTick s) ≡ neg_ℤ (f s))
+    cell : (t : PlannedAxis) (f : Tick → ℤ) → ((s : Tick) → f (negated_tick s) ≡ neg_ℤ (f s))
         → (d : ℕ → ℕ) → 0 < d (finer t.axis)
-        → nearestQuotient (blend (negatedPlan t) k f) (d (finer (negatedAxis t.axis)))
-        ≡ neg_ℤ (nearestQuotient (blend t k f) (d (finer t.axis)))
+        → nearest_quotient (blend (negated_plan t) k f) (d (finer (negated_axis t.axis)))
+        ≡ neg_ℤ (nearest_quotient (blend t k f) (d (finer t.axis)))
     cell t f odd d h =
-        ap (λ (g : ℕ). nearestQuotient (blend (negatedPlan t) k f) (d g)) (finer-negated t.axis)
+        ap (λ (g : ℕ). nearest_quotient (blend (negated_plan t) k f) (d g)) (finer-negated t.axis)
         ∙ cell-negated t k f odd (d (finer t.axis)) h

@@ -7,7 +7,7 @@ use native.Mathlib.Nat.{add-zero}
 use lib.IntN.{ℤ}
 use Rattle.model.specs.declared.Axis.{Axis}
 use Rattle.model.specs.declared.Order.TheVariants.{Backwards}
-use Rattle.model.specs.planning.Rows.{plannedAxis, tabulate, row, table}
+use Rattle.model.specs.planning.Rows.{planned_axis, tabulate, row, table}
 
 -- one more at the end, the same by two functions, and from one later on
 pub tabulate-more : (f : ℕ → List ℤ) (k n : ℕ) → tabulate f k (suc n) ≡ tabulate f k n ++ (f (k + n) ∷ [])
@@ -44,5 +44,5 @@ reversed f (suc n) =
         ∙ tabulate-later (λ j. f (suc n - j)) 0 (suc n)
 
 pub rows-reversed : (xs : List Axis) (n : ℕ)
-    → table Backwards xs n ≡ flatten (reverse (tabulate (row (map (plannedAxis n) xs)) 0 (suc n)))
-rows-reversed xs n = ap flatten (sym (reversed (row (map (plannedAxis n) xs)) n))
+    → table Backwards xs n ≡ flatten (reverse (tabulate (row (map (planned_axis n) xs)) 0 (suc n)))
+rows-reversed xs n = ap flatten (sym (reversed (row (map (planned_axis n) xs)) n))

@@ -9,24 +9,24 @@ use native.Mathlib.Omega.{arith}
 use native.Mathlib.Nat.{zero-add, le_trans, le_antisymm, le_of_mul-le-mul_left}
 use lib.Dec.{ltb}
 use lib.IntN.{ℤ, pos, nat_abs, ◌+ℤ◌, ◌-ℤ◌, ◌*ℤ◌, +ℤ_invr}
-use Rattle.whole.specs.Integers.{nearestQuotient}
+use Rattle.whole.specs.Integers.{nearest_quotient}
 use Rattle.whole.proofs.Bounds.{mul_holds}
-use Rattle.whole.proofs.Laws.{natAbs-*, natAbs-zero}
+use Rattle.whole.proofs.Laws.{nat_abs-*, nat_abs-zero}
 use Rattle.whole.proofs.Ring.{pol, same}
 use Rattle.whole.proofs.Rounding.{nearest-half}
 use Rattle.model.specs.declared.Axis.{Axis}
 use Rattle.model.specs.declared.SecondSway.{SecondSway}
 use Rattle.model.specs.declared.SecondSway.TheVariants.{Absent, HalfPeriod}
-use Rattle.model.specs.planning.Quantities.{halfPeriod, secondWeight, swayDelay, secondHalfPeriod, asMoving, finer}
-use Rattle.model.specs.planning.Motion.{Tick, earlier, landingTick, landingAcceleration}
-use Rattle.model.specs.planning.Rows.{plannedAxis, tickAt, tickBack, blend, divisor}
+use Rattle.model.specs.planning.Quantities.{half_period, second_weight, sway_delay, second_half_period, as_moving, finer}
+use Rattle.model.specs.planning.Motion.{Tick, earlier, landing_tick, landing_acceleration}
+use Rattle.model.specs.planning.Rows.{planned_axis, tick_at, tick_back, blend, divisor}
 use Rattle.model.specs.planning.Refusals.{Plannable}
-use Rattle.theorems.proofs.tables.TwoBlends.{both, bothDivisor, both_some, both_is, timesBy, times, times-some}
+use Rattle.theorems.proofs.tables.TwoBlends.{both, both_divisor, both_some, both_is, times_by, times, times-some}
 use Rattle.theorems.proofs.tables.TwoBlends.{weights-times, divisor-some}
 use Rattle.theorems.proofs.jobs.PlannableAxis as R
 use Rattle.model.specs.planning.Demand.{Swing, first, second, Bounded, sway}
-use Rattle.theorems.specs.Misfit.{misfitOnce, misfitBy, misfit, Misfits, Entries, variation}
-use Rattle.theorems.specs.Misfit.{plannedVariation, roundingLeft}
+use Rattle.theorems.specs.Misfit.{misfit_once, misfit_by, misfit, Misfits, Entries, variation}
+use Rattle.theorems.specs.Misfit.{planned_variation, rounding_left}
 use Rattle.theorems.proofs.tables.Landing.{exact-acceleration, lands-acceleration}
 use Rattle.theorems.proofs.motions.PlannedTarget.{tick-landed}
 use Rattle.theorems.proofs.tables.SwayExact.{sway-same, sway-times, back, back_none, filtered, filtered-twice}
@@ -36,40 +36,40 @@ use Rattle.theorems.proofs.tables.MeasuredMisfit.{second-misfit}
 
 module _ (x : Axis) (n : ℕ) (r : Plannable x n) where
   abbrev h : ℕ
-  h = halfPeriod x
+  h = half_period x
 
   abbrev s : ℕ
-  s = secondHalfPeriod x
+  s = second_half_period x
 
   abbrev T : ℕ
-  T = landingTick x n
+  T = landing_tick x n
 
   abbrev A : ℤ
-  A = pos (256 - secondWeight x)
+  A = pos (256 - second_weight x)
 
   abbrev B : ℤ
-  B = pos (secondWeight x)
+  B = pos (second_weight x)
 
   -- the exact acceleration of row k times the divisor, and the planned one of tick k
   abbrev exact : ℕ → ℤ
-  exact k = both (plannedAxis n x) k (λ s. s.acceleration)
+  exact k = both (planned_axis n x) k (λ s. s.acceleration)
 
   α : ℕ → ℤ
-  α k = (tickAt (plannedAxis n x) k).acceleration
+  α k = (tick_at (planned_axis n x) k).acceleration
 
   -- before tick 0 the planned acceleration is 0
-  back-acceleration : (d k : ℕ) → (tickBack (plannedAxis n x) k d).acceleration ≡ back α d k
+  back-acceleration : (d k : ℕ) → (tick_back (planned_axis n x) k d).acceleration ≡ back α d k
   unfolding α
   back-acceleration d k = go (ltb k d)
     where
       go : (b : Bool)
           → (elim b as
-          (λ y. Tick) [ true ↦ earlier x (d - k) | false ↦ tickAt (plannedAxis n x) (k - d) ]).acceleration
-          ≡ (elim b as (λ y. ℤ) [ true ↦ pos 0 | false ↦ (tickAt (plannedAxis n x) (k - d)).acceleration ])
+          (λ y. Tick) [ true ↦ earlier x (d - k) | false ↦ tick_at (planned_axis n x) (k - d) ]).acceleration
+          ≡ (elim b as (λ y. ℤ) [ true ↦ pos 0 | false ↦ (tick_at (planned_axis n x) (k - d)).acceleration ])
       go true = refl
       go false = refl
 
-  α-landed : (j : ℕ) → j ≤ h + s → α (T + j) ≡ landingAcceleration x n
+  α-landed : (j : ℕ) → j ≤ h + s → α (T + j) ≡ landing_acceleration x n
   unfolding α
   α-landed j q = ap (λ (s : Tick). s.acceleration) (tick-landed x n r j q)
 
@@ -125,7 +125,7 @@ module _ (x : Axis) (n : ℕ) (r : Plannable x n) where
   unfolding misfits
   misfits-are w i j e = go x.second_sway e
     where
-      one : (k l : ℕ) → k ≡ l + h → smoothed A B w h k ≡ misfitOnce x w l
+      one : (k l : ℕ) → k ≡ l + h → smoothed A B w h k ≡ misfit_once x w l
       one k l e = let f : k - h ≡ l = omega arith in ap₂ (λ (i j : ℕ). A *ℤ w i +ℤ B *ℤ w j) e f
 
       twice : (z : ℤ) → pos 1 *ℤ z +ℤ pos 1 *ℤ z ≡ pos 2 *ℤ z
@@ -134,22 +134,22 @@ module _ (x : Axis) (n : ℕ) (r : Plannable x n) where
       each : (y z : ℤ) → pos 1 *ℤ y +ℤ pos 1 *ℤ z ≡ pos 1 *ℤ (y +ℤ z)
       each y z = same (y ∷ z ∷ []) (search pol depth 20 fits 9000) tt
 
-      go : (u : SecondSway) → i ≡ j + (h + swayDelay u)
-          → smoothed (pos 1) (pos 1) (smoothed A B w h) (swayDelay u) i ≡ pos (timesBy u) *ℤ misfitBy u x w j
+      go : (u : SecondSway) → i ≡ j + (h + sway_delay u)
+          → smoothed (pos 1) (pos 1) (smoothed A B w h) (sway_delay u) i ≡ pos (times_by u) *ℤ misfit_by u x w j
       go Absent e =
           ap₂ (λ (y z : ℤ). pos 1 *ℤ y +ℤ pos 1 *ℤ z) (one i j (omega arith)) (one (i - 0) j (omega arith))
-          ∙ twice (misfitOnce x w j)
+          ∙ twice (misfit_once x w j)
       go (HalfPeriod d) e =
           ap₂ (λ (y z : ℤ). pos 1 *ℤ y +ℤ pos 1 *ℤ z) (one i (j + d) (omega arith)) (one (i - d) j (omega arith))
-          ∙ each (misfitOnce x w (j + d)) (misfitOnce x w j)
+          ∙ each (misfit_once x w (j + d)) (misfit_once x w j)
 
   -- ---- before rounding
 
   both_left : (m E : ℕ) (w : ℕ → ℤ) → n ≤ m → Misfits x n m E w
-      → nat_abs (sway exact w m n) ≤ times x * (plannedVariation x n * E)
+      → nat_abs (sway exact w m n) ≤ times x * (planned_variation x n * E)
   unfolding α
   both_left m E w q f =
-      subst (λ (z : ℤ). nat_abs z ≤ times x * (plannedVariation x n * E)) (sym (planned-sway m w))
+      subst (λ (z : ℤ). nat_abs z ≤ times x * (planned_variation x n * E)) (sym (planned-sway m w))
       (le_trans (sway-small α (misfits w) m T (times x * E) small) (omega (arith, sorted (variation α T) (times x) E)))
     where
       sorted : (a b c : ℕ) → a * (b * c) ≤ b * (a * c)
@@ -163,50 +163,50 @@ module _ (x : Axis) (n : ℕ) (r : Plannable x n) where
 
   -- the blend is a part of the two
   pub left-exact : (m E : ℕ) (w : ℕ → ℤ) → n ≤ m → Misfits x n m E w
-      → nat_abs (sway (λ k. blend (plannedAxis n x) k (λ s. s.acceleration)) w m n) ≤ plannedVariation x n * E
+      → nat_abs (sway (λ k. blend (planned_axis n x) k (λ s. s.acceleration)) w m n) ≤ planned_variation x n * E
   left-exact m E w q f =
       le_of_mul-le-mul_left {k = times x}
-      (subst (λ (k : ℕ). k ≤ times x * (plannedVariation x n * E)) part (both_left m E w q f)) (times-some x)
+      (subst (λ (k : ℕ). k ≤ times x * (planned_variation x n * E)) part (both_left m E w q f)) (times-some x)
     where
       part : nat_abs (sway exact w m n)
-          ≡ times x * nat_abs (sway (λ k. blend (plannedAxis n x) k (λ s. s.acceleration)) w m n)
+          ≡ times x * nat_abs (sway (λ k. blend (planned_axis n x) k (λ s. s.acceleration)) w m n)
       part =
           ap nat_abs
-          (sway-same exact (λ k. pos (times x) *ℤ blend (plannedAxis n x) k (λ s. s.acceleration)) w m n
-          (λ k l. both_is (plannedAxis n x) k (λ s. s.acceleration))
-          ∙ sway-times (pos (times x)) (λ k. blend (plannedAxis n x) k (λ s. s.acceleration)) w m n)
-          ∙ natAbs-* (pos (times x)) (sway (λ k. blend (plannedAxis n x) k (λ s. s.acceleration)) w m n)
+          (sway-same exact (λ k. pos (times x) *ℤ blend (planned_axis n x) k (λ s. s.acceleration)) w m n
+          (λ k l. both_is (planned_axis n x) k (λ s. s.acceleration))
+          ∙ sway-times (pos (times x)) (λ k. blend (planned_axis n x) k (λ s. s.acceleration)) w m n)
+          ∙ nat_abs-* (pos (times x)) (sway (λ k. blend (planned_axis n x) k (λ s. s.acceleration)) w m n)
 
-  last-whole : pos (bothDivisor x) *ℤ nearestQuotient (exact n) (bothDivisor x) -ℤ exact n ≡ pos 0
+  last-whole : pos (both_divisor x) *ℤ nearest_quotient (exact n) (both_divisor x) -ℤ exact n ≡ pos 0
   last-whole =
-      ap₂ (λ (y z : ℤ). pos (bothDivisor x) *ℤ y -ℤ z) (lands-acceleration x n r) (exact-acceleration x n r)
-      ∙ +ℤ_invr (pos (bothDivisor x) *ℤ (pos 256 *ℤ (asMoving x.target n).acceleration))
+      ap₂ (λ (y z : ℤ). pos (both_divisor x) *ℤ y -ℤ z) (lands-acceleration x n r) (exact-acceleration x n r)
+      ∙ +ℤ_invr (pos (both_divisor x) *ℤ (pos 256 *ℤ (as_moving x.target n).acceleration))
 
   -- ---- as rounded
 
   pub left-rounded : (m E G : ℕ) (w : ℕ → ℤ) → n ≤ m → Misfits x n m E w → Entries n m G w
-      → divisor x * nat_abs (sway (λ k. nearestQuotient (exact k) (bothDivisor x)) w m n)
-      ≤ plannedVariation x n * E + divisor x * roundingLeft n G
+      → divisor x * nat_abs (sway (λ k. nearest_quotient (exact k) (both_divisor x)) w m n)
+      ≤ planned_variation x n * E + divisor x * rounding_left n G
   left-rounded m E G w q f b =
       omega (
         arith,
         le_of_mul-le-mul_left {k = times x}
-            (shared (times x) (divisor x) (bothDivisor x) (nat_abs (sway cell w m n)) (plannedVariation x n * E) (n * G)
+            (shared (times x) (divisor x) (both_divisor x) (nat_abs (sway cell w m n)) (planned_variation x n * E) (n * G)
             (weights-times x.second_sway (finer x))
             (go n (omega arith) (omega (arith, R.after x n r)) (both_left m E w q f) last-whole))
             (times-some x),
       )
     where
       cell : ℕ → ℤ
-      cell k = nearestQuotient (exact k) (bothDivisor x)
+      cell k = nearest_quotient (exact k) (both_divisor x)
 
-      go : (i : ℕ) → i ≤ n → 0 < i → nat_abs (sway exact w m i) ≤ times x * (plannedVariation x n * E)
-          → pos (bothDivisor x) *ℤ cell i -ℤ exact i ≡ pos 0
-          → bothDivisor x * nat_abs (sway cell w m i) ≤ times x * (plannedVariation x n * E) + bothDivisor x * (i * G)
+      go : (i : ℕ) → i ≤ n → 0 < i → nat_abs (sway exact w m i) ≤ times x * (planned_variation x n * E)
+          → pos (both_divisor x) *ℤ cell i -ℤ exact i ≡ pos 0
+          → both_divisor x * nat_abs (sway cell w m i) ≤ times x * (planned_variation x n * E) + both_divisor x * (i * G)
       go zero l z e f = absurd (omega arith)
       go (suc i) l z e f =
-          sway-rounded (bothDivisor x) (256 * finer x) (omega arith) exact cell w n m G
-          (λ k. nearest-half (exact k) (bothDivisor x) (both_some x)) b i l f (times x * (plannedVariation x n * E)) e
+          sway-rounded (both_divisor x) (256 * finer x) (omega arith) exact cell w n m G
+          (λ k. nearest-half (exact k) (both_divisor x) (both_some x)) b i l f (times x * (planned_variation x n * E)) e
 
       shared : (t d b c u v : ℕ) → t * d ≡ b → b * c ≤ t * u + b * v → t * (d * c) ≤ t * (u + d * v)
       shared t d b c u v e q =
@@ -217,8 +217,8 @@ module _ (x : Axis) (n : ℕ) (r : Plannable x n) where
   none_left : (m : ℕ) (w : ℕ → ℤ) → Swing x m w → Misfits x n m 0 w
   none_left m w g i l q = let e : misfit x w i ≡ pos 0 = go g in omega (arith, ap nat_abs e)
     where
-      by_first : (u : SecondSway) → i + (h + swayDelay u) ≤ m
-          → ((j : ℕ) → j + h ≤ m → misfitOnce x w j ≡ pos 0) → misfitBy u x w i ≡ pos 0
+      by_first : (u : SecondSway) → i + (h + sway_delay u) ≤ m
+          → ((j : ℕ) → j + h ≤ m → misfit_once x w j ≡ pos 0) → misfit_by u x w i ≡ pos 0
       by_first Absent q fits = fits i (omega arith)
       by_first (HalfPeriod d) q fits = ap₂ (λ (y z : ℤ). y +ℤ z) (fits (i + d) (omega arith)) (fits i (omega arith))
 
@@ -228,19 +228,19 @@ module _ (x : Axis) (n : ℕ) (r : Plannable x n) where
       go : Swing x m w → misfit x w i ≡ pos 0
       go (first some fits) = by_first x.second_sway q fits
       go (second d e fits) =
-          let is : s ≡ d = ap swayDelay e in
+          let is : s ≡ d = ap sway_delay e in
           second-misfit x d w i e
           ∙ ap₂ (λ (y z : ℤ). A *ℤ y +ℤ B *ℤ z) (fits (i + h) (omega arith)) (fits i (omega arith))
           ∙ none A B
 
   pub cancelled-exact : (m : ℕ) (w : ℕ → ℤ) → n ≤ m → Swing x m w
-      → sway (λ k. blend (plannedAxis n x) k (λ s. s.acceleration)) w m n ≡ pos 0
+      → sway (λ k. blend (planned_axis n x) k (λ s. s.acceleration)) w m n ≡ pos 0
   cancelled-exact m w q g =
-      natAbs-zero (sway (λ k. blend (plannedAxis n x) k (λ s. s.acceleration)) w m n)
+      nat_abs-zero (sway (λ k. blend (planned_axis n x) k (λ s. s.acceleration)) w m n)
       (le_antisymm (le_trans (left-exact m 0 w q (none_left m w g)) (omega arith)) (omega arith))
 
   pub cancelled-rounded : (m G : ℕ) (w : ℕ → ℤ) → n ≤ m → Swing x m w → Bounded m G w
-      → nat_abs (sway (λ k. nearestQuotient (exact k) (bothDivisor x)) w m n) ≤ n * G
+      → nat_abs (sway (λ k. nearest_quotient (exact k) (both_divisor x)) w m n) ≤ n * G
   cancelled-rounded m G w q g b =
       le_of_mul-le-mul_left {k = divisor x}
       (le_trans (left-rounded m 0 G w q (none_left m w g) (λ i l p. b i p)) (omega arith)) (divisor-some x)

@@ -14,7 +14,7 @@ use lib.IntN.{ℤ, pos, nat_abs, ◌+ℤ◌, ◌-ℤ◌, ◌*ℤ◌}
 use Rattle.whole.proofs.Tests.{lt-choice, le-choice, lt-or-le}
 use Rattle.whole.proofs.Bounds.{add_holds, mul_holds}
 use Rattle.whole.proofs.Ring.{pol, same}
-use Rattle.model.specs.planning.Demand.{accelerationChange, sway}
+use Rattle.model.specs.planning.Demand.{acceleration_change, sway}
 use Rattle.theorems.specs.Misfit.{variation}
 
 -- the sway looks at rows 0 to k alone
@@ -69,7 +69,7 @@ module _ (A B : ℤ) (α w : ℕ → ℤ) (h m : ℕ) where
 
   -- ---- a change of the blend: the change now, and the change h ticks back
 
-  change-before : (k : ℕ) → k < h → accelerationChange exact k ≡ A *ℤ accelerationChange α k
+  change-before : (k : ℕ) → k < h → acceleration_change exact k ≡ A *ℤ acceleration_change α k
   change-before zero q =
       ap (λ (z : ℤ). A *ℤ α 0 +ℤ B *ℤ z) (back-before α h 0 q)
       ∙ same (A ∷ B ∷ α 0 ∷ []) (search pol depth 20 fits 9000) tt
@@ -79,7 +79,7 @@ module _ (A B : ℤ) (α w : ℕ → ℤ) (h m : ℕ) where
       ∙ same (A ∷ B ∷ α (suc k) ∷ α k ∷ []) (search pol depth 20 fits 9000) tt
 
   change-after : (k j : ℕ) → k ≡ h + j
-      → accelerationChange exact k ≡ A *ℤ accelerationChange α k +ℤ B *ℤ accelerationChange α j
+      → acceleration_change exact k ≡ A *ℤ acceleration_change α k +ℤ B *ℤ acceleration_change α j
   change-after zero zero e = ap (λ (z : ℤ). A *ℤ α 0 +ℤ B *ℤ z) (back-after α h 0 0 e)
   change-after zero (suc j) e = absurd (omega arith)
   change-after (suc k) zero e =
@@ -98,7 +98,7 @@ module _ (A B : ℤ) (α w : ℕ → ℤ) (h m : ℕ) where
       ∙ same (A ∷ α 0 ∷ w m ∷ []) (search pol depth 20 fits 9000) tt
   before (suc n) q =
       ap₂ (λ (y z : ℤ). y +ℤ z *ℤ w (m - suc n)) (before n (omega arith)) (change-before (suc n) q)
-      ∙ factored (sway α w m n) (accelerationChange α (suc n)) (w (m - suc n))
+      ∙ factored (sway α w m n) (acceleration_change α (suc n)) (w (m - suc n))
     where
       factored : (s a x : ℤ) → A *ℤ s +ℤ A *ℤ a *ℤ x ≡ A *ℤ (s +ℤ a *ℤ x)
       factored s a x = same (A ∷ s ∷ a ∷ x ∷ []) (search pol depth 20 fits 9000) tt
@@ -114,16 +114,16 @@ module _ (A B : ℤ) (α w : ℕ → ℤ) (h m : ℕ) where
   after zero (suc j) e = absurd (omega arith)
   after (suc n) zero e =
       ap₂ (λ (y z : ℤ). y +ℤ z *ℤ w (m - suc n)) (before n (omega arith)) (change-after (suc n) 0 e)
-      ∙ factored (sway α w m n) (accelerationChange α (suc n)) (α 0) (w (m - suc n))
+      ∙ factored (sway α w m n) (acceleration_change α (suc n)) (α 0) (w (m - suc n))
       ∙ ap (λ (i : ℕ). now (suc n) +ℤ B *ℤ (α 0 *ℤ w i)) (omega arith)
     where
       factored : (s a b x : ℤ) → A *ℤ s +ℤ (A *ℤ a +ℤ B *ℤ b) *ℤ x ≡ A *ℤ (s +ℤ a *ℤ x) +ℤ B *ℤ (b *ℤ x)
       factored s a b x = same (A ∷ B ∷ s ∷ a ∷ b ∷ x ∷ []) (search pol depth 20 fits 9000) tt
   after (suc n) (suc j) e =
       ap₂ (λ (y z : ℤ). y +ℤ z *ℤ w (m - suc n)) (after n j (omega arith)) (change-after (suc n) (suc j) e)
-      ∙ factored (sway α w m n) (sway α w (m - h) j) (accelerationChange α (suc n))
-      (accelerationChange α (suc j)) (w (m - suc n))
-      ∙ ap (λ (i : ℕ). now (suc n) +ℤ B *ℤ (sway α w (m - h) j +ℤ accelerationChange α (suc j) *ℤ w i)) (omega arith)
+      ∙ factored (sway α w m n) (sway α w (m - h) j) (acceleration_change α (suc n))
+      (acceleration_change α (suc j)) (w (m - suc n))
+      ∙ ap (λ (i : ℕ). now (suc n) +ℤ B *ℤ (sway α w (m - h) j +ℤ acceleration_change α (suc j) *ℤ w i)) (omega arith)
     where
       factored : (s u a b x : ℤ)
           → A *ℤ s +ℤ B *ℤ u +ℤ (A *ℤ a +ℤ B *ℤ b) *ℤ x ≡ A *ℤ (s +ℤ a *ℤ x) +ℤ B *ℤ (u +ℤ b *ℤ x)
@@ -134,8 +134,8 @@ module _ (A B : ℤ) (α w : ℕ → ℤ) (h m : ℕ) where
   together : (j : ℕ) → now j +ℤ late j ≡ sway α (smoothed A B w h) m j
   together zero = same (A ∷ B ∷ α 0 ∷ w m ∷ w (m - h) ∷ []) (search pol depth 20 fits 9000) tt
   together (suc j) =
-      grouped (sway α w m j) (sway α w (m - h) j) (accelerationChange α (suc j)) (w (m - suc j)) (w (m - h - suc j))
-      ∙ ap₂ (λ (y : ℤ) (i : ℕ). y +ℤ accelerationChange α (suc j) *ℤ (A *ℤ w (m - suc j) +ℤ B *ℤ w i))
+      grouped (sway α w m j) (sway α w (m - h) j) (acceleration_change α (suc j)) (w (m - suc j)) (w (m - h - suc j))
+      ∙ ap₂ (λ (y : ℤ) (i : ℕ). y +ℤ acceleration_change α (suc j) *ℤ (A *ℤ w (m - suc j) +ℤ B *ℤ w i))
       (together j) (omega arith)
     where
       grouped : (s u a x y : ℤ) → A *ℤ (s +ℤ a *ℤ x) +ℤ B *ℤ (u +ℤ a *ℤ y) ≡ A *ℤ s +ℤ B *ℤ u +ℤ a *ℤ (A *ℤ x +ℤ B *ℤ y)
@@ -169,13 +169,13 @@ module _ (A B : ℤ) (α w : ℕ → ℤ) (h m : ℕ) where
 pub sway-small : (a w : ℕ → ℤ) (m n E : ℕ) → ((i : ℕ) → m ≤ i + n → i ≤ m → nat_abs (w i) ≤ E)
     → nat_abs (sway a w m n) ≤ variation a n * E
 sway-small a w m zero E small =
-    mul_holds (accelerationChange a 0) (w m) (variation a 0) E (omega arith) (small m (omega arith) (omega arith))
+    mul_holds (acceleration_change a 0) (w m) (variation a 0) E (omega arith) (small m (omega arith) (omega arith))
 sway-small a w m (suc n) E small =
     subst (λ (b : ℕ). nat_abs (sway a w m (suc n)) ≤ b)
-    (sym (add-mul (variation a n) (nat_abs (accelerationChange a (suc n))) E))
-    (add_holds (sway a w m n) (accelerationChange a (suc n) *ℤ w (m - suc n)) _ _
+    (sym (add-mul (variation a n) (nat_abs (acceleration_change a (suc n))) E))
+    (add_holds (sway a w m n) (acceleration_change a (suc n) *ℤ w (m - suc n)) _ _
     (sway-small a w m n E (λ i p q. small i (omega arith) q))
-    (mul_holds (accelerationChange a (suc n)) (w (m - suc n)) (nat_abs (accelerationChange a (suc n))) E (omega arith)
+    (mul_holds (acceleration_change a (suc n)) (w (m - suc n)) (nat_abs (acceleration_change a (suc n))) E (omega arith)
     (small (m - suc n) (omega arith) (omega arith))))
 
 -- ---- two delays, one after the other

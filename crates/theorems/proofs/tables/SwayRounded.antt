@@ -8,11 +8,11 @@ use native.Mathlib.Omega.{arith}
 use native.Mathlib.Nat.{le_trans, add-mul, mul-suc}
 use lib.IntN.{ℤ, pos, neg_ℤ, nat_abs, ◌+ℤ◌, ◌-ℤ◌, ◌*ℤ◌, +ℤ_idl}
 use Rattle.whole.proofs.Differences.{whole, all₂}
-use Rattle.whole.proofs.Laws.{natAbs-*}
+use Rattle.whole.proofs.Laws.{nat_abs-*}
 use Rattle.whole.proofs.Bounds.{add_holds, mul_holds, neg-holds}
 use Rattle.whole.proofs.Ring.{pol, same}
 use Rattle.whole.proofs.Rounding.{WithinHalf, half-iff}
-use Rattle.model.specs.planning.Demand.{accelerationChange, sway}
+use Rattle.model.specs.planning.Demand.{acceleration_change, sway}
 use Rattle.theorems.specs.Misfit.{Entries}
 
 module _ (d e : ℕ) (even : d ≡ 2 * e) (x c w : ℕ → ℤ) (l m G : ℕ) (near : (k : ℕ) → WithinHalf (x k) d (c k))
@@ -27,7 +27,7 @@ module _ (d e : ℕ) (even : d ≡ 2 * e) (x c w : ℕ → ℤ) (l m G : ℕ) (n
       go : (x c : ℤ) → WithinHalf x d c → nat_abs (pos d *ℤ c -ℤ x) ≤ e
       go = all₂ _ (λ a b f g. simp (whole, half-iff) (omega arith))
 
-  change-small : (k : ℕ) → nat_abs (accelerationChange error (suc k)) ≤ e + e
+  change-small : (k : ℕ) → nat_abs (acceleration_change error (suc k)) ≤ e + e
   change-small k =
       add_holds (error (suc k)) (neg_ℤ (error k)) e e (error-small (suc k)) (neg-holds (error k) e (error-small k))
 
@@ -51,15 +51,15 @@ module _ (d e : ℕ) (even : d ≡ 2 * e) (x c w : ℕ → ℤ) (l m G : ℕ) (n
       le_trans (mul_holds (error 0) (w m) e G (error-small 0) (small m (omega arith) (omega arith))) (omega arith)
   grows (suc n) h =
       le_trans
-      (add_holds (sway error w m n) (accelerationChange error (suc n) *ℤ w (m - suc n)) (e * G + 2 * (e * G) * n)
+      (add_holds (sway error w m n) (acceleration_change error (suc n) *ℤ w (m - suc n)) (e * G + 2 * (e * G) * n)
       ((e + e) * G) (grows n (omega arith))
-      (mul_holds (accelerationChange error (suc n)) (w (m - suc n)) (e + e) G (change-small n)
+      (mul_holds (acceleration_change error (suc n)) (w (m - suc n)) (e + e) G (change-small n)
       (small (m - suc n) (omega arith) (omega arith))))
       (omega (arith, mul-suc (2 * (e * G)) n, add-mul e e G))
 
   -- the last row is exact
   module _ (n : ℕ) (some : suc n ≤ l) (whole_row : error (suc n) ≡ pos 0) where
-    last-small : nat_abs (accelerationChange error (suc n)) ≤ e
+    last-small : nat_abs (acceleration_change error (suc n)) ≤ e
     last-small =
         subst (λ (z : ℤ). nat_abs (z -ℤ error n) ≤ e) (sym whole_row)
         (subst (λ (z : ℤ). nat_abs z ≤ e) (sym (+ℤ_idl (neg_ℤ (error n)))) (neg-holds (error n) e (error-small n)))
@@ -67,9 +67,9 @@ module _ (d e : ℕ) (even : d ≡ 2 * e) (x c w : ℕ → ℤ) (l m G : ℕ) (n
     total : nat_abs (sway error w m (suc n)) ≤ d * (suc n * G)
     total =
         le_trans
-        (add_holds (sway error w m n) (accelerationChange error (suc n) *ℤ w (m - suc n)) (e * G + 2 * (e * G) * n)
+        (add_holds (sway error w m n) (acceleration_change error (suc n) *ℤ w (m - suc n)) (e * G + 2 * (e * G) * n)
         (e * G) (grows n (omega arith))
-        (mul_holds (accelerationChange error (suc n)) (w (m - suc n)) e G last-small
+        (mul_holds (acceleration_change error (suc n)) (w (m - suc n)) e G last-small
         (small (m - suc n) (omega arith) (omega arith))))
         (subst (λ (k : ℕ). e * G + 2 * (e * G) * n + e * G ≤ k * (suc n * G)) (sym even) (same_size e G n))
       where
@@ -79,5 +79,5 @@ module _ (d e : ℕ) (even : d ≡ 2 * e) (x c w : ℕ → ℤ) (l m G : ℕ) (n
     pub sway-rounded : (X : ℕ) → nat_abs (sway x w m (suc n)) ≤ X → d * nat_abs (sway c w m (suc n)) ≤ X + d * (suc n * G)
     sway-rounded X left =
         subst (λ (k : ℕ). k ≤ X + d * (suc n * G))
-        (ap nat_abs (sym (in_two (suc n))) ∙ natAbs-* (pos d) (sway c w m (suc n)))
+        (ap nat_abs (sym (in_two (suc n))) ∙ nat_abs-* (pos d) (sway c w m (suc n)))
         (add_holds (sway x w m (suc n)) (sway error w m (suc n)) X (d * (suc n * G)) left total)

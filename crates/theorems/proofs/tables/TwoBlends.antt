@@ -6,36 +6,36 @@ use mathlib.Core.Path.{◌≡◌, sym, ap, ap₂, ◌∙◌}
 use mathlib.Core.List.{[], ◌∷◌}
 use native.Mathlib.Omega.{arith}
 use lib.IntN.{ℤ, pos, ◌+ℤ◌, ◌*ℤ◌}
-use Rattle.whole.specs.Integers.{nearestQuotient}
+use Rattle.whole.specs.Integers.{nearest_quotient}
 use Rattle.whole.proofs.Differences.{whole, all₂}
 use Rattle.whole.proofs.Ring.{pol, same}
 use Rattle.whole.proofs.Rounding.{nearest-times}
 use Rattle.model.specs.declared.Axis.{Axis}
 use Rattle.model.specs.declared.SecondSway.{SecondSway}
 use Rattle.model.specs.declared.SecondSway.TheVariants.{Absent, HalfPeriod}
-use Rattle.model.specs.planning.Quantities.{swayDelay, secondHalfPeriod, finer}
+use Rattle.model.specs.planning.Quantities.{sway_delay, second_half_period, finer}
 use Rattle.model.specs.planning.Motion.{Tick}
-use Rattle.model.specs.planning.Rows.{PlannedAxis, blendOnce, blendBy, weightsBy, blend, divisor}
+use Rattle.model.specs.planning.Rows.{PlannedAxis, blend_once, blend_by, weights_by, blend, divisor}
 use Rattle.theorems.proofs.motions.Grid.{finer-range}
 
 abbrev pub both : PlannedAxis → ℕ → (Tick → ℤ) → ℤ
-both t k f = blendOnce t k 0 f +ℤ blendOnce t k (secondHalfPeriod t.axis) f
+both t k f = blend_once t k 0 f +ℤ blend_once t k (second_half_period t.axis) f
 
-abbrev pub bothDivisor : Axis → ℕ
-bothDivisor x = 512 * finer x
+abbrev pub both_divisor : Axis → ℕ
+both_divisor x = 512 * finer x
 
 -- how often the blend is in the two
-abbrev pub timesBy : SecondSway → ℕ
-timesBy Absent = 2
-timesBy (HalfPeriod d) = 1
+abbrev pub times_by : SecondSway → ℕ
+times_by Absent = 2
+times_by (HalfPeriod d) = 1
 
 abbrev pub times : Axis → ℕ
-times x = timesBy x.second_sway
+times x = times_by x.second_sway
 
 pub times-some : (x : Axis) → 0 < times x
 times-some x = go x.second_sway
   where
-    go : (s : SecondSway) → 0 < timesBy s
+    go : (s : SecondSway) → 0 < times_by s
     go Absent = omega arith
     go (HalfPeriod d) = omega arith
 
@@ -48,39 +48,39 @@ both_is t k f = go t.axis.second_sway
     once : (z : ℤ) → z ≡ pos 1 *ℤ z
     once z = same (z ∷ []) (search pol depth 20 fits 9000) tt
 
-    go : (s : SecondSway) → blendOnce t k 0 f +ℤ blendOnce t k (swayDelay s) f ≡ pos (timesBy s) *ℤ blendBy s t k f
-    go Absent = twice (blendOnce t k 0 f)
-    go (HalfPeriod d) = once (blendOnce t k 0 f +ℤ blendOnce t k d f)
+    go : (s : SecondSway) → blend_once t k 0 f +ℤ blend_once t k (sway_delay s) f ≡ pos (times_by s) *ℤ blend_by s t k f
+    go Absent = twice (blend_once t k 0 f)
+    go (HalfPeriod d) = once (blend_once t k 0 f +ℤ blend_once t k d f)
 
-pub weights-times : (s : SecondSway) (f : ℕ) → timesBy s * (weightsBy s * f) ≡ 512 * f
+pub weights-times : (s : SecondSway) (f : ℕ) → times_by s * (weights_by s * f) ≡ 512 * f
 weights-times Absent f = omega arith
 weights-times (HalfPeriod d) f = omega arith
 
-pub both_some : (x : Axis) → 0 < bothDivisor x
+pub both_some : (x : Axis) → 0 < both_divisor x
 both_some x = omega (arith, (finer-range x).0)
 
 pub divisor-some : (x : Axis) → 0 < divisor x
 divisor-some x = go x.second_sway
   where
-    go : (s : SecondSway) → 0 < weightsBy s * finer x
+    go : (s : SecondSway) → 0 < weights_by s * finer x
     go Absent = omega (arith, (finer-range x).0)
     go (HalfPeriod d) = omega (arith, (finer-range x).0)
 
 -- a cell in the one form
 module _ (t : PlannedAxis) (k : ℕ) (f : Tick → ℤ) where
-  pub cell-both : nearestQuotient (blend t k f) (divisor t.axis)
-      ≡ nearestQuotient (both t k f) (bothDivisor t.axis)
+  pub cell-both : nearest_quotient (blend t k f) (divisor t.axis)
+      ≡ nearest_quotient (both t k f) (both_divisor t.axis)
   cell-both =
       sym (nearest-times (times t.axis) (blend t k f) (divisor t.axis)
       (times-some t.axis) (divisor-some t.axis))
-      ∙ ap₂ nearestQuotient (sym (both_is t k f)) (weights-times t.axis.second_sway (finer t.axis))
+      ∙ ap₂ nearest_quotient (sym (both_is t k f)) (weights-times t.axis.second_sway (finer t.axis))
 
-  pub position-both : nearestQuotient (blend t k f) (2 * divisor t.axis)
-      ≡ nearestQuotient (both t k f) (2 * bothDivisor t.axis)
+  pub position-both : nearest_quotient (blend t k f) (2 * divisor t.axis)
+      ≡ nearest_quotient (both t k f) (2 * both_divisor t.axis)
   position-both =
       sym (nearest-times (times t.axis) (blend t k f) (2 * divisor t.axis) (times-some t.axis)
       (omega (arith, divisor-some t.axis)))
-      ∙ ap₂ nearestQuotient (sym (both_is t k f))
+      ∙ ap₂ nearest_quotient (sym (both_is t k f))
       (doubled (times t.axis) (divisor t.axis)
       ∙ ap (λ (d : ℕ). 2 * d) (weights-times t.axis.second_sway (finer t.axis)))
     where
@@ -89,7 +89,7 @@ module _ (t : PlannedAxis) (k : ℕ) (f : Tick → ℤ) where
 
 -- what both are exactly, the blend is
 pub blend-of-both : (t : PlannedAxis) (k : ℕ) (f : Tick → ℤ) (w : ℤ)
-    → both t k f ≡ pos (2 * bothDivisor t.axis) *ℤ w → blend t k f ≡ pos (2 * divisor t.axis) *ℤ w
+    → both t k f ≡ pos (2 * both_divisor t.axis) *ℤ w → blend t k f ≡ pos (2 * divisor t.axis) *ℤ w
 blend-of-both t k f w e = go t.axis.second_sway (blend t k f) (finer t.axis) (sym (both_is t k f) ∙ e)
   where
     halves : (z y : ℤ) → pos 2 *ℤ z ≡ pos 2 *ℤ y → z ≡ y
@@ -101,8 +101,8 @@ blend-of-both t k f w e = go t.axis.second_sway (blend t k f) (finer t.axis) (sy
     once : (z : ℤ) → z ≡ pos 1 *ℤ z
     once z = same (z ∷ []) (search pol depth 20 fits 9000) tt
 
-    go : (s : SecondSway) (z : ℤ) (g : ℕ) → pos (timesBy s) *ℤ z ≡ pos (2 * (512 * g)) *ℤ w
-        → z ≡ pos (2 * (weightsBy s * g)) *ℤ w
+    go : (s : SecondSway) (z : ℤ) (g : ℕ) → pos (times_by s) *ℤ z ≡ pos (2 * (512 * g)) *ℤ w
+        → z ≡ pos (2 * (weights_by s * g)) *ℤ w
     go Absent z g e =
         halves z (pos (2 * (256 * g)) *ℤ w)
         (e ∙ ap (λ (d : ℕ). pos d *ℤ w) {x = 2 * (512 * g)} {y = 2 * (2 * (256 * g))} (omega arith)

@@ -10,13 +10,13 @@ use mathlib.Core.Logic.{◌⊎◌, inl, inr}
 use lib.Dec.{eqb}
 use lib.IntN.{ℤ}
 use lib.ListN.{length, take}
-use Rattle.model.specs.planning.Job.{Job, setBits}
+use Rattle.model.specs.planning.Job.{Job, set_bits}
 use Rattle.model.specs.planning.Words.{kind, payload, Reading, got, wrong, Reader, ◌>>=◌, field, signed, next}
-use Rattle.model.specs.planning.Words.{positionBy, position}
-use Rattle.model.specs.planning.Words.{target, swayBy, secondSway, axis, axes, ending, readJob, afterMask}
+use Rattle.model.specs.planning.Words.{position_by, position}
+use Rattle.model.specs.planning.Words.{target, sway_by, second_sway, axis, axes, ending, read_job, after_mask}
 use Rattle.theorems.specs.Grammar.{AfterMask, WellFormed, Begins, FirstWrong}
-use Rattle.theorems.proofs.words.Walks.{Judged, Walk, after-mask-judges, afterMaskWalk, axesWalk, axisWalk, done}
-use Rattle.theorems.proofs.words.Walks.{either, ends, ofKind, positionWalk, swayWalk}
+use Rattle.theorems.proofs.words.Walks.{Judged, Walk, after-mask-judges, after_mask_walk, axes_walk, axis_walk, done}
+use Rattle.theorems.proofs.words.Walks.{either, ends, of_kind, position_walk, sway_walk}
 
 -- ---- a reader goes as a walk: where it reads a value, the walk goes on from there,
 -- and both find the same wrong word
@@ -37,8 +37,8 @@ then {A} {B} m f w d c g h i ws = go (m i ws) (w i ws) (g i ws)
     go (got a j vs) o e = subst (λ (z : Option ℕ). Follow (f a j vs) c z) (sym e) (h a j vs)
     go (wrong p) o e = e
 
-field-goes : (k : ℕ) (c : Walk) → Goes (field k) (ofKind k c) c
-unfolding ofKind
+field-goes : (k : ℕ) (c : Walk) → Goes (field k) (of_kind k c) c
+unfolding of_kind
 field-goes k c i [] = refl
 field-goes k c i (w ∷ ws) = go (eqb (kind w) k)
   where
@@ -48,8 +48,8 @@ field-goes k c i (w ∷ ws) = go (eqb (kind w) k)
     go true = refl
     go false = refl
 
-signed-goes : (k : ℕ) (c : Walk) → Goes (signed k) (ofKind k c) c
-signed-goes k c = then (field k) _ (ofKind k c) c c (field-goes k c) (λ n. λ i ws. refl)
+signed-goes : (k : ℕ) (c : Walk) → Goes (signed k) (of_kind k c) c
+signed-goes k c = then (field k) _ (of_kind k c) c c (field-goes k c) (λ n. λ i ws. refl)
 
 ahead : {A : Type 0} (k : ℕ) (f : Bool → Reader A) (a b c : Walk) → Goes (f true) a c → Goes (f false) b c
     → Goes (λ i ws. ◌>>=◌ (next k) f i ws) (either k a b) c
@@ -62,24 +62,24 @@ ahead k f a b c g h i (w ∷ ws) = go (eqb (kind w) k)
     go true = g i (w ∷ ws)
     go false = h i (w ∷ ws)
 
-position-goes : (k : ℕ) (c : Walk) → Goes (position k) (positionWalk k c) c
+position-goes : (k : ℕ) (c : Walk) → Goes (position k) (position_walk k c) c
 position-goes k c =
-    ahead 14 (λ long. positionBy long k) (ofKind 14 (ofKind k c)) (ofKind k c) c
-    (then (field 14) _ (ofKind 14 (ofKind k c)) (ofKind k c) c (field-goes 14 (ofKind k c))
-    (λ high. then (field k) _ (ofKind k c) c c (field-goes k c) (λ low. λ i ws. refl)))
+    ahead 14 (λ long. position_by long k) (of_kind 14 (of_kind k c)) (of_kind k c) c
+    (then (field 14) _ (of_kind 14 (of_kind k c)) (of_kind k c) c (field-goes 14 (of_kind k c))
+    (λ high. then (field k) _ (of_kind k c) c c (field-goes k c) (λ low. λ i ws. refl)))
     (signed-goes k c)
 
-sway-goes : (c : Walk) → Goes secondSway (swayWalk c) c
-sway-goes c = ahead 13 swayBy (ofKind 13 c) c c
-    (then (field 13) _ (ofKind 13 c) c c (field-goes 13 c) (λ d. λ i ws. refl)) (λ i ws. refl)
+sway-goes : (c : Walk) → Goes second_sway (sway_walk c) c
+sway-goes c = ahead 13 sway_by (of_kind 13 c) c c
+    (then (field 13) _ (of_kind 13 c) c c (field-goes 13 c) (λ d. λ i ws. refl)) (λ i ws. refl)
 
-target-goes : (p v : ℤ) (c : Walk) → Goes (target true p v) (ofKind 11 (ofKind 12 c)) c
+target-goes : (p v : ℤ) (c : Walk) → Goes (target true p v) (of_kind 11 (of_kind 12 c)) c
 target-goes p v c =
-    then (signed 11) _ (ofKind 11 (ofKind 12 c)) (ofKind 12 c) c (signed-goes 11 (ofKind 12 c))
-    (λ a. then (signed 12) _ (ofKind 12 c) c c (signed-goes 12 c) (λ t. λ i ws. refl))
+    then (signed 11) _ (of_kind 11 (of_kind 12 c)) (of_kind 12 c) c (signed-goes 11 (of_kind 12 c))
+    (λ a. then (signed 12) _ (of_kind 12 c) c c (signed-goes 12 c) (λ t. λ i ws. refl))
 
-axis-goes : (c : Walk) → Goes axis (axisWalk c) c
-unfolding axisWalk
+axis-goes : (c : Walk) → Goes axis (axis_walk c) c
+unfolding axis_walk
 axis-goes c =
     then (position 3) _ _ _ c (position-goes 3 _)
     (λ p₀. then (signed 4) _ _ _ c (signed-goes 4 _)
@@ -87,19 +87,19 @@ axis-goes c =
     (λ l. then (field 6) _ _ _ c (field-goes 6 _)
     (λ m. then (field 7) _ _ _ c (field-goes 7 _)
     (λ h. then (field 8) _ _ _ c (field-goes 8 _)
-    (λ b. then secondSway _ _ _ c (sway-goes _)
+    (λ b. then second_sway _ _ _ c (sway-goes _)
     (λ s. then (position 9) _ _ _ c (position-goes 9 _)
     (λ p. then (signed 10) _ _ _ c (signed-goes 10 _)
-    (λ v. ahead 11 _ (ofKind 11 (ofKind 12 c)) c c
-    (then (target true p v) _ (ofKind 11 (ofKind 12 c)) c c (target-goes p v c) (λ g. λ i ws. refl))
+    (λ v. ahead 11 _ (of_kind 11 (of_kind 12 c)) c c
+    (then (target true p v) _ (of_kind 11 (of_kind 12 c)) c c (target-goes p v c) (λ g. λ i ws. refl))
     (λ i ws. refl))))))))))
 
-axes-go : (ns : List ℕ) (c : Walk) → Goes (axes ns) (axesWalk ns c) c
-unfolding axesWalk
+axes-go : (ns : List ℕ) (c : Walk) → Goes (axes ns) (axes_walk ns c) c
+unfolding axes_walk
 axes-go [] c = λ i ws. refl
 axes-go (n ∷ ns) c =
-    then axis _ (axisWalk (axesWalk ns c)) (axesWalk ns c) c (axis-goes (axesWalk ns c))
-    (λ x. then (axes ns) _ (axesWalk ns c) c c (axes-go ns c) (λ xs. λ i ws. refl))
+    then axis _ (axis_walk (axes_walk ns c)) (axes_walk ns c) c (axis-goes (axes_walk ns c))
+    (λ x. then (axes ns) _ (axes_walk ns c) c c (axes-go ns c) (λ xs. λ i ws. refl))
 
 ending-goes : (j : Job) → Goes (ending j) ends done
 unfolding ends
@@ -117,12 +117,12 @@ ending-goes j i (w ∷ u ∷ ws) = go (eqb (kind w) 15 && eqb (payload w) 0)
     go true = refl
     go false = refl
 
-after-mask-goes : (m : ℕ) → Goes (afterMask m) (afterMaskWalk m) done
-unfolding afterMaskWalk
+after-mask-goes : (m : ℕ) → Goes (after_mask m) (after_mask_walk m) done
+unfolding after_mask_walk
 after-mask-goes m =
-    then (field 2) _ _ (axesWalk (setBits m) ends) done (field-goes 2 (axesWalk (setBits m) ends))
-    (λ asked. then (axes (setBits m)) _ (axesWalk (setBits m) ends) ends done (axes-go (setBits m) ends)
-    (λ xs. ending-goes (readJob m asked xs)))
+    then (field 2) _ _ (axes_walk (set_bits m) ends) done (field-goes 2 (axes_walk (set_bits m) ends))
+    (λ asked. then (axes (set_bits m)) _ (axes_walk (set_bits m) ends) ends done (axes-go (set_bits m) ends)
+    (λ xs. ending-goes (read_job m asked xs)))
 
 -- ---- the words of a job with its mask word
 
@@ -131,20 +131,20 @@ abbrev pub MaskWord : ℕ → Type 0
 MaskWord w = (kind w ≡ 1) × ((1 ≤ payload w) × (payload w ≤ 63))
 
 module _ (w : ℕ) (ws : List ℕ) (m : MaskWord w) where
-  found : (r : Reading Job) → afterMask (payload w) 1 ws ≡ r → Follow {A = Job} r done (afterMaskWalk (payload w) 1 ws)
-  found r e = subst (λ (r : Reading Job). Follow {A = Job} r done (afterMaskWalk (payload w) 1 ws)) e
+  found : (r : Reading Job) → after_mask (payload w) 1 ws ≡ r → Follow {A = Job} r done (after_mask_walk (payload w) 1 ws)
+  found r e = subst (λ (r : Reading Job). Follow {A = Job} r done (after_mask_walk (payload w) 1 ws)) e
       (after-mask-goes (payload w) 1 ws)
 
-  judged-as : (o : Option ℕ) → afterMaskWalk (payload w) 1 ws ≡ o → Judged (AfterMask (payload w)) 1 ws o
+  judged-as : (o : Option ℕ) → after_mask_walk (payload w) 1 ws ≡ o → Judged (AfterMask (payload w)) 1 ws o
   judged-as o e =
       subst (λ (o : Option ℕ). Judged (AfterMask (payload w)) 1 ws o) e ((after-mask-judges (payload w)).judged 1 ws)
 
   -- words that are read through are well formed
-  pub read_through : (j : Job) (i : ℕ) (vs : List ℕ) → afterMask (payload w) 1 ws ≡ got j i vs → WellFormed (w ∷ ws)
+  pub read_through : (j : Job) (i : ℕ) (vs : List ℕ) → after_mask (payload w) 1 ws ≡ got j i vs → WellFormed (w ∷ ws)
   read_through j i vs e = (m.0, (m.1, judged-as none (found (got j i vs) e)))
 
   -- where reading ends, the first wrong word is
-  pub first-wrong-word : (p : ℕ) → afterMask (payload w) 1 ws ≡ wrong p → FirstWrong WellFormed (w ∷ ws) p
+  pub first-wrong-word : (p : ℕ) → after_mask (payload w) 1 ws ≡ wrong p → FirstWrong WellFormed (w ∷ ws) p
   first-wrong-word p e = go (judged-as (some p) (found (wrong p) e))
     where
       by : (q : ℕ) → ((q < length ws) × (Begins (AfterMask (payload w)) (take (suc q) ws) → ⊥))

@@ -11,19 +11,19 @@ use lib.Dec.{eqb}
 use lib.IntN.{pos, negsuc}
 use lib.ListN.{get_elem?}
 use borrow.Author.Tests.{eq-eqb, eqb-true}
-use Rattle.model.specs.planning.Words.{kind, payload, twos, longPosition, between, fitsWord, longAllowed, firstBadLong}
+use Rattle.model.specs.planning.Words.{kind, payload, twos, long_position, between, fits_word, long_allowed, first_bad_long}
 use Rattle.theorems.specs.Verdict.{LongWrong, FirstLongWrong, NoneLongWrong}
 
 -- the test of refusal 14
 abbrev pub bad : ℕ → ℕ → Bool
-bad w u = eqb (kind w) 14 && not (longAllowed (payload w) (payload u))
+bad w u = eqb (kind w) 14 && not (long_allowed (payload w) (payload u))
 
 module _ (w u : ℕ) where
   abbrev small : Bool
   small = between (negsuc 63) (pos 63) (twos (payload w))
 
   abbrev single : Bool
-  single = fitsWord (longPosition (payload w) (payload u))
+  single = fits_word (long_position (payload w) (payload u))
 
   bad-wrong : bad w u ≡ true → LongWrong w u
   bad-wrong e = go (eqb (kind w) 14) small single refl refl refl e
@@ -36,7 +36,7 @@ module _ (w u : ℕ) where
 
   wrong-bad : LongWrong w u → bad w u ≡ true
   wrong-bad h =
-      ap (λ (a : Bool). a && not (longAllowed (payload w) (payload u))) (eq-eqb (kind w) 14 h.long) ∙ by h.wrong
+      ap (λ (a : Bool). a && not (long_allowed (payload w) (payload u))) (eq-eqb (kind w) 14 h.long) ∙ by h.wrong
     where
       by : (small ≡ false) ⊎ (single ≡ true) → not (small && not single) ≡ true
       by (inl s) = ap (λ (b : Bool). not (b && not single)) s
@@ -47,7 +47,7 @@ module _ (w u : ℕ) where
           never false = refl
 
 -- by how many words the index lies past i
-first_past : (i p : ℕ) (ws : List ℕ) → firstBadLong i ws ≡ some p → (q : ℕ) × ((p ≡ i + q) × FirstLongWrong ws q)
+first_past : (i p : ℕ) (ws : List ℕ) → first_bad_long i ws ≡ some p → (q : ℕ) × ((p ≡ i + q) × FirstLongWrong ws q)
 first_past i p [] e = absurd (let z : ◌≡◌ {A = ℕ} 0 1 = cc in omega arith)
 first_past i p (w ∷ []) e = absurd (let z : ◌≡◌ {A = ℕ} 0 1 = cc in omega arith)
 first_past i p (w ∷ u ∷ ws) e = go (bad w u) refl e (first_past (suc i) p (u ∷ ws))
@@ -78,8 +78,8 @@ first_past i p (w ∷ u ∷ ws) e = go (bad w u) refl e (first_past (suc i) p (u
         earlier (suc k) v y h a b l = f.before k v y (omega arith) a b l
 
     go : (b : Bool) → bad w u ≡ b → ◌≡◌ {A = Option ℕ}
-        (elim b as (λ _. Option ℕ) [ true ↦ some i | false ↦ firstBadLong (suc i) (u ∷ ws) ]) (some p)
-        → (firstBadLong (suc i) (u ∷ ws) ≡ some p → (q : ℕ) × ((p ≡ suc i + q) × FirstLongWrong (u ∷ ws) q))
+        (elim b as (λ _. Option ℕ) [ true ↦ some i | false ↦ first_bad_long (suc i) (u ∷ ws) ]) (some p)
+        → (first_bad_long (suc i) (u ∷ ws) ≡ some p → (q : ℕ) × ((p ≡ suc i + q) × FirstLongWrong (u ∷ ws) q))
         → (q : ℕ) × ((p ≡ i + q) × FirstLongWrong (w ∷ u ∷ ws) q)
     go true t e h =
         let is : i ≡ p = cc in (
@@ -98,22 +98,22 @@ first_past i p (w ∷ u ∷ ws) e = go (bad w u) refl e (first_past (suc i) p (u
         )
     go false t e h = later t (h e)
 
-pub first-long-wrong : (p : ℕ) (ws : List ℕ) → firstBadLong 0 ws ≡ some p → FirstLongWrong ws p
+pub first-long-wrong : (p : ℕ) (ws : List ℕ) → first_bad_long 0 ws ≡ some p → FirstLongWrong ws p
 first-long-wrong p ws e =
     let f = first_past 0 p ws e in
     let is : f.0 ≡ p = omega (arith, f.1.0) in
     subst (FirstLongWrong ws) is f.1.1
 
 -- where the test finds none, no word is wrong
-pub none-long-wrong : (i : ℕ) (ws : List ℕ) → firstBadLong i ws ≡ none → NoneLongWrong ws
+pub none-long-wrong : (i : ℕ) (ws : List ℕ) → first_bad_long i ws ≡ none → NoneLongWrong ws
 none-long-wrong i [] e k w u a b h = absurd (let z : ◌≡◌ {A = ℕ} 0 1 = cc in omega arith)
 none-long-wrong i (v ∷ []) e zero w u a b h = absurd (let z : ◌≡◌ {A = ℕ} 0 1 = cc in omega arith)
 none-long-wrong i (v ∷ []) e (suc k) w u a b h = absurd (let z : ◌≡◌ {A = ℕ} 0 1 = cc in omega arith)
 none-long-wrong i (v ∷ t ∷ ws) e k w u a b h = go (bad v t) refl e (none-long-wrong (suc i) (t ∷ ws)) k a b
   where
     go : (c : Bool) → bad v t ≡ c
-        → ◌≡◌ {A = Option ℕ} (elim c as (λ _. Option ℕ) [ true ↦ some i | false ↦ firstBadLong (suc i) (t ∷ ws) ]) none
-        → (firstBadLong (suc i) (t ∷ ws) ≡ none → NoneLongWrong (t ∷ ws))
+        → ◌≡◌ {A = Option ℕ} (elim c as (λ _. Option ℕ) [ true ↦ some i | false ↦ first_bad_long (suc i) (t ∷ ws) ]) none
+        → (first_bad_long (suc i) (t ∷ ws) ≡ none → NoneLongWrong (t ∷ ws))
         → (k : ℕ) → get_elem? (v ∷ t ∷ ws) k ≡ some w → get_elem? (v ∷ t ∷ ws) (suc k) ≡ some u → ⊥
     go true c e more k a b = let z : ◌≡◌ {A = ℕ} 0 1 = cc in omega arith
     go false c e more zero a b =

@@ -13,12 +13,12 @@ use Rattle.model.specs.declared.SecondSway.TheVariants.{Absent, HalfPeriod}
 use Rattle.model.specs.declared.Target.{Target}
 use Rattle.model.specs.declared.Target.TheVariants.{Fixed, Moving}
 use Rattle.model.specs.declared.Weight.TheVariants.{Given}
-use Rattle.model.specs.planning.Job.{Job, setBits}
-use Rattle.model.specs.planning.Words.{kind, payload, fitsWord, Reading, got, wrong, Reader, ◌>>=◌, give, field, signed}
-use Rattle.model.specs.planning.Words.{next, position, swayBy, secondSway, target, axis, axes, ending, readJob}
-use Rattle.model.specs.planning.Words.{afterMask, word}
-use Rattle.model.specs.planning.Refusals.{positionAllowed}
-use Rattle.theorems.specs.Spelling.{bits, positionWords, swayWords, axisWords, axesWords, jobWords, SwayInWords}
+use Rattle.model.specs.planning.Job.{Job, set_bits}
+use Rattle.model.specs.planning.Words.{kind, payload, fits_word, Reading, got, wrong, Reader, ◌>>=◌, give, field, signed}
+use Rattle.model.specs.planning.Words.{next, position, sway_by, second_sway, target, axis, axes, ending, read_job}
+use Rattle.model.specs.planning.Words.{after_mask, word}
+use Rattle.model.specs.planning.Refusals.{position_allowed}
+use Rattle.theorems.specs.Spelling.{bits, position_words, sway_words, axis_words, axes_words, job_words, SwayInWords}
 use Rattle.theorems.specs.Spelling.{TargetInWords, AxisInWords, AxesInWords, JobInWords, SpellsJob}
 use Rattle.theorems.proofs.words.Readers.{before, ending-gives}
 use Rattle.theorems.proofs.words.PositionSpelling.{Clean, clean-tail, value_of, rest_of, unread, field_is}
@@ -37,14 +37,14 @@ Spells {A} m enc P = (i : ℕ) (ws : List ℕ) (a : A) (j : ℕ) (vs : List ℕ)
 field-spells : (k : ℕ) → Spells (field k) (λ n. word k n ∷ []) (λ n. n < 2 ^ 28)
 field-spells k i ws n j vs c e = field_is k i ws n j vs e
 
-signed-spells : (k : ℕ) → Spells (signed k) (λ z. word k (bits z) ∷ []) (λ z. fitsWord z ≡ true)
+signed-spells : (k : ℕ) → Spells (signed k) (λ z. word k (bits z) ∷ []) (λ z. fits_word z ≡ true)
 signed-spells k i ws z j vs c e = signed_is k i ws z j vs e
 
 next-spells : (k : ℕ) → Spells (next k) (λ _. []) (λ _. Unit)
 next-spells k i [] b j vs c e = (rest_of e, tt)
 next-spells k i (w ∷ ws) b j vs c e = (rest_of e, tt)
 
-position-spells : (k : ℕ) → Spells (position k) (positionWords k) (λ p. positionAllowed p ≡ true)
+position-spells : (k : ℕ) → Spells (position k) (position_words k) (λ p. position_allowed p ≡ true)
 position-spells k i ws p j vs c e = position-is k i ws p j vs c e
 
 -- ---- readers one after another, `pre` putting in front of the words those that were read
@@ -91,15 +91,15 @@ assoc₂ {A} {B} {C} {D} m n f g i vs = outer (m i vs)
 
 -- ---- an axis, the axes, the job
 
-sway-spells : Spells secondSway swayWords SwayInWords
-sway-spells = then swayWords SwayInWords (λ vs. vs) (next 13) (λ _. []) (λ _. Unit) swayBy
+sway-spells : Spells second_sway sway_words SwayInWords
+sway-spells = then sway_words SwayInWords (λ vs. vs) (next 13) (λ _. []) (λ _. Unit) sway_by
     (next-spells 13) (λ b _. by b)
   where
-    by : (b : Bool) → Ends swayWords SwayInWords (λ vs. vs) (swayBy b)
+    by : (b : Bool) → Ends sway_words SwayInWords (λ vs. vs) (sway_by b)
     by true =
-        then swayWords SwayInWords (λ vs. vs) (field 13) (λ n. word 13 n ∷ []) _ _ (field-spells 13)
-        (λ d r. last swayWords SwayInWords (λ vs. word 13 d ∷ vs) (HalfPeriod d) (λ vs. refl) r)
-    by false = last swayWords SwayInWords (λ vs. vs) Absent (λ vs. refl) tt
+        then sway_words SwayInWords (λ vs. vs) (field 13) (λ n. word 13 n ∷ []) _ _ (field-spells 13)
+        (λ d r. last sway_words SwayInWords (λ vs. word 13 d ∷ vs) (HalfPeriod d) (λ vs. refl) r)
+    by false = last sway_words SwayInWords (λ vs. vs) Absent (λ vs. refl) tt
 
 module _ (p₀ v₀ : ℤ) (l m h b : ℕ) (s : SecondSway) (p v : ℤ) where
   toward : Target → Axis
@@ -116,37 +116,37 @@ module _ (p₀ v₀ : ℤ) (l m h b : ℕ) (s : SecondSway) (p v : ℤ) where
 
   unfoldable pub front : List ℕ → List ℕ
   front vs =
-      positionWords 3 p₀
+      position_words 3 p₀
       ++ (word 4 (bits v₀) ∷ word 5 l ∷ word 6 m ∷ word 7 h ∷ word 8 b
-      ∷ (swayWords s ++ (positionWords 9 p ++ (word 10 (bits v) ∷ vs))))
+      ∷ (sway_words s ++ (position_words 9 p ++ (word 10 (bits v) ∷ vs))))
 
   pub whole-front : (us vs : List ℕ)
       → front (us ++ vs)
-      ≡ (positionWords 3 p₀
+      ≡ (position_words 3 p₀
       ++ (word 4 (bits v₀) ∷ word 5 l ∷ word 6 m ∷ word 7 h ∷ word 8 b
-      ∷ (swayWords s ++ (positionWords 9 p ++ (word 10 (bits v) ∷ us))))) ++ vs
+      ∷ (sway_words s ++ (position_words 9 p ++ (word 10 (bits v) ∷ us))))) ++ vs
   unfolding front
   whole-front us vs =
-      ap (λ (ws : List ℕ). positionWords 3 p₀ ++ (word 4 (bits v₀) ∷ word 5 l ∷ word 6 m ∷ word 7 h ∷ word 8 b ∷ ws))
-      (ap (λ (ws : List ℕ). swayWords s ++ ws) (sym (append_assoc (positionWords 9 p) (word 10 (bits v) ∷ us) vs))
-      ∙ sym (append_assoc (swayWords s) _ vs))
-      ∙ sym (append_assoc (positionWords 3 p₀) _ vs)
+      ap (λ (ws : List ℕ). position_words 3 p₀ ++ (word 4 (bits v₀) ∷ word 5 l ∷ word 6 m ∷ word 7 h ∷ word 8 b ∷ ws))
+      (ap (λ (ws : List ℕ). sway_words s ++ ws) (sym (append_assoc (position_words 9 p) (word 10 (bits v) ∷ us) vs))
+      ∙ sym (append_assoc (sway_words s) _ vs))
+      ∙ sym (append_assoc (position_words 3 p₀) _ vs)
 
   target-ends : (moving : Bool) → ((g : Target) → TargetInWords g → AxisInWords (toward g))
-      → positionAllowed p ≡ true → fitsWord v ≡ true
-      → Ends axisWords AxisInWords front (λ i ws. ◌>>=◌ (target moving p v) (λ g. give (toward g)) i ws)
+      → position_allowed p ≡ true → fits_word v ≡ true
+      → Ends axis_words AxisInWords front (λ i ws. ◌>>=◌ (target moving p v) (λ g. give (toward g)) i ws)
   unfolding toward
   target-ends false inside pr vr =
-      last axisWords AxisInWords front (toward (Fixed (record { position = p; velocity = v })))
+      last axis_words AxisInWords front (toward (Fixed (record { position = p; velocity = v })))
       (λ vs. whole-front [] vs)
       (inside (Fixed (record { position = p; velocity = v }))
       (record { position = pr; velocity = vr; acceleration = refl; tick = refl }))
   target-ends true inside pr vr =
       λ i ws x j vs c e.
-      then axisWords AxisInWords front (signed 11) (λ z. word 11 (bits z) ∷ []) _ _ (signed-spells 11)
-      (λ a ar. then axisWords AxisInWords (λ us. front (word 11 (bits a) ∷ us)) (signed 12)
+      then axis_words AxisInWords front (signed 11) (λ z. word 11 (bits z) ∷ []) _ _ (signed-spells 11)
+      (λ a ar. then axis_words AxisInWords (λ us. front (word 11 (bits a) ∷ us)) (signed 12)
       (λ z. word 12 (bits z) ∷ []) _ _ (signed-spells 12)
-      (λ t tr. last axisWords AxisInWords (λ us. front (word 11 (bits a) ∷ word 12 (bits t) ∷ us)) (toward (moved a t))
+      (λ t tr. last axis_words AxisInWords (λ us. front (word 11 (bits a) ∷ word 12 (bits t) ∷ us)) (toward (moved a t))
       (λ us. whole-front (word 11 (bits a) ∷ word 12 (bits t) ∷ []) us)
       (inside (moved a t) (record { position = pr; velocity = vr; acceleration = ar; tick = tr }))))
       i ws x j vs c (sym (assoc₂ (signed 11) (signed 12) moved toward i ws) ∙ e)
@@ -154,19 +154,19 @@ module _ (p₀ v₀ : ℤ) (l m h b : ℕ) (s : SecondSway) (p v : ℤ) where
       moved : ℤ → ℤ → Target
       moved a t = Moving (record { position = p; velocity = v; acceleration = a; tick = t })
 
-axis-spells : Spells axis axisWords AxisInWords
+axis-spells : Spells axis axis_words AxisInWords
 unfolding front toward
 axis-spells =
-    then axisWords AxisInWords (λ vs. vs) (position 3) (positionWords 3) _ _ (position-spells 3)
-    (λ p₀ p₀r. then axisWords AxisInWords _ (signed 4) (λ z. word 4 (bits z) ∷ []) _ _ (signed-spells 4)
-    (λ v₀ v₀r. then axisWords AxisInWords _ (field 5) (λ n. word 5 n ∷ []) _ _ (field-spells 5)
-    (λ l lr. then axisWords AxisInWords _ (field 6) (λ n. word 6 n ∷ []) _ _ (field-spells 6)
-    (λ m mr. then axisWords AxisInWords _ (field 7) (λ n. word 7 n ∷ []) _ _ (field-spells 7)
-    (λ h hr. then axisWords AxisInWords _ (field 8) (λ n. word 8 n ∷ []) _ _ (field-spells 8)
-    (λ b br. then axisWords AxisInWords _ secondSway swayWords _ _ sway-spells
-    (λ s sr. then axisWords AxisInWords _ (position 9) (positionWords 9) _ _ (position-spells 9)
-    (λ p pr. then axisWords AxisInWords _ (signed 10) (λ z. word 10 (bits z) ∷ []) _ _ (signed-spells 10)
-    (λ v vr. then axisWords AxisInWords _ (next 11) (λ _. []) (λ _. Unit) _ (next-spells 11)
+    then axis_words AxisInWords (λ vs. vs) (position 3) (position_words 3) _ _ (position-spells 3)
+    (λ p₀ p₀r. then axis_words AxisInWords _ (signed 4) (λ z. word 4 (bits z) ∷ []) _ _ (signed-spells 4)
+    (λ v₀ v₀r. then axis_words AxisInWords _ (field 5) (λ n. word 5 n ∷ []) _ _ (field-spells 5)
+    (λ l lr. then axis_words AxisInWords _ (field 6) (λ n. word 6 n ∷ []) _ _ (field-spells 6)
+    (λ m mr. then axis_words AxisInWords _ (field 7) (λ n. word 7 n ∷ []) _ _ (field-spells 7)
+    (λ h hr. then axis_words AxisInWords _ (field 8) (λ n. word 8 n ∷ []) _ _ (field-spells 8)
+    (λ b br. then axis_words AxisInWords _ second_sway sway_words _ _ sway-spells
+    (λ s sr. then axis_words AxisInWords _ (position 9) (position_words 9) _ _ (position-spells 9)
+    (λ p pr. then axis_words AxisInWords _ (signed 10) (λ z. word 10 (bits z) ∷ []) _ _ (signed-spells 10)
+    (λ v vr. then axis_words AxisInWords _ (next 11) (λ _. []) (λ _. Unit) _ (next-spells 11)
     (λ moving _. target-ends p₀ v₀ l m h b s p v moving
     (λ g gr. record {
       position = p₀r;
@@ -181,16 +181,16 @@ axis-spells =
     })
     pr vr))))))))))
 
-axes-spells : (ns : List ℕ) → Spells (axes ns) axesWords (AxesInWords ns)
+axes-spells : (ns : List ℕ) → Spells (axes ns) axes_words (AxesInWords ns)
 axes-spells [] =
-    λ i ws xs j vs c e. ((λ l. axesWords (value_of e l) ++ rest_of e l), subst (AxesInWords []) (value_of e) tt)
+    λ i ws xs j vs c e. ((λ l. axes_words (value_of e l) ++ rest_of e l), subst (AxesInWords []) (value_of e) tt)
 axes-spells (n ∷ ns) =
-    then axesWords (AxesInWords (n ∷ ns)) (λ vs. vs) axis axisWords AxisInWords _ axis-spells
-    (λ x xr. then axesWords (AxesInWords (n ∷ ns)) (λ vs. axisWords x ++ vs) (axes ns) axesWords
+    then axes_words (AxesInWords (n ∷ ns)) (λ vs. vs) axis axis_words AxisInWords _ axis-spells
+    (λ x xr. then axes_words (AxesInWords (n ∷ ns)) (λ vs. axis_words x ++ vs) (axes ns) axes_words
     (AxesInWords ns) _ (axes-spells ns)
-    (λ xs r. last axesWords (AxesInWords (n ∷ ns)) (λ vs. axisWords x ++ (axesWords xs ++ vs))
+    (λ xs r. last axes_words (AxesInWords (n ∷ ns)) (λ vs. axis_words x ++ (axes_words xs ++ vs))
     (record { number = n; axis = x } ∷ xs)
-    (λ vs. sym (append_assoc (axisWords x) (axesWords xs) vs)) (refl, (xr, r))))
+    (λ vs. sym (append_assoc (axis_words x) (axes_words xs) vs)) (refl, (xr, r))))
 
 end-word : (w : ℕ) → eqb (kind w) 15 && eqb (payload w) 0 ≡ true → w ≡ word 15 0
 end-word w e = go (eqb (kind w) 15) (eqb (payload w) 0) (eqb-true (kind w) 15) (eqb-true (payload w) 0) e
@@ -218,16 +218,16 @@ ending-is j i (w ∷ u ∷ ws) o k vs e = go (eqb (kind w) 15 && eqb (payload w)
     go false e = absurd (unread e)
 
 pub read-spells : (m i : ℕ) (ws : List ℕ) (j : Job) (k : ℕ) (vs : List ℕ) → (1 ≤ m) × (m ≤ 63) → Clean ws
-    → afterMask m i ws ≡ got j k vs
+    → after_mask m i ws ≡ got j k vs
     → SpellsJob (word 1 m ∷ ws) j
 read-spells m i ws j k vs l c e =
-    let a = before (field 2) (λ asked. ◌>>=◌ (axes (setBits m)) (λ xs. ending (readJob m asked xs))) i ws j k vs e in
-    let b = before (axes (setBits m)) (λ xs. ending (readJob m a.value xs)) a.index a.rest j k vs a.then in
+    let a = before (field 2) (λ asked. ◌>>=◌ (axes (set_bits m)) (λ xs. ending (read_job m asked xs))) i ws j k vs e in
+    let b = before (axes (set_bits m)) (λ xs. ending (read_job m a.value xs)) a.index a.rest j k vs a.then in
     let first = field_is 2 i ws a.value a.index a.rest a.first in
     let second =
-    axes-spells (setBits m) a.index a.rest b.value b.index b.rest
+    axes-spells (set_bits m) a.index a.rest b.value b.index b.rest
     (clean-tail _ a.rest (subst Clean first.0 c)) b.first in
-    let read : Job = readJob m a.value b.value in
+    let read : Job = read_job m a.value b.value in
     let end = ending-is read b.index b.rest j k vs b.then in
     let same = ending-gives read b.index b.rest j k vs b.then in
     record {
@@ -242,6 +242,6 @@ read-spells m i ws j k vs l c e =
       words =
           ap (λ (us : List ℕ). word 1 m ∷ us)
           (first.0 ∙ ap (λ (us : List ℕ). word 2 a.value ∷ us)
-          (second.0 ∙ ap (λ (us : List ℕ). axesWords b.value ++ us) end))
-          ∙ ap jobWords same;
+          (second.0 ∙ ap (λ (us : List ℕ). axes_words b.value ++ us) end))
+          ∙ ap job_words same;
     }

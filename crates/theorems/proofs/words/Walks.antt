@@ -11,7 +11,7 @@ use mathlib.Core.Logic.{◌⊎◌, inl, inr}
 use lib.Dec.{eqb}
 use lib.ListN.{length, take, drop, take-append-drop}
 use borrow.Author.Tests.{eq-eqb, eqb-true}
-use Rattle.model.specs.planning.Job.{setBits}
+use Rattle.model.specs.planning.Job.{set_bits}
 use Rattle.model.specs.planning.Words.{kind, payload, word}
 use Rattle.theorems.specs.Grammar.{Form, OfKind, Either, PositionForm, SwayForm, MovingForm, AxisForm}
 use Rattle.theorems.specs.Grammar.{AxesForm, EndForm, AfterMask, Begins, FirstWrong}
@@ -25,9 +25,9 @@ abbrev pub done : Walk
 done i ws = none
 
 -- a word of kind k, and then c
-unfoldable pub ofKind : ℕ → Walk → Walk
-ofKind k c i [] = some i
-ofKind k c i (w ∷ ws) = elim (eqb (kind w) k) [ true ↦ c (suc i) ws | false ↦ some i ]
+unfoldable pub of_kind : ℕ → Walk → Walk
+of_kind k c i [] = some i
+of_kind k c i (w ∷ ws) = elim (eqb (kind w) k) [ true ↦ c (suc i) ws | false ↦ some i ]
 
 -- a where a word of kind k comes next, else b
 unfoldable pub either : ℕ → Walk → Walk → Walk
@@ -69,8 +69,8 @@ module _ (k : ℕ) (c : Walk) (f : Form) (j : Judges c f) where
       by (inl (l, n)) = inl (omega (arith, l), λ b. n (b.0, b.1.1))
       by (inr (l, n)) = inr (ap suc l, λ b. n b.1)
 
-  of-kind : Judges (ofKind k c) (OfKind k f)
-  unfolding ofKind
+  of-kind : Judges (of_kind k c) (OfKind k f)
+  unfolding of_kind
   of-kind = record { judged = go; some-are = of-kind-are }
     where
       at : (i w : ℕ) (ws : List ℕ) (b : Bool) → eqb (kind w) k ≡ b
@@ -87,7 +87,7 @@ module _ (k : ℕ) (c : Walk) (f : Form) (j : Judges c f) where
         ),
       )
 
-      go : (i : ℕ) (ws : List ℕ) → Judged (OfKind k f) i ws (ofKind k c i ws)
+      go : (i : ℕ) (ws : List ℕ) → Judged (OfKind k f) i ws (of_kind k c i ws)
       go i [] = (0, (omega arith, record { before = of-kind-are; here = inr (refl, λ b. b) }))
       go i (w ∷ ws) = at i w ws (eqb (kind w) k) refl
 
@@ -221,46 +221,46 @@ ends-judges = record { judged = go; some-are = are }
 
 -- ---- the words of a job
 
-abbrev pub positionWalk : ℕ → Walk → Walk
-positionWalk k c = either 14 (ofKind 14 (ofKind k c)) (ofKind k c)
+abbrev pub position_walk : ℕ → Walk → Walk
+position_walk k c = either 14 (of_kind 14 (of_kind k c)) (of_kind k c)
 
-abbrev pub swayWalk : Walk → Walk
-swayWalk c = either 13 (ofKind 13 c) c
+abbrev pub sway_walk : Walk → Walk
+sway_walk c = either 13 (of_kind 13 c) c
 
-abbrev movingWalk : Walk → Walk
-movingWalk c = either 11 (ofKind 11 (ofKind 12 c)) c
+abbrev moving_walk : Walk → Walk
+moving_walk c = either 11 (of_kind 11 (of_kind 12 c)) c
 
-unfoldable pub axisWalk : Walk → Walk
-axisWalk c =
-    positionWalk 3
-    (ofKind 4 (ofKind 5 (ofKind 6 (ofKind 7 (ofKind 8 (swayWalk (positionWalk 9 (ofKind 10 (movingWalk c)))))))))
+unfoldable pub axis_walk : Walk → Walk
+axis_walk c =
+    position_walk 3
+    (of_kind 4 (of_kind 5 (of_kind 6 (of_kind 7 (of_kind 8 (sway_walk (position_walk 9 (of_kind 10 (moving_walk c)))))))))
 
-unfoldable pub axesWalk : List ℕ → Walk → Walk
-axesWalk [] c = c
-axesWalk (n ∷ ns) c = axisWalk (axesWalk ns c)
+unfoldable pub axes_walk : List ℕ → Walk → Walk
+axes_walk [] c = c
+axes_walk (n ∷ ns) c = axis_walk (axes_walk ns c)
 
-unfoldable pub afterMaskWalk : ℕ → Walk
-afterMaskWalk m = ofKind 2 (axesWalk (setBits m) ends)
+unfoldable pub after_mask_walk : ℕ → Walk
+after_mask_walk m = of_kind 2 (axes_walk (set_bits m) ends)
 
 position-judges : (k : ℕ) (c : Walk) (f : Form) → (14 ≡ k → ⊥) → Judges c f
-    → Judges (positionWalk k c) (PositionForm k f)
+    → Judges (position_walk k c) (PositionForm k f)
 position-judges k c f n j =
     let one = of-kind k c f j in
-    of_either 14 _ _ (OfKind k f) (OfKind k f) (of-kind 14 (ofKind k c) (OfKind k f) one) one (other-kind 14 k f n)
+    of_either 14 _ _ (OfKind k f) (OfKind k f) (of-kind 14 (of_kind k c) (OfKind k f) one) one (other-kind 14 k f n)
 
 position-shuns : (l k : ℕ) (f : Form) → (l ≡ 14 → ⊥) → (l ≡ k → ⊥) → Shuns l (PositionForm k f)
 position-shuns l k f a b =
     other-either l (OfKind 14 (OfKind k f)) (OfKind k f) (other-kind l 14 (OfKind k f) a) (other-kind l k f b)
 
-sway-judges : (c : Walk) (f : Form) → Shuns 13 f → Judges c f → Judges (swayWalk c) (SwayForm f)
-sway-judges c f n j = of_either 13 (ofKind 13 c) c f f (of-kind 13 c f j) j n
+sway-judges : (c : Walk) (f : Form) → Shuns 13 f → Judges c f → Judges (sway_walk c) (SwayForm f)
+sway-judges c f n j = of_either 13 (of_kind 13 c) c f f (of-kind 13 c f j) j n
 
-moving-judges : (c : Walk) (f : Form) → Shuns 11 f → Judges c f → Judges (movingWalk c) (MovingForm f)
-moving-judges c f n j = of_either 11 (ofKind 11 (ofKind 12 c)) c (OfKind 12 f) f
-    (of-kind 11 (ofKind 12 c) (OfKind 12 f) (of-kind 12 c f j)) j n
+moving-judges : (c : Walk) (f : Form) → Shuns 11 f → Judges c f → Judges (moving_walk c) (MovingForm f)
+moving-judges c f n j = of_either 11 (of_kind 11 (of_kind 12 c)) c (OfKind 12 f) f
+    (of-kind 11 (of_kind 12 c) (OfKind 12 f) (of-kind 12 c f j)) j n
 
-axis-judges : (c : Walk) (f : Form) → Shuns 11 f → Judges c f → Judges (axisWalk c) (AxisForm f)
-unfolding axisWalk
+axis-judges : (c : Walk) (f : Form) → Shuns 11 f → Judges c f → Judges (axis_walk c) (AxisForm f)
+unfolding axis_walk
 axis-judges c f n j =
     position-judges 3 _ _ (λ e. omega (arith, e))
     (of-kind 4 _ _ (of-kind 5 _ _ (of-kind 6 _ _ (of-kind 7 _ _ (of-kind 8 _ _
@@ -272,14 +272,14 @@ axes-shun : (ns : List ℕ) → Shuns 11 (AxesForm ns EndForm)
 axes-shun [] w ws e h = let a : kind w ≡ 15 = h.0 in omega arith
 axes-shun (n ∷ ns) w ws e h = position-shuns 11 3 _ (λ e. omega (arith, e)) (λ e. omega (arith, e)) w ws e h
 
-axes-judges : (ns : List ℕ) → Judges (axesWalk ns ends) (AxesForm ns EndForm)
-unfolding axesWalk
+axes-judges : (ns : List ℕ) → Judges (axes_walk ns ends) (AxesForm ns EndForm)
+unfolding axes_walk
 axes-judges [] = ends-judges
-axes-judges (n ∷ ns) = axis-judges (axesWalk ns ends) (AxesForm ns EndForm) (axes-shun ns) (axes-judges ns)
+axes-judges (n ∷ ns) = axis-judges (axes_walk ns ends) (AxesForm ns EndForm) (axes-shun ns) (axes-judges ns)
 
-pub after-mask-judges : (m : ℕ) → Judges (afterMaskWalk m) (AfterMask m)
-unfolding afterMaskWalk
-after-mask-judges m = of-kind 2 (axesWalk (setBits m) ends) (AxesForm (setBits m) EndForm) (axes-judges (setBits m))
+pub after-mask-judges : (m : ℕ) → Judges (after_mask_walk m) (AfterMask m)
+unfolding after_mask_walk
+after-mask-judges m = of-kind 2 (axes_walk (set_bits m) ends) (AxesForm (set_bits m) EndForm) (axes-judges (set_bits m))
 
 -- ---- there is one first wrong word only, and none in words of the form
 

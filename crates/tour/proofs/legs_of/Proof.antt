@@ -1,6 +1,6 @@
 use Rattle.model.specs.declared.Answer.{Answer}
 use Rattle.stops.specs.declared.LegRow.{LegRow}
-use Rattle.stops.specs.Parts.{legsIn}
+use Rattle.stops.specs.Parts.{legs_in}
 use borrow.Author.Rules.{rules}
 use Prim.Native.Nat.{ℕ, ◌+◌, ◌-◌, ◌*◌, ◌≤◌}
 use native.Mathlib.Omega.{arith}
@@ -8,17 +8,17 @@ use mathlib.Core.Path.{◌≡◌, refl, sym, ap, ◌∙◌}
 use mathlib.Core.Option.{none}
 use mathlib.Core.List.{[], ◌∷◌, ◌++◌}
 use lib.ListN.{length, get_or, take, drop, length-set}
-use Rattle.model.specs.calls.Tour.{legsFrom, firstLongDwell, refusedLeg, allLegs}
-use Rattle.stops.proofs.Legs.{short, leg-refused, leg-made, legs-made, stored_next, refused-row, emptyStop}
+use Rattle.model.specs.calls.Tour.{legs_from, first_long_dwell, refused_leg, all_legs}
+use Rattle.stops.proofs.Legs.{short, leg-refused, leg-made, legs-made, stored_next, refused-row, empty_stop}
 use Rattle.tour.proofs.legs_of.Statement.{statement}
 use Rattle.tour.proofs.legs_of.Tie as tie
 
 abbrev invariant-loop : tie.invariant-loop
 invariant-loop settings count stops arrivals₀ here₀ tick₀ i₀ arrivals here tick i =
     record {
-      legs : legsFrom settings (drop i (take count stops)) tick here (take i arrivals)
-          ≡ legsFrom settings (take count stops) 0 settings.start [];
-      dwells : firstLongDwell i (drop i (take count stops)) ≡ none;
+      legs : legs_from settings (drop i (take count stops)) tick here (take i arrivals)
+          ≡ legs_from settings (take count stops) 0 settings.start [];
+      dwells : first_long_dwell i (drop i (take count stops)) ≡ none;
       low : i ≤ count;
       ticks : tick ≤ i * 8192;
       long : length arrivals ≡ 64;
@@ -59,10 +59,10 @@ returns c =
     let refuses = c.before.if1.true in
     let few : a.count ≤ length a.t2 = omega arith in
     let is = q.ensures.is in
-    ap (λ (g : LegRow). legsIn g a.count) c.leg-row.ensures
+    ap (λ (g : LegRow). legs_in g a.count) c.leg-row.ensures
     ∙ refused-row q.result l.i a.count l.arrivals refuses (omega arith)
-    ∙ ap (λ (r : Answer). refusedLeg r (length (take l.i l.arrivals))) is
-    ∙ sym (leg-refused a.t2 a.count few a.settings l.tick l.here l.i emptyStop
+    ∙ ap (λ (r : Answer). refused_leg r (length (take l.i l.arrivals))) is
+    ∙ sym (leg-refused a.t2 a.count few a.settings l.tick l.here l.i empty_stop
     (omega arith) (take l.i l.arrivals)
     (λ z. refuses (ap (λ (r : Answer). r.number) is ∙ z)))
     ∙ l.invariant.legs
@@ -87,7 +87,7 @@ add-tick c =
     let late = c.before.before.before.before.leg-answer.ensures.last in
     let ticks = l.invariant.ticks in
     let few : a.count ≤ length a.t2 = omega arith in
-    let stays = (short a.t2 a.count few l.i emptyStop (omega arith) l.invariant.dwells).0 in
+    let stays = (short a.t2 a.count few l.i empty_stop (omega arith) l.invariant.dwells).0 in
     omega arith
 
 add-i : tie.Need-overflow-add-i invariant-loop decreases-loop
@@ -104,20 +104,20 @@ loop-again c =
     let late = q.ensures.last in
     let ticks = l.invariant.ticks in
     let few : a.count ≤ length a.t2 = omega arith in
-    let stop = get_or a.t2 l.i emptyStop in
-    let stays = short a.t2 a.count few l.i emptyStop (omega arith) l.invariant.dwells in
+    let stop = get_or a.t2 l.i empty_stop in
+    let stays = short a.t2 a.count few l.i empty_stop (omega arith) l.invariant.dwells in
     let stay = stays.0 in
     let is = q.ensures.is in
     let tick = l.tick + q.result.arrival in
     let zero = c.before.before.if1.false in
-    let made = leg-made a.t2 a.count few a.settings l.tick l.here l.i emptyStop
+    let made = leg-made a.t2 a.count few a.settings l.tick l.here l.i empty_stop
     (omega arith) (take l.i l.arrivals)
     (sym (ap (λ (r : Answer). r.number) is) ∙ zero) in
     record {
       legs =
-          ap (legsFrom a.settings (drop (l.i + 1) (take a.count a.t2)) (tick + stop.dwell) stop.positions)
+          ap (legs_from a.settings (drop (l.i + 1) (take a.count a.t2)) (tick + stop.dwell) stop.positions)
           (stored_next l.arrivals l.i tick (omega arith))
-          ∙ ap (λ (r : Answer). legsFrom a.settings (drop (l.i + 1) (take a.count a.t2))
+          ∙ ap (λ (r : Answer). legs_from a.settings (drop (l.i + 1) (take a.count a.t2))
           (l.tick + r.arrival + stop.dwell) stop.positions
           (take l.i l.arrivals ++ ((l.tick + r.arrival) ∷ []))) is
           ∙ sym made
@@ -138,8 +138,8 @@ returns-2 c =
     let a = c.before.before.before.before.args in
     let few : a.count ≤ length a.t2 = omega arith in
     let all : a.count ≡ l.i = omega arith in
-    ap (λ (g : LegRow). legsIn g a.count) c.leg-row2.ensures
-    ∙ ap (λ (k : ℕ). allLegs a.settings l.tick (take k l.arrivals)) all
+    ap (λ (g : LegRow). legs_in g a.count) c.leg-row2.ensures
+    ∙ ap (λ (k : ℕ). all_legs a.settings l.tick (take k l.arrivals)) all
     ∙ sym (legs-made a.t2 a.count few a.settings l.tick l.here l.i
     (take l.i l.arrivals) (omega arith))
     ∙ l.invariant.legs

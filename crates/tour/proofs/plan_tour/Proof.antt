@@ -53,7 +53,7 @@ use Rattle.model.proofs.TourSettings.TheLaws as N'
 use Rattle.model.specs.contracts.TourAnswer as R
 use Rattle.model.proofs.TourAnswer.TheLaws as R'
 use Rattle.stops.specs.declared.StopRow.{StopRow}
-use Rattle.stops.specs.Rows.{row_of, rowStops}
+use Rattle.stops.specs.Rows.{row_of, row_stops}
 use Rattle.stops.specs.Promise.{TourPromise}
 use Rattle.stops.proofs.Held.{IsRow, head-is, row_is}
 use Rattle.stops.proofs.Locals.{gave, here, copied, copied-in, plain-owned, ended}
@@ -188,7 +188,7 @@ module _ {M : Type 1} {𝓤 : Ura M} (𝓛 : Logic 𝓤) (mem : Memory → SProp
     TourEnsures = ensured 𝓛 tour.ended (tour.clauses 𝓛 mem run) (κ', tt) (d, (row-given, (y, tt))) tt
 
     abbrev Told : TourAnswer → List ℕ → Type 0
-    Told r zs = TourPromise d (rowStops row-given) y.now r zs
+    Told r zs = TourPromise d (row_stops row-given) y.now r zs
 
     abbrev last-list : TourAnswer → Unit {0} × (Unit {0} × (List ℕ × Unit {0})) → Item 𝓤
     last-list r zs = ‵ (lasts tour.ended (κ', tt) (d, (row-given, (y, tt))) zs) ⊛ raw (fact 𝓤 (Told r zs.1.1.0))

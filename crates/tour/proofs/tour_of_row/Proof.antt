@@ -6,9 +6,9 @@ use mathlib.Core.List.{List}
 use lib.ListN.{take, length-map}
 use Rattle.model.specs.declared.Stop.{Stop}
 use Rattle.model.specs.declared.TourAnswer.{TourAnswer}
-use Rattle.model.specs.calls.Tour.{TourOutcome, firstLongDwell, tourBy, tourOutcomeOf}
-use Rattle.stops.specs.Parts.{foundStop}
-use Rattle.stops.specs.Rows.{rowStops}
+use Rattle.model.specs.calls.Tour.{TourOutcome, first_long_dwell, tour_by, tour_outcome_of}
+use Rattle.stops.specs.Parts.{found_stop}
+use Rattle.stops.specs.Rows.{row_stops}
 use Rattle.stops.specs.Promise.{TourPromise}
 use Rattle.stops.proofs.Promise.{row-promise}
 use Rattle.stops.proofs.Outcomes.{no-stops, many-stops, long-dwell, leg-refused, list-short, list_written}
@@ -21,16 +21,16 @@ abbrev held : tie.Start → List Stop
 held s = take s.args.row.lent s.args.row.stops
 
 abbrev outcome : tie.Start → TourOutcome
-outcome s = tourBy s.args.settings s.args.row.lent (held s) s.args.arrivals.now
+outcome s = tour_by s.args.settings s.args.row.lent (held s) s.args.arrivals.now
 
 -- the promise for an answer q that is r, where r with the last list makes that outcome
-promised : (s : tie.Start) (q r : TourAnswer) (exit : List ℕ) → q ≡ r → tourOutcomeOf r exit ≡ outcome s
-    → TourPromise s.args.settings (rowStops s.args.row) s.args.arrivals.now q exit
+promised : (s : tie.Start) (q r : TourAnswer) (exit : List ℕ) → q ≡ r → tour_outcome_of r exit ≡ outcome s
+    → TourPromise s.args.settings (row_stops s.args.row) s.args.arrivals.now q exit
 promised s q r exit e is =
     let a = s.args in
     let long = simp length-map at s.well-formed.1.0.1.1.0.1.0.1 in
     row-promise a.settings a.arrivals.now q exit a.row long
-    (ap (λ (z : TourAnswer). tourOutcomeOf z exit) e ∙ is)
+    (ap (λ (z : TourAnswer). tour_outcome_of z exit) e ∙ is)
 
 tour-answer-requires : tie.Need-tour-answer-requires
 tour-answer-requires c κs = search rules
@@ -78,15 +78,15 @@ returns-3 c =
     let a = s.args in
     let lent = a.arrivals.now in
     let few : a.row.lent ≤ 64 = omega arith in
-    let at = sym (ap foundStop c.before.before.long.given.1) ∙ d.first-long-dwell.ensures in
+    let at = sym (ap found_stop c.before.before.long.given.1) ∙ d.first-long-dwell.ensures in
     promised s _ _ lent c.tour-answer3.ensures
     (long-dwell a.settings a.row.lent (held s) lent (lends d).if1.false few _ at)
 
 enum_told : tie.Need-enum-told
 enum_told c = search rules
 
-none-long : (c : tie.After-enum-told) → none ≡ firstLongDwell 0 (held (start c.before.before))
-none-long c = sym (ap foundStop c.enum_told.given.1) ∙ c.before.before.first-long-dwell.ensures
+none-long : (c : tie.After-enum-told) → none ≡ first_long_dwell 0 (held (start c.before.before))
+none-long c = sym (ap found_stop c.enum_told.given.1) ∙ c.before.before.first-long-dwell.ensures
 
 legs-of-requires : tie.Need-legs-of-requires
 legs-of-requires c κs = (omega arith, sym (none-long c))

@@ -7,7 +7,7 @@ use lib.Seq.{length-take-le}
 use borrow.Author.Rules.{rules}
 use borrow.Author.Tests.{not-true, not-false}
 use Rattle.model.specs.declared.Window.{Window}
-use Rattle.model.specs.planning.Windows.{firstWrongWindow}
+use Rattle.model.specs.planning.Windows.{first_wrong_window}
 use Rattle.windows.proofs.Listed.{wrong-here, wrong-later, ended}
 use Rattle.windows.proofs.first_wrong.Statement.{statement}
 use Rattle.windows.proofs.first_wrong.Tie as tie
@@ -15,7 +15,7 @@ use Rattle.windows.proofs.first_wrong.Tie as tie
 abbrev invariant-loop : tie.invariant-loop
 invariant-loop count list closed₀ i₀ closed i =
     record {
-      rest : firstWrongWindow i closed (drop i (take count list)) ≡ firstWrongWindow 0 0 (take count list);
+      rest : first_wrong_window i closed (drop i (take count list)) ≡ first_wrong_window 0 0 (take count list);
       low : i ≤ count;
       long : length (take count list) ≡ count;
     }
@@ -68,7 +68,7 @@ returns-2 : tie.Need-returns-2 invariant-loop decreases-loop
 returns-2 c =
     let l = c.before.loop in
     let a = c.before.before.args in
-    sym (ap (λ (r : List Window). firstWrongWindow l.i l.closed r)
+    sym (ap (λ (r : List Window). first_wrong_window l.i l.closed r)
     (ended (take a.count a.t1) l.i (omega (arith, l.invariant.long)))) ∙ l.invariant.rest
 
 pub first-wrong-spec : {M : Type 1} → statement M

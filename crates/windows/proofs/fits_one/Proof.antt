@@ -5,7 +5,7 @@ use mathlib.Core.List.{List}
 use lib.ListN.{length, take, drop}
 use lib.Seq.{length-take-le}
 use Rattle.model.specs.declared.Window.{Window}
-use Rattle.model.specs.planning.Windows.{fitsOne}
+use Rattle.model.specs.planning.Windows.{fits_one}
 use Rattle.windows.proofs.Listed.{fits-here, fits-later, ended}
 use Rattle.windows.proofs.fits_one.Statement.{statement}
 use Rattle.windows.proofs.fits_one.Tie as tie
@@ -13,7 +13,7 @@ use Rattle.windows.proofs.fits_one.Tie as tie
 abbrev invariant-loop : tie.invariant-loop
 invariant-loop tick dwell count list i₀ i =
     record {
-      rest : fitsOne tick dwell (drop i (take count list)) ≡ fitsOne tick dwell (take count list);
+      rest : fits_one tick dwell (drop i (take count list)) ≡ fits_one tick dwell (take count list);
       low : i ≤ count;
       long : length (take count list) ≡ count;
     }
@@ -65,7 +65,7 @@ returns-2 : tie.Need-returns-2 invariant-loop decreases-loop
 returns-2 c =
     let l = c.before.loop in
     let a = c.before.before.args in
-    sym (ap (λ (r : List Window). fitsOne a.tick a.dwell r)
+    sym (ap (λ (r : List Window). fits_one a.tick a.dwell r)
     (ended (take a.count a.t3) l.i (omega (arith, l.invariant.long)))) ∙ l.invariant.rest
 
 pub fits-one-spec : {M : Type 1} → statement M

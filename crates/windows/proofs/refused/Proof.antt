@@ -2,7 +2,7 @@ use mathlib.Core.Option.{none}
 use mathlib.Core.Path.{◌∙◌}
 use borrow.Author.Rules.{rules}
 use Rattle.whole.proofs.Tests.{choice-yes}
-use Rattle.model.specs.planning.Windows.{windowsRefused}
+use Rattle.model.specs.planning.Windows.{windows_refused}
 use Rattle.windows.proofs.refused.Statement.{statement}
 use Rattle.windows.proofs.refused.Tie as tie
 
@@ -12,7 +12,7 @@ wrong-place-requires c κs = search rules
 returns : tie.Need-returns
 returns c =
     let w = c.before.before.before.args.windows in
-    c.wrong-place.ensures ∙ choice-yes w.given (windowsRefused w) none c.before.before.if1.true
+    c.wrong-place.ensures ∙ choice-yes w.given (windows_refused w) none c.before.before.if1.true
 
 returns-2 : tie.Need-returns-2
 returns-2 c = search rules

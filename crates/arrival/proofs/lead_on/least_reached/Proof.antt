@@ -6,11 +6,11 @@ use mathlib.Core.List.{List}
 use mathlib.Core.Logic.{◌⊎◌, inl, inr}
 use lib.ListN.{length}
 use Rattle.whole.proofs.Tests.{lt-or-le}
-use Rattle.model.specs.planning.Outcome.{allReach}
+use Rattle.model.specs.planning.Outcome.{all_reach}
 use Rattle.model.specs.declared.Axis.{Axis}
-use Rattle.model.specs.planning.Job.{setAxes}
+use Rattle.model.specs.planning.Job.{set_axes}
 use Rattle.arrival.specs.Arrivals.{After}
-use Rattle.arrival.proofs.Leading.{bitsFrom, bits-first, bits-later, reach, passed-at, reach_of, axis-misses}
+use Rattle.arrival.proofs.Leading.{bits_from, bits-first, bits-later, reach, passed-at, reach_of, axis-misses}
 use Rattle.arrival.proofs.Leading.{every-axis, reach-between, reach-loses}
 use Rattle.arrival.proofs.Leading.{Led, turn-done, led-rest, bits_none, reach-unnamed, led-all, led-nowhere}
 use Rattle.arrival.proofs.lead_on.least_reached.Statement.{statement}
@@ -21,9 +21,9 @@ invariant-loop mask first last axes n₀ bits₀ number₀ again₀ n bits numbe
     record {
       few : number ≤ 6;
       six : length axes ≡ 6;
-      bits : bits ≡ bitsFrom mask number;
+      bits : bits ≡ bits_from mask number;
       inside : 0 < number → n ≤ last;
-      led : Led (allReach (setAxes 0 mask axes)) (reach mask axes) first last number again n;
+      led : Led (all_reach (set_axes 0 mask axes)) (reach mask axes) first last number again n;
     }
 
 abbrev decreases-loop : tie.decreases-loop
@@ -34,9 +34,9 @@ invariant-loop2 mask first last axes n bits number again left₀ asked₀ left a
     record {
       six : length axes ≡ 6;
       few : asked ≤ again;
-      bits : left ≡ bitsFrom mask asked;
+      bits : left ≡ bits_from mask asked;
       inside : n ≤ last;
-      led : Led (allReach (setAxes 0 mask axes)) (reach mask axes) first last 6 again n;
+      led : Led (all_reach (set_axes 0 mask axes)) (reach mask axes) first last 6 again n;
       lower : (j : ℕ) → j < asked → reach mask axes j n ≡ true;
     }
 
@@ -52,25 +52,25 @@ one_more f n e h j p = go (lt-or-le j n)
 
 -- after the turn of an axis: the next one, or all where no bit is left
 gone : (mask : ℕ) (axes : List Axis) (first last number again n bits : ℕ)
-    → bits ≡ bitsFrom mask (number + 1) → number < 6
-    → Led (allReach (setAxes 0 mask axes)) (reach mask axes) first last (number + 1) again n
+    → bits ≡ bits_from mask (number + 1) → number < 6
+    → Led (all_reach (set_axes 0 mask axes)) (reach mask axes) first last (number + 1) again n
     → (r : ℕ) → After bits number r
-    → (bits ≡ bitsFrom mask r) × Led (allReach (setAxes 0 mask axes)) (reach mask axes) first last r again n
+    → (bits ≡ bits_from mask r) × Led (all_reach (set_axes 0 mask axes)) (reach mask axes) first last r again n
 gone mask axes first last number again n bits e h s r (inl (z, f)) = (
-  z ∙ sym (subst (λ (i : ℕ). bitsFrom mask i ≡ 0) (sym f) (zero-on 6 (omega arith))),
-  subst (λ (i : ℕ). Led (allReach (setAxes 0 mask axes)) (reach mask axes) first last i again n) (sym f)
-      (led-rest (allReach (setAxes 0 mask axes)) (reach mask axes) first last (number + 1) again n s (omega arith)
+  z ∙ sym (subst (λ (i : ℕ). bits_from mask i ≡ 0) (sym f) (zero-on 6 (omega arith))),
+  subst (λ (i : ℕ). Led (all_reach (set_axes 0 mask axes)) (reach mask axes) first last i again n) (sym f)
+      (led-rest (all_reach (set_axes 0 mask axes)) (reach mask axes) first last (number + 1) again n s (omega arith)
       (λ j k p. reach-unnamed mask axes j k (zero-on j p))),
 )
   where
-    zero-on : (j : ℕ) → number + 1 ≤ j → bitsFrom mask j ≡ 0
+    zero-on : (j : ℕ) → number + 1 ≤ j → bits_from mask j ≡ 0
     zero-on j p =
         let k : number + 1 + (j - (number + 1)) ≡ j = omega arith in
-        subst (λ (i : ℕ). bitsFrom mask i ≡ 0) k (bits_none mask (number + 1) (j - (number + 1)) (sym e ∙ z))
+        subst (λ (i : ℕ). bits_from mask i ≡ 0) k (bits_none mask (number + 1) (j - (number + 1)) (sym e ∙ z))
 gone mask axes first last number again n bits e h s r (inr (z, f)) = (
-  e ∙ ap (bitsFrom mask) (sym f),
+  e ∙ ap (bits_from mask) (sym f),
   subst
-      (λ (i : ℕ). Led (allReach (setAxes 0 mask axes)) (reach mask axes) first last i again n) (sym f) s,
+      (λ (i : ℕ). Led (all_reach (set_axes 0 mask axes)) (reach mask axes) first last i again n) (sym f) s,
 )
 
 loop-holds : tie.Need-loop-init invariant-loop decreases-loop invariant-loop2 decreases-loop2
@@ -115,7 +115,7 @@ abbrev start : tie.After-again-after invariant-loop decreases-loop invariant-loo
 start c = c.before.before.before.before.before
 
 turn : (c : tie.After-again-after invariant-loop decreases-loop invariant-loop2 decreases-loop2)
-    → Led (allReach (setAxes 0 (start c).args.mask (start c).args.t2))
+    → Led (all_reach (set_axes 0 (start c).args.mask (start c).args.t2))
     (reach (start c).args.mask (start c).args.t2) (start c).args.first
     (start c).args.last (c.before.before.before.before.loop.number + 1)
     c.again-after.result c.before.next-for.result
@@ -128,7 +128,7 @@ turn c =
     let next = reach_of mask axes l.number l.bits l.n a.args.last _ l.invariant.bits
     c.before.next-for.ensures in
     let one = axis-misses mask axes l.number (omega (arith, here, l.invariant.six)) in
-    turn-done (allReach (setAxes 0 mask axes)) (reach mask axes) a.args.first a.args.last l.number l.again
+    turn-done (all_reach (set_axes 0 mask axes)) (reach mask axes) a.args.first a.args.last l.number l.again
     l.n l.invariant.led _ next one
     (λ i h. reach-between mask axes a.pre.0 i (omega (arith, here, l.invariant.six))) _ c.again-after.ensures
 
@@ -170,7 +170,7 @@ loop2-holds c =
     let l = c.before.loop in
     let a = c.before.before.args in
     let done : l.number ≡ 6 = omega (arith, l.invariant.few, c.loop-test.false) in
-    let test = allReach (setAxes 0 a.mask a.t2) in
+    let test = all_reach (set_axes 0 a.mask a.t2) in
     record {
       six = l.invariant.six;
       few = omega arith;
@@ -207,7 +207,7 @@ returns-2 c =
     let a = c.before.before.before.before.before.before.before.args in
     let six = l.invariant.six in
     let few : l.asked < 6 = omega (arith, c.before.before.before.loop2-test.true, l.invariant.led.few) in
-    led-nowhere (allReach (setAxes 0 a.mask a.t2)) (reach a.mask a.t2) a.first a.last
+    led-nowhere (all_reach (set_axes 0 a.mask a.t2)) (reach a.mask a.t2) a.first a.last
     f.again f.n l.invariant.led
     (λ i h. axis-misses a.mask a.t2 i (omega (arith, h, six)))
     (λ k e. every-axis a.mask a.t2 k (λ j h. e j (omega (arith, h, six))))
@@ -246,7 +246,7 @@ returns-3 c =
     let f = c.before.before.before.loop in
     let a = c.before.before.before.before.args in
     let six = l.invariant.six in
-    led-all (allReach (setAxes 0 a.mask a.t2)) (reach a.mask a.t2) a.first a.last
+    led-all (all_reach (set_axes 0 a.mask a.t2)) (reach a.mask a.t2) a.first a.last
     f.again f.n l.invariant.led
     (λ i h. axis-misses a.mask a.t2 i (omega (arith, h, six)))
     (λ k e. every-axis a.mask a.t2 k (λ j h. e j (omega (arith, h, six))))

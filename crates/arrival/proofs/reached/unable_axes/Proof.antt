@@ -4,10 +4,10 @@ use native.Mathlib.Omega.{arith}
 use mathlib.Core.Path.{◌≡◌, refl, ap, ◌∙◌}
 use lib.ListN.{length}
 use Rattle.model.specs.planning.Refusals.{AllPassed}
-use Rattle.model.specs.planning.Job.{setAxes, maskWhere}
-use Rattle.arrival.specs.Arrivals.{cannotArrive, bit_of}
+use Rattle.model.specs.planning.Job.{set_axes, mask_where}
+use Rattle.arrival.specs.Arrivals.{cannot_arrive, bit_of}
 use Rattle.arrival.proofs.Unable.{rest, one_more, none_more, all, bit-at-most, bit-of-six}
-use Rattle.model.proofs.SetAxes.{from, axisAt, passed-from}
+use Rattle.model.proofs.SetAxes.{from, axis_at, passed-from}
 use Rattle.arrival.proofs.reached.unable_axes.Statement.{statement}
 use Rattle.arrival.proofs.reached.unable_axes.Tie as tie
 
@@ -19,7 +19,7 @@ invariant-loop mask asked axes unable₀ bit₀ bits₀ number₀ unable bit bit
       passed : AllPassed (from number bits axes);
       power : bit ≡ 2 ^ number;
       small : unable + 1 ≤ bit;
-      sum : unable + rest asked number bits axes ≡ maskWhere (cannotArrive asked) (setAxes 0 mask axes);
+      sum : unable + rest asked number bits axes ≡ mask_where (cannot_arrive asked) (set_axes 0 mask axes);
     }
 
 abbrev decreases-loop : tie.decreases-loop
@@ -54,7 +54,7 @@ add-unable : tie.Need-overflow-add-unable invariant-loop decreases-loop
 add-unable c =
     let l = c.before.before.before.loop in
     let a = c.before.before.before.before.args in
-    let most = bit-at-most l.bits (axisAt a.t2 l.number) a.asked l.bit in
+    let most = bit-at-most l.bits (axis_at a.t2 l.number) a.asked l.bit in
     omega (arith, c.unable-bit.ensures, bit-of-six l.number (omega arith), l.invariant.power, l.invariant.small)
 
 mul-bit : tie.Need-overflow-mul-bit invariant-loop decreases-loop
@@ -72,7 +72,7 @@ loop-again : tie.Need-loop-preserved invariant-loop decreases-loop
 loop-again c =
     let l = c.before.before.before.loop in
     let a = c.before.before.before.before.args in
-    let x = axisAt a.t2 l.number in
+    let x = axis_at a.t2 l.number in
     let more = c.unable-bit.ensures in
     let most = bit-at-most l.bits x a.asked l.bit in
     let bit = bit_of l.bits x a.asked in

@@ -1,7 +1,7 @@
 use mathlib.Core.Bool.{Bool, false, cond}
 use mathlib.Core.Path.{sym, ap, ◌∙◌}
 use borrow.Author.Tests.{eq-eqb, ne_eqb}
-use Rattle.arrival.specs.Arrivals.{cannotArrive, bit_of}
+use Rattle.arrival.specs.Arrivals.{cannot_arrive, bit_of}
 use Rattle.arrival.proofs.reached.unable_bit.Statement.{statement}
 use Rattle.arrival.proofs.reached.unable_bit.Tie as tie
 
@@ -9,7 +9,7 @@ returns : tie.Need-returns
 unfolding bit_of
 returns c =
     let a = c.before.args in
-    sym (ap (λ (b : Bool). cond (cond b (cannotArrive a.asked a.axis) false) a.bit 0)
+    sym (ap (λ (b : Bool). cond (cond b (cannot_arrive a.asked a.axis) false) a.bit 0)
     (ne_eqb _ _ c.if1.true))
 
 cannot-arrive-requires : tie.Need-cannot-arrive-requires
@@ -19,7 +19,7 @@ returns-2 : tie.Need-returns-2
 unfolding bit_of
 returns-2 c =
     let a = c.before.before.before.args in
-    let named = ap (λ (b : Bool). cond (cond b (cannotArrive a.asked a.axis) false) a.bit 0)
+    let named = ap (λ (b : Bool). cond (cond b (cannot_arrive a.asked a.axis) false) a.bit 0)
     (eq-eqb _ _ c.before.before.if1.false) in
     let unable = ap (λ (b : Bool). cond b a.bit 0) (sym c.before.cannot-arrive.ensures ∙ c.if2.true) in
     sym (named ∙ unable)
@@ -28,7 +28,7 @@ returns-3 : tie.Need-returns-3
 unfolding bit_of
 returns-3 c =
     let a = c.before.before.before.args in
-    let named = ap (λ (b : Bool). cond (cond b (cannotArrive a.asked a.axis) false) a.bit 0)
+    let named = ap (λ (b : Bool). cond (cond b (cannot_arrive a.asked a.axis) false) a.bit 0)
     (eq-eqb _ _ c.before.before.if1.false) in
     let able = ap (λ (b : Bool). cond b a.bit 0) (sym c.before.cannot-arrive.ensures ∙ c.if2.false) in
     sym (named ∙ able)

@@ -50,11 +50,11 @@ use Rattle.model.specs.contracts.Stop as S
 use Rattle.model.specs.contracts.TourAnswer as R
 use Rattle.model.proofs.TourAnswer.TheLaws as R'
 use Rattle.layout.specs.declared.tours.PolgamirTour.{PolgamirTour}
-use Rattle.layout.specs.Tours.{settingsOf}
+use Rattle.layout.specs.Tours.{settings_of}
 use Rattle.layout.specs.contracts.tours.PolgamirTour as P
 use Rattle.layout.proofs.tours.PolgamirTour.TheLaws as P'
 use Rattle.stops.specs.declared.StopRow.{StopRow}
-use Rattle.stops.specs.Rows.{row_of, rowStops}
+use Rattle.stops.specs.Rows.{row_of, row_stops}
 use Rattle.stops.specs.Promise.{TourPromise}
 use Rattle.stops.proofs.Held.{IsRow, head-is, row_is}
 use Rattle.stops.proofs.Locals.{gave, here, copied, copied-in, plain-owned, ended}
@@ -189,7 +189,7 @@ module _ {M : Type 1} {𝓤 : Ura M} (𝓛 : Logic 𝓤) (mem : Memory → SProp
     TourEnsures = ensured 𝓛 tour.ended (tour.clauses 𝓛 mem run) (κ', tt) (d, (row-given, (y, tt))) tt
 
     abbrev Told : TourAnswer → List ℕ → Type 0
-    Told r zs = TourPromise (settingsOf d) (rowStops row-given) y.now r zs
+    Told r zs = TourPromise (settings_of d) (row_stops row-given) y.now r zs
 
     abbrev last-list : TourAnswer → Unit {0} × (Unit {0} × (List ℕ × Unit {0})) → Item 𝓤
     last-list r zs = ‵ (lasts tour.ended (κ', tt) (d, (row-given, (y, tt))) zs) ⊛ raw (fact 𝓤 (Told r zs.1.1.0))
@@ -199,7 +199,7 @@ module _ {M : Type 1} {𝓤 : Ura M} (𝓛 : Logic 𝓤) (mem : Memory → SProp
     at_exit r w zs = ‵ ((R.the_row).own_val r (w ∷ [])) ∷ token' ∷ ‵ (finally u32 y.name zs) ∷ token ∷ ‵ Own ∷ []
 
     exits : IsTour d → (r : TourAnswer) (w : Val) (zs : List ℕ)
-        → TourPromise (settingsOf d) x.now y.now r zs → length zs ≡ length y.now
+        → TourPromise (settings_of d) x.now y.now r zs → length zs ≡ length y.now
         → ent 𝓤 (⋆ 𝓛 (at_exit r w zs)) (Post w)
     exits is r w zs e l =
         qed 𝓛 (at_exit r w zs) ∵
@@ -266,7 +266,7 @@ module _ {M : Type 1} {𝓤 : Ura M} (𝓛 : Logic 𝓤) (mem : Memory → SProp
           ended ! 12 refl refl $ ended ! 10 refl refl $
           ended ! 8 refl refl $ ended ! 6 refl refl $ free0 ! $
           keep ! (0 ∷ 1 ∷ 2 ∷ 4 ∷ 5 ∷ []) $ by ! (exits is r w zs.1.1.0
-          (list-promise (settingsOf d) y.now r zs.1.1.0 x.now e) l))))))))))))))))))
+          (list-promise (settings_of d) y.now r zs.1.1.0 x.now e) l))))))))))))))))))
 
   module _ (𝓣 : Tables 𝓤 H) (known : Known 𝓣.C) where
     abbrev body : Fun 𝓤

@@ -4,8 +4,8 @@ use borrow.Author.Rules.{rules}
 use mathlib.Core.Path.{subst}
 use lib.ListN.{length-map, take}
 use Rattle.model.specs.declared.TourSettings.{TourSettings}
-use Rattle.layout.specs.Tours.{settingsOf}
-use Rattle.stops.specs.Rows.{rowStops}
+use Rattle.layout.specs.Tours.{settings_of}
+use Rattle.stops.specs.Rows.{row_stops}
 use Rattle.stops.specs.Promise.{TourPromise}
 use Rattle.stops.proofs.Promise.{row-promise}
 use Rattle.stops.proofs.Outcomes.{no-stops}
@@ -17,7 +17,7 @@ returns c =
     let s = c.before.before.before in
     let a = s.args in
     let long = simp length-map at s.well-formed.1.0.1.1.0.1.0.1 in
-    let t = settingsOf a.tour in
+    let t = settings_of a.tour in
     let lent = a.arrivals.now in
     row-promise t lent _ lent a.row long
     (no-stops t a.row.lent (take a.row.lent a.row.stops) lent c.if1.true)
@@ -35,7 +35,7 @@ returns-2 : tie.Need-returns-2
 returns-2 c =
     let a = c.before.before.before.before.before.before.before.before.args in
     let w = c.before.before.tour-of-row in
-    subst (λ (t : TourSettings). TourPromise t (rowStops a.row) a.arrivals.now w.result w.new.1.1.0)
+    subst (λ (t : TourSettings). TourPromise t (row_stops a.row) a.arrivals.now w.result w.new.1.1.0)
     c.before.before.before.before.settings-of.ensures w.ensures
 
 pub tour-by-value-spec : {M : Type 1} → statement M

@@ -7,16 +7,16 @@ use lib.IntN.{ℤ, pos, neg_ℤ, nat_abs, ◌+ℤ◌, ◌-ℤ◌, ◌*ℤ◌, +�
 use lib.Signed.{le_z, ◌≤ℤ◌, ◌<ℤ◌}
 use mir.Syntax.{w64}
 use mir.Val.{to_z, of_z}
-use Rattle.whole.specs.Integers.{sumTo}
+use Rattle.whole.specs.Integers.{sum_to}
 use Rattle.whole.specs.Ranges.{Is}
 use Rattle.whole.proofs.Bounds.{sfits, within, exactly, exact, computed, cast-small, lt-taken, lt-left}
-use Rattle.whole.proofs.Laws.{natAbs-neg}
+use Rattle.whole.proofs.Laws.{nat_abs-neg}
 use Rattle.whole.proofs.Tests.{true-T}
 use Rattle.model.specs.planning.Leg.{upper, required}
 use Rattle.theorems.proofs.legs.Envelopes.{Joined}
-use Rattle.profile.specs.Profiles.{legOf, Joinable}
+use Rattle.profile.specs.Profiles.{leg_of, Joinable}
 use Rattle.profile.proofs.FeasibleParts.{joined-ends}
-use Rattle.envelopes.specs.Skips.{turnedAbout}
+use Rattle.envelopes.specs.Skips.{turned_about}
 use Rattle.envelopes.proofs.EnvelopeSums.{mirrored}
 use Rattle.envelopes.proofs.OneEnvelope.{far_apart, ahead, behind, mirrored-joined}
 use borrow.Author.Rules.{rules}
@@ -52,7 +52,7 @@ near c =
 abbrev start₁ : tie.Then1 → tie.Start
 start₁ c = start c.before
 
-joined : (c : tie.Then1) → Joined (legOf (start₁ c).args.p)
+joined : (c : tie.Then1) → Joined (leg_of (start₁ c).args.p)
 joined c =
     record {
       start = (start₁ c).requires.1.1.1.0;
@@ -83,7 +83,7 @@ mirrored-requires c κs = search rules
 sub-comes-up : tie.Need-overflow-sub-comes-up
 sub-comes-up c = sfits (search exact depth 9) tt
 
-turned-joinable : (c : tie.Then1) → Joinable (turnedAbout (start₁ c).args.p)
+turned-joinable : (c : tie.Then1) → Joinable (turned_about (start₁ c).args.p)
 turned-joinable c =
     let a = start₁ c in
     let r = a.pre.0 in
@@ -94,15 +94,15 @@ turned-joinable c =
             acceleration_limit = r.acceleration_limit;
             ticks = r.ticks;
             start = record {
-              within = subst (λ (n : ℕ). n ≤ 2 ^ 37) (sym (natAbs-neg a.args.p.start)) r.start.within;
+              within = subst (λ (n : ℕ). n ≤ 2 ^ 37) (sym (nat_abs-neg a.args.p.start)) r.start.within;
             };
             end = record {
-              within = subst (λ (n : ℕ). n ≤ 2 ^ 37) (sym (natAbs-neg a.args.p.end)) r.end.within;
+              within = subst (λ (n : ℕ). n ≤ 2 ^ 37) (sym (nat_abs-neg a.args.p.end)) r.end.within;
             };
           };
       acceleration = a.pre.1.0;
       some = a.pre.1.1.0;
-      ends = joined-ends (mirrored (legOf a.args.p)) (mirrored-joined (legOf a.args.p) (joined c));
+      ends = joined-ends (mirrored (leg_of a.args.p)) (mirrored-joined (leg_of a.args.p) (joined c));
     }
 
 comes-up-requires : tie.Need-comes-up-requires
@@ -124,9 +124,9 @@ returns c =
     let far : a.args.displacement <ℤ (pos p.ticks *ℤ (p.start +ℤ p.end)) =
     lt-taken m.before.if2.true (search computed depth 20) tt in
     c.comes-up.ensures
-    ∙ (λ i. le_z (required (legOf (m.mirrored.ensures i)) (d i))
-    (sumTo (upper (legOf (m.mirrored.ensures i))) ((m.mirrored.ensures i).ticks - 1)))
-    ∙ behind (legOf p) a.args.displacement a.pre.1.1.0 a.pre.1.0 r.speed_limit
+    ∙ (λ i. le_z (required (leg_of (m.mirrored.ensures i)) (d i))
+    (sum_to (upper (leg_of (m.mirrored.ensures i))) ((m.mirrored.ensures i).ticks - 1)))
+    ∙ behind (leg_of p) a.args.displacement a.pre.1.1.0 a.pre.1.0 r.speed_limit
     (joined b) far a.pre.1.1.1.1.1.1
 
 -- ---- ahead of it
@@ -139,7 +139,7 @@ comes-up-requires-2 c κs =
         ranged = a.pre.0;
         acceleration = a.pre.1.0;
         some = a.pre.1.1.0;
-        ends = joined-ends (legOf a.args.p) (joined b);
+        ends = joined-ends (leg_of a.args.p) (joined b);
       },
       within (search exact depth 9) tt,
     )
@@ -155,13 +155,13 @@ returns-2 c =
     let far : (pos p.ticks *ℤ (p.start +ℤ p.end)) ≤ℤ a.args.displacement =
     lt-left c.before.if2.false (search computed depth 20) tt in
     c.comes-up2.ensures
-    ∙ (λ i. le_z (required (legOf p) (d i)) (sumTo (upper (legOf p)) (p.ticks - 1)))
-    ∙ ahead (legOf p) a.args.displacement a.pre.1.1.0 (joined b) far a.pre.1.1.1.1.1.1
+    ∙ (λ i. le_z (required (leg_of p) (d i)) (sum_to (upper (leg_of p)) (p.ticks - 1)))
+    ∙ ahead (leg_of p) a.args.displacement a.pre.1.1.0 (joined b) far a.pre.1.1.1.1.1.1
 
 returns-3 : tie.Need-returns-3
 returns-3 c =
     let a = start c.before in
-    far_apart (legOf a.args.p) a.args.displacement (sym (near c.before) ∙ c.if1.false)
+    far_apart (leg_of a.args.p) a.args.displacement (sym (near c.before) ∙ c.if1.false)
 
 pub makes-spec : {M : Type 1} → statement M
 makes-spec =

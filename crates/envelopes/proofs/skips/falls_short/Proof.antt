@@ -2,14 +2,14 @@ use Prim.Native.Nat.{◌-◌}
 use native.Mathlib.Omega.{arith}
 use lib.IntN.{ℤ}
 use lib.Signed.{◌≤ℤ◌, ◌<ℤ◌}
-use Rattle.whole.specs.Integers.{sumTo}
+use Rattle.whole.specs.Integers.{sum_to}
 use Rattle.whole.proofs.Bounds.{computed, lt-taken}
 use Rattle.whole.proofs.Differences.{whole, all₃}
 use Rattle.model.specs.planning.Leg.{upper}
-use Rattle.areas.specs.Areas.{splitArea}
-use Rattle.profile.specs.Profiles.{legOf}
+use Rattle.areas.specs.Areas.{split_area}
+use Rattle.profile.specs.Profiles.{leg_of}
 use Rattle.areas.proofs.UpperSplits.{split-above}
-use Rattle.envelopes.specs.Skips.{splitAt}
+use Rattle.envelopes.specs.Skips.{split_at}
 use borrow.Author.Rules.{rules}
 use Rattle.envelopes.proofs.skips.falls_short.Statement.{statement}
 use Rattle.envelopes.proofs.skips.falls_short.Tie as tie
@@ -48,9 +48,9 @@ returns c t =
     let w = s.requires.1.1.0 in
     let rising = c.before.before.lesser2.ensures in
     let falling = c.before.lesser3.ensures in
-    below (sumTo (upper (legOf p)) (p.ticks - 1))
-    (splitArea (legOf p) (splitAt p c.before.before.lesser2.result c.before.lesser3.result)) s.args.sum
-    (split-above (legOf p) (splitAt p c.before.before.lesser2.result c.before.lesser3.result)
+    below (sum_to (upper (leg_of p)) (p.ticks - 1))
+    (split_area (leg_of p) (split_at p c.before.before.lesser2.result c.before.lesser3.result)) s.args.sum
+    (split-above (leg_of p) (split_at p c.before.before.lesser2.result c.before.lesser3.result)
     (omega (arith, rising, falling)))
     (lt-taken t (search computed depth 20) tt)
 

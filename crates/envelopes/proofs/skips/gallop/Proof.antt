@@ -5,7 +5,7 @@ use lib.IntN.{ℤ}
 use mir.Syntax.{w64}
 use mir.Val.{to_z, of_z}
 use Rattle.whole.proofs.Bounds.{within, exactly, exact}
-use Rattle.profile.specs.Profiles.{legOf}
+use Rattle.profile.specs.Profiles.{leg_of}
 use Rattle.envelopes.specs.Skips.{GallopsTo}
 use Rattle.envelopes.proofs.skips.gallop.Statement.{statement}
 use Rattle.envelopes.proofs.skips.gallop.Tie as tie
@@ -14,7 +14,7 @@ abbrev invariant-loop : tie.invariant-loop
 invariant-loop p sum change last r from t₀ step₀ t step =
     record {
       narrow : step ≤ 2048;
-      there : GallopsTo (legOf p) (to_z w64 sum) (to_z w64 change) last t;
+      there : GallopsTo (leg_of p) (to_z w64 sum) (to_z w64 change) last t;
     }
 
 abbrev decreases-loop : tie.decreases-loop
@@ -22,13 +22,13 @@ decreases-loop p sum change last r from t₀ step₀ t step = step
 
 -- of the numbers as the code has them
 given : (a : tie.Start invariant-loop decreases-loop) (t : ℕ)
-    → GallopsTo (legOf a.args.p) a.args.sum a.args.change a.args.last t
-    → GallopsTo (legOf a.args.p) (to_z w64 (of_z w64 a.args.sum))
+    → GallopsTo (leg_of a.args.p) a.args.sum a.args.change a.args.last t
+    → GallopsTo (leg_of a.args.p) (to_z w64 (of_z w64 a.args.sum))
     (to_z w64 (of_z w64 a.args.change)) a.args.last t
 given a t =
     let s : to_z w64 (of_z w64 a.args.sum) ≡ a.args.sum = exactly (search exact depth 9) tt in
     let d : to_z w64 (of_z w64 a.args.change) ≡ a.args.change = exactly (search exact depth 9) tt in
-    subst₂ (λ (x y : ℤ). GallopsTo (legOf a.args.p) x y a.args.last t) (sym s) (sym d)
+    subst₂ (λ (x y : ℤ). GallopsTo (leg_of a.args.p) x y a.args.last t) (sym s) (sym d)
 
 loop-holds : tie.Need-loop-init invariant-loop decreases-loop
 loop-holds c = record { narrow = omega arith; there = given c c.args.from c.requires.1.1.1.1.1.1 }
@@ -61,7 +61,7 @@ returns c =
     let a = c.before.before in
     let s : to_z w64 (of_z w64 a.args.sum) ≡ a.args.sum = exactly (search exact depth 9) tt in
     let d : to_z w64 (of_z w64 a.args.change) ≡ a.args.change = exactly (search exact depth 9) tt in
-    subst₂ (λ (x y : ℤ). GallopsTo (legOf a.args.p) x y a.args.last c.before.loop.t) s d
+    subst₂ (λ (x y : ℤ). GallopsTo (leg_of a.args.p) x y a.args.last c.before.loop.t) s d
     c.before.loop.invariant.there
 
 pub gallop-spec : {M : Type 1} → statement M

@@ -5,7 +5,7 @@ use lib.IntN.{ℤ}
 use mir.Syntax.{w64}
 use mir.Val.{to_z, of_z}
 use Rattle.whole.proofs.Bounds.{within, exactly, exact}
-use Rattle.profile.specs.Profiles.{legOf}
+use Rattle.profile.specs.Profiles.{leg_of}
 use Rattle.envelopes.specs.Skips.{ShortAt}
 use borrow.Author.Rules.{rules}
 use Rattle.envelopes.proofs.skips.leapt.Statement.{statement}
@@ -40,7 +40,7 @@ returns c =
     record {
       low = omega (arith, g.low);
       high = c.before.before.if1.true;
-      short = subst₂ (λ (x y : ℤ). ShortAt (legOf a.args.p) x y (a.args.t + a.args.step)) s d
+      short = subst₂ (λ (x y : ℤ). ShortAt (leg_of a.args.p) x y (a.args.t + a.args.step)) s d
           (c.before.short-at.ensures c.if2.true);
     }
 

@@ -7,8 +7,8 @@ use mir.Val.{to_z, of_z}
 use Rattle.whole.specs.Ranges.{Is}
 use Rattle.whole.proofs.Bounds.{sfits, within, exactly, exact, cast-small}
 use Rattle.profile.specs.declared.Profile.{Profile}
-use Rattle.profile.specs.Profiles.{legOf, Ranged}
-use Rattle.envelopes.specs.Sums.{withTicks}
+use Rattle.profile.specs.Profiles.{leg_of, Ranged}
+use Rattle.envelopes.specs.Sums.{with_ticks}
 use Rattle.envelopes.specs.Skips.{Short}
 use borrow.Author.Rules.{rules}
 use Rattle.envelopes.proofs.skips.short_at.Statement.{statement}
@@ -63,8 +63,8 @@ returns c t =
     +ℤ to_z w64 (of_z w64 (to_z w64 (a.args.t - a.args.p.ticks) *ℤ to_z w64 (of_z w64 a.args.change))))) in
     let wanted : code ≡ a.args.sum +ℤ pos (a.args.t - a.args.p.ticks) *ℤ a.args.change =
     exactly (search exact depth 20) tt in
-    subst (λ (z : ℤ). Short (withTicks (legOf a.args.p) a.args.t) z) wanted
-    (subst (λ (p : Profile). Short (legOf p) code) c.before.with-ticks.ensures (c.falls-short.ensures t))
+    subst (λ (z : ℤ). Short (with_ticks (leg_of a.args.p) a.args.t) z) wanted
+    (subst (λ (p : Profile). Short (leg_of p) code) c.before.with-ticks.ensures (c.falls-short.ensures t))
 
 pub short-at-spec : {M : Type 1} → statement M
 short-at-spec =

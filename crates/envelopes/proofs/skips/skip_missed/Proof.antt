@@ -6,9 +6,9 @@ use mir.Syntax.{w64}
 use mir.Val.{to_z, of_z}
 use Rattle.whole.specs.Ranges.{Is}
 use Rattle.whole.proofs.Bounds.{sfits, within, exactly, exact, cast-small}
-use Rattle.whole.proofs.Laws.{natAbs-neg}
+use Rattle.whole.proofs.Laws.{nat_abs-neg}
 use Rattle.profile.specs.declared.Profile.{Profile}
-use Rattle.profile.specs.Profiles.{legOf, Ranged}
+use Rattle.profile.specs.Profiles.{leg_of, Ranged}
 use Rattle.envelopes.specs.Skips.{ShortTo}
 use Rattle.envelopes.proofs.EnvelopeSums.{mirrored}
 use Rattle.envelopes.proofs.Skipping.{short-missed, mirrored-missed, skips-to}
@@ -22,7 +22,7 @@ add-if1 c = search rules
 returns : tie.Need-returns
 returns c =
     let a = c.before.before in
-    skips-to (legOf a.args.p) a.args.sum a.args.change a.args.last a.requires.1.1.1.1.1
+    skips-to (leg_of a.args.p) a.args.sum a.args.change a.args.last a.requires.1.1.1.1.1
     a.args.p.ticks (omega arith)
     (omega (arith, a.requires.1.1.1.0)) (λ l. absurd (omega arith))
 
@@ -72,7 +72,7 @@ skip-short-requires c κs =
 returns-2 : tie.Need-returns-2
 returns-2 c =
     let a = start c.before.before.before.before.before in
-    let g = legOf a.args.p in
+    let g = leg_of a.args.p in
     let s : to_z w64 (of_z w64 a.args.sum) ≡ a.args.sum = exactly (search exact depth 9) tt in
     let d : to_z w64 (of_z w64 a.args.change) ≡ a.args.change = exactly (search exact depth 9) tt in
     let w = subst₂ (λ (x y : ℤ). ShortTo g x y a.args.last c.skip-short.result) s d c.skip-short.ensures in
@@ -102,10 +102,10 @@ skip-short-requires-2 c κs =
             ticks = j.ranged.ticks;
             start = record {
               within = subst (λ (n : ℕ). n ≤ 2 ^ 37)
-                  (sym (natAbs-neg a.args.p.start)) j.ranged.start.within;
+                  (sym (nat_abs-neg a.args.p.start)) j.ranged.start.within;
             };
             end = record {
-              within = subst (λ (n : ℕ). n ≤ 2 ^ 37) (sym (natAbs-neg a.args.p.end)) j.ranged.end.within;
+              within = subst (λ (n : ℕ). n ≤ 2 ^ 37) (sym (nat_abs-neg a.args.p.end)) j.ranged.end.within;
             };
           }),
       (
@@ -130,7 +130,7 @@ skip-short-requires-2 c κs =
 returns-3 : tie.Need-returns-3
 returns-3 c =
     let a = start c.before.before.before.before.before.before in
-    let g = legOf a.args.p in
+    let g = leg_of a.args.p in
     let r = c.skip-short2.result in
     let s : to_z w64 (of_z w64 (pos 0 -ℤ to_z w64 (of_z w64 a.args.sum))) ≡ neg_ℤ a.args.sum =
     exactly (search exact depth 9) tt ∙ +ℤ_idl (neg_ℤ a.args.sum) in
@@ -140,7 +140,7 @@ returns-3 c =
     let drift : ℤ = to_z w64 (of_z w64 (pos 0 -ℤ to_z w64 (of_z w64 a.args.change))) in
     let w =
     subst₂ (λ (x y : ℤ). ShortTo (mirrored g) x y a.args.last r) s d
-    (subst (λ (p : Profile). ShortTo (legOf p) turned drift a.args.last r)
+    (subst (λ (p : Profile). ShortTo (leg_of p) turned drift a.args.last r)
     c.before.mirrored.ensures c.skip-short2.ensures) in
     skips-to g a.args.sum a.args.change a.args.last a.pre.1.1.1.1.1 r w.low w.high
     (λ l. mirrored-missed g a.args.sum a.args.change (r - 1) (w.short l))

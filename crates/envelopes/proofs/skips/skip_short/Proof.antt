@@ -5,7 +5,7 @@ use lib.IntN.{ℤ}
 use mir.Syntax.{w64}
 use mir.Val.{to_z, of_z}
 use Rattle.whole.proofs.Bounds.{within, exactly, exact}
-use Rattle.profile.specs.Profiles.{legOf}
+use Rattle.profile.specs.Profiles.{leg_of}
 use Rattle.envelopes.specs.Skips.{ShortAt}
 use borrow.Author.Rules.{rules}
 use Rattle.envelopes.proofs.skips.skip_short.Statement.{statement}
@@ -76,8 +76,8 @@ returns c =
     record {
       low = omega (arith, g.low);
       high = omega (arith, g.high);
-      short = λ _. subst (ShortAt (legOf a.args.p) a.args.sum a.args.change) back
-          (subst₂ (λ (x y : ℤ). ShortAt (legOf a.args.p) x y n) s d g.short);
+      short = λ _. subst (ShortAt (leg_of a.args.p) a.args.sum a.args.change) back
+          (subst₂ (λ (x y : ℤ). ShortAt (leg_of a.args.p) x y n) s d g.short);
     }
 
 returns-2 : tie.Need-returns-2

@@ -6,7 +6,7 @@ use mir.Syntax.{w64}
 use mir.Val.{to_z, of_z}
 use Rattle.whole.specs.Ranges.{Is}
 use Rattle.whole.proofs.Bounds.{sfits, within, exactly, exact, computed, is-of, then_is, cast-small}
-use Rattle.areas.specs.Areas.{rampArea, splitArea}
+use Rattle.areas.specs.Areas.{ramp_area, split_area}
 use borrow.Author.Rules.{rules}
 use Rattle.envelopes.proofs.skips.split_area.Statement.{statement}
 use Rattle.envelopes.proofs.skips.split_area.Tie as tie
@@ -88,7 +88,7 @@ add-result-2 c =
     sfits (search exact depth 20) tt
 
 returns : tie.Need-returns
-unfolding splitArea
+unfolding split_area
 returns c =
     let l = level-is c in
     let h = limit_is c.before.before.before in
@@ -101,8 +101,8 @@ returns c =
     let u : to_z w64 (of_z w64 c.before.before.signed2.result) ≡ pos a.p.acceleration_limit =
     exactly (search exact depth 9) tt in
     then_is (is-of (search exact depth 30 fits 9000) tt)
-    (λ i. rampArea (s i) (u i) a.rising +ℤ pos (level c) *ℤ pos a.p.speed_limit
-    +ℤ rampArea (e i) (u i) a.falling)
+    (λ i. ramp_area (s i) (u i) a.rising +ℤ pos (level c) *ℤ pos a.p.speed_limit
+    +ℤ ramp_area (e i) (u i) a.falling)
 
 pub split-area-spec : {M : Type 1} → statement M
 split-area-spec =

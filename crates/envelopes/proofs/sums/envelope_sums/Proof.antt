@@ -7,19 +7,19 @@ use mir.Syntax.{w64}
 use mir.Val.{to_z, of_z}
 use Rattle.whole.specs.Ranges.{Within}
 use Rattle.whole.proofs.Bounds.{within, exactly, computed}
-use Rattle.whole.proofs.Laws.{natAbs-negpos}
+use Rattle.whole.proofs.Laws.{nat_abs-negpos}
 use Rattle.model.specs.planning.Leg.{sum_at}
 use Rattle.theorems.proofs.legs.Envelopes.{Joined, lowest-sum, highest-sum}
-use Rattle.profile.specs.Profiles.{legOf}
-use Rattle.envelopes.specs.Sums.{peakOf, troughOf}
+use Rattle.profile.specs.Profiles.{leg_of}
+use Rattle.envelopes.specs.Sums.{peak_of, trough_of}
 use Rattle.profile.proofs.FeasibleParts.{ends-joined}
 use Rattle.envelopes.proofs.EnvelopeSums.{more-ticks, sums_same}
 use borrow.Author.Rules.{rules}
 use Rattle.envelopes.proofs.sums.envelope_sums.Statement.{statement}
 use Rattle.envelopes.proofs.sums.envelope_sums.Tie as tie
 
-joined : (a : tie.Start) → Joined (legOf a.args.p)
-joined a = ends-joined (legOf a.args.p) a.requires.ends
+joined : (a : tie.Start) → Joined (leg_of a.args.p)
+joined a = ends-joined (leg_of a.args.p) a.requires.ends
 
 -- the ends
 start_is : (a : tie.Start) → to_z w64 (of_z w64 a.args.p.start) ≡ a.args.p.start
@@ -40,7 +40,7 @@ asks : (a : tie.Start) (t : ℕ) → a.args.p.ticks ≤ t → t ≤ 4097
 asks a t h k =
     let r = a.requires.ranged in
     let near : Within (a.args.p.acceleration_limit * t) (a.args.p.end -ℤ a.args.p.start) =
-    record { within = (more-ticks (legOf a.args.p) t (joined a) h).apart } in (
+    record { within = (more-ticks (leg_of a.args.p) t (joined a) h).apart } in (
       a.requires.acceleration,
       (
         r.acceleration_limit,
@@ -78,7 +78,7 @@ highest-is c = exactly (search computed depth 9) tt
 area-at-requires : tie.Need-area-at-requires
 area-at-requires c κs =
     let l = (start₁ c).args.p.speed_limit in
-    ((start₁ c).requires, subst (Within l) (sym (lowest-is c)) (record { within = omega (arith, natAbs-negpos l) }))
+    ((start₁ c).requires, subst (Within l) (sym (lowest-is c)) (record { within = omega (arith, nat_abs-negpos l) }))
 
 signed-requires : tie.Need-signed-requires
 signed-requires c κs = search rules
@@ -119,22 +119,22 @@ returns : tie.Need-returns
 returns c =
     let b = c.before.before.before.before.before in
     let a = start₂ b in
-    let g = legOf a.args.p in
+    let g = leg_of a.args.p in
     let n = a.args.p.acceleration_limit in
     let t = a.args.p.ticks in
     let trough : (u : ℕ)
-    → troughOf n (to_z w64 (of_z w64 g.start)) (to_z w64 (of_z w64 g.end)) u ≡ troughOf n g.start g.end u =
-    λ u. λ i. troughOf n (start_is a i) (end_is a i) u in
+    → trough_of n (to_z w64 (of_z w64 g.start)) (to_z w64 (of_z w64 g.end)) u ≡ trough_of n g.start g.end u =
+    λ u. λ i. trough_of n (start_is a i) (end_is a i) u in
     let peak : (u : ℕ)
-    → peakOf n (to_z w64 (of_z w64 g.start)) (to_z w64 (of_z w64 g.end)) u ≡ peakOf n g.start g.end u =
-    λ u. λ i. peakOf n (start_is a i) (end_is a i) u in
+    → peak_of n (to_z w64 (of_z w64 g.start)) (to_z w64 (of_z w64 g.end)) u ≡ peak_of n g.start g.end u =
+    λ u. λ i. peak_of n (start_is a i) (end_is a i) u in
     sums_same
     (exactly (search computed depth 9) tt ∙ ap (sum_at g) (lowest-is b.before.before) ∙ lowest-sum g)
     (exactly (search computed depth 9) tt ∙ ap (sum_at g) (highest-is b) ∙ highest-sum g (joined a))
     (exactly (search computed depth 9) tt ∙ trough t)
-    (exactly (search computed depth 9) tt ∙ trough (t + 1) ∙ ap (troughOf n g.start g.end) (add-one t))
+    (exactly (search computed depth 9) tt ∙ trough (t + 1) ∙ ap (trough_of n g.start g.end) (add-one t))
     (exactly (search computed depth 9) tt ∙ peak t)
-    (exactly (search computed depth 9) tt ∙ peak (t + 1) ∙ ap (peakOf n g.start g.end) (add-one t))
+    (exactly (search computed depth 9) tt ∙ peak (t + 1) ∙ ap (peak_of n g.start g.end) (add-one t))
 
 pub envelope-sums-spec : {M : Type 1} → statement M
 envelope-sums-spec =

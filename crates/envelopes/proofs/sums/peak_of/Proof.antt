@@ -10,7 +10,7 @@ use Rattle.whole.specs.Integers.{least}
 use Rattle.whole.proofs.Bounds.{sfits, exactly, computed, back-id, cast-up, is-of, then_is}
 use Rattle.model.specs.planning.Leg.{Leg}
 use Rattle.theorems.proofs.legs.Envelopes.{Joined}
-use Rattle.envelopes.specs.Sums.{crossing, peakOf}
+use Rattle.envelopes.specs.Sums.{crossing, peak_of}
 use Rattle.regions.proofs.ThreeRegions.{up-some}
 use Rattle.envelopes.proofs.EnvelopeSums.{m-late}
 use borrow.Author.Rules.{rules}
@@ -24,8 +24,8 @@ leg a =
       ticks = a.args.ticks;
       start = a.args.start;
       end = a.args.end;
-      speedLimit = nat_abs a.args.start + nat_abs a.args.end;
-      accelerationLimit = a.args.limit;
+      speed_limit = nat_abs a.args.start + nat_abs a.args.end;
+      acceleration_limit = a.args.limit;
     }
 
 joined : (a : tie.Start) → Joined (leg a)
@@ -100,7 +100,7 @@ least-requires : tie.Need-least-requires
 least-requires c κs = search rules
 
 returns : tie.Need-returns
-unfolding peakOf
+unfolding peak_of
 returns c =
     let b = c.before.before.before in
     let a = b.before.args in

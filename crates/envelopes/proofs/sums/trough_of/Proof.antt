@@ -5,7 +5,7 @@ use mir.Syntax.{w64}
 use mir.Val.{to_z, of_z}
 use Rattle.whole.specs.Ranges.{Within}
 use Rattle.whole.proofs.Bounds.{sfits, within, exactly, computed, is-of, then_is}
-use Rattle.envelopes.specs.Sums.{peakOf}
+use Rattle.envelopes.specs.Sums.{peak_of}
 use Rattle.envelopes.proofs.EnvelopeSums.{turned}
 use Rattle.envelopes.proofs.sums.trough_of.Statement.{statement}
 use Rattle.envelopes.proofs.sums.trough_of.Tie as tie
@@ -50,7 +50,7 @@ returns : tie.Need-returns
 returns c =
     let a = c.before in
     then_is (is-of (search computed depth 9) tt)
-    (+ℤ_idl _ ∙ (λ i. neg_ℤ (peakOf a.args.limit (start_is a i) (end_is a i) a.args.ticks)))
+    (+ℤ_idl _ ∙ (λ i. neg_ℤ (peak_of a.args.limit (start_is a i) (end_is a i) a.args.ticks)))
 
 pub trough-of-spec : {M : Type 1} → statement M
 trough-of-spec = tie.close (tie.spec sub-peak-of sub-peak-of-2 peak-of-requires sub-result returns)

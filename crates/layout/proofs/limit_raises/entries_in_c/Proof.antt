@@ -5,7 +5,7 @@ use mathlib.Core.Path.{◌≡◌, refl, ◌∙◌}
 use lib.ListN.{length, length-set}
 use borrow.Author.Rules.{rules}
 use Rattle.whole.proofs.Mapped.{Stored, stored_next, stored-all}
-use Rattle.layout.specs.Raises.{entryInC}
+use Rattle.layout.specs.Raises.{entry_in_c}
 use Rattle.layout.proofs.limit_raises.entries_in_c.Statement.{statement}
 use Rattle.layout.proofs.limit_raises.entries_in_c.Tie as tie
 
@@ -15,7 +15,7 @@ invariant-loop list entries₀ i₀ entries i =
       low : i ≤ 6;
       six : length list ≡ 6;
       long : length entries ≡ 6;
-      stored : Stored entryInC list entries i;
+      stored : Stored entry_in_c list entries i;
     }
 
 abbrev decreases-loop : tie.decreases-loop
@@ -60,7 +60,7 @@ loop-again c =
       six = h.invariant.six;
       long = length-set h.entries h.i b.result ∙ h.invariant.long;
       stored =
-          stored_next entryInC _ _ h.entries h.i b.result (omega (arith, h.invariant.six))
+          stored_next entry_in_c _ _ h.entries h.i b.result (omega (arith, h.invariant.six))
           (omega (arith, h.invariant.long)) b.ensures
           h.invariant.stored;
     }
@@ -68,7 +68,7 @@ loop-again c =
 returns : tie.Need-returns invariant-loop decreases-loop
 returns c =
     let h = c.before.loop in
-    stored-all entryInC _ h.entries h.i (omega (arith, h.invariant.six))
+    stored-all entry_in_c _ h.entries h.i (omega (arith, h.invariant.six))
     (omega (arith, h.invariant.long)) h.invariant.stored
 
 pub entries-in-c-spec : {M : Type 1} → statement M

@@ -1,7 +1,7 @@
 -- `raise_in_c` gives each case of a raise in C.
 use mathlib.Core.Path.{sym, ap, ◌∙◌}
 use borrow.Author.Rules.{rules}
-use Rattle.layout.specs.Raises.{raiseInC}
+use Rattle.layout.specs.Raises.{raise_in_c}
 use Rattle.layout.proofs.limit_raises.raise_in_c.Statement.{statement}
 use Rattle.layout.proofs.limit_raises.raise_in_c.Tie as tie
 
@@ -24,13 +24,13 @@ raise-requires-3 : tie.Need-raise-requires-3
 raise-requires-3 c κs = search rules
 
 returns : tie.Need-returns
-returns c = c.raise.ensures ∙ sym (ap raiseInC c.before.before.r.given.1)
+returns c = c.raise.ensures ∙ sym (ap raise_in_c c.before.before.r.given.1)
 
 returns-2 : tie.Need-returns-2
-returns-2 c = c.raise2.ensures ∙ sym (ap raiseInC c.before.before.r2.given.1)
+returns-2 c = c.raise2.ensures ∙ sym (ap raise_in_c c.before.before.r2.given.1)
 
 returns-3 : tie.Need-returns-3
-returns-3 c = c.raise3.ensures ∙ sym (ap raiseInC c.before.enum_told.given.1)
+returns-3 c = c.raise3.ensures ∙ sym (ap raise_in_c c.before.enum_told.given.1)
 
 pub raise-in-c-spec : {M : Type 1} → statement M
 raise-in-c-spec =

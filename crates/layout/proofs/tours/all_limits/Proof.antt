@@ -9,8 +9,8 @@ use lib.ListN.{length, get_or, set, length-set, get_or-replicate}
 use lib.Seq.{set-get_or, get_or-set_other}
 use borrow.Author.Rules.{rules}
 use Rattle.model.specs.declared.AxisLimits.{AxisLimits}
-use Rattle.layout.specs.Tours.{limitsOf, unsetLimits, allLimitsOf}
-use Rattle.layout.proofs.Named.{named_at, is-named, not_named, namedFrom, named-next, named-all}
+use Rattle.layout.specs.Tours.{limits_of, unset_limits, all_limits_of}
+use Rattle.layout.proofs.Named.{named_at, is-named, not_named, named_from, named-next, named-all}
 use Rattle.layout.proofs.tours.all_limits.Statement.{statement}
 use Rattle.layout.proofs.tours.all_limits.Tie as tie
 
@@ -20,8 +20,8 @@ invariant-loop mask list limits₀ bits₀ i₀ limits bits i =
       low : i ≤ 6;
       six : length list ≡ 6;
       long : length limits ≡ 6;
-      unset : (j : ℕ) → i ≤ j → j < 6 → get_or limits j unsetLimits ≡ unsetLimits;
-      stored : namedFrom limitsOf unsetLimits list i bits limits ≡ allLimitsOf mask list;
+      unset : (j : ℕ) → i ≤ j → j < 6 → get_or limits j unset_limits ≡ unset_limits;
+      stored : named_from limits_of unset_limits list i bits limits ≡ all_limits_of mask list;
     }
 
 abbrev decreases-loop : tie.decreases-loop
@@ -36,7 +36,7 @@ loop-holds c =
       low = omega arith;
       six = omega arith;
       long = refl;
-      unset = λ j h k. get_or-replicate 6 j _ unsetLimits k ∙ c.unset-limits.ensures;
+      unset = λ j h k. get_or-replicate 6 j _ unset_limits k ∙ c.unset-limits.ensures;
       stored = refl;
     }
 
@@ -65,18 +65,18 @@ loop-less c = omega arith
 turned : (c : tie.Joined1 invariant-loop decreases-loop)
     → let h = c.before.before.loop in
     c.if1.limits ≡ set h.limits h.i
-    (named_at limitsOf unsetLimits c.before.before.before.before.args.t2 h.i h.bits)
+    (named_at limits_of unset_limits c.before.before.before.before.args.t2 h.i h.bits)
 turned c =
     let h = c.before.before.loop in
     let l = c.before.before.before.before.args.t2 in
     let put : AxisLimits → List AxisLimits = set h.limits h.i in
     ⊎_elim
     (λ w. w.3 ∙ ap put
-    (w.2.ensures ∙ is-named limitsOf unsetLimits l _ h.i h.bits (omega (arith, h.invariant.six)) (omega arith)))
+    (w.2.ensures ∙ is-named limits_of unset_limits l _ h.i h.bits (omega (arith, h.invariant.six)) (omega arith)))
     (λ w. w.1
-    ∙ sym (set-get_or h.limits h.i unsetLimits)
+    ∙ sym (set-get_or h.limits h.i unset_limits)
     ∙ ap put (h.invariant.unset h.i (omega arith) (omega arith)
-    ∙ not_named limitsOf unsetLimits l h.i h.bits (λ e. omega arith)))
+    ∙ not_named limits_of unset_limits l h.i h.bits (λ e. omega arith)))
     c.if1.branch
 
 loop-again : tie.Need-loop-preserved invariant-loop decreases-loop
@@ -88,12 +88,12 @@ loop-again c =
       low = omega arith;
       six = h.invariant.six;
       long = ap (λ (a : List AxisLimits). length a) t ∙ length-set h.limits h.i _ ∙ h.invariant.long;
-      unset = λ j q k. ap (λ (a : List AxisLimits). get_or a j unsetLimits) t
-          ∙ get_or-set_other h.limits h.i j _ unsetLimits (λ e. omega arith)
+      unset = λ j q k. ap (λ (a : List AxisLimits). get_or a j unset_limits) t
+          ∙ get_or-set_other h.limits h.i j _ unset_limits (λ e. omega arith)
           ∙ h.invariant.unset j (omega arith) k;
       stored =
-          ap (namedFrom limitsOf unsetLimits l (h.i + 1) _) t
-          ∙ named-next limitsOf unsetLimits l h.i h.bits h.limits
+          ap (named_from limits_of unset_limits l (h.i + 1) _) t
+          ∙ named-next limits_of unset_limits l h.i h.bits h.limits
           (omega (arith, h.invariant.six)) (omega (arith, h.invariant.long))
           ∙ h.invariant.stored;
     }
@@ -101,7 +101,7 @@ loop-again c =
 returns : tie.Need-returns invariant-loop decreases-loop
 returns c =
     let h = c.before.loop in
-    sym (named-all limitsOf unsetLimits _ h.i h.bits h.limits (omega (arith, h.invariant.six))
+    sym (named-all limits_of unset_limits _ h.i h.bits h.limits (omega (arith, h.invariant.six))
     (omega (arith, h.invariant.long))) ∙ h.invariant.stored
 
 pub all-limits-spec : {M : Type 1} → statement M

@@ -1,6 +1,6 @@
 -- `limits_of` gives the limits that its struct stands for, field by field.
 use borrow.Author.Rules.{rules}
-use Rattle.layout.specs.Tours.{limitsOf}
+use Rattle.layout.specs.Tours.{limits_of}
 use Rattle.layout.proofs.tours.limits_of.Statement.{statement}
 use Rattle.layout.proofs.tours.limits_of.Tie as tie
 
@@ -11,7 +11,7 @@ sway-of-requires : tie.Need-sway-of-requires
 sway-of-requires c κs = search rules
 
 returns : tie.Need-returns
-unfolding limitsOf
+unfolding limits_of
 returns c =
     let l = c.before.before.args.l in
     λ i.

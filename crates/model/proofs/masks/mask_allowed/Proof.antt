@@ -4,12 +4,12 @@ use mathlib.Core.Bool.{Bool, ◌&&◌}
 use mathlib.Core.Path.{sym, ap}
 use lib.Dec.{leb}
 use borrow.Author.Tests.{lt-ltb}
-use Rattle.model.specs.planning.Words.{goodMask}
+use Rattle.model.specs.planning.Words.{good_mask}
 use Rattle.model.proofs.masks.mask_allowed.Statement.{statement}
 use Rattle.model.proofs.masks.mask_allowed.Tie as tie
 
 returns : tie.Need-returns
-returns c = sym (ap (λ (m : ℕ). goodMask m) c.if1.true)
+returns c = sym (ap (λ (m : ℕ). good_mask m) c.if1.true)
 
 returns-2 : tie.Need-returns-2
 returns-2 c =

@@ -2,7 +2,7 @@ use Prim.Native.Nat.{ℕ, ◌*◌, ◌≤◌}
 use mathlib.Core.Path.{sym, ap, subst}
 use native.Mathlib.Omega.{arith}
 use native.Mathlib.Nat.{mul-le-mul}
-use Rattle.model.specs.planning.Quantities.{fineSteps, finer}
+use Rattle.model.specs.planning.Quantities.{fine_steps, finer}
 use Rattle.theorems.proofs.motions.Grid.{finer-range}
 use borrow.Author.Rules.{rules}
 use Rattle.motion.proofs.grid.limit_on_grid.Statement.{statement}
@@ -25,11 +25,11 @@ small c = subst (λ (n : ℕ). n ≤ 256) (sym c.finer.ensures) (finer-range c.b
 
 mul-result-2 : tie.Need-overflow-mul-result-2
 mul-result-2 c =
-    let l : fineSteps * c.before.args.limit ≤ 1099511627776 = omega arith in
+    let l : fine_steps * c.before.args.limit ≤ 1099511627776 = omega arith in
     omega (arith, mul-le-mul (small c) l)
 
 returns : tie.Need-returns
-returns c = ap (λ (f : ℕ). f * (fineSteps * c.before.args.limit)) c.finer.ensures
+returns c = ap (λ (f : ℕ). f * (fine_steps * c.before.args.limit)) c.finer.ensures
 
 pub limit-on-grid-spec : {M : Type 1} → statement M
 limit-on-grid-spec = tie.close (tie.spec finer-requires cast-steps cast-result mul-result mul-result-2 returns)

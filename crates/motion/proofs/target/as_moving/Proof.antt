@@ -4,7 +4,7 @@ use mir.Syntax.{w64}
 use mir.Val.{to_z, of_z}
 use Rattle.whole.proofs.Bounds.{exactly, exact, loose}
 use Rattle.model.specs.declared.Target.{Target}
-use Rattle.model.specs.planning.Quantities.{asMoving}
+use Rattle.model.specs.planning.Quantities.{as_moving}
 use borrow.Author.Rules.{rules}
 use Rattle.motion.proofs.target.as_moving.Statement.{statement}
 use Rattle.motion.proofs.target.as_moving.Tie as tie
@@ -25,7 +25,7 @@ returns c =
     let p : to_z w64 (of_z w64 g.0.0.position) ≡ g.0.0.position = exactly (search loose depth 9) tt in
     let v : to_z w64 (of_z w64 g.0.0.velocity) ≡ g.0.0.velocity = exactly (search loose depth 9) tt in
     let t : to_z w64 n ≡ pos n = exactly (search exact depth 9) tt in
-    (λ i. record { position = p i; velocity = v i; acceleration = pos 0; tick = t i }) ∙ sym (ap (λ (x : Target). asMoving x n) g.1)
+    (λ i. record { position = p i; velocity = v i; acceleration = pos 0; tick = t i }) ∙ sym (ap (λ (x : Target). as_moving x n) g.1)
 
 returns-2 : tie.Need-returns-2
 returns-2 c = search rules

@@ -7,7 +7,7 @@ use mir.Val.{to_z, of_z}
 use Rattle.whole.specs.Ranges.{Within}
 use Rattle.whole.proofs.Bounds.{within, exactly, computed}
 use Rattle.model.specs.planning.Quantities.{delay}
-use Rattle.model.specs.planning.Motion.{startPosition, startVelocity, landingVelocity, landingAcceleration}
+use Rattle.model.specs.planning.Motion.{start_position, start_velocity, landing_velocity, landing_acceleration}
 use Rattle.model.specs.planning.Motion.{displacement}
 use Rattle.theorems.proofs.jobs.PassedAxis.{some-acceleration}
 use Rattle.theorems.proofs.motions.Grid.{speed-range, acceleration-range, acceleration-some}
@@ -56,15 +56,15 @@ returns c =
     let x = a.args.x in
     let n = a.args.n in
     let h = ranges-of a.requires.0 in
-    let start : to_z w64 (of_z w64 s.start-velocity.result) ≡ startVelocity x =
+    let start : to_z w64 (of_z w64 s.start-velocity.result) ≡ start_velocity x =
     exactly (search computed depth 9) tt in
-    let end : to_z w64 (of_z w64 e.result.velocity) ≡ landingVelocity x n = exactly (search computed depth 9) tt in
-    let change : to_z w64 (of_z w64 e.result.acceleration) ≡ landingAcceleration x n =
+    let end : to_z w64 (of_z w64 e.result.velocity) ≡ landing_velocity x n = exactly (search computed depth 9) tt in
+    let change : to_z w64 (of_z w64 e.result.acceleration) ≡ landing_acceleration x n =
     exactly (search computed depth 9) tt in
-    let way : to_z w64 (of_z w64 d.displacement.result) ≡ e.result.position -ℤ startPosition x =
+    let way : to_z w64 (of_z w64 d.displacement.result) ≡ e.result.position -ℤ start_position x =
     exactly (search computed depth 9) tt in
     let travel : to_z w64 (of_z w64 d.displacement.result) ≡ displacement x n =
-    way ∙ ap (λ (z : ℤ). z -ℤ startPosition x) e.ensures.position.is in
+    way ∙ ap (λ (z : ℤ). z -ℤ start_position x) e.ensures.position.is in
     approach-is x a.requires.0 a.requires.1.0 n a.requires.1.1.1 _
     (λ i. record {
       speed_limit = l₁.limit-on-grid.ensures i;
@@ -83,7 +83,7 @@ returns c =
       start = record { within = omega (arith, start-slow x a.requires.0, speed-range x h.speed_limit) };
       end = record { within = e.ensures.velocity.within };
       change = record { within = e.ensures.acceleration.within };
-      travel = subst (Within (2 ^ 60)) (ap (λ (z : ℤ). z -ℤ startPosition x) e.ensures.position.is)
+      travel = subst (Within (2 ^ 60)) (ap (λ (z : ℤ). z -ℤ start_position x) e.ensures.position.is)
           (record { within = d.displacement.ensures.within });
       ticks = omega (arith, a.requires.1.1.0);
       delay = omega (arith, h.half_period, h.second_half_period);

@@ -3,13 +3,13 @@ use mathlib.Core.Path.{◌≡◌, subst}
 use native.Mathlib.Omega.{arith}
 use Rattle.envelopes.specs.Skips.{Bracket}
 use Rattle.envelopes.proofs.Halving.{not_lower, halved, found}
-use Rattle.reach.specs.Approaches.{reachesLater}
+use Rattle.reach.specs.Approaches.{reaches_later}
 use Rattle.reach.proofs.approach.first_reached.Statement.{statement}
 use Rattle.reach.proofs.approach.first_reached.Tie as tie
 
 abbrev invariant-loop : tie.invariant-loop
 invariant-loop a last low₀ width₀ low width =
-    record { most : width ≤ 4096; some : 1 ≤ width; bracket : Bracket (reachesLater a) last low width }
+    record { most : width ≤ 4096; some : 1 ≤ width; bracket : Bracket (reaches_later a) last low width }
 
 abbrev decreases-loop : tie.decreases-loop
 decreases-loop a last low₀ width₀ low width = width
@@ -48,7 +48,7 @@ loop-again c =
       most = omega (arith, l.invariant.most);
       some = omega (arith, t.loop-test.true);
       bracket =
-          halved (reachesLater a.args.a) 0 a.args.last a.requires.1.0 l.low l.width _ _ (omega arith)
+          halved (reaches_later a.args.a) 0 a.args.last a.requires.1.0 l.low l.width _ _ (omega arith)
           (omega arith) l.invariant.bracket
           c.further.ensures;
     }
@@ -61,8 +61,8 @@ returns c =
     let l = c.before.loop in
     let a = c.before.before in
     let one : l.width ≡ 1 = omega (arith, l.invariant.some, c.loop-test.false) in
-    found (reachesLater a.args.a) 0 a.args.last a.requires.1.0 l.low (omega arith)
-    (subst (λ (w : ℕ). Bracket (reachesLater a.args.a) a.args.last l.low w) one l.invariant.bracket)
+    found (reaches_later a.args.a) 0 a.args.last a.requires.1.0 l.low (omega arith)
+    (subst (λ (w : ℕ). Bracket (reaches_later a.args.a) a.args.last l.low w) one l.invariant.bracket)
 
 pub first-reached-spec : {M : Type 1} → statement M
 first-reached-spec =

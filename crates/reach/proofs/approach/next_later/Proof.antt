@@ -6,7 +6,7 @@ use mir.Syntax.{w64}
 use mir.Val.{to_z, of_z}
 use Rattle.whole.proofs.Bounds.{within, exactly, computed}
 use Rattle.reach.specs.Halving.{TicksWithin, LastPassing}
-use Rattle.reach.specs.Approaches.{arrivedLater, reachesLater}
+use Rattle.reach.specs.Approaches.{arrived_later, reaches_later}
 use Rattle.reach.proofs.Approaching.{nearer, last-slow, lasting-to}
 use Rattle.reach.proofs.Halves.{next-none, next-within}
 use borrow.Author.Rules.{rules}
@@ -40,11 +40,11 @@ abbrev start : tie.After-ticks-within → tie.Start
 start c = c.before.before.before.before.before
 
 last_one : (c : tie.After-ticks-within)
-    → LastPassing (reachesLater (start c).args.a) 0 (start c).args.last c.ticks-within.result
+    → LastPassing (reaches_later (start c).args.a) 0 (start c).args.last c.ticks-within.result
 last_one c =
     let a = (start c).args.a in
     let r = (start c).requires.ranged in
-    let v : to_z w64 (of_z w64 c.before.arrived-later.result) ≡ arrivedLater a 0 =
+    let v : to_z w64 (of_z w64 c.before.arrived-later.result) ≡ arrived_later a 0 =
     exactly (search computed depth 9) tt in
     let d : to_z w64 (of_z w64 a.change) ≡ a.change = exactly (search computed depth 9) tt in
     last-slow a (start c).args.last c.ticks-within.result (start c).requires
@@ -68,7 +68,7 @@ returns-2 : tie.Need-returns-2
 returns-2 c =
     let t = c.before.before.before in
     let a = start t in
-    next-within (reachesLater a.args.a) 0 a.args.last t.ticks-within.result
+    next-within (reaches_later a.args.a) 0 a.args.last t.ticks-within.result
     c.first-reached.result (last_one t)
     (sym c.before.before.reaches-later2.ensures ∙ c.before.if2.true) c.first-reached.ensures
 
@@ -79,7 +79,7 @@ returns-3 : tie.Need-returns-3
 returns-3 c =
     let t = c.before.before in
     let a = start t in
-    next-none (reachesLater a.args.a) 0 a.args.last t.ticks-within.result (omega arith) (last_one t)
+    next-none (reaches_later a.args.a) 0 a.args.last t.ticks-within.result (omega arith) (last_one t)
     (sym c.before.reaches-later2.ensures ∙ c.if2.false)
 
 pub next-later-spec : {M : Type 1} → statement M

@@ -3,7 +3,7 @@ use mathlib.Core.Path.{◌≡◌}
 use mir.Syntax.{w64}
 use mir.Val.{to_z, of_z}
 use Rattle.whole.proofs.Bounds.{exactly, computed}
-use Rattle.reach.specs.Approaches.{endLater}
+use Rattle.reach.specs.Approaches.{end_later}
 use borrow.Author.Rules.{rules}
 use Rattle.reach.proofs.approach.profile_later.Statement.{statement}
 use Rattle.reach.proofs.approach.profile_later.Tie as tie
@@ -19,7 +19,7 @@ returns c =
     let a = c.before.before.before in
     let r = a.requires.0 in
     let s : to_z w64 (of_z w64 a.args.a.start) ≡ a.args.a.start = exactly (search computed depth 9) tt in
-    let e : to_z w64 (of_z w64 c.before.end_later.result) ≡ endLater a.args.a a.args.i =
+    let e : to_z w64 (of_z w64 c.before.end_later.result) ≡ end_later a.args.a a.args.i =
     exactly (search computed depth 9) tt in
     λ j. record {
       speed_limit = a.args.a.speed_limit;

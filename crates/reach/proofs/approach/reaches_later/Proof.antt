@@ -8,10 +8,10 @@ use mir.Syntax.{w64}
 use mir.Val.{to_z, of_z}
 use Rattle.whole.proofs.Bounds.{within, exactly, computed}
 use Rattle.whole.proofs.Tests.{and_no, and_yes, true-T}
-use Rattle.model.specs.planning.Leg.{sumIsWhole, feasible}
+use Rattle.model.specs.planning.Leg.{sum_is_whole, feasible}
 use Rattle.profile.specs.declared.Profile.{Profile}
-use Rattle.profile.specs.Profiles.{legOf, Ranged}
-use Rattle.reach.specs.Approaches.{endLater, arrivedLater, travelLater, profileLater, reachesLater}
+use Rattle.profile.specs.Profiles.{leg_of, Ranged}
+use Rattle.reach.specs.Approaches.{end_later, arrived_later, travel_later, profile_later, reaches_later}
 use borrow.Author.Rules.{rules}
 use Rattle.reach.proofs.approach.reaches_later.Statement.{statement}
 use Rattle.reach.proofs.approach.reaches_later.Tie as tie
@@ -28,17 +28,17 @@ start c = c.before.before
 
 landed : (c : tie.After-size-at-most)
     → c.size-at-most.result
-    ≡ leb (nat_abs (endLater (start c).args.a (start c).args.i)) (start c).args.a.speed_limit
+    ≡ leb (nat_abs (end_later (start c).args.a (start c).args.i)) (start c).args.a.speed_limit
 landed c =
     let a = (start c).args in
-    let e : to_z w64 (of_z w64 c.before.end_later.result) ≡ endLater a.a a.i =
+    let e : to_z w64 (of_z w64 c.before.end_later.result) ≡ end_later a.a a.i =
     exactly (search computed depth 9) tt in
     c.size-at-most.ensures ∙ (λ j. leb (nat_abs (e j)) a.a.speed_limit)
 
 abbrev start₁ : tie.Then1 → tie.Start
 start₁ c = start c.before
 
-slow : (c : tie.Then1) → nat_abs (endLater (start₁ c).args.a (start₁ c).args.i) ≤ (start₁ c).args.a.speed_limit
+slow : (c : tie.Then1) → nat_abs (end_later (start₁ c).args.a (start₁ c).args.i) ≤ (start₁ c).args.a.speed_limit
 slow c = leb→le _ _ (true-T (sym (landed c.before) ∙ c.if1.true))
 
 arrived-later-requires : tie.Need-arrived-later-requires
@@ -52,11 +52,11 @@ abbrev first : tie.After-size-at-most2 → tie.Then1
 first c = c.before.before
 
 arrived : (c : tie.After-size-at-most2)
-    → c.size-at-most2.result ≡ leb (nat_abs (arrivedLater (start₁ (first c)).args.a (start₁ (first c)).args.i))
+    → c.size-at-most2.result ≡ leb (nat_abs (arrived_later (start₁ (first c)).args.a (start₁ (first c)).args.i))
     (start₁ (first c)).args.a.speed_limit
 arrived c =
     let a = (start₁ (first c)).args in
-    let e : to_z w64 (of_z w64 c.before.arrived-later.result) ≡ arrivedLater a.a a.i =
+    let e : to_z w64 (of_z w64 c.before.arrived-later.result) ≡ arrived_later a.a a.i =
     exactly (search computed depth 9) tt in
     c.size-at-most2.ensures ∙ (λ j. leb (nat_abs (e j)) a.a.speed_limit)
 
@@ -72,7 +72,7 @@ travel-later-requires c κs = let a = start₁ (first c.before.before) in
 abbrev second : tie.After-travel-later → tie.After-size-at-most2
 second c = c.before.before.before
 
-ranged : (c : tie.Then1) → Ranged (profileLater (start₁ c).args.a (start₁ c).args.i)
+ranged : (c : tie.Then1) → Ranged (profile_later (start₁ c).args.a (start₁ c).args.i)
 ranged c =
     let a = start₁ c in
     let r = a.pre.0.ranged in
@@ -86,7 +86,7 @@ ranged c =
 
 travelled : (c : tie.After-travel-later)
     → to_z w64 (of_z w64 c.travel-later.result)
-    ≡ travelLater (start₁ (first (second c))).args.a (start₁ (first (second c))).args.i
+    ≡ travel_later (start₁ (first (second c))).args.a (start₁ (first (second c))).args.i
 travelled c = exactly (search computed depth 9) tt
 
 makes-requires : tie.Need-makes-requires
@@ -106,7 +106,7 @@ makes-requires c κs =
               subst (λ (p : Profile). nat_abs p.end ≤ p.speed_limit) (sym e) (slow f),
               (
                 within (search computed depth 9) tt,
-                (λ j. sumIsWhole (legOf (e j)) (travelled c j))
+                (λ j. sum_is_whole (leg_of (e j)) (travelled c j))
                     ∙ a.pre.0.whole a.args.i a.pre.1,
               ),
             ),
@@ -116,32 +116,32 @@ makes-requires c κs =
     )
 
 returns : tie.Need-returns
-unfolding reachesLater
+unfolding reaches_later
 returns c =
     let t = c.before in
     let s = second t in
     let f = first s in
     and_yes _ _ (sym (landed f.before) ∙ f.if1.taken)
     (and_yes _ _ (sym (arrived s) ∙ t.before.before.if2.true)
-    (c.makes.ensures ∙ (λ j. feasible (legOf (t.before.profile-later.ensures j)) (travelled t j))))
+    (c.makes.ensures ∙ (λ j. feasible (leg_of (t.before.profile-later.ensures j)) (travelled t j))))
 
 returns-2 : tie.Need-returns-2
-unfolding reachesLater
+unfolding reaches_later
 returns-2 c =
     let s = c.before in
     let f = first s in
     let a = (start₁ f).args in
     and_yes _ _ (sym (landed f.before) ∙ f.if1.taken)
-    (and_no _ (feasible (legOf (profileLater a.a a.i)) (travelLater a.a a.i))
+    (and_no _ (feasible (leg_of (profile_later a.a a.i)) (travel_later a.a a.i))
     (sym (arrived s) ∙ c.if2.false))
 
 returns-3 : tie.Need-returns-3
-unfolding reachesLater
+unfolding reaches_later
 returns-3 c =
     let a = (start c.before).args in
     and_no _
-    (leb (nat_abs (arrivedLater a.a a.i)) a.a.speed_limit
-    && feasible (legOf (profileLater a.a a.i)) (travelLater a.a a.i))
+    (leb (nat_abs (arrived_later a.a a.i)) a.a.speed_limit
+    && feasible (leg_of (profile_later a.a a.i)) (travel_later a.a a.i))
     (sym (landed c.before) ∙ c.if1.false)
 
 pub reaches-later-spec : {M : Type 1} → statement M

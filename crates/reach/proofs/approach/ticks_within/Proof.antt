@@ -6,7 +6,7 @@ use mir.Syntax.{w64}
 use mir.Val.{to_z, of_z}
 use Rattle.whole.proofs.Bounds.{sfits, exactly, computed, back-id, nonneg-cast}
 use Rattle.whole.proofs.Tests.{true-T, false-T}
-use Rattle.reach.specs.Halving.{roomToward}
+use Rattle.reach.specs.Halving.{room_toward}
 use Rattle.reach.proofs.Halves.{ticks-all, ticks-none, ticks-divided}
 use borrow.Author.Rules.{rules}
 use Rattle.reach.proofs.approach.ticks_within.Statement.{statement}
@@ -31,13 +31,13 @@ room-toward-requires c κs = search rules
 -- the room
 room-is : (c : tie.After-room-toward)
     → to_z w64 (of_z w64 c.room-toward.result)
-    ≡ roomToward c.before.before.before.args.limit c.before.before.before.args.velocity
+    ≡ room_toward c.before.before.before.args.limit c.before.before.before.args.velocity
     c.before.before.before.args.change
 room-is c =
     let a = c.before.before.before in
     let v = back-id a.ranges.velocity in
     let α = back-id a.ranges.change in
-    exactly (search computed depth 9) tt ∙ (λ i. roomToward a.args.limit (v i) (α i))
+    exactly (search computed depth 9) tt ∙ (λ i. room_toward a.args.limit (v i) (α i))
 
 returns-2 : tie.Need-returns-2
 returns-2 c =

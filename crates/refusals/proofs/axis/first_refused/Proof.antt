@@ -4,9 +4,9 @@ use mathlib.Core.Bool.{Bool, true, false, cond}
 use borrow.Author.Tests.{not-true, not-false}
 use borrow.Author.Rules.{rules}
 use Rattle.model.specs.declared.Axis.{Axis}
-use Rattle.model.specs.planning.Refusals.{limitsRefused, dampingRefused, blendRefused, swayRefused, valuesRefused}
-use Rattle.model.specs.planning.Refusals.{accelerationRefused, flyingRefused}
-use Rattle.refusals.specs.Checks.{testsFor, firstMet}
+use Rattle.model.specs.planning.Refusals.{limits_refused, damping_refused, blend_refused, sway_refused, values_refused}
+use Rattle.model.specs.planning.Refusals.{acceleration_refused, flying_refused}
+use Rattle.refusals.specs.Checks.{tests_for, first_met}
 use Rattle.refusals.proofs.axis.first_refused.Statement.{statement}
 use Rattle.refusals.proofs.axis.first_refused.Tie as tie
 
@@ -17,34 +17,34 @@ ranks r l d b s v a f =
     (suc (cond d 0 (suc (cond b 0 (suc (cond s 0 (suc (cond v 0 (suc (cond a 0 (suc (cond r (cond f 0 1) 0))))))))))))
 
 abbrev rank : Bool → Axis → ℕ
-rank r x = firstMet (testsFor r) x
+rank r x = first_met (tests_for r) x
 
 by_tests : (r : Bool) (x : Axis)
     → rank r x
-    ≡ ranks r (limitsRefused x) (dampingRefused x) (blendRefused x) (swayRefused x) (valuesRefused x)
-    (accelerationRefused x) (flyingRefused x)
+    ≡ ranks r (limits_refused x) (damping_refused x) (blend_refused x) (sway_refused x) (values_refused x)
+    (acceleration_refused x) (flying_refused x)
 by_tests true x = refl
 by_tests false x = refl
 
 -- the rank by one test, those before it having failed
 abbrev by1 : Bool → Axis → Bool → ℕ
-by1 r x b = ranks r b (dampingRefused x) (blendRefused x) (swayRefused x) (valuesRefused x)
-    (accelerationRefused x) (flyingRefused x)
+by1 r x b = ranks r b (damping_refused x) (blend_refused x) (sway_refused x) (values_refused x)
+    (acceleration_refused x) (flying_refused x)
 
 abbrev by2 : Bool → Axis → Bool → ℕ
-by2 r x b = ranks r false b (blendRefused x) (swayRefused x) (valuesRefused x) (accelerationRefused x) (flyingRefused x)
+by2 r x b = ranks r false b (blend_refused x) (sway_refused x) (values_refused x) (acceleration_refused x) (flying_refused x)
 
 abbrev by3 : Bool → Axis → Bool → ℕ
-by3 r x b = ranks r false false b (swayRefused x) (valuesRefused x) (accelerationRefused x) (flyingRefused x)
+by3 r x b = ranks r false false b (sway_refused x) (values_refused x) (acceleration_refused x) (flying_refused x)
 
 abbrev by4 : Bool → Axis → Bool → ℕ
-by4 r x b = ranks r false false false b (valuesRefused x) (accelerationRefused x) (flyingRefused x)
+by4 r x b = ranks r false false false b (values_refused x) (acceleration_refused x) (flying_refused x)
 
 abbrev by5 : Bool → Axis → Bool → ℕ
-by5 r x b = ranks r false false false false b (accelerationRefused x) (flyingRefused x)
+by5 r x b = ranks r false false false false b (acceleration_refused x) (flying_refused x)
 
 abbrev by6 : Bool → Axis → Bool → ℕ
-by6 r x b = ranks r false false false false false b (flyingRefused x)
+by6 r x b = ranks r false false false false false b (flying_refused x)
 
 abbrev by7 : Bool → Axis → Bool → ℕ
 by7 r x b = ranks r false false false false false false b
@@ -156,7 +156,7 @@ left6 d =
 
 -- where fixed targets may fly, there is no test more
 abbrev at_rest : Axis → Bool → ℕ
-at_rest x r = by7 r x (flyingRefused x)
+at_rest x r = by7 r x (flying_refused x)
 
 returns-7 : tie.Need-returns-7
 returns-7 c =
@@ -167,7 +167,7 @@ flying-refused-requires : tie.Need-flying-refused-requires
 flying-refused-requires c κs = search rules
 
 left7 : (d : tie.Else7) → let s = (start6 d.before).args in
-    rank s.resting s.x ≡ by7 true s.x (flyingRefused s.x)
+    rank s.resting s.x ≡ by7 true s.x (flying_refused s.x)
 left7 d = let s = (start6 d.before).args in
     left6 d.before ∙ ap (at_rest s.x) (not-false s.resting d.if7.false)
 

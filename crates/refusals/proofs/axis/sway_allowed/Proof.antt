@@ -1,5 +1,5 @@
 use mathlib.Core.Path.{sym, ap, ◌∙◌}
-use Rattle.model.specs.planning.Refusals.{swayAllowed}
+use Rattle.model.specs.planning.Refusals.{sway_allowed}
 use borrow.Author.Rules.{rules}
 use Rattle.refusals.proofs.axis.sway_allowed.Statement.{statement}
 use Rattle.refusals.proofs.axis.sway_allowed.Tie as tie
@@ -17,7 +17,7 @@ returns : tie.Need-returns
 returns c = search rules
 
 returns-2 : tie.Need-returns-2
-returns-2 c = c.within.ensures ∙ sym (ap swayAllowed c.before.before.sway.given.1)
+returns-2 c = c.within.ensures ∙ sym (ap sway_allowed c.before.before.sway.given.1)
 
 pub sway-allowed-spec : {M : Type 1} → statement M
 sway-allowed-spec = tie.close (tie.spec enum_told enum-known-sway within-requires returns returns-2)

@@ -1,5 +1,5 @@
 use mathlib.Core.Path.{sym, ap, ◌∙◌}
-use Rattle.model.specs.planning.Refusals.{targetAllowed}
+use Rattle.model.specs.planning.Refusals.{target_allowed}
 use borrow.Author.Rules.{rules}
 use Rattle.refusals.proofs.axis.target_allowed.Statement.{statement}
 use Rattle.refusals.proofs.axis.target_allowed.Tie as tie
@@ -19,12 +19,12 @@ moving-allowed-requires c κs = search rules
 returns : tie.Need-returns
 returns c =
     let x = c.before.before.before.before.args.x in
-    c.rest-allowed.ensures ∙ sym (ap (targetAllowed x) c.before.before.target.given.1)
+    c.rest-allowed.ensures ∙ sym (ap (target_allowed x) c.before.before.target.given.1)
 
 returns-2 : tie.Need-returns-2
 returns-2 c =
     let x = c.before.before.before.before.args.x in
-    c.moving-allowed.ensures ∙ sym (ap (targetAllowed x) c.before.before.target2.given.1)
+    c.moving-allowed.ensures ∙ sym (ap (target_allowed x) c.before.before.target2.given.1)
 
 pub target-allowed-spec : {M : Type 1} → statement M
 target-allowed-spec =

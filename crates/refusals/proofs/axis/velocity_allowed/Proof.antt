@@ -2,7 +2,7 @@ use mathlib.Core.Path.{◌≡◌, ap, ◌∙◌}
 use mir.Syntax.{w64}
 use mir.Val.{to_z, of_z}
 use Rattle.whole.proofs.Bounds.{exactly, loose}
-use Rattle.model.specs.planning.Refusals.{velocityAllowed}
+use Rattle.model.specs.planning.Refusals.{velocity_allowed}
 use borrow.Author.Rules.{rules}
 use Rattle.refusals.proofs.axis.velocity_allowed.Statement.{statement}
 use Rattle.refusals.proofs.axis.velocity_allowed.Tie as tie
@@ -17,7 +17,7 @@ returns : tie.Need-returns
 returns c =
     let a = c.before.before.args in
     let v : to_z w64 (of_z w64 a.v) ≡ a.v = exactly (search loose depth 9) tt in
-    c.size-at-most.ensures ∙ ap (velocityAllowed a.x) v
+    c.size-at-most.ensures ∙ ap (velocity_allowed a.x) v
 
 pub velocity-allowed-spec : {M : Type 1} → statement M
 velocity-allowed-spec = tie.close (tie.spec cast-size-at-most size-at-most-requires returns)

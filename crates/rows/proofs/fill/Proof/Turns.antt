@@ -8,14 +8,14 @@ use lib.ListN.{length, get_or, take, length-map}
 use Rattle.model.specs.declared.Order.{Order}
 use Rattle.theorems.proofs.tables.CellPlaces.{row-place}
 use Rattle.planned.specs.declared.AxisPlan.{AxisPlan}
-use Rattle.rows.specs.Plans.{unsetPlan}
-use Rattle.planned.specs.Plans.{arrivalOf, PlanRanges}
-use Rattle.blended.specs.BlendedStates.{blendedStateAt, comesTo}
-use Rattle.cells.specs.Rows.{comesAt, goesOnAt}
+use Rattle.rows.specs.Plans.{unset_plan}
+use Rattle.planned.specs.Plans.{arrival_of, PlanRanges}
+use Rattle.blended.specs.BlendedStates.{blended_state_at, comes_to}
+use Rattle.cells.specs.Rows.{comes_at, goes_on_at}
 use Rattle.whole.specs.Lists.{over}
 use Rattle.rows.proofs.HeldSegments.{Segmented, Held, held-still, held-anew}
-use Rattle.rows.proofs.Cells.{rowTo, rows_to}
-use Rattle.rows.proofs.States.{noStates, At, States, next-state}
+use Rattle.rows.proofs.Cells.{row_to, rows_to}
+use Rattle.rows.proofs.States.{no_states, At, States, next-state}
 use Rattle.rows.proofs.Filling.{Front, long, of-each, axis-fits, row_fits}
 use Rattle.rows.proofs.fill.Tie as tie
 
@@ -25,7 +25,7 @@ Inv-loop table order first rows axes count arrival states₀ set₀ states set =
     record {
       low : set ≤ count;
       long : length states ≡ 6;
-      each : At axes set (comesTo order arrival first) states;
+      each : At axes set (comes_to order arrival first) states;
     }
 
 abbrev pub μ-loop : tie.decreases-loop
@@ -39,8 +39,8 @@ Inv-loop3 table₀ order first rows axes count arrival states₀ set segments₀
       same : length table ≡ length table₀;
       long : length states ≡ 6;
       place : at ≡ at₀ + 3 * i;
-      cells : table ≡ over table₀ at₀ (rowTo (take count axes) k i);
-      states : States axes count (comesAt order k) (goesOnAt order k) i states;
+      cells : table ≡ over table₀ at₀ (row_to (take count axes) k i);
+      states : States axes count (comes_at order k) (goes_on_at order k) i states;
       six : length segments ≡ 6;
       segmented : Segmented axes count segments;
     }
@@ -58,7 +58,7 @@ Inv-loop2 table₀ order first rows axes count arrival states₀ set segments₀
       long : length states ≡ 6;
       written : at ≡ length (rows_to order (take count axes) arrival first place);
       cells : table ≡ over table₀ 0 (rows_to order (take count axes) arrival first place);
-      states : At axes count (comesTo order arrival (first + place)) states;
+      states : At axes count (comes_to order arrival (first + place)) states;
       six : length segments ≡ 6;
       segmented : Segmented axes count segments;
     }
@@ -117,7 +117,7 @@ abbrev pub tick-of : tie.In-loop3 Inv-loop μ-loop Inv-loop3 μ-loop3 Inv-loop2 
 tick-of d = d.before.before.row_at.result
 
 abbrev pub plan-of : tie.In-loop3 Inv-loop μ-loop Inv-loop3 μ-loop3 Inv-loop2 μ-loop2 → AxisPlan
-plan-of d = get_or (start_of (row-of d)).args.plan.axes d.before.loop3.i unsetPlan
+plan-of d = get_or (start_of (row-of d)).args.plan.axes d.before.loop3.i unset_plan
 
 pub axis-ranges : (d : tie.In-loop3 Inv-loop μ-loop Inv-loop3 μ-loop3 Inv-loop2 μ-loop2) → PlanRanges (plan-of d)
 axis-ranges d =
@@ -126,7 +126,7 @@ axis-ranges d =
 
 -- the row's tick is one of its ticks
 pub axis-arrives : (d : tie.In-loop3 Inv-loop μ-loop Inv-loop3 μ-loop3 Inv-loop2 μ-loop2)
-    → tick-of d ≤ arrivalOf (plan-of d)
+    → tick-of d ≤ arrival_of (plan-of d)
 axis-arrives d =
     let r = row-of d in
     let f = front-is (start_of r) in
@@ -134,19 +134,19 @@ axis-arrives d =
       arith,
       d.before.before.row_at.ensures,
       row-place (order-of r) (last r) (here r) (inside r),
-      of-each f (λ p. last r ≤ arrivalOf p) d.before.loop3.i f.can.arrive (omega arith),
+      of-each f (λ p. last r ≤ arrival_of p) d.before.loop3.i f.can.arrive (omega arith),
     )
 
 abbrev pub State-of : tie.In-loop3 Inv-loop μ-loop Inv-loop3 μ-loop3 Inv-loop2 μ-loop2 → Type 0
 State-of d = let h = d.before.loop3 in
-    get_or h.states h.i noStates ≡ blendedStateAt (plan-of d) (comesAt (order-of (row-of d)) (tick-of d))
+    get_or h.states h.i no_states ≡ blended_state_at (plan-of d) (comes_at (order-of (row-of d)) (tick-of d))
 
 pub axis-state : (d : tie.In-loop3 Inv-loop μ-loop Inv-loop3 μ-loop3 Inv-loop2 μ-loop2) → State-of d
 axis-state d =
     let s = (start_of (row-of d)).args.plan in
     let o = order-of (row-of d) in
     let h = d.before.loop3 in
-    next-state s.axes s.count (comesAt o (tick-of d)) (goesOnAt o (tick-of d)) h.i h.states
+    next-state s.axes s.count (comes_at o (tick-of d)) (goes_on_at o (tick-of d)) h.i h.states
     h.invariant.states (omega arith)
 
 pub axis-room : (d : tie.In-loop3 Inv-loop μ-loop Inv-loop3 μ-loop3 Inv-loop2 μ-loop2)

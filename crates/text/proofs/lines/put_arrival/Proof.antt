@@ -2,7 +2,7 @@ use Prim.Native.Nat.{◌<◌}
 use native.Mathlib.Omega.{arith}
 use lib.ListN.{length}
 use Rattle.whole.proofs.Lists.{room-front, room-then, written_one, written_then}
-use Rattle.text.specs.Printed.{ascii, arrivalLine}
+use Rattle.text.specs.Printed.{ascii, arrival_line}
 use borrow.Author.Rules.{rules}
 use Rattle.text.proofs.lines.put_arrival.Statement.{statement}
 use Rattle.text.proofs.lines.put_arrival.Tie as tie
@@ -11,13 +11,13 @@ slice-aggregate-put-labelled : tie.Need-slice-aggregate-put-labelled
 slice-aggregate-put-labelled c = search rules
 
 put-labelled-requires : tie.Need-put-labelled-requires
-unfolding arrivalLine
+unfolding arrival_line
 put-labelled-requires c κs = room-front _ _ c.before.before.before.requires
 
 -- the index of the line feed
 index : (c : tie.After-slice-known2)
     → c.before.before.put-labelled.result < length c.before.before.put-labelled.new.0
-unfolding arrivalLine
+unfolding arrival_line
 index c =
     let labelled = c.before.before in
     omega (
@@ -38,7 +38,7 @@ same_length : tie.Need-same-length
 same_length c = search rules
 
 returns : tie.Need-returns
-unfolding arrivalLine
+unfolding arrival_line
 returns c =
     let labelled = c.before.before in
     written_then labelled.before.before.before.before.requires

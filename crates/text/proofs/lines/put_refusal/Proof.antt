@@ -5,16 +5,16 @@ use mathlib.Core.List.{List}
 use lib.ListN.{length, length-set}
 use borrow.Author.Rules.{rules}
 use Rattle.whole.specs.Lists.{Room}
-use Rattle.text.specs.Printed.{refusalLine}
-use Rattle.text.specs.Enough.{refusalBytes}
+use Rattle.text.specs.Printed.{refusal_line}
+use Rattle.text.specs.Enough.{refusal_bytes}
 use Rattle.text.proofs.lines.Laws as laws
 use Rattle.text.proofs.lines.put_refusal.Statement.{statement}
 use Rattle.text.proofs.lines.put_refusal.Tie as tie
 
 abbrev line : tie.Start → List ℕ
-line s = let a = s.args in refusalLine a.number a.place a.mask a.arrival
+line s = let a = s.args in refusal_line a.number a.place a.mask a.arrival
 
-line-most : (s : tie.Start) → length (line s) ≤ refusalBytes
+line-most : (s : tie.Start) → length (line s) ≤ refusal_bytes
 line-most s =
     let a = s.args in
     let f = s.ranges in

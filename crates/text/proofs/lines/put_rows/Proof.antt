@@ -5,8 +5,8 @@ use lib.ListN.{length}
 use borrow.Author.Rules.{rules}
 use Rattle.whole.specs.Lists.{up_to, WrittenWithin}
 use Rattle.whole.proofs.Lists.{within-nil}
-use Rattle.text.specs.Printed.{printedRow}
-use Rattle.text.specs.Enough.{rowBytes}
+use Rattle.text.specs.Printed.{printed_row}
+use Rattle.text.specs.Enough.{row_bytes}
 use Rattle.text.proofs.lines.Laws.{part-ends, part-next, row_room, row-turn}
 use Rattle.text.proofs.lines.put_rows.Statement.{statement}
 use Rattle.text.proofs.lines.put_rows.Tie as tie
@@ -17,7 +17,7 @@ invariant-loop out₀ at n width table next₀ first₀ k₀ out next first k =
       low : k ≤ suc n;
       place : first ≡ width * k;
       long : length out ≡ length out₀;
-      text : WrittenWithin (rowBytes width * k) out₀ at (up_to (printedRow width table) k) out next;
+      text : WrittenWithin (row_bytes width * k) out₀ at (up_to (printed_row width table) k) out next;
     }
 
 abbrev decreases-loop : tie.decreases-loop
@@ -41,7 +41,7 @@ loop-holds c =
       low = omega arith;
       place = omega arith;
       long = refl;
-      text = within-nil (printedRow s.args.width s.args.table.now) (rowBytes s.args.width)
+      text = within-nil (printed_row s.args.width s.args.table.now) (row_bytes s.args.width)
           (omega (arith, s.requires.1.1));
     }
 
@@ -101,8 +101,8 @@ returns : tie.Need-returns invariant-loop decreases-loop
 returns c =
     let a = c.before.before.before.args in
     let l = c.before.loop in
-    let f = printedRow a.width a.table.now in
-    subst (λ (m : ℕ). WrittenWithin (rowBytes a.width * m) a.out.now a.at (up_to f m) l.out l.next)
+    let f = printed_row a.width a.table.now in
+    subst (λ (m : ℕ). WrittenWithin (row_bytes a.width * m) a.out.now a.at (up_to f m) l.out l.next)
     (omega arith) l.invariant.text
 
 pub put-rows-spec : {M : Type 1} → statement M

@@ -2,7 +2,7 @@ use native.Mathlib.Omega.{arith}
 use Prim.Native.Nat.{ℕ, ◌+◌}
 use mathlib.Core.Path.{ap, ◌∙◌}
 use Rattle.model.specs.declared.Weight.TheVariants.{Given}
-use Rattle.words.specs.ByIndex.{payloadAt, swayAt, axisAt}
+use Rattle.words.specs.ByIndex.{payload_at, sway_at, axis_at}
 use borrow.Author.Rules.{rules}
 use Rattle.words.proofs.axis.axis_to.Statement.{statement}
 use Rattle.words.proofs.axis.axis_to.Tie as tie
@@ -44,7 +44,7 @@ second-sway-requires : tie.Need-second-sway-requires
 second-sway-requires c κs = search rules
 
 returns : tie.Need-returns
-unfolding axisAt
+unfolding axis_at
 returns c =
     let weight = c.before.payload4 in
     let period = c.before.before.payload3 in
@@ -57,11 +57,11 @@ returns c =
     λ i.
     record {
       start = start.ensures i;
-      speed_limit = (speed.ensures ∙ ap (λ (k : ℕ). payloadAt ws (k + 2)) first) i;
-      acceleration_limit = (acceleration.ensures ∙ ap (λ (k : ℕ). payloadAt ws (k + 3)) first) i;
-      half_period = (period.ensures ∙ ap (λ (k : ℕ). payloadAt ws (k + 4)) first) i;
-      second_weight = Given ((weight.ensures ∙ ap (λ (k : ℕ). payloadAt ws (k + 5)) first) i);
-      second_sway = (c.second-sway.ensures ∙ ap (λ (k : ℕ). swayAt ws (k + 6)) first) i;
+      speed_limit = (speed.ensures ∙ ap (λ (k : ℕ). payload_at ws (k + 2)) first) i;
+      acceleration_limit = (acceleration.ensures ∙ ap (λ (k : ℕ). payload_at ws (k + 3)) first) i;
+      half_period = (period.ensures ∙ ap (λ (k : ℕ). payload_at ws (k + 4)) first) i;
+      second_weight = Given ((weight.ensures ∙ ap (λ (k : ℕ). payload_at ws (k + 5)) first) i);
+      second_sway = (c.second-sway.ensures ∙ ap (λ (k : ℕ). sway_at ws (k + 6)) first) i;
       target = args.target;
     }
 

@@ -8,7 +8,7 @@ use Rattle.model.specs.declared.State.{State}
 use Rattle.model.specs.declared.RestPoint.{RestPoint}
 use Rattle.model.specs.declared.Axis.{Axis}
 use Rattle.words.specs.declared.axis.AxisReading.TheVariants.{Got}
-use Rattle.words.specs.ByIndex.{axisAt}
+use Rattle.words.specs.ByIndex.{axis_at}
 use Rattle.words.proofs.Reader.{skip-within}
 use Rattle.words.proofs.AxisWords.{axis-short, axis-half, axis-fixed, axis-unfinished, axis-moving, start-there}
 use Rattle.words.proofs.AxisWords.{target-there, motion-there}
@@ -112,7 +112,7 @@ returns-3 c =
     let m = c.before.before.before.before.before.first-wrong2 in
     let full₂ = c.before.before.before.before.if2.false in
     let fixed = sym c.before.before.before.is-kind.ensures ∙ not-true _ c.before.before.if3.true in
-    let target = ap (λ (p : RestPoint). axisAt a.words.now a.at (Fixed p)) c.before.rest-point.ensures in
+    let target = ap (λ (p : RestPoint). axis_at a.words.now a.at (Fixed p)) c.before.rest-point.ensures in
     ap (λ (x : Axis). Got x (t.result + 2)) (c.axis-to.ensures ∙ target)
     ∙ axis-fixed a.words.now a.at s.result s.ensures n.result n.ensures full g.result g.ensures
     t.result t.ensures m.result m.ensures full₂ fixed
@@ -192,7 +192,7 @@ returns-5 c =
     let moving = sym c.before.before.before.before.before.is-kind.ensures
     ∙ not-false _ c.before.before.before.before.if3.false in
     let l = c.before.before.before.first-wrong3 in
-    let target = ap (λ (q : State). axisAt a.words.now a.at (Moving q)) c.before.state-at.ensures in
+    let target = ap (λ (q : State). axis_at a.words.now a.at (Moving q)) c.before.state-at.ensures in
     ap (λ (x : Axis). Got x (t.result + 4)) (c.axis-to2.ensures ∙ target)
     ∙ axis-moving a.words.now a.at s.result s.ensures n.result n.ensures full g.result
     g.ensures t.result t.ensures

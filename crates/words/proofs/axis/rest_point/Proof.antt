@@ -1,7 +1,7 @@
 use native.Mathlib.Omega.{arith}
 use mathlib.Core.Path.{ap, ◌∙◌}
 use Prim.Native.Nat.{ℕ, ◌+◌}
-use Rattle.words.specs.ByIndex.{signedAt, rest_at}
+use Rattle.words.specs.ByIndex.{signed_at, rest_at}
 use Rattle.words.proofs.Twos.{back}
 use borrow.Author.Rules.{rules}
 use Rattle.words.proofs.axis.rest_point.Statement.{statement}
@@ -28,7 +28,7 @@ returns c =
     let p = c.before.position_at in
     let v = c.signed-payload in
     let ws = c.before.before.before.before.args.words.now in
-    let velocity = v.ensures.is ∙ ap (λ (k : ℕ). signedAt ws (k + 1)) s.ensures in
+    let velocity = v.ensures.is ∙ ap (λ (k : ℕ). signed_at ws (k + 1)) s.ensures in
     λ i.
     record { position = back p.result p.type-inv p.ensures i; velocity = back v.result v.type-inv velocity i }
 

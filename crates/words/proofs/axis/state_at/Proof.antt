@@ -1,7 +1,7 @@
 use native.Mathlib.Omega.{arith}
 use Prim.Native.Nat.{ℕ, ◌+◌}
 use mathlib.Core.Path.{ap, ◌∙◌}
-use Rattle.words.specs.ByIndex.{signedAt, stateAt}
+use Rattle.words.specs.ByIndex.{signed_at, state_at}
 use Rattle.words.proofs.Twos.{back}
 use borrow.Author.Rules.{rules}
 use Rattle.words.proofs.axis.state_at.Statement.{statement}
@@ -32,7 +32,7 @@ signed-payload-requires-3 : tie.Need-signed-payload-requires-3
 signed-payload-requires-3 c κs = omega (arith, c.before.before.before.skip-optional.ensures)
 
 returns : tie.Need-returns
-unfolding stateAt
+unfolding state_at
 returns c =
     let s = c.before.before.before.before.skip-optional in
     let p = c.before.before.before.position_at in
@@ -43,9 +43,9 @@ returns c =
     λ i.
     record {
       position = back p.result p.type-inv p.ensures i;
-      velocity = back v.result v.type-inv (v.ensures.is ∙ ap (λ (k : ℕ). signedAt ws (k + 1)) s.ensures) i;
-      acceleration = back a.result a.type-inv (a.ensures.is ∙ ap (λ (k : ℕ). signedAt ws (k + 2)) s.ensures) i;
-      tick = back t.result t.type-inv (t.ensures.is ∙ ap (λ (k : ℕ). signedAt ws (k + 3)) s.ensures) i;
+      velocity = back v.result v.type-inv (v.ensures.is ∙ ap (λ (k : ℕ). signed_at ws (k + 1)) s.ensures) i;
+      acceleration = back a.result a.type-inv (a.ensures.is ∙ ap (λ (k : ℕ). signed_at ws (k + 2)) s.ensures) i;
+      tick = back t.result t.type-inv (t.ensures.is ∙ ap (λ (k : ℕ). signed_at ws (k + 3)) s.ensures) i;
     }
 
 pub state-at-spec : {M : Type 1} → statement M

@@ -1,13 +1,13 @@
 use Prim.Native.Nat.{◌-◌, ◌≤◌}
 use native.Mathlib.Omega.{arith}
 use mathlib.Core.Path.{◌≡◌, sym, ◌∙◌}
-use Rattle.words.specs.ByIndex.{badLongIn}
+use Rattle.words.specs.ByIndex.{bad_long_in}
 use Rattle.words.proofs.LongWords.{long-begun, long-on, long-stop, long-ended}
 use Rattle.words.proofs.position.first_bad_long.Statement.{statement}
 use Rattle.words.proofs.position.first_bad_long.Tie as tie
 
 abbrev invariant-loop : tie.invariant-loop
-invariant-loop words end i₀ i = (i ≤ end) × (badLongIn words (end - i) i ≡ badLongIn words end 0)
+invariant-loop words end i₀ i = (i ≤ end) × (bad_long_in words (end - i) i ≡ bad_long_in words end 0)
 
 abbrev decreases-loop : tie.decreases-loop
 decreases-loop words end i₀ i = end - i

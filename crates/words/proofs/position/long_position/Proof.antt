@@ -4,7 +4,7 @@ use Rattle.whole.proofs.Bounds.{sfits, computed, is-of, then_is}
 use lib.IntN.{pos, ◌+ℤ◌, ◌*ℤ◌}
 use mathlib.Core.Path.{◌≡◌, sym, ap, ◌∙◌}
 use borrow.Author.Rules.{rules}
-use Rattle.words.specs.ByIndex.{payloadAt, signedAt}
+use Rattle.words.specs.ByIndex.{payload_at, signed_at}
 use Rattle.words.proofs.position.long_position.Statement.{statement}
 use Rattle.words.proofs.position.long_position.Tie as tie
 
@@ -30,10 +30,10 @@ returns : tie.Need-returns
 returns c =
     let a = c.before.before.before.args in
     let ws = a.words.now in
-    let low : c.payload.result ≡ payloadAt ws (suc a.at) =
-    c.payload.ensures ∙ ap (payloadAt ws) (sym (next_one a.at)) in
+    let low : c.payload.result ≡ payload_at ws (suc a.at) =
+    c.payload.ensures ∙ ap (payload_at ws) (sym (next_one a.at)) in
     then_is (is-of (search computed depth 30 fits 9000) tt)
-    (ap (λ (n : ℕ). pos (2 ^ 28) *ℤ signedAt ws a.at +ℤ pos n) low)
+    (ap (λ (n : ℕ). pos (2 ^ 28) *ℤ signed_at ws a.at +ℤ pos n) low)
 
 pub long-position-spec : {M : Type 1} → statement M
 long-position-spec =

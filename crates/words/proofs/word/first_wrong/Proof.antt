@@ -3,13 +3,13 @@ use native.Mathlib.Omega.{arith}
 use mathlib.Core.Path.{◌≡◌, sym, ap, ◌∙◌}
 use borrow.Author.Tests.{not-true, not-false}
 use borrow.Author.Rules.{rules}
-use Rattle.words.specs.ByIndex.{firstWrong}
+use Rattle.words.specs.ByIndex.{first_wrong}
 use Rattle.words.proofs.Run.{from, go_on, stop, ended, begun}
 use Rattle.words.proofs.word.first_wrong.Statement.{statement}
 use Rattle.words.proofs.word.first_wrong.Tie as tie
 
 abbrev invariant-loop : tie.invariant-loop
-invariant-loop words at first count i₀ i = (i ≤ count) × (from words at first count i ≡ firstWrong words at first count)
+invariant-loop words at first count i₀ i = (i ≤ count) × (from words at first count i ≡ first_wrong words at first count)
 
 abbrev decreases-loop : tie.decreases-loop
 decreases-loop words at first count i₀ i = count - i

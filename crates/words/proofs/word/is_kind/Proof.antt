@@ -4,7 +4,7 @@ use lib.Dec.{eqb}
 use lib.ListN.{get_or}
 use borrow.Author.Tests.{lt-ltb, le-ltb}
 use Rattle.model.specs.planning.Words.{kind}
-use Rattle.words.specs.ByIndex.{isKind}
+use Rattle.words.specs.ByIndex.{is_kind}
 use borrow.Author.Rules.{rules}
 use Rattle.words.proofs.word.is_kind.Statement.{statement}
 use Rattle.words.proofs.word.is_kind.Tie as tie
@@ -16,14 +16,14 @@ shared-slice-read-result : tie.Need-shared-slice-read-result
 shared-slice-read-result c = search rules
 
 returns : tie.Need-returns
-unfolding isKind
+unfolding is_kind
 returns c =
     let a = c.before.before.args in
     sym (ap (λ (b : Bool). cond b (eqb (kind (get_or a.words.now a.at 0)) a.due) false)
     (lt-ltb _ _ c.before.if1.true))
 
 returns-2 : tie.Need-returns-2
-unfolding isKind
+unfolding is_kind
 returns-2 c =
     let a = c.before.args in
     sym (ap (λ (b : Bool). cond b (eqb (kind (get_or a.words.now a.at 0)) a.due) false)

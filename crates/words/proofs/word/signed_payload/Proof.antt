@@ -4,7 +4,7 @@ use mathlib.Core.Path.{◌∙◌}
 use mir.Val.{Fits}
 use mir.Syntax.{w32}
 use Rattle.words.proofs.Twos as twos
-use Rattle.words.specs.ByIndex.{payloadAt}
+use Rattle.words.specs.ByIndex.{payload_at}
 use borrow.Author.Rules.{rules}
 use Rattle.words.proofs.word.signed_payload.Statement.{statement}
 use Rattle.words.proofs.word.signed_payload.Tie as tie
@@ -20,7 +20,7 @@ cast-result c = search rules
 
 returns : tie.Need-returns
 returns c =
-    let n = payloadAt c.before.before.args.words.now c.before.before.args.at in
+    let n = payload_at c.before.before.args.words.now c.before.before.args.at in
     let f : Fits w32 n = record { fits = omega arith } in
     record {
       is = exactly (search exact depth 9) tt
@@ -33,13 +33,13 @@ cast-result-2 c = search rules
 
 sub-result : tie.Need-overflow-sub-result
 sub-result c =
-    let n = payloadAt c.before.before.args.words.now c.before.before.args.at in
+    let n = payload_at c.before.before.args.words.now c.before.before.args.at in
     let f : Fits w32 n = record { fits = omega arith } in
     sfits (search exact depth 9) tt
 
 returns-2 : tie.Need-returns-2
 returns-2 c =
-    let n = payloadAt c.before.before.args.words.now c.before.before.args.at in
+    let n = payload_at c.before.before.args.words.now c.before.before.args.at in
     let f : Fits w32 n = record { fits = omega arith } in
     record {
       is = exactly (search exact depth 9) tt

@@ -3,7 +3,7 @@ use Rattle.whole.proofs.Counting.{next_one}
 use mathlib.Core.Bool.{Bool, cond}
 use mathlib.Core.Path.{sym, ap, ◌∙◌}
 use borrow.Author.Rules.{rules}
-use Rattle.words.specs.ByIndex.{skipOptional}
+use Rattle.words.specs.ByIndex.{skip_optional}
 use Rattle.words.proofs.Reader.{there}
 use Rattle.words.proofs.word.skip_optional.Statement.{statement}
 use Rattle.words.proofs.word.skip_optional.Tie as tie
@@ -18,14 +18,14 @@ add-result c =
     search rules
 
 returns : tie.Need-returns
-unfolding skipOptional
+unfolding skip_optional
 returns c =
     let a = c.before.before.before.args in
     let e = sym c.before.is-kind.ensures ∙ c.if1.true in
     sym (next_one a.at) ∙ sym (ap (λ (b : Bool). cond b (suc a.at) a.at) e)
 
 returns-2 : tie.Need-returns-2
-unfolding skipOptional
+unfolding skip_optional
 returns-2 c =
     let a = c.before.before.before.args in
     let e = sym c.before.is-kind.ensures ∙ c.if1.false in
