@@ -20,7 +20,7 @@ use model::{AXES, Axis, Checked, LAST_TICK, Windows};
 
 // What a call admits a job for: planning; a search, which reads 0 for the asked arrival; or
 // conversion, where a fixed target may have a velocity unless the least arrival is sought.
-#[derive(Drop)]
+#[derive(Clone, Copy)]
 pub enum Purpose {
     Planning,
     Searching,

@@ -15,7 +15,7 @@ use regions::{CruisePlan, Regions};
 
 // How many of ticks 1 to the last but one are on the first ramp, level, and on
 // the other ramp; each may be none.
-#[derive(Drop)]
+#[derive(Clone, Copy)]
 pub struct Parts {
     pub rising: u64,
     pub level: u64,
@@ -23,7 +23,7 @@ pub struct Parts {
 }
 
 // The sum of the upper envelope over ticks 1 to the last but one, and its parts.
-#[derive(Drop)]
+#[derive(Clone, Copy)]
 pub struct UpperArea {
     pub sum: i64,
     pub parts: Parts,

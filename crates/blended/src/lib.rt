@@ -14,7 +14,7 @@ use planned::AxisPlan;
 
 // An axis at a tick: its exact position after the blends, in half 1/65,536 of a fine step, and its
 // velocity, in 1/65,536 of a fine step.
-#[derive(Drop)]
+#[derive(Clone, Copy)]
 pub struct BlendedState {
     pub position: i64,
     pub velocity: i64,

@@ -15,7 +15,7 @@ use segments::Segment;
 
 // The states of an axis in a row: at the row's tick, one tick on, and the one of these
 // two that goes on to the next row.
-#[derive(Drop)]
+#[derive(Clone, Copy)]
 pub struct RowStates {
     pub now: BlendedState,
     pub next: BlendedState,

@@ -17,7 +17,7 @@ use regions::{CruisePlan, Regions};
 
 // How the sum of the velocities for a cruise is taken: tick by tick, as the definition has it; or
 // from the areas under them, with no tick visited.
-#[derive(Drop)]
+#[derive(Clone, Copy)]
 pub enum Engine {
     Ticks,
     Areas,

@@ -23,7 +23,7 @@ const NARROWEST_LEAP: u64 = 8;
 // most on the ramp from the start and on the one to the end, and by how many the first ramp
 // has more or fewer of them than the other. However they are split, the area will do; this
 // split is nearly the envelope's own.
-#[derive(Drop)]
+#[derive(Clone, Copy)]
 struct Ramps {
     pub rise: u64,
     pub fall: u64,

@@ -9,7 +9,7 @@ use profile::Profile;
 
 // The sums of both envelopes over ticks 1 to the last but one of a leg, and the velocities that
 // come to them with one and with two ticks more, before the speed limit is heeded.
-#[derive(Drop)]
+#[derive(Clone, Copy)]
 pub struct Sums {
     pub lowest: i64,
     pub highest: i64,

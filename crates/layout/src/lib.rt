@@ -18,7 +18,7 @@ use model::{
 
 // What a call gives back, laid out as the header's `polgamir_answer`.
 #[repr(C)]
-#[derive(Drop)]
+#[derive(Clone, Copy)]
 pub struct PolgamirAnswer {
     pub number: u32,
     pub mask: u32,
@@ -30,7 +30,7 @@ pub struct PolgamirAnswer {
 // it moves. The second weight is given where the damping's kind is 0, of a ratio where it is 1,
 // else of two peaks. The pole has a second sway where it is given by any number but 0.
 #[repr(C)]
-#[derive(Drop)]
+#[derive(Clone, Copy)]
 pub struct PolgamirAxis {
     pub start_position: i64,
     pub start_velocity: i64,
@@ -54,7 +54,7 @@ pub struct PolgamirAxis {
 // Windows, laid out as the header's `polgamir_windows`. They are given where the first field is
 // not 0.
 #[repr(C)]
-#[derive(Drop)]
+#[derive(Clone, Copy)]
 pub struct PolgamirWindows {
     pub given: u32,
     pub dwell: u32,
@@ -64,7 +64,7 @@ pub struct PolgamirWindows {
 
 // A job, laid out as the header's `polgamir_job`.
 #[repr(C)]
-#[derive(Drop)]
+#[derive(Clone, Copy)]
 pub struct PolgamirJob {
     pub mask: u32,
     pub asked: u32,

@@ -8,7 +8,7 @@ use model::{AXES, AxisRaises, Raise, RaisesAnswer};
 // A raise, laid out as the header's `polgamir_raise`: of the acceleration limit where the limit is
 // 1, of the speed limit where it is 2; none where both fields are 0.
 #[repr(C)]
-#[derive(Drop)]
+#[derive(Clone, Copy)]
 pub struct PolgamirRaise {
     pub limit: u32,
     pub by: u32,
@@ -16,7 +16,7 @@ pub struct PolgamirRaise {
 
 // The raises of an axis, laid out as the header's `polgamir_axis_raises`.
 #[repr(C)]
-#[derive(Drop)]
+#[derive(Clone, Copy)]
 pub struct PolgamirAxisRaises {
     pub first: PolgamirRaise,
     pub second: PolgamirRaise,
@@ -24,7 +24,7 @@ pub struct PolgamirAxisRaises {
 
 // What a call gives back, laid out as the header's `polgamir_raises`.
 #[repr(C)]
-#[derive(Drop)]
+#[derive(Clone, Copy)]
 pub struct PolgamirRaises {
     pub answer: PolgamirAnswer,
     pub axes: [PolgamirAxisRaises; AXES],

@@ -6,7 +6,7 @@ use model::PartAnswer;
 
 // What a call for rows in parts gives back, laid out as the header's `polgamir_part_answer`.
 #[repr(C)]
-#[derive(Drop)]
+#[derive(Clone, Copy)]
 pub struct PolgamirPartAnswer {
     pub number: u32,
     pub mask: u32,

@@ -7,7 +7,7 @@ use model::{Report, SearchAnswer};
 // What a search gives back, laid out as the header's `polgamir_search_answer`. The report is 0 for
 // none, 1 for found and 2 for spent.
 #[repr(C)]
-#[derive(Drop)]
+#[derive(Clone, Copy)]
 pub struct PolgamirSearchAnswer {
     pub number: u32,
     pub mask: u32,

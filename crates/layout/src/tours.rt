@@ -9,7 +9,7 @@ use model::{AXES, AxisLimits, SecondSway, TourSettings, Weight};
 // The limits and the blend of an axis, laid out as the header's `polgamir_limits`. The damping and
 // the second sway are as in an axis.
 #[repr(C)]
-#[derive(Drop)]
+#[derive(Clone, Copy)]
 pub struct PolgamirLimits {
     pub speed_limit: u32,
     pub acceleration_limit: u32,
@@ -25,7 +25,7 @@ pub struct PolgamirLimits {
 
 // What a tour has besides its stops, laid out as the header's `polgamir_tour`.
 #[repr(C)]
-#[derive(Drop)]
+#[derive(Clone, Copy)]
 pub struct PolgamirTour {
     pub mask: u32,
     pub start: [i64; AXES],

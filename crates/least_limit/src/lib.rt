@@ -23,7 +23,7 @@ use profile::Profile;
 // What a leg asks of its limits, in grid steps: the velocities of its ends, the greatest speed that
 // it has, and the required sum, which only the upper envelope can fall short of. The grid steps in
 // a unit; the limits as they are, in units.
-#[derive(Drop)]
+#[derive(Clone, Copy)]
 pub struct Task {
     pub start: i64,
     pub end: i64,

@@ -15,7 +15,7 @@ use regions::Regions;
 // its target's position at the arrival, in units; its planned velocities up to the landing, in grid
 // steps; its planned acceleration from the landing on; h; the weights of the blend, scaled so that
 // the cells of every plan are rounded by the same divisors; and the second sway.
-#[derive(Drop)]
+#[derive(Clone, Copy)]
 pub struct AxisPlan {
     pub origin: i64,
     pub destination: i64,

@@ -167,7 +167,7 @@ fn pair(first: Raise, second: Raise) -> AxisRaises
 // ---- one limit
 
 // The least raise of a limit, or none within its range.
-#[derive(Drop)]
+#[derive(Clone, Copy)]
 enum LeastRaise {
     By(u32),
     Missing,

@@ -18,7 +18,7 @@ const WIDEST_SPAN: u32 = 4096;
 
 // The leg to the first arrival: its limits, ends, displacement and ticks. With each arrival the
 // velocity of its end changes by as much.
-#[derive(Drop)]
+#[derive(Clone, Copy)]
 pub struct Approach {
     pub speed_limit: u64,
     pub acceleration_limit: u64,

@@ -14,7 +14,7 @@ use profile::Profile;
 // The chosen velocities in three regions: up to tick `rise` they change by `up` a tick from the
 // start on; from `fall` ticks before the end on they are `down` further from it for each tick that
 // is left; between they are level, the first `raised` of them one above the cruise.
-#[derive(Drop)]
+#[derive(Clone, Copy)]
 pub struct Regions {
     pub start: i64,
     pub rise: u64,
@@ -28,7 +28,7 @@ pub struct Regions {
 }
 
 // The cruise velocity, and how many ticks are raised by one.
-#[derive(Drop)]
+#[derive(Clone, Copy)]
 pub struct CruisePlan {
     pub velocity: i64,
     pub raised: u64,

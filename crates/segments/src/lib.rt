@@ -15,7 +15,7 @@ use planned::AxisPlan;
 use regions::Regions;
 
 // The change of a velocity in each tick from `from` on and before `until`.
-#[derive(Drop)]
+#[derive(Clone, Copy)]
 pub struct Segment {
     pub change: i64,
     pub from: u64,

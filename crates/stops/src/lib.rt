@@ -16,7 +16,7 @@ use model::{
 
 // The stops of a tour by value: how many are lent, and the first 64 of them. Places that no stop is
 // stored in have the stop of zeros.
-#[derive(Drop)]
+#[derive(Clone, Copy)]
 pub struct StopRow {
     pub stops: [Stop; MAX_STOPS],
     pub lent: usize,
@@ -76,7 +76,7 @@ pub fn stop_row(stops: &[Stop]) -> StopRow
 // ---- refusal 11
 
 // A stop by its index, or none.
-#[derive(Drop)]
+#[derive(Clone, Copy)]
 pub enum FirstStop {
     At(usize),
     Nowhere,
@@ -162,7 +162,7 @@ fn leg_axis(settings: TourSettings, here: [i64; AXES], there: [i64; AXES], i: us
 
 // Number 0 with the mask, the total and the arrivals in front; or the first refused leg's number,
 // mask and arrival, with the stop as place.
-#[derive(Drop)]
+#[derive(Clone, Copy)]
 pub struct LegRow {
     pub number: u32,
     pub place: usize,

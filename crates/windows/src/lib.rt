@@ -58,7 +58,7 @@ fn fits_one(tick: u32, dwell: u32, list: [Window; MAX_WINDOWS], count: usize) ->
 }
 
 // The place of a refusal, or none.
-#[derive(Drop)]
+#[derive(Clone, Copy)]
 pub enum Place {
     At(usize),
     Nowhere,

@@ -11,7 +11,7 @@ use model::{
 };
 
 // An axis with the index after its words, or the index of the first wrong word.
-#[derive(Drop)]
+#[derive(Clone, Copy)]
 pub enum AxisReading {
     Got(Axis, usize),
     Wrong(usize),
