@@ -226,7 +226,7 @@ read-spells m i ws j k vs l c e =
     let first = field_is 2 i ws a.value a.index a.rest a.first in
     let second =
     axes-spells (set_bits m) a.index a.rest b.value b.index b.rest
-    (clean-tail _ a.rest (subst Clean first.0 c)) b.first in
+    (clean-tail (word 2 a.value) a.rest (subst Clean first.0 c)) b.first in
     let read : Job = read_job m a.value b.value in
     let end = ending-is read b.index b.rest j k vs b.then in
     let same = ending-gives read b.index b.rest j k vs b.then in
