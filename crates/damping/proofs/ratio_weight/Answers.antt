@@ -1,0 +1,28 @@
+use Prim.Native.Nat.{◌≤◌}
+use native.Mathlib.Omega.{arith}
+use mathlib.Core.Path.{◌≡◌, refl, sym, ap, ◌∙◌}
+use Rattle.model.specs.planning.Damping.{largest_to, ratio_weight}
+use Rattle.theorems.proofs.jobs.MeasuredWeight.{largest-none, largest-here, largest-lower}
+use Rattle.damping.proofs.ratio_weight.Goals as goal
+
+pub returns-then-meets : goal.returns-then-meets
+returns-then-meets c =
+    let l = c.loop-weight in
+    let met = sym c.meets.ensures ∙ c.if-meets.true in
+    sym (largest-here _ l.weight c.loop-weight-test.true met) ∙ l.invariant.largest
+
+pub loop-weight-preserved : goal.loop-weight-preserved
+loop-weight-preserved c =
+    let l = c.loop-weight in
+    let missed = sym c.meets.ensures ∙ c.if-meets.false in
+    record {
+      largest = sym (largest-lower _ l.weight c.loop-weight-test.true missed) ∙ l.invariant.largest;
+      high = omega (arith, l.invariant.high);
+    }
+
+pub returns : goal.returns
+returns c =
+    let l = c.loop-weight in
+    let r = c.args.ratio in
+    let done : l.weight ≡ 0 = omega arith in
+    sym (ap (largest_to r) done ∙ largest-none r) ∙ l.invariant.largest

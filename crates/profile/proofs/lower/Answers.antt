@@ -1,0 +1,6 @@
+use Rattle.whole.proofs.Bounds.{sfits, computed, is-of}
+use borrow.Author.Rules.{rules}
+use Rattle.profile.proofs.lower.Goals as goal
+
+pub returns : goal.returns
+returns c = is-of (search computed depth 30 fits 9000) tt
