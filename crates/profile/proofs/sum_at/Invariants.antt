@@ -17,8 +17,8 @@ abbrev pub invariant-loop-k : goal.invariant-loop-k
 invariant-loop-k l =
     record {
       low : l.k ≤ l.ticks - 1;
-      sums : l.sum ≡ sum_to (clamped (leg_of l.p) l.c) l.k;
-      small : nat_abs (sum_to (clamped (leg_of l.p) l.c) l.k) ≤ l.k * 2 ^ 47;
+      sums : l.sum ≡ sum_to (clamped (leg_of l.fn.p) l.fn.c) l.k;
+      small : nat_abs (sum_to (clamped (leg_of l.fn.p) l.fn.c) l.k) ≤ l.k * 2 ^ 47;
     }
 
 abbrev pub decreases-loop-k : goal.decreases-loop-k
