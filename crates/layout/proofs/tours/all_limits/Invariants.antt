@@ -1,0 +1,25 @@
+use Prim.Native.Nat.{ℕ, ◌+◌, ◌-◌, ◌≤◌, ◌<◌}
+use native.Mathlib.Omega.{arith}
+use mathlib.Core.Path.{◌≡◌, refl, sym, ap, ◌∙◌}
+use mathlib.Core.List.{List}
+use mathlib.Core.Logic.{⊎_elim}
+use lib.ListN.{length, get_or, set, length-set, get_or-replicate}
+use lib.Seq.{set-get_or, get_or-set_other}
+use borrow.Author.Rules.{rules}
+use Rattle.model.specs.declared.AxisLimits.{AxisLimits}
+use Rattle.layout.specs.Tours.{limits_of, unset_limits, all_limits_of}
+use Rattle.layout.proofs.Named.{named_at, is-named, not_named, named_from, named-next, named-all}
+use Rattle.layout.proofs.tours.all_limits.Given as goal
+
+abbrev pub invariant-loop-i : goal.invariant-loop-i
+invariant-loop-i l =
+    record {
+      low : l.i ≤ 6;
+      six : length l.fn.list ≡ 6;
+      long : length l.limits ≡ 6;
+      unset : (j : ℕ) → l.i ≤ j → j < 6 → get_or l.limits j unset_limits ≡ unset_limits;
+      stored : named_from limits_of unset_limits l.fn.list l.i l.bits l.limits ≡ all_limits_of l.fn.mask l.fn.list;
+    }
+
+abbrev pub decreases-loop-i : goal.decreases-loop-i
+decreases-loop-i l = 6 - l.i

@@ -1,0 +1,45 @@
+use Prim.Native.Nat.{ℕ, ◌-◌, ◌≤◌}
+use native.Mathlib.Omega.{arith}
+use mathlib.Core.Path.{◌≡◌, refl, sym, ap, ◌∙◌}
+use mathlib.Core.List.{List}
+use lib.ListN.{length, take, length-set, length-map}
+use lib.Seq.{take-length}
+use borrow.Author.Rules.{rules}
+use Rattle.model.specs.declared.Axis.{Axis}
+use Rattle.model.specs.calls.Tour.{leg_axes}
+use Rattle.stops.proofs.Legs.{legs-next, legs-long}
+use Rattle.stops.proofs.leg_axes.Goals as goal
+
+pub loop-i-preserved : goal.loop-i-preserved
+loop-i-preserved c =
+    let h = c.loop-i in
+    let a = c.args in
+    let v = h.invariant in
+    let x = c.leg_axis-axis in
+    let legs = legs-long a.settings.limits a.here a.there 6 v.limits v.starts v.ends in
+    record {
+      low = omega arith;
+      limits = v.limits;
+      starts = v.starts;
+      ends = v.ends;
+      long = length-set h.axes h.i x.result ∙ v.long;
+      front =
+          legs-next a.settings a.here a.there h.axes h.i x.result
+          (omega (arith, v.limits)) (omega (arith, v.starts))
+          (omega (arith, v.ends)) (omega (arith, legs)) (omega (arith, v.long)) x.ensures v.front;
+    }
+
+pub returns : goal.returns
+returns c =
+    let h = c.loop-i in
+    let a = c.args in
+    let v = h.invariant in
+    let g = leg_axes a.settings.limits a.here a.there in
+    let legs = legs-long a.settings.limits a.here a.there 6 v.limits v.starts v.ends in
+    let all : h.i ≡ length h.axes = omega (arith, v.long) in
+    let both : h.i ≡ length g = omega (arith, legs) in
+    sym (take-length h.axes)
+    ∙ ap (λ (k : ℕ). take k h.axes) (sym all)
+    ∙ v.front
+    ∙ ap (λ (k : ℕ). take k g) both
+    ∙ take-length g

@@ -1,0 +1,25 @@
+use Prim.Native.Nat.{ℕ, ◌-◌, ◌≤◌}
+use native.Mathlib.Omega.{arith}
+use mathlib.Core.Path.{◌≡◌, refl, sym, ap, ◌∙◌}
+use mathlib.Core.List.{List}
+use lib.ListN.{length, take, length-set, length-map}
+use lib.Seq.{take-length}
+use borrow.Author.Rules.{rules}
+use Rattle.model.specs.declared.Axis.{Axis}
+use Rattle.model.specs.calls.Tour.{leg_axes}
+use Rattle.stops.proofs.Legs.{legs-next, legs-long}
+use Rattle.stops.proofs.leg_axes.Given as goal
+
+abbrev pub invariant-loop-i : goal.invariant-loop-i
+invariant-loop-i l =
+    record {
+      low : l.i ≤ 6;
+      limits : length l.fn.settings.limits ≡ 6;
+      starts : length l.fn.here ≡ 6;
+      ends : length l.fn.there ≡ 6;
+      long : length l.axes ≡ 6;
+      front : take l.i l.axes ≡ take l.i (leg_axes l.fn.settings.limits l.fn.here l.fn.there);
+    }
+
+abbrev pub decreases-loop-i : goal.decreases-loop-i
+decreases-loop-i l = 6 - l.i

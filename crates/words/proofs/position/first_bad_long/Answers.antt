@@ -1,0 +1,27 @@
+use Prim.Native.Nat.{◌-◌, ◌≤◌}
+use native.Mathlib.Omega.{arith}
+use mathlib.Core.Path.{◌≡◌, sym, ◌∙◌}
+use Rattle.words.specs.ByIndex.{bad_long_in}
+use Rattle.words.proofs.LongWords.{long-begun, long-on, long-stop, long-ended}
+use Rattle.words.proofs.position.first_bad_long.Goals as goal
+
+pub returns-then-is_bad_long : goal.returns-then-is_bad_long
+returns-then-is_bad_long c =
+    let l = c.loop-i in
+    let a = c.args in
+    let e = sym c.is_bad_long.ensures ∙ c.if-is_bad_long.true in
+    sym (long-stop a.words.now a.end l.i c.loop-i-test.true e) ∙ l.invariant.1
+
+pub loop-i-preserved : goal.loop-i-preserved
+loop-i-preserved c =
+    let l = c.loop-i in
+    let a = c.args in
+    let e = sym c.is_bad_long.ensures ∙ c.if-is_bad_long.false in
+    (omega arith, sym (long-on a.words.now a.end l.i c.loop-i-test.true e) ∙ l.invariant.1)
+
+pub returns : goal.returns
+returns c =
+    let l = c.loop-i in
+    let a = c.args in
+    let all : a.end ≡ l.i = omega arith in
+    all ∙ sym (long-ended a.words.now a.end l.i c.loop-i-test.false) ∙ l.invariant.1

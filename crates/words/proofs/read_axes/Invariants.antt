@@ -1,0 +1,22 @@
+use mathlib.Core.Logic.{⊎_elim}
+use Prim.Native.Nat.{◌+◌, ◌*◌, ◌-◌, ◌/◌, ◌≤◌}
+use native.Mathlib.Omega.{arith}
+use mathlib.Core.Path.{◌≡◌, refl, sym, ap, ◌∙◌}
+use lib.ListN.{replicate}
+use borrow.Author.Rules.{rules}
+use Rattle.model.specs.declared.Axis.{Axis}
+use Rattle.words.specs.declared.AxesReading.{AxesReading}
+use Rattle.words.specs.ByIndex.{read_on, read_all, begun}
+use Rattle.words.proofs.AxesWords.{going, stays, turn-set, turn-unset, turn_end, more-axes, no-axes}
+use Rattle.words.proofs.read_axes.Given as goal
+
+abbrev pub invariant-loop-number : goal.invariant-loop-number
+invariant-loop-number l =
+    record {
+      low : l.number ≤ 6;
+      within : l.at ≤ 2 + 13 * l.number;
+      reads : read_all l.fn.words (6 - l.number) l.number l.bits (going l.at l.axes) ≡ read_all l.fn.words 6 0 l.fn.mask begun;
+    }
+
+abbrev pub decreases-loop-number : goal.decreases-loop-number
+decreases-loop-number l = 6 - l.number
