@@ -1,17 +1,15 @@
-use Prim.Native.Nat.{ℕ, ◌+◌, ◌-◌, ◌≤◌, ◌<◌}
+use Prim.Native.Nat.{◌+◌}
 use native.Mathlib.Omega.{arith}
-use mathlib.Core.Path.{◌≡◌, refl, sym, ap, ◌∙◌}
+use mathlib.Core.Path.{◌≡◌, sym, ap, ◌∙◌}
 use mathlib.Core.List.{List}
-use mathlib.Core.Logic.{⊎_elim}
-use lib.ListN.{length, get_or, set, length-set, get_or-replicate}
+use lib.ListN.{length, get_or, set, length-set}
 use lib.Seq.{set-get_or, get_or-set_other}
-use borrow.Author.Rules.{rules}
 use Rattle.model.specs.declared.Axis.{Axis}
 use Rattle.model.specs.planning.Job.{unset_axis}
-use Rattle.layout.specs.Jobs.{axis_from_c, axes_from_c}
+use Rattle.layout.specs.Jobs.{axis_from_c}
 use Rattle.layout.proofs.Named.{named_at, is-named, not_named, named_from, named-next, named-all}
 use Rattle.layout.proofs.axes_of.Goals as goal
-use Rattle.layout.proofs.axes_of.Goals.{Joined-bits-eq1}
+use Rattle.layout.proofs.axes_of.Goals.{Joined-bits-eq1, then-bits-eq1, else-bits-eq1}
 
 -- after a turn axis i is as its bit names it: stored, or unset as it was
 turned : (c : Joined-bits-eq1)
@@ -22,14 +20,17 @@ turned c =
     let h = c.loop-i in
     let l = c.args.list in
     let put : Axis → List Axis = set h.axes h.i in
-    ⊎_elim
-    (λ w. w.3 ∙ ap put
-    (w.2.ensures ∙ is-named axis_from_c unset_axis l _ h.i h.bits (omega (arith, h.invariant.six)) (omega arith)))
-    (λ w. w.1
-    ∙ sym (set-get_or h.axes h.i unset_axis)
-    ∙ ap put (h.invariant.unset h.i (omega arith) (omega arith)
-    ∙ not_named axis_from_c unset_axis l h.i h.bits (λ e. omega arith)))
-    c.if-bits-eq1.branch
+    elim c.if-bits-eq1.branch [
+      | then-bits-eq1 w ↦
+          w.axes-is ∙ ap put
+          (w.axis_of-axis.ensures
+          ∙ is-named axis_from_c unset_axis l _ h.i h.bits (omega (arith, h.invariant.six)) (omega arith))
+      | else-bits-eq1 w ↦
+          w.axes-is
+          ∙ sym (set-get_or h.axes h.i unset_axis)
+          ∙ ap put (h.invariant.unset h.i (omega arith) (omega arith)
+          ∙ not_named axis_from_c unset_axis l h.i h.bits (λ e. omega arith))
+    ]
 
 pub loop-i-preserved : goal.loop-i-preserved
 loop-i-preserved c =

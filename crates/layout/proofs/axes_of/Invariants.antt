@@ -1,15 +1,9 @@
-use Prim.Native.Nat.{ℕ, ◌+◌, ◌-◌, ◌≤◌, ◌<◌}
-use native.Mathlib.Omega.{arith}
-use mathlib.Core.Path.{◌≡◌, refl, sym, ap, ◌∙◌}
-use mathlib.Core.List.{List}
-use mathlib.Core.Logic.{⊎_elim}
-use lib.ListN.{length, get_or, set, length-set, get_or-replicate}
-use lib.Seq.{set-get_or, get_or-set_other}
-use borrow.Author.Rules.{rules}
-use Rattle.model.specs.declared.Axis.{Axis}
+use Prim.Native.Nat.{ℕ, ◌-◌, ◌≤◌, ◌<◌}
+use mathlib.Core.Path.{◌≡◌}
+use lib.ListN.{length, get_or}
 use Rattle.model.specs.planning.Job.{unset_axis}
 use Rattle.layout.specs.Jobs.{axis_from_c, axes_from_c}
-use Rattle.layout.proofs.Named.{named_at, is-named, not_named, named_from, named-next, named-all}
+use Rattle.layout.proofs.Named.{named_from}
 use Rattle.layout.proofs.axes_of.Given as goal
 
 abbrev pub invariant-loop-i : goal.invariant-loop-i

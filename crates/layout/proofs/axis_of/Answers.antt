@@ -1,4 +1,3 @@
-use borrow.Author.Rules.{rules}
 use Rattle.layout.specs.Jobs.{axis_from_c}
 use Rattle.layout.proofs.axis_of.Goals as goal
 

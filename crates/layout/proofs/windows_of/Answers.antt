@@ -1,7 +1,6 @@
 use native.Mathlib.Omega.{arith}
 use mathlib.Core.Path.{◌≡◌, sym, ap, ◌∙◌}
 use mathlib.Core.Bool.{Bool, true, cond}
-use borrow.Author.Rules.{rules}
 use borrow.Author.Tests.{eq-eqb, ne_eqb}
 use Rattle.model.specs.declared.Windows.{Windows}
 use Rattle.model.specs.planning.Windows.{no_windows}
@@ -10,7 +9,7 @@ use Rattle.layout.specs.Jobs.{windows_of}
 use Rattle.layout.proofs.windows_of.Goals as goal
 
 abbrev brought : PolgamirWindows → Windows
-brought w = record { given = true; dwell = w.dwell; count = w.count; list = w.list-1 }
+brought w = record { given = true; dwell = w.dwell; count = w.count; list = w.list }
 
 none : (w : PolgamirWindows) → w.given ≡ 0 → no_windows ≡ windows_of w
 unfolding windows_of

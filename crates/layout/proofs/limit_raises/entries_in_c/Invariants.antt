@@ -1,9 +1,7 @@
 use Prim.Native.Nat.{◌-◌, ◌≤◌}
-use native.Mathlib.Omega.{arith}
-use mathlib.Core.Path.{◌≡◌, refl, ◌∙◌}
-use lib.ListN.{length, length-set}
-use borrow.Author.Rules.{rules}
-use Rattle.whole.proofs.Mapped.{Stored, stored_next, stored-all}
+use mathlib.Core.Path.{◌≡◌}
+use lib.ListN.{length}
+use Rattle.whole.proofs.Mapped.{Stored}
 use Rattle.layout.specs.Raises.{entry_in_c}
 use Rattle.layout.proofs.limit_raises.entries_in_c.Given as goal
 

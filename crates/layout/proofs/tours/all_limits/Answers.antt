@@ -1,16 +1,14 @@
-use Prim.Native.Nat.{ℕ, ◌+◌, ◌-◌, ◌≤◌, ◌<◌}
+use Prim.Native.Nat.{◌+◌}
 use native.Mathlib.Omega.{arith}
-use mathlib.Core.Path.{◌≡◌, refl, sym, ap, ◌∙◌}
+use mathlib.Core.Path.{◌≡◌, sym, ap, ◌∙◌}
 use mathlib.Core.List.{List}
-use mathlib.Core.Logic.{⊎_elim}
-use lib.ListN.{length, get_or, set, length-set, get_or-replicate}
+use lib.ListN.{length, get_or, set, length-set}
 use lib.Seq.{set-get_or, get_or-set_other}
-use borrow.Author.Rules.{rules}
 use Rattle.model.specs.declared.AxisLimits.{AxisLimits}
-use Rattle.layout.specs.Tours.{limits_of, unset_limits, all_limits_of}
+use Rattle.layout.specs.Tours.{limits_of, unset_limits}
 use Rattle.layout.proofs.Named.{named_at, is-named, not_named, named_from, named-next, named-all}
 use Rattle.layout.proofs.tours.all_limits.Goals as goal
-use Rattle.layout.proofs.tours.all_limits.Goals.{Joined-bits-eq1}
+use Rattle.layout.proofs.tours.all_limits.Goals.{Joined-bits-eq1, then-bits-eq1, else-bits-eq1}
 
 -- after a turn axis i is as its bit names it: stored, or unset as it was
 turned : (c : Joined-bits-eq1)
@@ -21,14 +19,17 @@ turned c =
     let h = c.loop-i in
     let l = c.args.list in
     let put : AxisLimits → List AxisLimits = set h.limits h.i in
-    ⊎_elim
-    (λ w. w.3 ∙ ap put
-    (w.2.ensures ∙ is-named limits_of unset_limits l _ h.i h.bits (omega (arith, h.invariant.six)) (omega arith)))
-    (λ w. w.1
-    ∙ sym (set-get_or h.limits h.i unset_limits)
-    ∙ ap put (h.invariant.unset h.i (omega arith) (omega arith)
-    ∙ not_named limits_of unset_limits l h.i h.bits (λ e. omega arith)))
-    c.if-bits-eq1.branch
+    elim c.if-bits-eq1.branch [
+      | then-bits-eq1 w ↦
+          w.limits-is ∙ ap put
+          (w.limits_of-named.ensures
+          ∙ is-named limits_of unset_limits l _ h.i h.bits (omega (arith, h.invariant.six)) (omega arith))
+      | else-bits-eq1 w ↦
+          w.limits-is
+          ∙ sym (set-get_or h.limits h.i unset_limits)
+          ∙ ap put (h.invariant.unset h.i (omega arith) (omega arith)
+          ∙ not_named limits_of unset_limits l h.i h.bits (λ e. omega arith))
+    ]
 
 pub loop-i-preserved : goal.loop-i-preserved
 loop-i-preserved c =

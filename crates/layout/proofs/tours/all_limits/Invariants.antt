@@ -1,14 +1,8 @@
-use Prim.Native.Nat.{ℕ, ◌+◌, ◌-◌, ◌≤◌, ◌<◌}
-use native.Mathlib.Omega.{arith}
-use mathlib.Core.Path.{◌≡◌, refl, sym, ap, ◌∙◌}
-use mathlib.Core.List.{List}
-use mathlib.Core.Logic.{⊎_elim}
-use lib.ListN.{length, get_or, set, length-set, get_or-replicate}
-use lib.Seq.{set-get_or, get_or-set_other}
-use borrow.Author.Rules.{rules}
-use Rattle.model.specs.declared.AxisLimits.{AxisLimits}
+use Prim.Native.Nat.{ℕ, ◌-◌, ◌≤◌, ◌<◌}
+use mathlib.Core.Path.{◌≡◌}
+use lib.ListN.{length, get_or}
 use Rattle.layout.specs.Tours.{limits_of, unset_limits, all_limits_of}
-use Rattle.layout.proofs.Named.{named_at, is-named, not_named, named_from, named-next, named-all}
+use Rattle.layout.proofs.Named.{named_from}
 use Rattle.layout.proofs.tours.all_limits.Given as goal
 
 abbrev pub invariant-loop-i : goal.invariant-loop-i

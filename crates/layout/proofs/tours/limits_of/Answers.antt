@@ -1,4 +1,3 @@
-use borrow.Author.Rules.{rules}
 use Rattle.layout.specs.Tours.{limits_of}
 use Rattle.layout.proofs.tours.limits_of.Goals as goal
 
