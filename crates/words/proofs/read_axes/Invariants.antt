@@ -1,13 +1,7 @@
-use mathlib.Core.Logic.{⊎_elim}
-use Prim.Native.Nat.{◌+◌, ◌*◌, ◌-◌, ◌/◌, ◌≤◌}
-use native.Mathlib.Omega.{arith}
-use mathlib.Core.Path.{◌≡◌, refl, sym, ap, ◌∙◌}
-use lib.ListN.{replicate}
-use borrow.Author.Rules.{rules}
-use Rattle.model.specs.declared.Axis.{Axis}
-use Rattle.words.specs.declared.AxesReading.{AxesReading}
-use Rattle.words.specs.ByIndex.{read_on, read_all, begun}
-use Rattle.words.proofs.AxesWords.{going, stays, turn-set, turn-unset, turn_end, more-axes, no-axes}
+use Prim.Native.Nat.{◌+◌, ◌*◌, ◌-◌, ◌≤◌}
+use mathlib.Core.Path.{◌≡◌}
+use Rattle.words.specs.ByIndex.{read_all, begun}
+use Rattle.words.proofs.AxesWords.{going}
 use Rattle.words.proofs.read_axes.Given as goal
 
 abbrev pub invariant-loop-number : goal.invariant-loop-number

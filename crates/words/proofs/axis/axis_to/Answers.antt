@@ -1,9 +1,7 @@
-use native.Mathlib.Omega.{arith}
 use Prim.Native.Nat.{ℕ, ◌+◌}
 use mathlib.Core.Path.{ap, ◌∙◌}
 use Rattle.model.specs.declared.Weight.TheVariants.{Given}
 use Rattle.words.specs.ByIndex.{payload_at, sway_at, axis_at}
-use borrow.Author.Rules.{rules}
 use Rattle.words.proofs.axis.axis_to.Goals as goal
 
 pub returns : goal.returns

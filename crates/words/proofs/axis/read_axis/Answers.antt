@@ -1,8 +1,6 @@
 use Prim.Native.Nat.{◌+◌}
 use native.Mathlib.Omega.{arith}
 use mathlib.Core.Path.{sym, ap, ◌∙◌}
-use borrow.Author.Tests.{not-true, not-false}
-use borrow.Author.Rules.{rules}
 use Rattle.model.specs.declared.Target.TheVariants.{Fixed, Moving}
 use Rattle.model.specs.declared.State.{State}
 use Rattle.model.specs.declared.RestPoint.{RestPoint}
@@ -98,7 +96,7 @@ returns-then-not-is_kind c =
     let t = c.skip_optional-target in
     let m = c.first_wrong-second in
     let full₂ = c.if-second-fixed_end.false in
-    let fixed = sym c.is_kind.ensures ∙ not-true _ c.if-not-is_kind.true in
+    let fixed = sym c.is_kind.ensures ∙ c.if-not-is_kind.true in
     let target = ap (λ (p : RestPoint). axis_at a.words.now a.at (Fixed p)) c.rest_point-point.ensures in
     ap (λ (x : Axis). Got x (t.result + 2)) (c.axis_to-axis.ensures ∙ target)
     ∙ axis-fixed a.words.now a.at s.result s.ensures n.result n.ensures full g.result g.ensures
@@ -136,7 +134,7 @@ returns-then-third-moving_end c =
     let t = c.skip_optional-target in
     let m = c.first_wrong-second in
     let full₂ = c.if-second-fixed_end.false in
-    let moving = sym c.is_kind.ensures ∙ not-false _ c.if-not-is_kind.false in
+    let moving = sym c.is_kind.ensures ∙ c.if-not-is_kind.false in
     let l = c.first_wrong-third in
     axis-unfinished a.words.now a.at s.result s.ensures n.result n.ensures full g.result
     g.ensures t.result t.ensures
@@ -152,7 +150,7 @@ state_at-state-requires c =
     let t = c.skip_optional-target in
     let m = c.first_wrong-second in
     let full₂ = c.if-second-fixed_end.false in
-    let moving = sym c.is_kind.ensures ∙ not-false _ c.if-not-is_kind.false in
+    let moving = sym c.is_kind.ensures ∙ c.if-not-is_kind.false in
     let l = c.first_wrong-third in
     motion-there a.words.now a.at s.result s.ensures n.result n.ensures full g.result
     g.ensures t.result t.ensures
@@ -177,7 +175,7 @@ returns c =
     let m = c.first_wrong-second in
     let full₂ = c.if-second-fixed_end.false in
     let moving = sym c.is_kind.ensures
-    ∙ not-false _ c.if-not-is_kind.false in
+    ∙ c.if-not-is_kind.false in
     let l = c.first_wrong-third in
     let target = ap (λ (q : State). axis_at a.words.now a.at (Moving q)) c.state_at-state.ensures in
     ap (λ (x : Axis). Got x (t.result + 4)) (c.axis_to-axis-2.ensures ∙ target)

@@ -1,9 +1,7 @@
-use native.Mathlib.Omega.{arith}
 use mathlib.Core.Path.{ap, ◌∙◌}
 use Prim.Native.Nat.{ℕ, ◌+◌}
 use Rattle.words.specs.ByIndex.{signed_at, rest_at}
 use Rattle.words.proofs.Twos.{back}
-use borrow.Author.Rules.{rules}
 use Rattle.words.proofs.axis.rest_point.Goals as goal
 
 pub returns : goal.returns

@@ -4,7 +4,6 @@ use mathlib.Core.Path.{sym, ap, ◌∙◌}
 use Rattle.model.specs.declared.SecondSway.TheVariants.{Absent, HalfPeriod}
 use Rattle.words.specs.ByIndex.{payload_at, sway_at}
 use Rattle.words.proofs.Reader.{there}
-use borrow.Author.Rules.{rules}
 use Rattle.words.proofs.axis.second_sway.Goals as goal
 
 pub payload-requires : goal.payload-requires

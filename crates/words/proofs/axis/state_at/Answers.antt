@@ -1,9 +1,7 @@
-use native.Mathlib.Omega.{arith}
 use Prim.Native.Nat.{ℕ, ◌+◌}
 use mathlib.Core.Path.{ap, ◌∙◌}
 use Rattle.words.specs.ByIndex.{signed_at, state_at}
 use Rattle.words.proofs.Twos.{back}
-use borrow.Author.Rules.{rules}
 use Rattle.words.proofs.axis.state_at.Goals as goal
 
 pub returns : goal.returns

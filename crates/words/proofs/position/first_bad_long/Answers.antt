@@ -1,8 +1,6 @@
-use Prim.Native.Nat.{◌-◌, ◌≤◌}
 use native.Mathlib.Omega.{arith}
 use mathlib.Core.Path.{◌≡◌, sym, ◌∙◌}
-use Rattle.words.specs.ByIndex.{bad_long_in}
-use Rattle.words.proofs.LongWords.{long-begun, long-on, long-stop, long-ended}
+use Rattle.words.proofs.LongWords.{long-on, long-stop, long-ended}
 use Rattle.words.proofs.position.first_bad_long.Goals as goal
 
 pub returns-then-is_bad_long : goal.returns-then-is_bad_long

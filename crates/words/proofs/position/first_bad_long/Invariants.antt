@@ -1,8 +1,6 @@
 use Prim.Native.Nat.{◌-◌, ◌≤◌}
-use native.Mathlib.Omega.{arith}
-use mathlib.Core.Path.{◌≡◌, sym, ◌∙◌}
+use mathlib.Core.Path.{◌≡◌}
 use Rattle.words.specs.ByIndex.{bad_long_in}
-use Rattle.words.proofs.LongWords.{long-begun, long-on, long-stop, long-ended}
 use Rattle.words.proofs.position.first_bad_long.Given as goal
 
 abbrev pub invariant-loop-i : goal.invariant-loop-i

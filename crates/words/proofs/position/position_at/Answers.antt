@@ -1,7 +1,6 @@
 use native.Mathlib.Omega.{arith}
 use mathlib.Core.Bool.{Bool, cond}
 use mathlib.Core.Path.{sym, ap, ◌∙◌}
-use borrow.Author.Rules.{rules}
 use Rattle.words.specs.ByIndex.{long_at, signed_at, position_at}
 use Rattle.words.proofs.Twos.{back}
 use Rattle.words.proofs.Reader.{skip-yes, skip-no}

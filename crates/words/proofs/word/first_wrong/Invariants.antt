@@ -1,10 +1,7 @@
-use Prim.Native.Nat.{ℕ, ◌+◌, ◌-◌, ◌≤◌}
-use native.Mathlib.Omega.{arith}
-use mathlib.Core.Path.{◌≡◌, sym, ap, ◌∙◌}
-use borrow.Author.Tests.{not-true, not-false}
-use borrow.Author.Rules.{rules}
+use Prim.Native.Nat.{◌-◌, ◌≤◌}
+use mathlib.Core.Path.{◌≡◌}
 use Rattle.words.specs.ByIndex.{first_wrong}
-use Rattle.words.proofs.Run.{from, go_on, stop, ended, begun}
+use Rattle.words.proofs.Run.{from}
 use Rattle.words.proofs.word.first_wrong.Given as goal
 
 abbrev pub invariant-loop-i : goal.invariant-loop-i

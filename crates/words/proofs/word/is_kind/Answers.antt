@@ -5,7 +5,6 @@ use lib.ListN.{get_or}
 use borrow.Author.Tests.{lt-ltb, le-ltb}
 use Rattle.model.specs.planning.Words.{kind}
 use Rattle.words.specs.ByIndex.{is_kind}
-use borrow.Author.Rules.{rules}
 use Rattle.words.proofs.word.is_kind.Goals as goal
 
 pub returns-then-at-words : goal.returns-then-at-words
