@@ -11,7 +11,7 @@ use lib.Seq.{drop-cons}
 use borrow.Author.Tests.{eq-eqb, ne_eqb}
 use Rattle.whole.specs.Lists.{over, up_to, Room, Written}
 use Rattle.whole.proofs.Lists.{over-three, written-nil, written_one, written_then, room-on, up_to-more}
-use Rattle.model.specs.planning.Words.{next, word}
+use Rattle.model.specs.planning.Words.{word}
 use Rattle.model.specs.calls.Converter.{begins, flying_word, converted}
 use Rattle.theorems.proofs.words.PositionSpelling.{value_of}
 use Rattle.theorems.proofs.calls.ConvertedWords as C
