@@ -4,14 +4,13 @@ use lib.IntN.{pos, neg_ℤ, +ℤ_idl}
 use mir.Syntax.{w64}
 use mir.Val.{to_z}
 use Rattle.whole.specs.Ranges.{Is}
-use Rattle.whole.proofs.Bounds.{sfits, is-of, exact, loose, then_is, cast-small, le-taken, le_left}
+use Rattle.whole.proofs.Bounds.{is-of, exact, loose, then_is, cast-small, le-taken, le_left}
 use Rattle.regions.proofs.ThreeRegions.{change-up, change-down}
-use borrow.Author.Rules.{rules}
 use Rattle.regions.proofs.ramp_change.Goals as goal
 use Rattle.regions.proofs.ramp_change.Goals.{Start}
 
 -- the limit as a signed number
-change : (a : Start) → Is (2 ^ 33) (to_z w64 a.args.limit-bits) (pos a.args.limit)
+change : (a : Start) → Is (2 ^ 33) (to_z w64 a.args.limit) (pos a.args.limit)
 change a = cast-small (2 ^ 33) a.args.limit a.requires tt
 
 pub returns-then-v-c : goal.returns-then-v-c
