@@ -3,8 +3,7 @@
 -- that a tick of a later window is later.
 use Prim.Native.Nat.{ℕ, suc, ◌+◌, ◌-◌, ◌<◌, ◌≤◌}
 use native.Mathlib.Omega.{arith}
-use native.Mathlib.Nat.{le_trans}
-use mathlib.Core.Path.{◌≡◌, refl, sym, ap, ap₂, subst, ◌∙◌}
+use mathlib.Core.Path.{◌≡◌, refl, sym, ap, ap₂, ◌∙◌}
 use mathlib.Core.Bool.{Bool, true, false, ◌&&◌, false≢true}
 use mathlib.Core.Option.{Option, none, some}
 use mathlib.Core.List.{List, [], ◌∷◌}
@@ -18,7 +17,7 @@ use Rattle.model.specs.planning.Windows.{refused13, in_windows}
 use Rattle.model.specs.planning.Outcome.{least_from}
 use Rattle.theorems.proofs.jobs.WindowsInWords.{none-wrong}
 use Rattle.windows.specs.Ticks.{first_tick, after_last}
-use Rattle.windows.proofs.Ticks.{Fit, fit_is, fit-ticks, ticks-fit, first_above}
+use Rattle.windows.proofs.Ticks.{Fit, fit_is, fit-ticks, ticks-fit}
 use Rattle.windows.proofs.Listed.{no_window, split}
 use Rattle.theorems.proofs.jobs.LeastTick.{Least, Result, result, one-result}
 use Rattle.arrival.specs.Arrivals.{searched}
