@@ -1,5 +1,4 @@
 pub mod Held
-pub mod Locals
 pub mod Legs
 pub mod Outcomes
 pub mod Promise

@@ -1,5 +1,5 @@
 -- The legs of an accepted tour, one by one.
-use Prim.Native.Nat.{ℕ, zero, suc, ◌+◌, ◌≤◌, ◌<◌}
+use Prim.Native.Nat.{ℕ, zero, suc, ◌+◌, ◌<◌}
 use native.Mathlib.Omega.{arith}
 use mathlib.Core.Path.{◌≡◌, refl, sym, ap, subst, ◌∙◌}
 use mathlib.Core.Bool.{Bool, true, false}
@@ -15,8 +15,7 @@ use Rattle.model.specs.declared.Stop.{Stop}
 use Rattle.model.specs.declared.TourSettings.{TourSettings}
 use Rattle.model.specs.calls.Tour.{Legs, TourOutcome, leg_job, leg_answer, legs_from, refused_leg, refuse_tour, arrivals_over}
 use Rattle.model.specs.calls.Tour.{after_legs, first_long_dwell, dwells_checked, stops_checked, most_stops, tour_outcome}
-use Rattle.stops.specs.Rows.{no_stop}
-use Rattle.stops.specs.Promise.{leaves_from, departs_at, leg_to, LegPlanned}
+use Rattle.stops.specs.Promise.{departs_at, LegPlanned}
 use Rattle.model.specs.planning.Outcome.{typed}
 use Rattle.theorems.proofs.jobs.BeforeTen.{job-accepted}
 

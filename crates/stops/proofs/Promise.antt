@@ -1,10 +1,10 @@
 -- A row by value stands for its list of stops, and what the call promises follows from its outcome.
-use Prim.Native.Nat.{ℕ, zero, suc, ◌+◌, ◌-◌, ◌≤◌, ◌<◌, min}
+use Prim.Native.Nat.{ℕ, zero, suc, ◌-◌, ◌≤◌, ◌<◌, min}
 use native.Mathlib.Omega.{arith}
 use mathlib.Core.Path.{◌≡◌, refl, sym, ap, subst, ◌∙◌}
 use mathlib.Core.Bool.{Bool, true, false}
 use mathlib.Core.List.{List, [], ◌∷◌, ◌++◌, append-nil}
-use lib.ListN.{length, get_or, set, take, replicate, length-set, length-replicate, length-append, length-take}
+use lib.ListN.{length, get_or, take, replicate, length-set, length-replicate, length-append, length-take}
 use lib.Seq.{take-suc-set, take-suc, take-length}
 use lib.Dec.{leb}
 use borrow.Author.Tests.{leb-true, leb-false}
@@ -13,7 +13,7 @@ use Rattle.model.specs.declared.TourSettings.{TourSettings}
 use Rattle.model.specs.declared.TourAnswer.{TourAnswer}
 use Rattle.model.specs.calls.Tour.{TourOutcome, tour_by, tour_outcome, tour_outcome_of}
 use Rattle.stops.specs.declared.StopRow.{StopRow}
-use Rattle.stops.specs.Rows.{no_stop, held_of, empty_row, with_stop, row_to, row_of, row_stops}
+use Rattle.stops.specs.Rows.{no_stop, held_of, row_to, row_of, row_stops}
 use Rattle.stops.specs.Promise.{departs_at, LegPlanned, TourPromise}
 use Rattle.stops.proofs.Held.{held-64, held_all, held-few}
 use Rattle.stops.proofs.Outcomes.{many-stops}

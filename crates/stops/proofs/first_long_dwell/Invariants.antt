@@ -1,9 +1,7 @@
 use Prim.Native.Nat.{◌-◌, ◌≤◌}
-use native.Mathlib.Omega.{arith}
-use mathlib.Core.Path.{◌≡◌, refl, sym, ap, ◌∙◌}
+use mathlib.Core.Path.{◌≡◌}
 use lib.ListN.{length, take, drop}
 use Rattle.model.specs.calls.Tour.{first_long_dwell}
-use Rattle.stops.proofs.Legs.{long-here, long-later, long-nowhere, empty_stop}
 use Rattle.stops.proofs.first_long_dwell.Given as goal
 
 abbrev pub invariant-loop-i : goal.invariant-loop-i

@@ -1,11 +1,8 @@
-use Prim.Native.Nat.{ℕ, ◌-◌, ◌≤◌}
+use Prim.Native.Nat.{ℕ}
 use native.Mathlib.Omega.{arith}
-use mathlib.Core.Path.{◌≡◌, refl, sym, ap, ◌∙◌}
-use mathlib.Core.List.{List}
-use lib.ListN.{length, take, length-set, length-map}
+use mathlib.Core.Path.{◌≡◌, sym, ap, ◌∙◌}
+use lib.ListN.{length, take, length-set}
 use lib.Seq.{take-length}
-use borrow.Author.Rules.{rules}
-use Rattle.model.specs.declared.Axis.{Axis}
 use Rattle.model.specs.calls.Tour.{leg_axes}
 use Rattle.stops.proofs.Legs.{legs-next, legs-long}
 use Rattle.stops.proofs.leg_axes.Goals as goal

@@ -1,13 +1,7 @@
-use Prim.Native.Nat.{ℕ, ◌-◌, ◌≤◌}
-use native.Mathlib.Omega.{arith}
-use mathlib.Core.Path.{◌≡◌, refl, sym, ap, ◌∙◌}
-use mathlib.Core.List.{List}
-use lib.ListN.{length, take, length-set, length-map}
-use lib.Seq.{take-length}
-use borrow.Author.Rules.{rules}
-use Rattle.model.specs.declared.Axis.{Axis}
+use Prim.Native.Nat.{◌-◌, ◌≤◌}
+use mathlib.Core.Path.{◌≡◌}
+use lib.ListN.{length, take}
 use Rattle.model.specs.calls.Tour.{leg_axes}
-use Rattle.stops.proofs.Legs.{legs-next, legs-long}
 use Rattle.stops.proofs.leg_axes.Given as goal
 
 abbrev pub invariant-loop-i : goal.invariant-loop-i
