@@ -8,7 +8,7 @@ use mathlib.Core.Logic.{◌⊎◌, inl, inr}
 use native.Mathlib.Omega.{arith}
 use native.Mathlib.Nat.{mul-zero, mul_comm, mul-le-mul_left, div-mul-le_self, pow-suc}
 use borrow.Author.Tests.{eq-eqb, ne_eqb, leb-true, leb-false, lt-ltb, le-ltb}
-use lib.Dec.{eqb, ltb}
+use lib.Dec.{eqb}
 use lib.IntN.{ℤ}
 use lib.ListN.{length, drop, length-map}
 use Rattle.whole.proofs.Tests.{lt-or-le}
@@ -21,7 +21,7 @@ use Rattle.model.specs.planning.Job.{Job, set_from, set_bits, set_axes, axes_of,
 use Rattle.model.specs.planning.Refusals.{last_tick}
 use Rattle.model.specs.planning.Outcome.{Outcome, outcome_of, refuse, accept, filled, ordered, cells_needed, part_over}
 use Rattle.model.specs.planning.Outcome.{table_over}
-use Rattle.model.specs.calls.Parts.{part_rows, PartOutcome, part_accepted, part_with}
+use Rattle.model.specs.calls.Parts.{part_rows, part_with}
 use Rattle.theorems.proofs.jobs.BeforeTen.{before-filled}
 use Rattle.theorems.proofs.jobs.Ordered.{refusal-stays}
 use Rattle.model.proofs.SetAxes.{six-axes-bits}
