@@ -1,3 +1,4 @@
+-- `any_measured`: one of the axes that are left is to be worked out where one of all is.
 use Prim.Native.Nat.{◌-◌, ◌≤◌}
 use mathlib.Core.Path.{◌≡◌}
 use lib.ListN.{length}

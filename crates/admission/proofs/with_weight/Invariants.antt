@@ -1,3 +1,4 @@
+-- `with_weight`: the axes before axis i are done, and the bits that are left name those to come.
 use Prim.Native.Nat.{◌-◌, ◌≤◌}
 use mathlib.Core.Path.{◌≡◌}
 use lib.ListN.{length}

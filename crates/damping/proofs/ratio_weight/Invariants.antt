@@ -1,8 +1,6 @@
 use Prim.Native.Nat.{◌≤◌}
-use native.Mathlib.Omega.{arith}
-use mathlib.Core.Path.{◌≡◌, refl, sym, ap, ◌∙◌}
+use mathlib.Core.Path.{◌≡◌}
 use Rattle.model.specs.planning.Damping.{largest_to, ratio_weight}
-use Rattle.theorems.proofs.jobs.MeasuredWeight.{largest-none, largest-here, largest-lower}
 use Rattle.damping.proofs.ratio_weight.Given as goal
 
 -- none above has met

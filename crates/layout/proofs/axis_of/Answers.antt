@@ -1,3 +1,4 @@
+-- `axis_of` gives the axis that its struct stands for, field by field.
 use Rattle.layout.specs.Jobs.{axis_from_c}
 use Rattle.layout.proofs.axis_of.Goals as goal
 

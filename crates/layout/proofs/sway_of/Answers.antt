@@ -1,3 +1,4 @@
+-- `sway_of` gives the second sway that its fields stand for.
 use mathlib.Core.Bool.{Bool, cond}
 use mathlib.Core.Path.{sym, ap}
 use borrow.Author.Tests.{eq-eqb, ne_eqb}

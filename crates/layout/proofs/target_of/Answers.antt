@@ -1,3 +1,5 @@
+-- `target_of` gives the target that its axis stands for: the test of the kind picks
+-- the same case as the definition.
 use mathlib.Core.Path.{◌≡◌, sym, ap, ◌∙◌}
 use mathlib.Core.Bool.{Bool, cond}
 use borrow.Author.Tests.{eq-eqb, ne_eqb}

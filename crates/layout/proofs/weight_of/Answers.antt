@@ -1,3 +1,5 @@
+-- `weight_of` gives the second weight that its fields stand for: the tests of the kind pick
+-- the same case as the definition.
 use Prim.Native.Nat.{ℕ}
 use mathlib.Core.Path.{◌≡◌, sym, ap}
 use mathlib.Core.Bool.{Bool, cond}

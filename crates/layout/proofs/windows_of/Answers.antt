@@ -1,3 +1,5 @@
+-- `windows_of` gives the windows that its struct stands for: the test of the first field picks
+-- the same case as the definition.
 use native.Mathlib.Omega.{arith}
 use mathlib.Core.Path.{◌≡◌, sym, ap, ◌∙◌}
 use mathlib.Core.Bool.{Bool, true, cond}

@@ -1,6 +1,5 @@
 -- Cases of the converter.
 use Rattle.std.specs.Prelude.{ℕ, ◌≡◌, List, [], ◌∷◌, ◌++◌, map, replicate}
-use Rattle.model.specs.planning.Outcome.{words}
 use Rattle.model.specs.calls.Converter.{Conversion, conversion, converted}
 use Rattle.model.specs.cases.Case.{axis_f, words_f, words_c}
 

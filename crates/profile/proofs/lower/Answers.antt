@@ -1,5 +1,4 @@
-use Rattle.whole.proofs.Bounds.{sfits, computed, is-of}
-use borrow.Author.Rules.{rules}
+use Rattle.whole.proofs.Bounds.{computed, is-of}
 use Rattle.profile.proofs.lower.Goals as goal
 
 pub returns : goal.returns

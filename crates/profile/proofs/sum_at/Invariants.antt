@@ -1,13 +1,6 @@
-use Prim.Native.Nat.{ℕ, ◌+◌, ◌-◌, ◌*◌, ◌^◌, ◌≤◌}
-use mathlib.Core.Path.{◌≡◌, refl, subst, ◌∙◌}
-use native.Mathlib.Omega.{arith}
-use lib.IntN.{ℤ, nat_abs, ◌+ℤ◌}
-use mir.Syntax.{w64}
-use mir.Val.{to_z, of_z}
-use Rattle.whole.proofs.Laws.{nat_abs-+}
-use Rattle.whole.specs.Ranges.{Is}
-use Rattle.whole.proofs.Bounds.{sfits, within, exactly, exact, then_is, computed}
-use Rattle.whole.proofs.Sums.{sum-next}
+use Prim.Native.Nat.{◌-◌, ◌*◌, ◌^◌, ◌≤◌}
+use mathlib.Core.Path.{◌≡◌}
+use lib.IntN.{nat_abs}
 use Rattle.whole.specs.Integers.{sum_to}
 use Rattle.model.specs.planning.Leg.{clamped}
 use Rattle.profile.specs.Profiles.{leg_of}

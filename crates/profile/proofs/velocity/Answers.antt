@@ -1,5 +1,4 @@
 use Rattle.whole.proofs.Bounds.{computed, is-of}
-use borrow.Author.Rules.{rules}
 use Rattle.profile.proofs.velocity.Goals as goal
 
 pub returns : goal.returns

@@ -1,3 +1,4 @@
+-- `least_rank`: the least rank of the axes so far and of those that are left is that of all.
 use Prim.Native.Nat.{◌-◌, ◌≤◌, min}
 use mathlib.Core.Path.{◌≡◌}
 use lib.ListN.{length}

@@ -1,3 +1,4 @@
+-- `lowest_axis`: the lowest axis that has the rank is among those that are left.
 use Prim.Native.Nat.{◌-◌, ◌≤◌}
 use mathlib.Core.Path.{◌≡◌}
 use lib.ListN.{length}

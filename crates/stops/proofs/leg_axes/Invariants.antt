@@ -1,3 +1,4 @@
+-- `leg_axes`: the axes before axis i are those of the leg.
 use Prim.Native.Nat.{◌-◌, ◌≤◌}
 use mathlib.Core.Path.{◌≡◌}
 use lib.ListN.{length, take}

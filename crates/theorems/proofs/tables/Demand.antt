@@ -22,7 +22,7 @@ use Rattle.theorems.specs.Rows.{from_landing, SameRows, CellsFromLanding}
 use Rattle.model.specs.planning.Job.{Job, JobAxis, axes_of}
 use Rattle.model.specs.planning.Motion.{reachable}
 use Rattle.model.specs.planning.Demand.{table_in, cell_at, position_cell, velocity_cell, acceleration_cell, Lands, Carries}
-use Rattle.model.specs.planning.Demand.{SwayCancelled, sway, Demand3, Demand3Holds, CellLimits, CellLimitsHold}
+use Rattle.model.specs.planning.Demand.{SwayCancelled, Demand3, Demand3Holds, CellLimits, CellLimitsHold}
 use Rattle.model.specs.planning.Demand.{ExactStart, ExactStartHolds}
 use Rattle.theorems.specs.Misfit.{planned_variation, rounding_left, SwayLeft, SwayLeftHolds}
 use Rattle.model.specs.planning.Outcome.{Outcome, Input, call, call_in, input_axes, cells_needed}

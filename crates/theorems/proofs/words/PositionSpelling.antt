@@ -12,7 +12,7 @@ use lib.IntN.{ℤ, pos, negsuc, neg_ℤ, ◌+ℤ◌, ◌*ℤ◌}
 use borrow.Author.Tests.{le-leb, leb-true, eqb-true, lt-ltb, le-ltb, eq-eqb, ne_eqb}
 use Rattle.whole.proofs.Differences.{whole}
 use Rattle.model.specs.planning.Words.{kind, payload, twos, long_position, between, fits_word, long_allowed, first_bad_long}
-use Rattle.model.specs.planning.Words.{Reading, got, wrong, ◌>>=◌, give, field, signed, position_by, position, spelled}
+use Rattle.model.specs.planning.Words.{Reading, got, wrong, ◌>>=◌, give, field, signed, position_by, position}
 use Rattle.model.specs.planning.Words.{word}
 use Rattle.model.specs.planning.Refusals.{position_allowed}
 use Rattle.theorems.specs.Spelling.{bits, high_part, low_part, position_words, SpellsPosition, PositionSpelling}

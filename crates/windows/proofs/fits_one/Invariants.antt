@@ -1,12 +1,7 @@
 use Prim.Native.Nat.{◌-◌, ◌≤◌}
-use native.Mathlib.Omega.{arith}
-use mathlib.Core.Path.{◌≡◌, refl, sym, ap, ◌∙◌}
-use mathlib.Core.List.{List}
+use mathlib.Core.Path.{◌≡◌}
 use lib.ListN.{length, take, drop}
-use lib.Seq.{length-take-le}
-use Rattle.model.specs.declared.Window.{Window}
 use Rattle.model.specs.planning.Windows.{fits_one}
-use Rattle.windows.proofs.Listed.{fits-here, fits-later, ended}
 use Rattle.windows.proofs.fits_one.Given as goal
 
 abbrev pub invariant-loop-i : goal.invariant-loop-i

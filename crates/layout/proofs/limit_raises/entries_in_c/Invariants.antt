@@ -1,3 +1,4 @@
+-- `entries_in_c` gives each entry in C: the entries before i are stored, one more at each turn.
 use Prim.Native.Nat.{◌-◌, ◌≤◌}
 use mathlib.Core.Path.{◌≡◌}
 use lib.ListN.{length}

@@ -1,3 +1,5 @@
+-- `all_limits` gives the limits of the axes that the mask names: before i they are stored, from i
+-- on all are unset, and the bits that are left name those to come.
 use Prim.Native.Nat.{ℕ, ◌-◌, ◌≤◌, ◌<◌}
 use mathlib.Core.Path.{◌≡◌}
 use lib.ListN.{length, get_or}

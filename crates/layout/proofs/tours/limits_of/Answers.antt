@@ -1,3 +1,4 @@
+-- `limits_of` gives the limits that its struct stands for, field by field.
 use Rattle.layout.specs.Tours.{limits_of}
 use Rattle.layout.proofs.tours.limits_of.Goals as goal
 
