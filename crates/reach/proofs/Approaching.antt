@@ -2,8 +2,8 @@
 -- accelerated motion, so that end velocity and displacement are told by the number of arrivals
 -- between; and what is reached goes on.
 use Prim.Native.Nat.{ℕ, ◌+◌, ◌-◌, ◌≤◌, ◌<◌}
-use mathlib.Core.Path.{◌≡◌, refl, sym, ap, subst, ◌∙◌}
-use mathlib.Core.Bool.{Bool, true, false, ◌&&◌}
+use mathlib.Core.Path.{◌≡◌, sym, ap, subst, ◌∙◌}
+use mathlib.Core.Bool.{true, ◌&&◌}
 use mathlib.Core.List.{[], ◌∷◌}
 use native.Mathlib.Omega.{arith}
 use lib.Dec.{T, leb, leb→le, ltb}
@@ -16,7 +16,7 @@ use Rattle.model.specs.declared.Target.{Target}
 use Rattle.model.specs.declared.Target.TheVariants.{Fixed, Moving}
 use Rattle.model.specs.planning.Quantities.{half_period, second_weight, delay, as_moving, accelerates, finer, speed_steps}
 use Rattle.model.specs.planning.Quantities.{acceleration_steps}
-use Rattle.model.specs.planning.Leg.{Leg, sum_is_whole, feasible}
+use Rattle.model.specs.planning.Leg.{sum_is_whole, feasible}
 use Rattle.model.specs.planning.Motion.{shift, start_position, start_velocity, landing_tick, landing_position}
 use Rattle.model.specs.planning.Motion.{landing_velocity, landing_acceleration, arrival_velocity}
 use Rattle.model.specs.planning.Motion.{leg, displacement, reachable}
