@@ -1,0 +1,16 @@
+use Rattle.std.proofs.Common.{subst}
+use Rattle.layout.specs.Tours.{settings_of}
+use Rattle.stops.specs.declared.StopRow.{StopRow}
+use Rattle.stops.specs.Rows.{row_stops}
+use Rattle.stops.specs.Promise.{TourPromise}
+use Rattle.stops.proofs.Promise.{list-promise}
+use Rattle.capi.proofs.tours.polgamir_plan_tour.Goals as goal
+
+pub returns : goal.returns
+returns c =
+    let a = c.args in
+    let t = settings_of a.tour in
+    let tour = c.tour_by_value in
+    list-promise t a.arrivals.now tour.result tour.new.arrivals a.stops.now
+    (subst (λ (w : StopRow). TourPromise t (row_stops w) a.arrivals.now tour.result tour.new.arrivals)
+    c.stop_row-row.ensures tour.ensures)
