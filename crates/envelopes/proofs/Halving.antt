@@ -1,12 +1,12 @@
 -- A test that lasts, halved down: of two candidates, of which the lower does not pass and the
 -- higher does, or is past the last.
-use Prim.Native.Nat.{ℕ, suc, ◌+◌, ◌≤◌, ◌<◌}
-use mathlib.Core.Path.{◌≡◌, refl, sym, ap, subst, ◌∙◌}
-use mathlib.Core.Bool.{Bool, true, false}
-use mathlib.Core.Logic.{◌⊎◌, inl, inr}
+use Prim.Native.Nat.{ℕ, ◌+◌, ◌≤◌, ◌<◌}
+use mathlib.Core.Path.{◌≡◌, sym, ap, subst, ◌∙◌}
+use mathlib.Core.Bool.{Bool, false}
+use mathlib.Core.Logic.{inl, inr}
 use native.Mathlib.Omega.{arith}
 use lib.Dec.{T}
-use Rattle.whole.proofs.Tests.{T_true, T_false, lt-or-le}
+use Rattle.whole.proofs.Tests.{T_true, T_false}
 use Rattle.whole.specs.Candidates.{Next}
 use Rattle.envelopes.specs.Skips.{LastingTo, Further, Bracket}
 
