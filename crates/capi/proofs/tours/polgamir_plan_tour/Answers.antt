@@ -1,3 +1,8 @@
+-- `polgamir_plan_tour` meets its contract: a walk of its MIR, by hand, since no function over a
+-- slice of structs is covered. `stop_row` gets a copy of the lent row, and `tour_by_value` the lent
+-- list at its own lifetime, share and ghost name: the borrow is given up for good, and what the
+-- callee says of its last list is what this function says.
+-- Assumes nothing.
 use Rattle.std.proofs.Common.{subst}
 use Rattle.layout.specs.Tours.{settings_of}
 use Rattle.stops.specs.declared.StopRow.{StopRow}
