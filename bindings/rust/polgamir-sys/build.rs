@@ -105,8 +105,8 @@ fn look_at(library: &Path, sources: Option<&Path>) -> Result<(), String> {
     let shown = library.display();
     let Ok(built) = fs::metadata(library).and_then(|file| file.modified()) else {
         return Err(format!(
-            "the proved library {shown} is missing (`rt ci` and `.ci/run` remove target/): run `tools/library` at the \
-             root of the repository, or set {FOLDER_VARIABLE} to the folder that has libpolgamir.a"
+            "the proved library {shown} is missing: run `tools/library` at the root of the repository, or set \
+             {FOLDER_VARIABLE} to the folder that has libpolgamir.a"
         ));
     };
     if let Some(sources) = sources.filter(|folder| folder.is_dir()) {
@@ -143,13 +143,17 @@ fn look_at(library: &Path, sources: Option<&Path>) -> Result<(), String> {
     }
 }
 
-/// The newest file of code, definitions and proofs below a folder, with its time.
+/// The newest file of code, definitions and proofs below a folder, with its time. What `rt` makes
+/// stands in folders `out`.
 fn newest_in(folder: &Path) -> io::Result<Option<(SystemTime, PathBuf)>> {
     let mut newest = None;
     for entry in fs::read_dir(folder)? {
         let entry = entry?;
         let path = entry.path();
         let found = if entry.file_type()?.is_dir() {
+            if path.ends_with("out") {
+                continue;
+            }
             newest_in(&path)?
         } else if path.extension().is_some_and(|ending| ending == "rt" || ending == "antt") {
             Some((entry.metadata()?.modified()?, path))

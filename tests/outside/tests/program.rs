@@ -1,5 +1,5 @@
-//! The table program prints what the reference prints. `rt check table` builds it to
-//! target/bin/table; the variable POLGAMIR_TABLE names another place.
+//! The table program prints what the reference prints. `tools/proved table` builds it to
+//! crates/table/out/table; the variable POLGAMIR_TABLE names another place.
 
 use std::fs::OpenOptions;
 use std::io::Write;
@@ -15,7 +15,7 @@ use outside::reference::{self, Axis, Damping, Job, Target};
 fn program() -> PathBuf {
     match std::env::var_os("POLGAMIR_TABLE") {
         Some(named) => PathBuf::from(named),
-        None => Path::new(env!("CARGO_MANIFEST_DIR")).join("../../target/bin/table"),
+        None => Path::new(env!("CARGO_MANIFEST_DIR")).join("../../crates/table/out/table"),
     }
 }
 
@@ -26,7 +26,7 @@ fn run(parts: &[&[u8]], stdout: Stdio) -> Output {
         .stdout(stdout)
         .stderr(Stdio::piped())
         .spawn()
-        .expect("the table program is there: run `rt check table` first");
+        .expect("the table program is there: run `tools/proved table` first");
     let mut stdin = child.stdin.take().unwrap();
     for (n, part) in parts.iter().enumerate() {
         if n > 0 {

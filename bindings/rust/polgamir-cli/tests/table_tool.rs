@@ -18,7 +18,7 @@ fn stand_in(name: &str, status: i32) -> PathBuf {
     let _ = fs::remove_dir_all(&folder);
     fs::create_dir_all(&folder).expect("a folder");
     let (program, called) = (folder.join("rt"), folder.join("called"));
-    let text = format!("#!/bin/sh\necho \"rt: table proved or not\"\ntouch '{}'\nexit {status}\n", called.display());
+    let text = format!("#!/bin/sh\necho \"rt: table proved or not\" >&2\ntouch '{}'\nexit {status}\n", called.display());
     fs::write(&program, text).expect("a program");
     fs::set_permissions(&program, fs::Permissions::from_mode(0o755)).expect("a program to run");
     folder
@@ -66,8 +66,8 @@ fn a_program_that_is_not_proved_is_not_run() {
 
 #[test]
 fn tables_refusals_and_failed_writes_have_their_statuses() {
-    if !top().join("target/bin/table").is_file() {
-        eprintln!("target/bin/table is not built: not tried");
+    if !top().join("crates/table/out/table").is_file() {
+        eprintln!("crates/table/out/table is not built: not tried");
         return;
     }
     let folder = stand_in("statuses", 0);

@@ -204,11 +204,13 @@ fn sections_are_numbered() {
     }
 }
 
-/// The files of a folder and of those within it that end in one of some endings.
+/// The files of a folder and of those within it that end in one of some endings. What `rt` makes
+/// stands in folders `out`.
 fn files_of(folder: &Path, endings: &[&str]) -> Vec<PathBuf> {
     let mut files = Vec::new();
     for entry in fs::read_dir(folder).expect("a folder").map(|entry| entry.expect("an entry").path()) {
         match entry.extension().and_then(|ending| ending.to_str()) {
+            _ if entry.ends_with("out") => {}
             _ if entry.is_dir() => files.extend(files_of(&entry, endings)),
             Some(ending) if endings.contains(&ending) => files.push(entry),
             _ => {}
