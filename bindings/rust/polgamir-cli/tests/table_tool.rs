@@ -18,7 +18,8 @@ fn stand_in(name: &str, status: i32) -> PathBuf {
     let _ = fs::remove_dir_all(&folder);
     fs::create_dir_all(&folder).expect("a folder");
     let (program, called) = (folder.join("rt"), folder.join("called"));
-    let text = format!("#!/bin/sh\necho \"rt: table proved or not\" >&2\ntouch '{}'\nexit {status}\n", called.display());
+    let said = "echo 'rt: table proved or not' >&2";
+    let text = format!("#!/bin/sh\n{said}\ntouch '{}'\nexit {status}\n", called.display());
     fs::write(&program, text).expect("a program");
     fs::set_permissions(&program, fs::Permissions::from_mode(0o755)).expect("a program to run");
     folder
