@@ -31,7 +31,7 @@ fn in_crates() -> BTreeMap<String, Fields> {
         let Ok(files) = fs::read_dir(name.unwrap().path().join("src")) else { continue };
         for file in files {
             let text = fs::read_to_string(file.unwrap().path()).unwrap();
-            for part in text.split("#[repr(C)]\npub struct ").skip(1) {
+            for part in text.split("#[repr(C)]\n#[derive(Clone, Copy)]\npub struct ").skip(1) {
                 let (name, rest) = part.split_once(" {").unwrap();
                 let fields = rest.split_once("\n}").unwrap().0.trim().lines().map(|line| {
                     let (name, kind) =
