@@ -17,7 +17,7 @@ use Rattle.whole.proofs.Bounds.{add_holds, neg-holds, shr-holds}
 use Rattle.whole.proofs.Ring.{pol, same}
 use Rattle.whole.proofs.Tests.{both, and, and_yes, true-T, ltb_yes}
 use Rattle.model.specs.declared.Axis.{Axis}
-use Rattle.model.specs.planning.Quantities.{fine_steps, delay, finer, speed_limit, acceleration_limit}
+use Rattle.model.specs.planning.Quantities.{fine_steps, delay, finer}
 use Rattle.model.specs.planning.Leg.{Leg, upper, required, twice_required, sum_is_whole, tests, feasible}
 use Rattle.model.specs.planning.Motion.{reachable, leg, displacement, start_velocity, landing_velocity, arrival_velocity}
 use Rattle.model.specs.planning.Motion.{landing_tick}
