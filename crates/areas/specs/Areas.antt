@@ -4,7 +4,7 @@
 use Rattle.std.specs.Prelude.{ℕ, ◌+◌, ◌-◌, ◌*◌, ◌/◌, ◌^◌, min, ◌≡◌, ℤ, pos, neg_ℤ, ◌+ℤ◌, ◌*ℤ◌}
 use Rattle.whole.specs.Integers.{sum_to}
 use Rattle.whole.specs.Ranges.{Is}
-use Rattle.model.specs.planning.Leg.{Leg, upper, cruise}
+use Rattle.model.specs.planning.Leg.{Leg, upper}
 use Rattle.areas.specs.declared.Parts.{Parts}
 use Rattle.regions.specs.declared.Regions.{Regions}
 use Rattle.areas.specs.declared.UpperArea.{UpperArea}
