@@ -14,7 +14,8 @@ use Rattle.model.specs.planning.Windows.{refused13}
 use Rattle.model.specs.planning.Job.{Job, job_of}
 use Rattle.model.specs.planning.Words.{good_mask}
 use Rattle.model.specs.planning.Refusals.{last_tick}
-use Rattle.model.specs.planning.Admission.{Input, typed, input_job, Admission, refused_at, admitted, Rules, job_admission}
+use Rattle.model.specs.planning.Admission.{Input, typed, input_job, Admission, refused_at, admitted, Rules}
+use Rattle.model.specs.planning.Admission.{job_admission}
 use Rattle.model.specs.planning.Admission.{admission}
 use Rattle.theorems.proofs.jobs.OutsideWindows.{Clear}
 use Rattle.theorems.proofs.jobs.Admissions.{Numbered, Comes, refuses, goes, comes}

@@ -11,7 +11,8 @@ use Rattle.model.specs.declared.Job as Typed
 use Rattle.model.specs.planning.Job.{Job, job_of, job_with, set_axes}
 use Rattle.model.specs.planning.Words.{good_mask}
 use Rattle.model.specs.planning.Refusals.{last_tick}
-use Rattle.model.specs.planning.Admission.{typed, Admission, refused_at, tested, asked_admission, job_admission, admission}
+use Rattle.model.specs.planning.Admission.{typed, Admission, refused_at, tested, asked_admission, job_admission}
+use Rattle.model.specs.planning.Admission.{admission}
 use Rattle.model.specs.calls.Converter.{conversion_refusals}
 use Rattle.model.proofs.AllowedMask.{mask-passed}
 use Rattle.refusals.specs.Checks.{tests_for, first_refusal, without_job}

@@ -112,11 +112,13 @@ hand-all i m l e =
 
 -- ---- the axes of a mask
 
-set-with-weight : (i m : ℕ) (xs : List Axis) → set_axes i m (named_with_weight m xs) ≡ axes_with_weight (set_axes i m xs)
+set-with-weight : (i m : ℕ) (xs : List Axis)
+    → set_axes i m (named_with_weight m xs) ≡ axes_with_weight (set_axes i m xs)
 set-with-weight i m [] = refl
 set-with-weight i m (x ∷ xs) = go (eqb (m % 2) 1) (set-with-weight (suc i) (m / 2) xs)
   where
-    go : (b : Bool) → set_axes (suc i) (m / 2) (named_with_weight (m / 2) xs) ≡ axes_with_weight (set_axes (suc i) (m / 2) xs)
+    go : (b : Bool) → set_axes (suc i) (m / 2) (named_with_weight (m / 2) xs)
+        ≡ axes_with_weight (set_axes (suc i) (m / 2) xs)
         → pick b i (cond b (with_weight x) x) (set_axes (suc i) (m / 2) (named_with_weight (m / 2) xs))
         ≡ axes_with_weight (pick b i x (set_axes (suc i) (m / 2) xs))
     go true h = ap (λ (l : List JobAxis). record { number = i; axis = with_weight x } ∷ l) h

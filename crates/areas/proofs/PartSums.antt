@@ -96,4 +96,5 @@ module _ (r : Regions) (k : ℕ) (below : k ≤ r.ticks - 1) where
       sym
       (ap (sum_to f) (sym (parts_all r.rise k (last_level r)))
       ∙ parts f (rising_to r k + level_to r k) (falling_to r k)
-      ∙ ap₂ (λ (x y : ℤ). x +ℤ y) (parts f (rising_to r k) (level_to r k) ∙ ap₂ (λ (x y : ℤ). x +ℤ y) first second) third)
+      ∙ ap₂ (λ (x y : ℤ). x +ℤ y) (parts f (rising_to r k) (level_to r k)
+      ∙ ap₂ (λ (x y : ℤ). x +ℤ y) first second) third)

@@ -135,7 +135,8 @@ module _ (m : ℕ) (six : List Axis) where
   pub passed-at : AllPassed (set_axes 0 m six) → (i bits : ℕ) → bits ≡ bits_from m i → i < length six
       → bits % 2 ≡ 1 → Passed (axis_at six i)
   passed-at p i bits e h =
-      (passed-from i bits six h (subst (λ (k : ℕ). AllPassed (from i k six)) (sym e) (passed_on p i (omega arith)))).here
+      (passed-from i bits six h
+      (subst (λ (k : ℕ). AllPassed (from i k six)) (sym e) (passed_on p i (omega arith)))).here
 
   pub reach_of : (i bits n last r : ℕ) → bits ≡ bits_from m i
       → Next (reached_by bits (axis_at six i)) n last r → Next (reach i) n last r

@@ -43,7 +43,8 @@ module _ (x : Axis) where
       → not r ≡ cannot_arrive asked x
   unfolding cannot_arrive
   reaches-none r asked z w =
-      none-reached r (least_arrival alone) w (result (all_reach alone) 1 4096) ∙ sym (ap (λ (k : ℕ). cannot_arrive k x) z)
+      none-reached r (least_arrival alone) w (result (all_reach alone) 1 4096)
+      ∙ sym (ap (λ (k : ℕ). cannot_arrive k x) z)
 
 pub misses-asked : (asked : ℕ) (x : Axis) → (asked ≡ 0 → ⊥) → not (reachable x asked) ≡ cannot_arrive asked x
 unfolding cannot_arrive

@@ -12,7 +12,8 @@ use lib.ListN.{length, get_or, take, drop}
 use Rattle.whole.proofs.Elements.{none-some}
 use Rattle.model.specs.declared.Window.{Window}
 use Rattle.model.specs.declared.Windows.{Windows}
-use Rattle.model.specs.planning.Windows.{brought, fits_window, fits_one, in_order_after, first_wrong_window, windows_refused}
+use Rattle.model.specs.planning.Windows.{brought, fits_window, fits_one, in_order_after, first_wrong_window}
+use Rattle.model.specs.planning.Windows.{windows_refused}
 use Rattle.model.specs.planning.Windows.{refused13, in_windows}
 use Rattle.model.specs.planning.Outcome.{least_from}
 use Rattle.theorems.proofs.jobs.WindowsInWords.{none-wrong}

@@ -1,5 +1,6 @@
 -- What the search for an arrival gives back, from the definitions of `Outcome`.
-use Rattle.std.specs.Prelude.{ℕ, zero, suc, ◌+◌, ◌-◌, ◌%◌, ◌≤◌, ◌≡◌, Bool, true, false, cond, not, ◌&&◌, List, [], ◌∷◌, ◌⊎◌, eqb}
+use Rattle.std.specs.Prelude.{ℕ, zero, suc, ◌+◌, ◌-◌, ◌%◌, ◌≤◌, ◌≡◌, Bool, true, false, cond, not, ◌&&◌, List, []}
+use Rattle.std.specs.Prelude.{◌∷◌, ◌⊎◌, eqb}
 use Rattle.std.proofs.Math.Option.{Option, none, some}
 use Rattle.model.specs.declared.Axis.{Axis}
 use Rattle.model.specs.declared.Window.{Window}

@@ -91,7 +91,8 @@ back-goes-on p h k some = go (dec_lt k h)
     later-by l = sym (back-late p h (suc k) (omega arith))
         ∙ ap (planned_at p) {x = suc k - h} {y = suc (k - h)} (omega arith)
 
-    go : Dec (k < h) → back_position p h k +ℤ velocity_back p h k +ℤ velocity_back p h (suc k) ≡ back_position p h (suc k)
+    go : Dec (k < h) → back_position p h k +ℤ velocity_back p h k +ℤ velocity_back p h (suc k)
+        ≡ back_position p h (suc k)
     go (Dec.yes l) =
         sum _ _ _ _ v v (earlier-by l) (sym (back_early p h k some (omega arith)))
         (sym (back_early p h (suc k) some (omega arith)))
@@ -126,7 +127,8 @@ module _ (p : AxisPlan) (some : 0 < p.regions.ticks) where
       before : (j : ℕ) → early_position p j ≡ back_position p j 0
       before j = ap (early_position p) {x = j} {y = j - 0} (omega arith) ∙ sym (early-position p j 0 (omega arith))
 
-  next-back : (k d : ℕ) → position_back p k d +ℤ blended_back p d k +ℤ blended_back p d (suc k) ≡ position_back p (suc k) d
+  next-back : (k d : ℕ)
+      → position_back p k d +ℤ blended_back p d k +ℤ blended_back p d (suc k) ≡ position_back p (suc k) d
   unfolding blended_back
   next-back k d =
       let e = d + p.half_period in

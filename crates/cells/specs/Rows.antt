@@ -22,7 +22,11 @@ goes_on_at Backwards k = k
 
 abbrev pub row_states : Order → AxisPlan → ℕ → RowStates
 row_states o p k =
-    record { now = blended_state_at p k; next = blended_state_at p (suc k); onward = blended_state_at p (goes_on_at o k) }
+    record {
+      now = blended_state_at p k;
+      next = blended_state_at p (suc k);
+      onward = blended_state_at p (goes_on_at o k);
+    }
 
 -- whether tick k is one of a segment's
 abbrev pub kept_at : Segment → ℕ → Bool

@@ -63,7 +63,8 @@ module _ (g : Leg) (s : ℤ) where
   pub climb-next : {step : ℕ} {c : ℤ} → 0 < step → Climbing g s step c → Climbing g s (step / 2) (climb_step g s c step)
   climb-next {step} {c} h r = go r.left r.first r.ahead
     where
-      go : (n : ℕ) → step ≡ first_of n → climb_from g s n c ≡ cruise g s → Climbing g s (step / 2) (climb_step g s c step)
+      go : (n : ℕ) → step ≡ first_of n → climb_from g s n c ≡ cruise g s
+          → Climbing g s (step / 2) (climb_step g s c step)
       go zero e a = absurd (omega arith)
       go (suc n) e a =
           record {

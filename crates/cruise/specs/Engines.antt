@@ -11,7 +11,8 @@ use Rattle.areas.specs.Areas.{area_at, lowest_area, highest_area}
 
 abbrev pub feasible_by_areas : Leg → ℤ → Bool
 feasible_by_areas g d =
-    ends_allowed g && (sum_is_whole g d && (le_z (lowest_area g) (required g d) && le_z (required g d) (highest_area g)))
+    ends_allowed g && (sum_is_whole g d
+    && (le_z (lowest_area g) (required g d) && le_z (required g d) (highest_area g)))
 
 -- ---- rule 5: the cruise and the remainder, for the required sum s
 

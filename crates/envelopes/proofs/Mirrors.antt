@@ -60,7 +60,8 @@ pub feasible-mirrored : (g : Leg) (d : ℤ) → 0 < g.ticks → 0 < g.accelerati
     → feasible g d ≡ feasible (mirrored g) (neg_ℤ d)
 feasible-mirrored g d some strong slow =
     same_truth _ _
-    (λ u. (feasible-is (mirrored g) (neg_ℤ d) some strong slow).0 (negated g d ((feasible-is g d some strong slow).1 u)))
+    (λ u. (feasible-is (mirrored g) (neg_ℤ d) some strong slow).0
+    (negated g d ((feasible-is g d some strong slow).1 u)))
     (λ u. (feasible-is g d some strong slow).0
     (back (negated (mirrored g) (neg_ℤ d) ((feasible-is (mirrored g) (neg_ℤ d) some strong slow).1 u))))
   where

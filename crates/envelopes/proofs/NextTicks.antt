@@ -19,7 +19,8 @@ use Rattle.envelopes.specs.Sums.{envelope_sums_at, within_sums, with_ticks, betw
 use Rattle.profile.proofs.FeasibleParts.{joined-ends}
 
 -- the test at t ticks, by the envelope sums there
-pub between_is : (g : Leg) (s c : ℤ) (t : ℕ) → Joined (with_ticks g t) → (r : Sums) → r ≡ envelope_sums_at (with_ticks g t)
+pub between_is : (g : Leg) (s c : ℤ) (t : ℕ) → Joined (with_ticks g t) → (r : Sums)
+    → r ≡ envelope_sums_at (with_ticks g t)
     → (w : ℤ) → w ≡ s +ℤ pos (t - g.ticks) *ℤ c → within_sums r w ≡ between_at g s c t
 between_is g s c t j r e w q = and_yes _ _ (joined-ends (with_ticks g t) j) (λ i. within_sums (e i) (q i))
 

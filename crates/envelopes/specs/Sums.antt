@@ -2,7 +2,8 @@
 -- that has one tick more. With a tick more the upper envelope has one velocity more, where its two
 -- ramps cross; the others stay, so that the sum grows by it. That `stepped` gives the next leg's
 -- sums is the theorem `step_is`.
-use Rattle.std.specs.Prelude.{ℕ, suc, ◌-◌, ◌*◌, ◌/◌, ◌^◌, ◌≤◌, ◌<◌, Bool, ◌&&◌, ℤ, pos, neg_ℤ, nat_abs, ◌+ℤ◌, ◌-ℤ◌, ◌*ℤ◌}
+use Rattle.std.specs.Prelude.{ℕ, suc, ◌-◌, ◌*◌, ◌/◌, ◌^◌, ◌≤◌, ◌<◌, Bool, ◌&&◌, ℤ, pos, neg_ℤ, nat_abs, ◌+ℤ◌, ◌-ℤ◌}
+use Rattle.std.specs.Prelude.{◌*ℤ◌}
 use Rattle.std.specs.Int.Signed.{le_z}
 use Rattle.whole.specs.Integers.{least, greatest, sum_to}
 use Rattle.whole.specs.Ranges.{Within}

@@ -19,7 +19,8 @@ use Rattle.whole.proofs.Tests.{both, and, and_yes, true-T, ltb_yes}
 use Rattle.model.specs.declared.Axis.{Axis}
 use Rattle.model.specs.planning.Quantities.{fine_steps, delay, finer}
 use Rattle.model.specs.planning.Leg.{Leg, upper, required, twice_required, sum_is_whole, tests, feasible}
-use Rattle.model.specs.planning.Motion.{reachable, leg, displacement, start_velocity, landing_velocity, arrival_velocity}
+use Rattle.model.specs.planning.Motion.{reachable, leg, displacement, start_velocity, landing_velocity}
+use Rattle.model.specs.planning.Motion.{arrival_velocity}
 use Rattle.model.specs.planning.Motion.{landing_tick}
 use Rattle.model.specs.calls.Raises.{with_limits}
 use Rattle.model.specs.planning.Refusals.{Passed, last_tick}
@@ -179,7 +180,8 @@ module _ (x : Axis) (n : ℕ) (after : delay x < n) where
 
   -- with other limits the axis has the same grid, and so the same leg but for them
   opened : (l m : ℕ) → reachable (with_limits l m x) n
-      ≡ reaches (leg (with_limits l m x) n) (displacement (with_limits l m x) n) (arrival_velocity (with_limits l m x) n)
+      ≡ reaches (leg (with_limits l m x) n) (displacement (with_limits l m x) n)
+      (arrival_velocity (with_limits l m x) n)
   opened l m = sym (and_yes (ltb (delay x) n) _ (ltb_yes after) refl)
 
   decided-ahead : (pos (landing_tick x n) *ℤ (s +ℤ e)) ≤ℤ d → (l m : ℕ)

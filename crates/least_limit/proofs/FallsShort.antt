@@ -48,7 +48,8 @@ module _ (t : Task) where
       ramp_area t.start (pos (t.steps * t.acceleration)) p.rising
       +ℤ ramp_area t.end (pos (t.steps * t.acceleration)) p.falling
 
-  linear : (q : Limit) (p : Parts) (v : ℕ) → split_area (leg_with q v) p ≡ at_zero q p +ℤ pos (v * (t.steps * gain_of q p))
+  linear : (q : Limit) (p : Parts) (v : ℕ)
+      → split_area (leg_with q v) p ≡ at_zero q p +ℤ pos (v * (t.steps * gain_of q p))
   unfolding split_area ramp_area at_zero
   linear Acceleration p v =
       apart (pos p.rising *ℤ t.start) (pos (triangle p.rising))

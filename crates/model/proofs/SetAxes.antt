@@ -48,7 +48,8 @@ pub record PassedFrom (m : ℕ) (x : Axis) (xs : List JobAxis) : Type 0 where
 pub passed-from : (i m : ℕ) (six : List Axis) → i < length six → AllPassed (from i m six)
     → PassedFrom m (axis_at six i) (from (i + 1) (m / 2) six)
 passed-from i m six h s =
-    let p = split (eqb (m % 2) 1) (axis_at six i) (from (i + 1) (m / 2) six) (subst AllPassed (from_more i m six h) s) in
+    let p = split (eqb (m % 2) 1) (axis_at six i) (from (i + 1) (m / 2) six)
+    (subst AllPassed (from_more i m six h) s) in
     record { here = λ e. p.0 (eq-eqb (m % 2) 1 e); later = p.1 }
   where
     split : (b : Bool) (x : Axis) (xs : List JobAxis) → AllPassed (pick b i x xs) → (b ≡ true → Passed x) × AllPassed xs
@@ -84,7 +85,8 @@ axes-bits i m (x ∷ six) = go (eqb (m % 2) 1) (axes-bits (suc i) (m / 2) six)
     bits = set_from (length six) (suc i) (m / 2)
 
     go : (b : Bool) → length (set_axes (suc i) (m / 2) six) ≡ length bits
-        → length (pick b i x (set_axes (suc i) (m / 2) six)) ≡ length {A = ℕ} (elim b [ true ↦ i ∷ bits | false ↦ bits ])
+        → length (pick b i x (set_axes (suc i) (m / 2) six))
+        ≡ length {A = ℕ} (elim b [ true ↦ i ∷ bits | false ↦ bits ])
     go true e = ap suc e
     go false e = e
 

@@ -43,7 +43,8 @@ limited {x} k =
     record {
       speed_limit = speed-limit x k;
       acceleration_limit =
-          leb→le (acceleration_limit x) 65536 (right (leb 1 (acceleration_limit x)) (leb (acceleration_limit x) 65536) t);
+          leb→le (acceleration_limit x) 65536
+          (right (leb 1 (acceleration_limit x)) (leb (acceleration_limit x) 65536) t);
     }
 
 rest-within : (x : Axis) (r : RestPoint) → Limited x → T (rest_allowed x r)

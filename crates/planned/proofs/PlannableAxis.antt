@@ -108,12 +108,16 @@ module _ {x : Axis} {n : ℕ} (r : Plannable x n) where
       record {
         light = omega (arith, weight_is x n light-weight, mul-le-mul_left (total_weight p) (finer-range x).0);
         weighs = omega (arith, weight_is x n light-weight, mul-le-mul_left (total_weight p) (finer-range x).1);
-        origin = record { within = weighed-within x n (2 ^ 44) (start_position x) light-weight (start-position-size r) };
+        origin = record {
+          within = weighed-within x n (2 ^ 44) (start_position x) light-weight (start-position-size r);
+        };
         regions =
             chosen-ranged g d some steep slow can (profile-ranged r).ticks (profile-ranged r).acceleration_limit;
         some = some;
         velocities = λ k h.
-            record { within = omega (arith, weighed-within x n most (planned_at p k) light-weight (velocity-most k h)) };
+            record {
+              within = omega (arith, weighed-within x n most (planned_at p k) light-weight (velocity-most k h));
+            };
         acceleration =
             record {
               within = omega (arith, landing-acceleration-size r, mul-le-mul_right (2 ^ 24) (finer-range x).1);

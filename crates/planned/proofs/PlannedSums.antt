@@ -92,7 +92,12 @@ module _ (p : AxisPlan) (s : PlanRanges p) (k : ℕ) (last : k ≤ suc (arrival_
       record {
         is = e;
         within =
-            omega (arith, few, small-sum (2 ^ 38) (planned_at p) k (λ j q. (planned-within p s j (omega arith)).within));
+            omega (
+              arith,
+              few,
+              small-sum (2 ^ 38) (planned_at p) k
+                  (λ j q. (planned-within p s j (omega arith)).within),
+            );
       }
 
   pub back-sum-is : (d : ℕ) (v : ℤ) → v ≡ sum_to (velocity_back p d) k → Is (2 ^ 51) v (sum_to (velocity_back p d) k)

@@ -19,7 +19,8 @@ reachable_by_areas x n =
 -- the remainder of the required sum
 pub record OneAnswer (x : Axis) (n : ℕ) : Type 0 where
   pub reach : reachable_by_areas x n ≡ reachable x n
-  pub cruises : reachable x n ≡ true → cruise_by_areas (leg x n) (required_sum x n) ≡ cruise (leg x n) (required_sum x n)
+  pub cruises : reachable x n ≡ true
+      → cruise_by_areas (leg x n) (required_sum x n) ≡ cruise (leg x n) (required_sum x n)
   pub remainders : reachable x n ≡ true
       → remainder_by_areas (leg x n) (required_sum x n) ≡ remainder (leg x n) (required_sum x n)
 

@@ -14,7 +14,8 @@ use Rattle.model.specs.declared.Order.TheVariants.{Forwards}
 use Rattle.model.specs.declared.PartAnswer.{PartAnswer}
 use Rattle.model.specs.planning.Job.{Job, job_of, axes_of}
 use Rattle.model.specs.planning.Refusals.{last_tick}
-use Rattle.model.specs.planning.Outcome.{Outcome, Input, call, input_axes, ordered, outcome_after, before_ten, answer_of}
+use Rattle.model.specs.planning.Outcome.{Outcome, Input, call, input_axes, ordered, outcome_after, before_ten}
+use Rattle.model.specs.planning.Outcome.{answer_of}
 use Rattle.model.specs.planning.Admission.{words, typed, job_read, input_job, Admission, planning_rules}
 use Rattle.theorems.specs.Verdict.{Verdict, refused3, refused4, refused12, refused5, refused15, refused6}
 use Rattle.theorems.specs.Verdict.{refused16, refused17, refused13, refused8, refused9, refused10}

@@ -15,7 +15,12 @@ use Rattle.planner.specs.Promise.{Fitted, part_outcome}
 -- the rows that are wanted of so many axes with arrival n, in so many cells: all of them, in an
 -- order; or as many as fit from row k on
 abbrev pub choice_for : Wanted → ℕ → ℕ → ℕ → Choice
-choice_for (Whole o) axes n cells = record { fits = leb (cells_needed axes n) cells; order = o; first = 0; rows = suc n }
+choice_for (Whole o) axes n cells = record {
+  fits = leb (cells_needed axes n) cells;
+  order = o;
+  first = 0;
+  rows = suc n;
+}
 choice_for (From k) axes n cells = record { fits = true; order = Forwards; first = k; rows = part_rows axes n k cells }
 
 -- a stage that ends a call for all rows: the answer and the lent table are an outcome of the

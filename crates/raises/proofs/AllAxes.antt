@@ -45,7 +45,8 @@ module _ (n : ℕ) where
 
   module _ (i m : ℕ) (six : List Axis) (l : List AxisRaises) where
     pub missed : i < length six → missed_by m (axis_at six i) n ≡ true
-        → raises_from n (from i m six) l ≡ raises_from n (from (i + 1) (m / 2) six) (set l i (raises_of (axis_at six i) n))
+        → raises_from n (from i m six) l
+        ≡ raises_from n (from (i + 1) (m / 2) six) (set l i (raises_of (axis_at six i) n))
     unfolding missed_by
     missed h e =
         ap (λ (xs : List JobAxis). raises_from n xs l) (from_more i m six h)

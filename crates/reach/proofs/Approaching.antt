@@ -14,7 +14,8 @@ use Rattle.model.specs.declared.Axis.{Axis}
 use Rattle.model.specs.declared.State.{State}
 use Rattle.model.specs.declared.Target.{Target}
 use Rattle.model.specs.declared.Target.TheVariants.{Fixed, Moving}
-use Rattle.model.specs.planning.Quantities.{half_period, second_weight, delay, as_moving, accelerates, finer, speed_steps}
+use Rattle.model.specs.planning.Quantities.{half_period, second_weight, delay, as_moving, accelerates, finer}
+use Rattle.model.specs.planning.Quantities.{speed_steps}
 use Rattle.model.specs.planning.Quantities.{acceleration_steps}
 use Rattle.model.specs.planning.Leg.{sum_is_whole, feasible}
 use Rattle.model.specs.planning.Motion.{shift, start_position, start_velocity, landing_tick, landing_position}

@@ -27,7 +27,8 @@ use Rattle.model.specs.planning.Quantities.{velocity_at, accelerates, finer, on_
 use Rattle.model.specs.planning.Leg.{twice_required, sum_is_whole, feasible}
 use Rattle.model.specs.planning.Motion.{shift, start_position, start_velocity, landing_velocity, landing_tick}
 use Rattle.model.specs.planning.Motion.{arrival_velocity, leg, displacement, required_sum, reachable}
-use Rattle.model.specs.planning.Refusals.{position_allowed, velocity_allowed, rest_allowed, motion_allowed, target_allowed}
+use Rattle.model.specs.planning.Refusals.{position_allowed, velocity_allowed, rest_allowed, motion_allowed}
+use Rattle.model.specs.planning.Refusals.{target_allowed}
 use Rattle.model.specs.planning.Refusals.{Passed}
 use Rattle.theorems.specs.Threshold.{Slow}
 use Rattle.theorems.proofs.motions.Threshold.{reached-later}

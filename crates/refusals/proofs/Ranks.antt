@@ -100,7 +100,8 @@ ranked ts xs w k = cond (ltb k (length ts)) (Refused (get_or (numbers ts) k 0) (
 abbrev placed : ℕ → Option ℕ → Checked
 placed n o = Refused n (elim o as (λ _. ℕ) [ some i ↦ i | none ↦ 0 ])
 
-pub first-is : (ts : Tests) (xs : List JobAxis) (w : Windows) → ranked ts xs w (least_rank ts xs) ≡ first_refusal ts xs w
+pub first-is : (ts : Tests) (xs : List JobAxis) (w : Windows)
+    → ranked ts xs w (least_rank ts xs) ≡ first_refusal ts xs w
 first-is [] xs w =
     ap (λ (b : Bool). cond b (Refused 0 (lowest_axis [] (least_rank [] xs) xs)) (window_refusal w))
     (le-ltb (least_rank [] xs) 0 (omega arith))
@@ -161,7 +162,8 @@ module _ (resting : Bool) (xs : List JobAxis) (w : Windows) (count k : ℕ) (all
       → Refused n i ≡ first_refusal tests xs w
   some-refused l n i e f =
       ap₂ (λ (m j : ℕ). Refused m j) (e ∙ number_is resting k (omega arith)) f
-      ∙ sym (ap (λ (b : Bool). cond b (Refused (get_or (numbers tests) k 0) (lowest_axis tests k xs)) (window_refusal w))
+      ∙ sym (ap (λ (b : Bool). cond b (Refused (get_or (numbers tests) k 0) (lowest_axis tests k xs))
+      (window_refusal w))
       (lt-ltb k (length tests) (omega arith)))
       ∙ ends
 

@@ -1,7 +1,8 @@
 -- The chosen velocities in the three regions of the method (docs/METHOD.md, section 1: the end
 -- regions have the greatest acceleration): a ramp from the start, a level part, a ramp to the end.
 -- That they are the velocities of rule 5 is the theorem `chosen-in-regions`.
-use Rattle.std.specs.Prelude.{ℕ, ◌+◌, ◌-◌, ◌*◌, ◌/◌, ◌^◌, ◌≤◌, true, false, ℤ, pos, neg_ℤ, nat_abs, ◌+ℤ◌, ◌-ℤ◌, ◌*ℤ◌, leb}
+use Rattle.std.specs.Prelude.{ℕ, ◌+◌, ◌-◌, ◌*◌, ◌/◌, ◌^◌, ◌≤◌, true, false, ℤ, pos, neg_ℤ, nat_abs, ◌+ℤ◌, ◌-ℤ◌, ◌*ℤ◌}
+use Rattle.std.specs.Prelude.{leb}
 use Rattle.std.specs.Int.Signed.{le_z}
 use Rattle.whole.specs.Ranges.{Within}
 use Rattle.model.specs.planning.Leg.{Leg, cruise, remainder}

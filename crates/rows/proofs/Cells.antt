@@ -48,7 +48,8 @@ module _ (ps : List AxisPlan) (k : ℕ) where
 
   pub row-all : (i : ℕ) → i ≡ length ps → row_to ps k i ≡ plan_row ps k
   unfolding row_to
-  row-all i e = ap (λ (l : List AxisPlan). flatten (map (axis_cells k) l)) (ap (λ (j : ℕ). take j ps) e ∙ take-length ps)
+  row-all i e = ap (λ (l : List AxisPlan). flatten (map (axis_cells k) l)) (ap (λ (j : ℕ). take j ps) e
+      ∙ take-length ps)
 
   pub row-long : (i : ℕ) → i ≤ length ps → length (row_to ps k i) ≡ 3 * i
   unfolding row_to

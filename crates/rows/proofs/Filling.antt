@@ -71,7 +71,12 @@ module _ (ps : List AxisPlan) (k : ℕ) (t₁ : List ℤ) (at₁ : ℕ) where
       w
       ∙ (λ j. over (c j) ((p ∙ place) j) (cells_of (e j) (f j)))
       ∙ over-over t₁ at₁ (row_to ps k i) (axis_cells k (get_or ps i unset_plan))
-      (omega (arith, row-long ps k i (omega arith), length-append (row_to ps k i) (axis_cells k (get_or ps i unset_plan))))
+      (omega (
+        arith,
+        row-long ps k i (omega arith),
+        length-append (row_to ps k i)
+            (axis_cells k (get_or ps i unset_plan)),
+      ))
       ∙ ap (over t₁ at₁) (row_more ps k i l)
     where
       place : at₁ + 3 * i ≡ at₁ + length (row_to ps k i)
@@ -96,7 +101,8 @@ module _ (o : Order) (ps : List AxisPlan) (n j : ℕ) (t₀ : List ℤ) where
         ∙ ap length more
 
     pub rows-go-on : length (rows_to o ps n j k) + 3 * length ps ≤ length t₀
-        → t₁ ≡ over t₀ 0 (rows_to o ps n j k) → t ≡ over t₁ at₁ (row_to ps l i) → t ≡ over t₀ 0 (rows_to o ps n j (k + 1))
+        → t₁ ≡ over t₀ 0 (rows_to o ps n j k) → t ≡ over t₁ at₁ (row_to ps l i)
+        → t ≡ over t₀ 0 (rows_to o ps n j (k + 1))
     rows-go-on h c w =
         w
         ∙ (λ m. over (c m) ((p₁ ∙ sym (zero-add (length (rows_to o ps n j k)))) m) (row-all ps l i all m))

@@ -46,7 +46,8 @@ segmented-set axes count segments i q h e w a l = go (dec_lt a i) (dec_lt i a)
     go (Dec.no r) (Dec.yes t) = other (λ u. omega arith)
     go (Dec.no r) (Dec.no t) =
         subst Goal {x = i} {y = a} (omega arith)
-        (subst (SegmentOf (blended_velocity (get_or axes i unset_plan))) (sym (get_or-set_same segments i q no_segment h)) e)
+        (subst (SegmentOf (blended_velocity (get_or axes i unset_plan)))
+        (sym (get_or-set_same segments i q no_segment h)) e)
 
 -- ---- axis i, when the row of tick k is written: its segment has the tick
 pub record Held (axes : List AxisPlan) (count i k : ℕ) (segments : List Segment) : Type 0 where

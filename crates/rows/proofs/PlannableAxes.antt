@@ -23,7 +23,8 @@ abbrev pub AllPlannable : ℕ → List JobAxis → Type 0
 AllPlannable n [] = Unit
 AllPlannable n (x ∷ xs) = Plannable x.axis n × AllPlannable n xs
 
-pub all-plannable : (n : ℕ) (xs : List JobAxis) → AllPassed xs → n ≤ last_tick → all_reach xs n ≡ true → AllPlannable n xs
+pub all-plannable : (n : ℕ) (xs : List JobAxis) → AllPassed xs → n ≤ last_tick → all_reach xs n ≡ true
+    → AllPlannable n xs
 all-plannable n [] p h e = tt
 all-plannable n (x ∷ xs) p h e =
     let b = both (reachable x.axis n) e in

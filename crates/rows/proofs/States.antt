@@ -54,7 +54,8 @@ row-begins axes count k l states h a q =
 -- and all of them are
 pub row_ends : (axes : List AxisPlan) (count k l : ℕ) (states : List BlendedState)
     → States axes count k l count states → At axes count l states
-row_ends axes count k l states h a q = h a q ∙ ap (blended_state_at (get_or axes a unset_plan)) (tick-after count k l a q)
+row_ends axes count k l states h a q = h a q
+    ∙ ap (blended_state_at (get_or axes a unset_plan)) (tick-after count k l a q)
 
 -- axis i, which is the next to be stepped
 pub next-state : (axes : List AxisPlan) (count k l i : ℕ) (states : List BlendedState)

@@ -48,7 +48,8 @@ module _ (test : ℕ → Bool) (first budget count : ℕ) (t : Tick)
     found-out = sym (ap (report_of first budget) some-least) ∙ by-least
 
   module _ (never : t ≡ Never) where
-    none_found : (b : Bool) → ltb budget (candidates first) ≡ b → not_found first budget b ≡ search_from test first budget
+    none_found : (b : Bool) → ltb budget (candidates first) ≡ b
+        → not_found first budget b ≡ search_from test first budget
     none_found b f =
         sym (ap (not_found first budget) f)
         ∙ sym (ap (report_of first budget) (tick_is none (ap tick_of never))) ∙ by-least

@@ -44,14 +44,16 @@ first_range first e =
 
 -- ---- a job that is checked
 
-module _ (t : Typed.Job) (first budget : ℕ) (c : Checked) (is : c ≡ without_job (admission search_rules (typed t))) where
+module _ (t : Typed.Job) (first budget : ℕ) (c : Checked)
+    (is : c ≡ without_job (admission search_rules (typed t))) where
   -- its asked arrival is read as 0
   abbrev j : Job
   j = asking 0 (job_of t)
 
   pub job-refused : (n p : ℕ) → c ≡ Refused n p → refuse_search n p ≡ search_call (typed t) first budget
   unfolding search_call
-  job-refused n p e = sym (ap (search_after first budget) (refused search_rules search-numbered (typed t) c is n p e).is)
+  job-refused n p e = sym
+      (ap (search_after first budget) (refused search_rules search-numbered (typed t) c is n p e).is)
 
   module _ (pass : c ≡ Passed) where
     pub goes : Goes search_rules (typed t)

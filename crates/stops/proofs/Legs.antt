@@ -18,7 +18,8 @@ use Rattle.model.specs.declared.Stop.{Stop}
 use Rattle.model.specs.declared.TourSettings.{TourSettings}
 use Rattle.model.specs.planning.Windows.{longest_dwell}
 use Rattle.model.specs.planning.Job.{unset_axis}
-use Rattle.model.specs.calls.Tour.{Legs, leg_axis, leg_axes, leg_answer, all_legs, refused_leg, legs_from, first_long_dwell}
+use Rattle.model.specs.calls.Tour.{Legs, leg_axis, leg_axes, leg_answer, all_legs, refused_leg, legs_from}
+use Rattle.model.specs.calls.Tour.{first_long_dwell}
 use Rattle.stops.specs.Parts.{no_limits, leg_axis_at, legs_in}
 
 -- ---- the stops that are left
@@ -157,7 +158,8 @@ refused-row a i count l e h =
 
 -- axis i, for any i
 leg-at : (ls : List AxisLimits) (ps qs : List ℤ) (i : ℕ) → i < length ls → i < length ps → i < length qs
-    → get_or (leg_axes ls ps qs) i unset_axis ≡ leg_axis (get_or ls i no_limits) (get_or ps i (pos 0)) (get_or qs i (pos 0))
+    → get_or (leg_axes ls ps qs) i unset_axis
+    ≡ leg_axis (get_or ls i no_limits) (get_or ps i (pos 0)) (get_or qs i (pos 0))
 leg-at [] ps qs i h k m = absurd (omega arith)
 leg-at (l ∷ ls) [] qs i h k m = absurd (omega arith)
 leg-at (l ∷ ls) (p ∷ ps) [] i h k m = absurd (omega arith)

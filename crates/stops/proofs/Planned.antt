@@ -13,8 +13,10 @@ use borrow.Author.Tests.{eqb-true, eqb-false}
 use Rattle.model.specs.declared.Answer.{Answer}
 use Rattle.model.specs.declared.Stop.{Stop}
 use Rattle.model.specs.declared.TourSettings.{TourSettings}
-use Rattle.model.specs.calls.Tour.{Legs, TourOutcome, leg_job, leg_answer, legs_from, refused_leg, refuse_tour, arrivals_over}
-use Rattle.model.specs.calls.Tour.{after_legs, first_long_dwell, dwells_checked, stops_checked, most_stops, tour_outcome}
+use Rattle.model.specs.calls.Tour.{Legs, TourOutcome, leg_job, leg_answer, legs_from, refused_leg, refuse_tour}
+use Rattle.model.specs.calls.Tour.{arrivals_over}
+use Rattle.model.specs.calls.Tour.{after_legs, first_long_dwell, dwells_checked, stops_checked, most_stops}
+use Rattle.model.specs.calls.Tour.{tour_outcome}
 use Rattle.stops.specs.Promise.{departs_at, LegPlanned}
 use Rattle.model.specs.planning.Outcome.{typed}
 use Rattle.theorems.proofs.jobs.BeforeTen.{job-accepted}
@@ -109,7 +111,8 @@ module _ (t : TourSettings) (lent : List ℕ) where
   Accepted stops o =
       (m : List ℕ) × ((o.arrivals ≡ m ++ drop (length stops) lent) × Plan t stops 0 t.start m o.total)
 
-  tour-accepted : (stops : List Stop) → (tour_outcome t stops lent).number ≡ 0 → Accepted stops (tour_outcome t stops lent)
+  tour-accepted : (stops : List Stop) → (tour_outcome t stops lent).number ≡ 0
+      → Accepted stops (tour_outcome t stops lent)
   unfolding Accepted Made
   tour-accepted [] z = ([], (refl, (refl, refl)))
   tour-accepted (s ∷ ss) z = by_count (eqb (length (s ∷ ss)) 0) refl z

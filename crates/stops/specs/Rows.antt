@@ -1,5 +1,6 @@
 -- The stops of a tour by value: how many are lent, and a row of 64 with the first of them.
-use Rattle.std.specs.Prelude.{ℕ, zero, suc, ◌-◌, true, false, List, ◌++◌, pos, ltb, length, replicate, set, get_or, take}
+use Rattle.std.specs.Prelude.{ℕ, zero, suc, ◌-◌, true, false, List, ◌++◌, pos, ltb, length, replicate, set, get_or}
+use Rattle.std.specs.Prelude.{take}
 use Rattle.model.specs.declared.Stop.{Stop}
 use Rattle.stops.specs.declared.StopRow.{StopRow}
 

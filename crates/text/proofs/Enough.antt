@@ -128,7 +128,8 @@ module _ (mask n c : ℕ) (cells : List ℤ) (t : List ℕ) (e : c ≡ length (s
       (subst (λ (k : ℕ). 3 * k * suc n ≤ length cells) (sym e) parts.rows, omega (arith, bytes, next-most)),
     )
 
-    pub table_done : {v : List ℕ} {r : ℕ} → WrittenWithin (row_bytes (3 * c) * suc n) u j (row_lines (3 * c) cells n) v r
+    pub table_done : {v : List ℕ} {r : ℕ}
+        → WrittenWithin (row_bytes (3 * c) * suc n) u j (row_lines (3 * c) cells n) v r
         → WrittenAtStart t (table_within mask n cells (length t)) v r
     table_done {v} {r} x =
         put_all _ b (subst (λ (k : ℕ). Room t 0 (text k)) e space)

@@ -1,7 +1,8 @@
 -- The text that the table program prints (docs/METHOD.md, 6.4): the arrival and the rows of an
 -- accepted job, or one line for a refusal. A text is the list of its bytes. Numbers are in decimal,
 -- one space stands between two of them, and a line feed ends each line. Assumes nothing.
-use Rattle.std.specs.Prelude.{ℕ, zero, suc, ◌+◌, ◌*◌, ◌/◌, ◌%◌, true, false, eqb, ltb, ℤ, pos, negsuc, length, take, drop}
+use Rattle.std.specs.Prelude.{ℕ, zero, suc, ◌+◌, ◌*◌, ◌/◌, ◌%◌, true, false, eqb, ltb, ℤ, pos, negsuc, length, take}
+use Rattle.std.specs.Prelude.{drop}
 use Prim.Native.Char.{code}
 use Prim.Native.String.{String}
 use mathlib.Core.List.{List, [], ◌∷◌, ◌++◌, map, flatten}

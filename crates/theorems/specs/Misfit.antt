@@ -11,7 +11,8 @@ use Rattle.model.specs.planning.Quantities.{half_period, second_weight, delay}
 use Rattle.model.specs.planning.Motion.{landing_tick}
 use Rattle.model.specs.planning.Rows.{planned_axis, tick_at, blend, divisor}
 use Rattle.model.specs.planning.Outcome.{Input, call_in, input_axes}
-use Rattle.model.specs.planning.Demand.{CellTable, table_in, acceleration_cell, Swings, Bounded, acceleration_change, sway}
+use Rattle.model.specs.planning.Demand.{CellTable, table_in, acceleration_cell, Swings, Bounded, acceleration_change}
+use Rattle.model.specs.planning.Demand.{sway}
 
 -- ---- the misfit of a list w at i: the blend of its entries i to i + h + h₂. It is 0
 -- where the list fits either rate
@@ -130,7 +131,8 @@ pub record SwayLeft (most : Axis → ℕ → ℕ) (x : Axis) (i n : ℕ) (g : Ce
 
 -- the weights of the pole, times the divisor, times the sway left
 pub record PoleLeft (x : Axis) (i n : ℕ) (g : CellTable) (t : TruePole) (m G most : ℕ) (u : ℕ → ℤ) : Type 0 where
-  pub exact : weights t * nat_abs (sway (λ k. blend (planned_axis n x) k (λ s. s.acceleration)) (by_tick t u) m n) ≤ most
+  pub exact : weights t * nat_abs (sway (λ k. blend (planned_axis n x) k (λ s. s.acceleration)) (by_tick t u) m n)
+      ≤ most
   pub rounded : divisor x * (weights t * nat_abs (sway (acceleration_cell g i) (by_tick t u) m n))
       ≤ most + divisor x * rounding_left n (weights t * G)
 
@@ -148,7 +150,8 @@ abbrev pub OfCalls : (Axis → ℕ → ℕ → CellTable → Type 0) → Type 0
 OfCalls Claim =
     (o : Order) (q : Input) (lent : List ℤ) → (call_in o q lent).number ≡ 0 → (i : ℕ) (x : Axis)
     → get_elem? (input_axes q) i ≡ some x
-    → Claim x i (call_in o q lent).arrival (table_in o (input_axes q) (call_in o q lent).arrival (call_in o q lent).cells)
+    → Claim x i (call_in o q lent).arrival
+    (table_in o (input_axes q) (call_in o q lent).arrival (call_in o q lent).cells)
 
 abbrev pub SwayLeftHolds : (Axis → ℕ → ℕ) → Type 0
 SwayLeftHolds most = OfCalls (SwayLeft most)

@@ -1,6 +1,7 @@
 -- The words of a job, and which job words spell, for "a position has one spelling only" and "old
 -- jobs keep their meaning" (docs/METHOD.md, 6.3).
-use Rattle.std.specs.Prelude.{ℕ, suc, ◌-◌, ◌/◌, ◌%◌, ◌^◌, ◌≤◌, ◌<◌, ◌≡◌, true, false, ◌&&◌, ◌⊎◌, ◌↔◌, List, [], ◌∷◌, ◌++◌, eqb, ℤ, pos, negsuc, length}
+use Rattle.std.specs.Prelude.{ℕ, suc, ◌-◌, ◌/◌, ◌%◌, ◌^◌, ◌≤◌, ◌<◌, ◌≡◌, true, false, ◌&&◌, ◌⊎◌, ◌↔◌, List, [], ◌∷◌}
+use Rattle.std.specs.Prelude.{◌++◌, eqb, ℤ, pos, negsuc, length}
 use Rattle.std.proofs.Math.Option.{none}
 use Rattle.model.specs.declared.Axis.{Axis}
 use Rattle.model.specs.declared.SecondSway.{SecondSway}
@@ -11,7 +12,8 @@ use Rattle.model.specs.declared.Weight.TheVariants.{Given}
 use Rattle.model.specs.planning.Quantities.{speed_limit, acceleration_limit, half_period, second_weight}
 use Rattle.model.specs.planning.Windows.{no_windows}
 use Rattle.model.specs.planning.Job.{Job, JobAxis, set_bits}
-use Rattle.model.specs.planning.Words.{word, kind, payload, fits_word, first_bad_long, got, wrong, give, signed, position}
+use Rattle.model.specs.planning.Words.{word, kind, payload, fits_word, first_bad_long, got, wrong, give, signed}
+use Rattle.model.specs.planning.Words.{position}
 use Rattle.model.specs.planning.Words.{after_mask_by, good_mask, Decoded, no_mask, bad_word, job, decode}
 use Rattle.model.specs.planning.Refusals.{position_allowed}
 
@@ -142,7 +144,8 @@ abbrev pub old_decode : List ℕ → Decoded
 old_decode [] = no_mask
 old_decode (w ∷ ws) =
     elim (eqb (kind w) 1 && good_mask (payload w)) [
-      | true ↦ elim (after_mask_by signed (give Absent) (payload w) 1 ws) [ got j i rest ↦ job j | wrong p ↦ bad_word p ]
+      | true ↦ elim (after_mask_by signed (give Absent)
+          (payload w) 1 ws) [ got j i rest ↦ job j | wrong p ↦ bad_word p ]
       | false ↦ no_mask
     ]
 

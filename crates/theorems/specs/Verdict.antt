@@ -2,7 +2,8 @@
 -- docs/METHOD.md, section 7: its named case, the first in checking order, by the existence of a
 -- list (rule 4) and not by the decision. The theorem `verdict` says it of every job from refusal 3
 -- on, `call-verdict` of every call, `verdict-in` of both orders.
-use Rattle.std.specs.Prelude.{ℕ, suc, ◌≤◌, ◌<◌, ◌≡◌, Bool, true, false, List, [], ◌∷◌, ◌++◌, ◌↔◌, ◌⊎◌, ℤ, pos, negsuc, length, drop}
+use Rattle.std.specs.Prelude.{ℕ, suc, ◌≤◌, ◌<◌, ◌≡◌, Bool, true, false, List, [], ◌∷◌, ◌++◌, ◌↔◌, ◌⊎◌, ℤ, pos, negsuc}
+use Rattle.std.specs.Prelude.{length, drop}
 use Rattle.std.proofs.Math.Option.{some}
 use Rattle.std.proofs.Math.ListN.{get_elem?}
 use Rattle.model.specs.declared.Axis.{Axis}

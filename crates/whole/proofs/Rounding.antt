@@ -111,7 +111,8 @@ nearest-neg (pos (suc a)) d h = refl
 nearest-neg (negsuc a) d h = sym (neg_ℤ-neg_ℤ (pos (nearest_size (suc a) d)))
 
 -- both numbers times c
-pub nearest-times : (c : ℕ) (x : ℤ) (d : ℕ) → 0 < c → 0 < d → nearest_quotient (pos c *ℤ x) (c * d) ≡ nearest_quotient x d
+pub nearest-times : (c : ℕ) (x : ℤ) (d : ℕ) → 0 < c → 0 < d
+    → nearest_quotient (pos c *ℤ x) (c * d) ≡ nearest_quotient x d
 nearest-times c (pos a) d h k = ap pos (size-times c a d h)
 nearest-times c (negsuc a) d h k =
     nearest-neg (pos (c * suc a)) (c * d) (mul-le-mul h k) ∙ ap (λ (n : ℕ). neg_ℤ (pos n)) (size-times c (suc a) d h)

@@ -12,7 +12,14 @@ use Rattle.model.specs.planning.Windows.{first_wrong_window, windows_refused}
 
 module _ (count : ℕ) (list : List Window) (dwell : ℕ) where
   by : Bool → Bool → Option ℕ
-  by a b = elim a [ true ↦ some 0 | false ↦ elim b [ true ↦ first_wrong_window 0 0 (take count list) | false ↦ some 32 ] ]
+  by a b = elim a [
+    | true ↦ some 0
+    | false ↦ elim b [
+      | true ↦ first_wrong_window 0 0
+          (take count list)
+      | false ↦ some 32
+    ]
+  ]
 
   pub none-brought : count ≡ 0
       → some 0 ≡ windows_refused (record { given = true; dwell = dwell; count = count; list = list })

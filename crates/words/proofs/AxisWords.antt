@@ -33,7 +33,8 @@ module _ (ws : List ℕ) (i : ℕ) where
   -- once the words of kinds 3 to 10 are there: a fixed target or, where a word
   -- of kind 11 follows, a moving one
   by-target : Bool → Reader Axis
-  by-target b = λ j vs. ◌>>=◌ (target b (position_at ws goal) (signed_at ws (ninth + 1))) (λ g. give (axis_at ws i g)) j vs
+  by-target b = λ j vs. ◌>>=◌ (target b (position_at ws goal) (signed_at ws (ninth + 1)))
+      (λ g. give (axis_at ws i g)) j vs
 
   rest : ℕ → List ℕ → Reading Axis
   rest = λ j vs. ◌>>=◌ (next 11) by-target j vs
@@ -84,7 +85,12 @@ module _ (ws : List ℕ) (i : ℕ) where
 
   toward : ℤ → ℤ → Target
   toward a t =
-      Moving (record { position = position_at ws goal; velocity = signed_at ws (ninth + 1); acceleration = a; tick = t })
+      Moving (record {
+        position = position_at ws goal;
+        velocity = signed_at ws (ninth + 1);
+        acceleration = a;
+        tick = t;
+      })
 
   rest-moving : is_kind ws (ninth + 2) 11 ≡ true
       → rest (ninth + 2) (drop (ninth + 2) ws)

@@ -155,11 +155,13 @@ module _ (ws : List ℕ) (m : ℕ) where
 abbrev by_mask : ℕ → List ℕ → Bool → DecodedJob
 by_mask w ws b = elim b [ true ↦ decided_job (w ∷ ws) (after_mask (payload w) 1 ws) | false ↦ refused_job 1 0 ]
 
-decode_is : (w : ℕ) (ws : List ℕ) → decoded_job (decode (w ∷ ws)) ≡ by_mask w ws (eqb (kind w) 1 && good_mask (payload w))
+decode_is : (w : ℕ) (ws : List ℕ)
+    → decoded_job (decode (w ∷ ws)) ≡ by_mask w ws (eqb (kind w) 1 && good_mask (payload w))
 decode_is w ws = go (eqb (kind w) 1 && good_mask (payload w))
   where
     go : (b : Bool)
-        → decoded_job (elim b [ true ↦ decided (w ∷ ws) (after_mask (payload w) 1 ws) | false ↦ no_mask ]) ≡ by_mask w ws b
+        → decoded_job (elim b [ true ↦ decided (w ∷ ws) (after_mask (payload w) 1 ws) | false ↦ no_mask ])
+        ≡ by_mask w ws b
     go true = refl
     go false = refl
 

@@ -35,7 +35,8 @@ abbrev Says : ℕ → ℕ → Option ℕ → Type 0
 Says e p (some q) = (p ≡ q) × (q < e)
 Says e p none = p ≡ e
 
-finds : (ws : List ℕ) (n i : ℕ) → length ws ≡ i + suc n → Says (i + n) (bad_long_in ws n i) (first_bad_long i (drop i ws))
+finds : (ws : List ℕ) (n i : ℕ) → length ws ≡ i + suc n
+    → Says (i + n) (bad_long_in ws n i) (first_bad_long i (drop i ws))
 unfolding bad_long_in
 finds ws zero i l =
     let one : drop i ws ≡ get_or ws i 0 ∷ [] =
@@ -48,7 +49,8 @@ finds ws (suc n) i l =
     drop-cons ws i 0 (omega arith) ∙ ap (λ (vs : List ℕ). get_or ws i 0 ∷ vs) more in
     let later = subst (λ (vs : List ℕ). Says (suc i + n) (bad_long_in ws n (suc i)) (first_bad_long (suc i) vs)) more
     (finds ws n (suc i) (omega arith)) in
-    subst (λ (vs : List ℕ). Says (i + suc n) (cond (is_bad_long ws i) i (bad_long_in ws n (suc i))) (first_bad_long i vs))
+    subst (λ (vs : List ℕ). Says (i + suc n) (cond (is_bad_long ws i) i (bad_long_in ws n (suc i)))
+    (first_bad_long i vs))
     (sym two)
     (subst (λ (b : Bool). Says (i + suc n) (cond (is_bad_long ws i) i (bad_long_in ws n (suc i))) (by b))
     (bad-long-is ws i (omega arith))

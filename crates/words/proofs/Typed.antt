@@ -14,7 +14,8 @@ use Rattle.model.specs.declared.Windows.{Windows}
 use Rattle.model.specs.planning.Windows.{no_windows}
 use Rattle.model.specs.planning.Job.{Job, JobAxis, set_from, set_bits, set_axes, job_of, unset_axis}
 use Rattle.model.specs.planning.Words.{Reading, got, wrong, ◌>>=◌, give, kind, payload, field, axis, axes, ending}
-use Rattle.model.specs.planning.Words.{first_bad_long, read_job, after_mask, good_mask, Decoded, no_mask, bad_word, bad_long}
+use Rattle.model.specs.planning.Words.{first_bad_long, read_job, after_mask, good_mask, Decoded, no_mask, bad_word}
+use Rattle.model.specs.planning.Words.{bad_long}
 use Rattle.model.specs.planning.Words.{job, spelled, decided, decode}
 use Rattle.words.specs.declared.DecodedJob.{DecodedJob}
 use Rattle.words.specs.Decoding.{unset_axes, placed, decoded_job, Decodes}
@@ -170,7 +171,12 @@ sound (w ∷ ws) = go (eqb (kind w) 1) (good_mask (payload w)) refl
 
     by-reading : good_mask (payload w) ≡ true → (r : Reading Job) → JobOf (payload w) r → Sound (decided (w ∷ ws) r)
     by-reading e (got j i rest) (p, q, r) =
-        by-long (first_bad_long 0 (w ∷ ws)) j (ap (λ (m : ℕ). good_mask m) p ∙ e, q ∙ ap (λ (m : ℕ). set_bits m) (sym p), r)
+        by-long (first_bad_long 0 (w ∷ ws)) j (
+          ap (λ (m : ℕ). good_mask m) p ∙ e,
+          q
+              ∙ ap (λ (m : ℕ). set_bits m) (sym p),
+          r,
+        )
     by-reading e (wrong p) h = tt
 
     go : (a b : Bool) → good_mask (payload w) ≡ b

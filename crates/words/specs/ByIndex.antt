@@ -1,6 +1,7 @@
 -- How the code reads words: by index into the whole list, where the definitions of
 -- `Words` take one word after another.
-use Rattle.std.specs.Prelude.{ℕ, zero, suc, ◌+◌, ◌/◌, ◌%◌, Bool, true, false, not, cond, List, ℤ, get_or, length, drop, set, eqb, ltb}
+use Rattle.std.specs.Prelude.{ℕ, zero, suc, ◌+◌, ◌/◌, ◌%◌, Bool, true, false, not, cond, List, ℤ, get_or, length}
+use Rattle.std.specs.Prelude.{drop, set, eqb, ltb}
 use Rattle.model.specs.declared.Weight.TheVariants.{Given}
 use Rattle.model.specs.declared.Axis.{Axis}
 use Rattle.model.specs.declared.Checked.{Checked}

@@ -18,7 +18,8 @@ loop-i-preserved c =
     let t : c.if-bits-eq1.given ≡ set l.given l.i (hand_at l.given l.i l.bits) = elim c.if-bits-eq1.branch [
       | then-bits-eq1 w ↦
           w.given-is
-          ∙ ap put (w.with_weight-with_weight.ensures ∙ hand-named l.given l.i l.bits (omega (arith, l.invariant.long)) w.if-bits-eq1.true)
+          ∙ ap put (w.with_weight-with_weight.ensures
+          ∙ hand-named l.given l.i l.bits (omega (arith, l.invariant.long)) w.if-bits-eq1.true)
       | else-bits-eq1 w ↦
           w.given-is
           ∙ sym (set-get_or l.given l.i unset_axis)

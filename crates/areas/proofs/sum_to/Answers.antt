@@ -26,13 +26,15 @@ module _ (r : Regions) (k : ℕ) (p : Parts) (e : p ≡ parts_to r k) (h : k < r
 pub overflow_mul-result : goal.overflow_mul-result
 overflow_mul-result c =
     let p = c.parts_to-parts.result in
-    let l = level-is c.args.r c.args.k p c.parts_to-parts.ensures c.requires.k_lt_ticks c.requires.regions_ranged.ticks in
+    let l = level-is c.args.r c.args.k p c.parts_to-parts.ensures c.requires.k_lt_ticks
+    c.requires.regions_ranged.ticks in
     sfits (search exact depth 9) tt
 
 pub overflow_add-result : goal.overflow_add-result
 overflow_add-result c =
     let p = c.parts_to-parts.result in
-    let l = level-is c.args.r c.args.k p c.parts_to-parts.ensures c.requires.k_lt_ticks c.requires.regions_ranged.ticks in
+    let l = level-is c.args.r c.args.k p c.parts_to-parts.ensures c.requires.k_lt_ticks
+    c.requires.regions_ranged.ticks in
     let m = raised_is c.args.r c.args.k p c.parts_to-parts.ensures c.requires.k_lt_ticks c.requires.regions_ranged.ticks
     c.at_most-raised.result c.at_most-raised.ensures in
     sfits (search exact depth 20) tt
@@ -40,7 +42,8 @@ overflow_add-result c =
 pub overflow_add-result-2 : goal.overflow_add-result-2
 overflow_add-result-2 c =
     let p = c.parts_to-parts.result in
-    let l = level-is c.args.r c.args.k p c.parts_to-parts.ensures c.requires.k_lt_ticks c.requires.regions_ranged.ticks in
+    let l = level-is c.args.r c.args.k p c.parts_to-parts.ensures c.requires.k_lt_ticks
+    c.requires.regions_ranged.ticks in
     let m = raised_is c.args.r c.args.k p c.parts_to-parts.ensures c.requires.k_lt_ticks c.requires.regions_ranged.ticks
     c.at_most-raised.result c.at_most-raised.ensures in
     sfits (search exact depth 20) tt
@@ -48,7 +51,8 @@ overflow_add-result-2 c =
 pub overflow_add-result-3 : goal.overflow_add-result-3
 overflow_add-result-3 c =
     let p = c.parts_to-parts.result in
-    let l = level-is c.args.r c.args.k p c.parts_to-parts.ensures c.requires.k_lt_ticks c.requires.regions_ranged.ticks in
+    let l = level-is c.args.r c.args.k p c.parts_to-parts.ensures c.requires.k_lt_ticks
+    c.requires.regions_ranged.ticks in
     let m = raised_is c.args.r c.args.k p c.parts_to-parts.ensures c.requires.k_lt_ticks c.requires.regions_ranged.ticks
     c.at_most-raised.result c.at_most-raised.ensures in
     sfits (search exact depth 20) tt

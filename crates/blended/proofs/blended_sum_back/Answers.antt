@@ -17,8 +17,14 @@ overflow_mul-result c =
     let p = c.args.p in
     let r = c.requires.plan_ranges in
     let w = cast-small (2 ^ 16) p.first_weight (omega (arith, weights-small p r)) tt in
-    let x : Is (2 ^ 58) (to_z w64 p.first_weight *ℤ to_z w64 (of_z w64 c.sum_back-ahead.result)) (pos p.first_weight *ℤ sum_to (velocity_back p c.args.d) c.args.k) =
-    record { is = exactly (search exact depth 20) tt; within = weighed-within p r c.args.k c.requires.k_bound p.first_weight c.args.d (weights-light p r c.args.k c.requires.k_bound).0 } in
+    let x : Is (2 ^ 58) (to_z w64 p.first_weight *ℤ to_z w64 (of_z w64 c.sum_back-ahead.result))
+    (pos p.first_weight *ℤ sum_to (velocity_back p c.args.d) c.args.k) =
+    record {
+      is = exactly (search exact depth 20) tt;
+      within =
+          weighed-within p r c.args.k c.requires.k_bound p.first_weight c.args.d
+          (weights-light p r c.args.k c.requires.k_bound).0;
+    } in
     sfits (search exact depth 9) tt
 
 pub overflow_mul-result-2 : goal.overflow_mul-result-2
@@ -26,8 +32,14 @@ overflow_mul-result-2 c =
     let p = c.args.p in
     let r = c.requires.plan_ranges in
     let w = cast-small (2 ^ 16) p.second_weight (omega (arith, weights-small p r)) tt in
-    let y : Is (2 ^ 58) (to_z w64 p.second_weight *ℤ to_z w64 (of_z w64 c.sum_back-behind.result)) (pos p.second_weight *ℤ sum_to (velocity_back p (c.args.d + p.half_period)) c.args.k) =
-    record { is = exactly (search exact depth 20) tt; within = weighed-within p r c.args.k c.requires.k_bound p.second_weight (c.args.d + p.half_period) (weights-light p r c.args.k c.requires.k_bound).1 } in
+    let y : Is (2 ^ 58) (to_z w64 p.second_weight *ℤ to_z w64 (of_z w64 c.sum_back-behind.result))
+    (pos p.second_weight *ℤ sum_to (velocity_back p (c.args.d + p.half_period)) c.args.k) =
+    record {
+      is = exactly (search exact depth 20) tt;
+      within =
+          weighed-within p r c.args.k c.requires.k_bound p.second_weight (c.args.d + p.half_period)
+          (weights-light p r c.args.k c.requires.k_bound).1;
+    } in
     sfits (search exact depth 9) tt
 
 pub overflow_add-result : goal.overflow_add-result
@@ -36,10 +48,22 @@ overflow_add-result c =
     let r = c.requires.plan_ranges in
     let v = cast-small (2 ^ 16) p.first_weight (omega (arith, weights-small p r)) tt in
     let w = cast-small (2 ^ 16) p.second_weight (omega (arith, weights-small p r)) tt in
-    let x : Is (2 ^ 58) (to_z w64 p.first_weight *ℤ to_z w64 (of_z w64 c.sum_back-ahead.result)) (pos p.first_weight *ℤ sum_to (velocity_back p c.args.d) c.args.k) =
-    record { is = exactly (search exact depth 20) tt; within = weighed-within p r c.args.k c.requires.k_bound p.first_weight c.args.d (weights-light p r c.args.k c.requires.k_bound).0 } in
-    let y : Is (2 ^ 58) (to_z w64 p.second_weight *ℤ to_z w64 (of_z w64 c.sum_back-behind.result)) (pos p.second_weight *ℤ sum_to (velocity_back p (c.args.d + p.half_period)) c.args.k) =
-    record { is = exactly (search exact depth 20) tt; within = weighed-within p r c.args.k c.requires.k_bound p.second_weight (c.args.d + p.half_period) (weights-light p r c.args.k c.requires.k_bound).1 } in
+    let x : Is (2 ^ 58) (to_z w64 p.first_weight *ℤ to_z w64 (of_z w64 c.sum_back-ahead.result))
+    (pos p.first_weight *ℤ sum_to (velocity_back p c.args.d) c.args.k) =
+    record {
+      is = exactly (search exact depth 20) tt;
+      within =
+          weighed-within p r c.args.k c.requires.k_bound p.first_weight c.args.d
+          (weights-light p r c.args.k c.requires.k_bound).0;
+    } in
+    let y : Is (2 ^ 58) (to_z w64 p.second_weight *ℤ to_z w64 (of_z w64 c.sum_back-behind.result))
+    (pos p.second_weight *ℤ sum_to (velocity_back p (c.args.d + p.half_period)) c.args.k) =
+    record {
+      is = exactly (search exact depth 20) tt;
+      within =
+          weighed-within p r c.args.k c.requires.k_bound p.second_weight (c.args.d + p.half_period)
+          (weights-light p r c.args.k c.requires.k_bound).1;
+    } in
     sfits (search exact depth 9) tt
 
 pub returns : goal.returns
@@ -48,8 +72,20 @@ returns c =
     let r = c.requires.plan_ranges in
     let v = cast-small (2 ^ 16) p.first_weight (omega (arith, weights-small p r)) tt in
     let w = cast-small (2 ^ 16) p.second_weight (omega (arith, weights-small p r)) tt in
-    let x : Is (2 ^ 58) (to_z w64 p.first_weight *ℤ to_z w64 (of_z w64 c.sum_back-ahead.result)) (pos p.first_weight *ℤ sum_to (velocity_back p c.args.d) c.args.k) =
-    record { is = exactly (search exact depth 20) tt; within = weighed-within p r c.args.k c.requires.k_bound p.first_weight c.args.d (weights-light p r c.args.k c.requires.k_bound).0 } in
-    let y : Is (2 ^ 58) (to_z w64 p.second_weight *ℤ to_z w64 (of_z w64 c.sum_back-behind.result)) (pos p.second_weight *ℤ sum_to (velocity_back p (c.args.d + p.half_period)) c.args.k) =
-    record { is = exactly (search exact depth 20) tt; within = weighed-within p r c.args.k c.requires.k_bound p.second_weight (c.args.d + p.half_period) (weights-light p r c.args.k c.requires.k_bound).1 } in
+    let x : Is (2 ^ 58) (to_z w64 p.first_weight *ℤ to_z w64 (of_z w64 c.sum_back-ahead.result))
+    (pos p.first_weight *ℤ sum_to (velocity_back p c.args.d) c.args.k) =
+    record {
+      is = exactly (search exact depth 20) tt;
+      within =
+          weighed-within p r c.args.k c.requires.k_bound p.first_weight c.args.d
+          (weights-light p r c.args.k c.requires.k_bound).0;
+    } in
+    let y : Is (2 ^ 58) (to_z w64 p.second_weight *ℤ to_z w64 (of_z w64 c.sum_back-behind.result))
+    (pos p.second_weight *ℤ sum_to (velocity_back p (c.args.d + p.half_period)) c.args.k) =
+    record {
+      is = exactly (search exact depth 20) tt;
+      within =
+          weighed-within p r c.args.k c.requires.k_bound p.second_weight (c.args.d + p.half_period)
+          (weights-light p r c.args.k c.requires.k_bound).1;
+    } in
     blend-sum-is p r c.args.k c.requires.k_bound c.args.d _ _ _ (exactly (search exact depth 9) tt) refl refl

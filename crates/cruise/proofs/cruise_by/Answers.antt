@@ -20,7 +20,8 @@ remainder-raised-requires-clause-within_2 c =
     exactly (search computed depth 9) tt ∙ ap (required g) d in
     let cruise-is : to_z w64 (of_z w64 c.climb-c.result) ≡ cruise g (required g c.args.displacement) =
     exactly (search computed depth 9) tt ∙ ap (cruise g) sum_is in
-    let C = feasible-cruise g c.args.displacement (true-T c.requires.displacement_value) c.requires.ranged.speed_limit in
+    let C = feasible-cruise g c.args.displacement
+    (true-T c.requires.displacement_value) c.requires.ranged.speed_limit in
     subst (Within c.args.p.speed_limit) (sym cruise-is)
     (record { within = (nat_abs-iff _ _).1 (C.above, C.below) })
 
@@ -32,6 +33,7 @@ remainder-raised-requires-clause-c_bound c =
     exactly (search computed depth 9) tt ∙ ap (required g) d in
     let cruise-is : to_z w64 (of_z w64 c.climb-c.result) ≡ cruise g (required g c.args.displacement) =
     exactly (search computed depth 9) tt ∙ ap (cruise g) sum_is in
-    let C = feasible-cruise g c.args.displacement (true-T c.requires.displacement_value) c.requires.ranged.speed_limit in
+    let C = feasible-cruise g c.args.displacement
+    (true-T c.requires.displacement_value) c.requires.ranged.speed_limit in
     subst (λ (z : ℤ). sum_at g z ≤ℤ to_z w64 (of_z w64 c.required-sum.result)) (sym cruise-is)
     (subst (λ (z : ℤ). sum_at g (cruise g (required g c.args.displacement)) ≤ℤ z) (sym sum_is) C.fits)

@@ -8,7 +8,8 @@ use Rattle.model.specs.planning.Leg.{required, sum_is_whole}
 use Rattle.profile.specs.Profiles.{leg_of, ends_allowed, sum_between}
 use Rattle.profile.proofs.FeasibleParts.{feasible-parts}
 use Rattle.cruise.proofs.feasible_by.Goals as goal
-use Rattle.cruise.proofs.feasible_by.Goals.{After-ends_allowed, After-required, After-sum_is_whole, Start, Then-ends_allowed}
+use Rattle.cruise.proofs.feasible_by.Goals.{After-ends_allowed, After-required, After-sum_is_whole, Start}
+use Rattle.cruise.proofs.feasible_by.Goals.{Then-ends_allowed}
 
 -- the first test
 abbrev start : After-ends_allowed → Start

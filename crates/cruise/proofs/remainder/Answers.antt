@@ -34,7 +34,8 @@ overflow_sub-result c = sfits (search computed depth 20) tt
 pub overflow_cast-result : goal.overflow_cast-result
 overflow_cast-result c =
     let a = c.before in
-    cast-up _ (overflow_sub-result c) (subst (λ (z : ℤ). pos 0 ≤ℤ z) (sym (left_is c)) (sub-nonneg _ _ a.requires.c_bound))
+    cast-up _ (overflow_sub-result c)
+    (subst (λ (z : ℤ). pos 0 ≤ℤ z) (sym (left_is c)) (sub-nonneg _ _ a.requires.c_bound))
 
 pub returns : goal.returns
 returns c = ap nat_abs (back-id (overflow_sub-result c) ∙ left_is c)

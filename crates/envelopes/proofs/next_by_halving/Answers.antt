@@ -25,7 +25,8 @@ test p s d = between_at (leg_of p) (code s) (code d)
 lasting : (p : Profile) (s d : ℤ) (last : ℕ) → code s ≡ s → code d ≡ d → Lasting (between_at (leg_of p) s d) p.ticks
     → LastingTo (test p s d) p.ticks last
 lasting p s d last x y on =
-    subst₂ (λ (x y : ℤ). LastingTo (between_at (leg_of p) x y) p.ticks last) (sym x) (sym y) (λ j k h l _ e. on j k h l e)
+    subst₂ (λ (x y : ℤ). LastingTo (between_at (leg_of p) x y) p.ticks last) (sym x) (sym y)
+    (λ j k h l _ e. on j k h l e)
 
 pub loop-width-init : goal.loop-width-init
 loop-width-init c =

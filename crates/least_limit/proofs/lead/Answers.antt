@@ -55,7 +55,8 @@ returns c =
     let reached = upper_sum a.t a.limit a.value in
     let is = sum_is a.t a.limit a.value c.profile_with-p.result c.profile_with-p.ensures in
     let left = a.t.sum -ℤ reached in
-    let left_is : to_z w64 (of_z w64 (to_z w64 (of_z w64 a.t.sum) -ℤ to_z w64 (of_z w64 c.upper_area-area.result.sum))) ≡ left =
+    let left_is : to_z w64
+    (of_z w64 (to_z w64 (of_z w64 a.t.sum) -ℤ to_z w64 (of_z w64 c.upper_area-area.result.sum))) ≡ left =
     exactly (search computed depth 20) tt ∙ ap (λ (z : ℤ). a.t.sum -ℤ z) is in
     let falls : reached <ℤ a.t.sum =
     subst (λ (z : ℤ). z <ℤ a.t.sum) is (le_left c.if-sum-reached.false (search computed depth 9) tt) in

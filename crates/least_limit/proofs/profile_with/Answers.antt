@@ -21,10 +21,12 @@ pub returns-in-Acceleration : goal.returns-in-Acceleration
 returns-in-Acceleration c =
     let a = c.args in
     let q = c.requires in
-    made a.limit Acceleration a.t a.value c.profile_at.result q.task_ranged q.allowed c.in-Acceleration.is c.profile_at.ensures
+    made a.limit Acceleration a.t a.value c.profile_at.result q.task_ranged q.allowed c.in-Acceleration.is
+    c.profile_at.ensures
 
 pub returns-in-Speed : goal.returns-in-Speed
 returns-in-Speed c =
     let a = c.args in
     let q = c.requires in
-    made a.limit Speed a.t a.value c.profile_at-in-Speed.result q.task_ranged q.allowed c.in-Speed.is c.profile_at-in-Speed.ensures
+    made a.limit Speed a.t a.value c.profile_at-in-Speed.result q.task_ranged q.allowed c.in-Speed.is
+    c.profile_at-in-Speed.ensures

@@ -1,6 +1,7 @@
 -- The converter (docs/METHOD.md, 8.3): from the words of an old job, whose fixed targets may fly,
 -- to words of a job whose fixed targets are all at rest.
-use Rattle.std.specs.Prelude.{ℕ, zero, suc, Bool, true, false, not, ◌&&◌, List, [], ◌∷◌, ◌++◌, ℤ, eqb, ltb, length, drop}
+use Rattle.std.specs.Prelude.{ℕ, zero, suc, Bool, true, false, not, ◌&&◌, List, [], ◌∷◌, ◌++◌, ℤ, eqb, ltb, length}
+use Rattle.std.specs.Prelude.{drop}
 use Rattle.model.specs.planning.Job.{Job}
 use Rattle.model.specs.planning.Words.{kind, payload, word}
 use Rattle.model.specs.planning.Refusals.{limits_refused, damping_refused, blend_refused, sway_refused, values_refused}

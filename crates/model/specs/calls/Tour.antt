@@ -144,7 +144,10 @@ dwells_checked t count stops lent =
 -- long
 abbrev pub stops_checked : TourSettings → ℕ → List Stop → List ℕ → TourOutcome
 stops_checked t count stops lent =
-    elim (leb count most_stops) [ true ↦ dwells_checked t count stops lent | false ↦ refuse_tour 11 most_stops 0 0 lent ]
+    elim (leb count most_stops) [
+      | true ↦ dwells_checked t count stops lent
+      | false ↦ refuse_tour 11 most_stops 0 0 lent
+    ]
 
 -- no stops: total 0, and nothing else is read, so that the mask of the answer
 -- is 0 and not the settings' own

@@ -62,7 +62,8 @@ sway_cases =
     ∷ case (words (words_pole 0)) 18 [] (refused 15 0 0 0)
     ∷ case (one_axis 0 (pole 1 100 (HalfPeriod 0) (fixed 1 11))) 18 [] (refused 15 0 0 0)
     ∷ case (one_axis 0 (pole 1 100 (HalfPeriod 257) (fixed 1 0))) 18 [] (refused 15 0 0 0)
-    ∷ case (two_axes 0 (pole 1 100 (HalfPeriod 0) (fixed 1 0)) (pole 257 100 Absent (fixed 1 0))) 36 [] (refused 5 1 0 0)
+    ∷ case (two_axes 0 (pole 1 100 (HalfPeriod 0) (fixed 1 0)) (pole 257 100 Absent (fixed 1 0))) 36 []
+    (refused 5 1 0 0)
     -- 16: an accelerating target, also where h is 0; after 6
     ∷ case (one_axis 0 (pole 0 128 (HalfPeriod 1) (departing 1))) 18 [] (refused 16 0 0 0)
     ∷ case (two_axes 0 (pole 1 100 (HalfPeriod 1) (departing 1)) (pole 1 100 Absent (fixed 1 11))) 36 []

@@ -22,7 +22,8 @@ pub record Job : Type 0 where
 -- the numbers of the set bits of a mask, lowest first: of n bits, the lowest being number i
 abbrev pub set_from : ℕ → ℕ → ℕ → List ℕ
 set_from zero i m = []
-set_from (suc n) i m = elim (eqb (m % 2) 1) [ true ↦ i ∷ set_from n (suc i) (m / 2) | false ↦ set_from n (suc i) (m / 2) ]
+set_from (suc n) i m =
+    elim (eqb (m % 2) 1) [ true ↦ i ∷ set_from n (suc i) (m / 2) | false ↦ set_from n (suc i) (m / 2) ]
 
 abbrev pub set_bits : ℕ → List ℕ
 set_bits m = set_from 6 0 m

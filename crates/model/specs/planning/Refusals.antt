@@ -1,6 +1,7 @@
 -- The refusals that one axis meets by itself (docs/METHOD.md, section 7, numbers 4 to 6, and 12,
 -- 15, 16 and 17), in checking order, and what an axis has that none of them refuses.
-use Rattle.std.specs.Prelude.{ℕ, ◌≤◌, ◌≡◌, Bool, true, false, not, ◌&&◌, List, [], ◌∷◌, ℤ, pos, negsuc, nat_abs, eqb, leb}
+use Rattle.std.specs.Prelude.{ℕ, ◌≤◌, ◌≡◌, Bool, true, false, not, ◌&&◌, List, [], ◌∷◌, ℤ, pos, negsuc, nat_abs, eqb}
+use Rattle.std.specs.Prelude.{leb}
 use Rattle.std.specs.Int.Signed.{le_z}
 use Rattle.model.specs.declared.Axis.{Axis}
 use Rattle.model.specs.declared.RestPoint.{RestPoint}

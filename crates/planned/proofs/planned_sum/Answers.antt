@@ -14,7 +14,8 @@ pub returns-then-tick-ticks : goal.returns-then-tick-ticks
 returns-then-tick-ticks c =
     let p = c.args.p in
     let k = c.args.k in
-    let e : to_z w64 (of_z w64 c.sum_to.result) ≡ sum_to (velocity_in p.regions) k = exactly (search exact depth 9) tt in
+    let e : to_z w64 (of_z w64 c.sum_to.result) ≡ sum_to (velocity_in p.regions) k =
+    exactly (search exact depth 9) tt in
     planned-sum-is p c.requires.plan_ranges k c.requires.k_bound _ (e ∙ sum-before p k c.if-tick-ticks.true)
 
 pub returns : goal.returns

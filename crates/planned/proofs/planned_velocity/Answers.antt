@@ -12,7 +12,8 @@ use Rattle.planned.proofs.planned_velocity.Goals as goal
 pub returns-then-tick-ticks : goal.returns-then-tick-ticks
 returns-then-tick-ticks c =
     let a = c.args in
-    let e : to_z w64 (of_z w64 c.velocity_in.result) ≡ velocity_in a.p.regions a.k = exactly (search exact depth 9) tt in
+    let e : to_z w64 (of_z w64 c.velocity_in.result) ≡ velocity_in a.p.regions a.k =
+    exactly (search exact depth 9) tt in
     planned-is a.p c.requires.plan_ranges a.k _ (omega arith) (e ∙ planned-before a.p a.k c.if-tick-ticks.true)
 
 -- the ticks since the landing are at most 513

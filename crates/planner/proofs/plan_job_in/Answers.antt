@@ -32,7 +32,8 @@ plan_checked-requires-clause-all_passed c =
     -- worked out, or given already
     let given : c.if-any_measured.given ≡ named_with_weight t.mask t.axes = elim c.if-any_measured.branch [
       | then-any_measured w ↦ w.given-is ∙ w.with_weight-weighed.ensures
-      | else-any_measured w ↦ w.given-is ∙ given-are 0 t.mask t.axes (sym c.any_measured.ensures ∙ w.if-any_measured.false)
+      | else-any_measured w ↦ w.given-is
+          ∙ given-are 0 t.mask t.axes (sym c.any_measured.ensures ∙ w.if-any_measured.false)
     ] in
     let q = passed planning_rules planning-numbered (typed t) k.result k.ensures c.in_default.is in
     given-passed t.mask t.axes c.if-any_measured.given given (clear-passed (set_axes 0 t.mask t.axes) q.clear)
@@ -47,7 +48,8 @@ returns c =
     let exit = w.new.table in
     let given : c.if-any_measured.given ≡ named_with_weight t.mask t.axes = elim c.if-any_measured.branch [
       | then-any_measured w ↦ w.given-is ∙ w.with_weight-weighed.ensures
-      | else-any_measured w ↦ w.given-is ∙ given-are 0 t.mask t.axes (sym c.any_measured.ensures ∙ w.if-any_measured.false)
+      | else-any_measured w ↦ w.given-is
+          ∙ given-are 0 t.mask t.axes (sym c.any_measured.ensures ∙ w.if-any_measured.false)
     ] in
     let q = passed planning_rules planning-numbered (typed t) k.result k.ensures c.in_default.is in
     promise-in a.wanted (typed t) lent w.result exit

@@ -21,7 +21,8 @@ raises_of-requires-clause-passed c =
 -- what a turn leaves, whether the axis misses the arrival or not
 pub record Turned (asked bits number : ℕ) (axes : List Axis) (before after : List AxisRaises) : Type 0 where
   pub long : length after ≡ length before
-  pub is : raises_from asked (from number bits axes) before ≡ raises_from asked (from (number + 1) (bits / 2) axes) after
+  pub is : raises_from asked (from number bits axes) before
+      ≡ raises_from asked (from (number + 1) (bits / 2) axes) after
 
 pub loop-number-preserved : goal.loop-number-preserved
 loop-number-preserved c =

@@ -14,7 +14,8 @@ invariant-loop-number l =
       six : length l.fn.axes ≡ 6;
       long : length l.raises ≡ 6;
       passed : AllPassed (from l.number l.bits l.fn.axes);
-      is : raises_from l.fn.asked (from l.number l.bits l.fn.axes) l.raises ≡ raises_from l.fn.asked (set_axes 0 l.fn.mask l.fn.axes) none_raised;
+      is : raises_from l.fn.asked (from l.number l.bits l.fn.axes) l.raises
+          ≡ raises_from l.fn.asked (set_axes 0 l.fn.mask l.fn.axes) none_raised;
     }
 
 abbrev pub decreases-loop-number : goal.decreases-loop-number

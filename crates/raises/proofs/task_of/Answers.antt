@@ -6,7 +6,8 @@ use lib.Signed.{◌≤ℤ◌, ◌<ℤ◌}
 use mir.Syntax.{w64}
 use mir.Val.{to_z, of_z}
 use Rattle.whole.specs.Ranges.{Is}
-use Rattle.whole.proofs.Bounds.{sfits, within, exactly, exact, computed, cast-small, lt-taken, lt-left, add_holds, mul_holds}
+use Rattle.whole.proofs.Bounds.{sfits, within, exactly, exact, computed, cast-small, lt-taken, lt-left, add_holds}
+use Rattle.whole.proofs.Bounds.{mul_holds}
 use Rattle.model.specs.declared.Axis.{Axis}
 use Rattle.model.specs.planning.Quantities.{delay}
 use Rattle.model.specs.planning.Refusals.{Passed, last_tick}
@@ -71,7 +72,8 @@ fastest_of-fastest-requires-clause-delay_bound c =
 
 pub overflow_mul-line : goal.overflow_mul-line
 overflow_mul-line c =
-    let t = ticks-is c.args.x c.args.n c.landing_tick-ticks.result c.requires.n_le_last_tick c.landing_tick-ticks.ensures in
+    let t = ticks-is c.args.x c.args.n c.landing_tick-ticks.result c.requires.n_le_last_tick
+    c.landing_tick-ticks.ensures in
     sfits (search computed depth 20) tt
 
 pub overflow_sub-end : goal.overflow_sub-end

@@ -13,7 +13,8 @@ returns c =
     let s : to_z w64 (of_z w64 a.start) ≡ a.start = exactly (search computed depth 9) tt in
     let e : to_z w64 (of_z w64 a.end) ≡ a.end = exactly (search computed depth 9) tt in
     let sum : to_z w64
-    (of_z w64 (shr_z (to_z w64 (of_z w64 (to_z w64 (of_z w64 (to_z w64 (of_z w64 a.travel) -ℤ to_z w64 (of_z w64 a.start)))
+    (of_z w64 (shr_z (to_z w64
+    (of_z w64 (to_z w64 (of_z w64 (to_z w64 (of_z w64 a.travel) -ℤ to_z w64 (of_z w64 a.start)))
     -ℤ to_z w64 (of_z w64 a.end)))) 2)) ≡ shr_z (a.travel -ℤ a.start -ℤ a.end) 2 =
     exactly (search computed depth 30) tt in
     λ i.

@@ -99,7 +99,8 @@ next_feasible-ticks-requires c =
           p.ticks)
           (sym f.ensures.is)
           (subst₂ (λ (s d : ℤ). Lasting (between_at (leg x n) s d) (n - delay x)) (sym sum-is) (sym change-is)
-          (lasts x c.requires.passed c.requires.target_value n (omega (arith, c.delay_of-delay.ensures, c.first_after-first.ensures))));
+          (lasts x c.requires.passed c.requires.target_value n
+          (omega (arith, c.delay_of-delay.ensures, c.first_after-first.ensures))));
     }
 
 pub overflow_cast-result : goal.overflow_cast-result

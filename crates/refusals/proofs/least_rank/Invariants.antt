@@ -13,7 +13,8 @@ invariant-loop-i l =
       low : l.i ≤ 6;
       six : length l.fn.axes ≡ 6;
       few : l.least ≤ length (tests_for l.fn.resting);
-      is : min l.least (least_on l.fn.resting l.fn.axes l.i l.bits) ≡ least_rank (tests_for l.fn.resting) (set_axes 0 l.fn.mask l.fn.axes);
+      is : min l.least (least_on l.fn.resting l.fn.axes l.i l.bits)
+          ≡ least_rank (tests_for l.fn.resting) (set_axes 0 l.fn.mask l.fn.axes);
     }
 
 abbrev pub decreases-loop-i : goal.decreases-loop-i

@@ -16,7 +16,9 @@ loop-i-preserved c =
       six = l.invariant.six;
       is = elim c.if-bits-eq1.branch [
         | then-bits-eq1+else-has_rank w ↦
-            sym (lowest-later a.resting a.axes a.rank l.i l.bits within w.if-bits-eq1.true (sym w.has_rank.ensures ∙ w.if-has_rank.false)) ∙ l.invariant.is
-        | else-bits-eq1 w ↦ sym (lowest-unnamed a.resting a.axes a.rank l.i l.bits within w.if-bits-eq1.false) ∙ l.invariant.is
+            sym (lowest-later a.resting a.axes a.rank l.i l.bits within w.if-bits-eq1.true (sym w.has_rank.ensures
+            ∙ w.if-has_rank.false)) ∙ l.invariant.is
+        | else-bits-eq1 w ↦ sym (lowest-unnamed a.resting a.axes a.rank l.i l.bits within w.if-bits-eq1.false)
+            ∙ l.invariant.is
       ];
     }

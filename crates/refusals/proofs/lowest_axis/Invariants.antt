@@ -12,7 +12,8 @@ invariant-loop-i l =
     record {
       low : l.i ≤ 6;
       six : length l.fn.axes ≡ 6;
-      is : lowest_on l.fn.resting l.fn.axes l.fn.rank l.i l.bits ≡ lowest_axis (tests_for l.fn.resting) l.fn.rank (set_axes 0 l.fn.mask l.fn.axes);
+      is : lowest_on l.fn.resting l.fn.axes l.fn.rank l.i l.bits
+          ≡ lowest_axis (tests_for l.fn.resting) l.fn.rank (set_axes 0 l.fn.mask l.fn.axes);
     }
 
 abbrev pub decreases-loop-i : goal.decreases-loop-i

@@ -21,7 +21,8 @@ returns-then-ticks-rise c =
     let v_is : to_z w64 (of_z w64 v) ≡ v = exactly (search computed depth 9) tt in
     let rise-is = c.ramp_ticks-rise.ensures.0 ∙ ap₂ (ramp_ticks c.args.p.acceleration_limit) s_is v_is in
     let fall-is = c.ramp_ticks-fall.ensures.0 ∙ ap₂ (ramp_ticks c.args.p.acceleration_limit) e_is v_is in
-    let meeting : c.meeting_tick-meeting.result ≡ meeting_tick g v = c.meeting_tick-meeting.ensures.0 ∙ ap (meeting_tick g) v_is in
+    let meeting : c.meeting_tick-meeting.result ≡ meeting_tick g v = c.meeting_tick-meeting.ensures.0
+    ∙ ap (meeting_tick g) v_is in
     let close : g.ticks ≤ both_ramps g v = omega (arith, c.if-ticks-rise.true) in
     let rises = meeting ∙ rise-meets g joined some v close in
     let falls = ap (λ (n : ℕ). g.ticks - n) meeting ∙ fall-meets g joined some v close in

@@ -27,21 +27,36 @@ pub first_state-requires-clause-plan_ranges : goal.first_state-requires-clause-p
 first_state-requires-clause-plan_ranges c =
     let a = c.args in
     let f : Front a.plan a.first a.rows a.table.now =
-    record { can = c.requires.fillable; six = omega arith; inside = c.requires.rows_bound; fits = c.requires.rows_in_bounds } in
+    record {
+      can = c.requires.fillable;
+      six = omega arith;
+      inside = c.requires.rows_bound;
+      fits = c.requires.rows_in_bounds;
+    } in
     of-each f PlanRanges c.loop-set.set f.can.ranged (omega arith)
 
 pub first_state-requires-clause-n_bound : goal.first_state-requires-clause-n_bound
 first_state-requires-clause-n_bound c =
     let a = c.args in
     let f : Front a.plan a.first a.rows a.table.now =
-    record { can = c.requires.fillable; six = omega arith; inside = c.requires.rows_bound; fits = c.requires.rows_in_bounds } in
+    record {
+      can = c.requires.fillable;
+      six = omega arith;
+      inside = c.requires.rows_bound;
+      fits = c.requires.rows_in_bounds;
+    } in
     of-each f (λ p. a.plan.arrival ≤ arrival_of p) c.loop-set.set f.can.arrive (omega arith)
 
 pub first_state-requires-clause-lands_at : goal.first_state-requires-clause-lands_at
 first_state-requires-clause-lands_at c =
     let a = c.args in
     let f : Front a.plan a.first a.rows a.table.now =
-    record { can = c.requires.fillable; six = omega arith; inside = c.requires.rows_bound; fits = c.requires.rows_in_bounds } in
+    record {
+      can = c.requires.fillable;
+      six = omega arith;
+      inside = c.requires.rows_bound;
+      fits = c.requires.rows_in_bounds;
+    } in
     of-each f (LandsAt a.plan.arrival) c.loop-set.set f.can.land (omega arith)
 
 pub loop-place-init : goal.loop-place-init
@@ -71,7 +86,12 @@ loop-i-init c =
     let a = c.args in
     let s = a.plan in
     let f : Front s a.first a.rows a.table.now =
-    record { can = c.requires.fillable; six = omega arith; inside = c.requires.rows_bound; fits = c.requires.rows_in_bounds } in
+    record {
+      can = c.requires.fillable;
+      six = omega arith;
+      inside = c.requires.rows_bound;
+      fits = c.requires.rows_in_bounds;
+    } in
     let h = c.loop-place in
     let k = c.row_at-k.result in
     let o = a.order in
@@ -96,7 +116,12 @@ pub segment_at-requires-clause-plan_ranges : goal.segment_at-requires-clause-pla
 segment_at-requires-clause-plan_ranges c =
     let a = c.args in
     let f : Front a.plan a.first a.rows a.table.now =
-    record { can = c.requires.fillable; six = omega arith; inside = c.requires.rows_bound; fits = c.requires.rows_in_bounds } in
+    record {
+      can = c.requires.fillable;
+      six = omega arith;
+      inside = c.requires.rows_bound;
+      fits = c.requires.rows_in_bounds;
+    } in
     of-each f PlanRanges c.loop-i.i f.can.ranged (omega arith)
 
 -- the row's tick is one of the axis's ticks
@@ -104,7 +129,12 @@ pub segment_at-requires-clause-k_bound : goal.segment_at-requires-clause-k_bound
 segment_at-requires-clause-k_bound c =
     let a = c.args in
     let f : Front a.plan a.first a.rows a.table.now =
-    record { can = c.requires.fillable; six = omega arith; inside = c.requires.rows_bound; fits = c.requires.rows_in_bounds } in
+    record {
+      can = c.requires.fillable;
+      six = omega arith;
+      inside = c.requires.rows_bound;
+      fits = c.requires.rows_in_bounds;
+    } in
     omega (
       arith,
       c.row_at-k.ensures,
@@ -118,7 +148,12 @@ write_axis-requires-clause-writable c =
     let s = a.plan in
     let o = a.order in
     let f : Front s a.first a.rows a.table.now =
-    record { can = c.requires.fillable; six = omega arith; inside = c.requires.rows_bound; fits = c.requires.rows_in_bounds } in
+    record {
+      can = c.requires.fillable;
+      six = omega arith;
+      inside = c.requires.rows_bound;
+      fits = c.requires.rows_in_bounds;
+    } in
     let h = c.loop-i in
     let i = h.i in
     let k = c.row_at-k.result in
@@ -127,7 +162,8 @@ write_axis-requires-clause-writable c =
     elim c.if-not-kept_at.branch [
       | then-not-kept_at w ↦
           subst (Held s.axes s.count i k) (sym w.segments-is)
-          (held-anew s.axes s.count i k h.segments h.invariant.six h.invariant.segmented w.segment_at.result (omega arith)
+          (held-anew s.axes s.count i k h.segments h.invariant.six h.invariant.segmented w.segment_at.result
+          (omega arith)
           w.segment_at.ensures)
       | else-not-kept_at w ↦
           subst (Held s.axes s.count i k) (sym w.segments-is)
@@ -149,7 +185,12 @@ pub write_axis-requires-clause-at_in_bounds : goal.write_axis-requires-clause-at
 write_axis-requires-clause-at_in_bounds c =
     let a = c.args in
     let f : Front a.plan a.first a.rows a.table.now =
-    record { can = c.requires.fillable; six = omega arith; inside = c.requires.rows_bound; fits = c.requires.rows_in_bounds } in
+    record {
+      can = c.requires.fillable;
+      six = omega arith;
+      inside = c.requires.rows_bound;
+      fits = c.requires.rows_in_bounds;
+    } in
     let v = c.loop-place in
     let h = c.loop-i in
     omega (
@@ -165,7 +206,12 @@ pub overflow_add-at : goal.overflow_add-at
 overflow_add-at c =
     let a = c.args in
     let f : Front a.plan a.first a.rows a.table.now =
-    record { can = c.requires.fillable; six = omega arith; inside = c.requires.rows_bound; fits = c.requires.rows_in_bounds } in
+    record {
+      can = c.requires.fillable;
+      six = omega arith;
+      inside = c.requires.rows_bound;
+      fits = c.requires.rows_in_bounds;
+    } in
     let v = c.loop-place in
     let h = c.loop-i in
     omega (
@@ -184,7 +230,12 @@ loop-i-preserved c =
     let count = a.plan.count in
     let o = a.order in
     let f : Front a.plan a.first a.rows a.table.now =
-    record { can = c.requires.fillable; six = omega arith; inside = c.requires.rows_bound; fits = c.requires.rows_in_bounds } in
+    record {
+      can = c.requires.fillable;
+      six = omega arith;
+      inside = c.requires.rows_bound;
+      fits = c.requires.rows_in_bounds;
+    } in
     let v = c.loop-place in
     let h = c.loop-i in
     let i = h.i in
@@ -249,7 +300,12 @@ loop-place-preserved c =
     let k = c.row_at-k.result in
     let is = c.row_at-k.ensures in
     let f : Front a.plan a.first a.rows a.table.now =
-    record { can = c.requires.fillable; six = omega arith; inside = c.requires.rows_bound; fits = c.requires.rows_in_bounds } in
+    record {
+      can = c.requires.fillable;
+      six = omega arith;
+      inside = c.requires.rows_bound;
+      fits = c.requires.rows_in_bounds;
+    } in
     let v = c.loop-place in
     let h = c.loop-i in
     let all : h.i ≡ length (take count axes) = omega (arith, long f) in

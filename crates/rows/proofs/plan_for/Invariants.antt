@@ -18,7 +18,8 @@ invariant-loop-i l =
       long : length l.plans ≡ 6;
       unset : (j : ℕ) → l.count ≤ j → j < 6 → get_or l.plans j unset_plan ≡ unset_plan;
       plannable : AllPlannable l.fn.n (set_axes l.i l.rest (drop l.i l.fn.axes));
-      done : take l.count l.plans ++ plans_from l.fn.n l.i l.rest l.fn.axes ≡ plans_for l.fn.n (set_axes 0 l.fn.mask l.fn.axes);
+      done : take l.count l.plans ++ plans_from l.fn.n l.i l.rest l.fn.axes
+          ≡ plans_for l.fn.n (set_axes 0 l.fn.mask l.fn.axes);
     }
 
 abbrev pub decreases-loop-i : goal.decreases-loop-i

@@ -12,7 +12,8 @@ returns-then-tick-end c =
     let p = c.args.p in
     let is = c.raised_until-end.ensures in
     -- the raised ticks end in the level part
-    let l : c.raised_until-end.result ≤ c.args.last = omega (arith, is, raised-last p.regions c.args.last (omega arith)) in
+    let l : c.raised_until-end.result ≤ c.args.last =
+    omega (arith, is, raised-last p.regions c.args.last (omega arith)) in
     record {
       segment =
           subst (λ (b : ℕ). SegmentOf (planned_at p) (over (pos 0) (p.regions.rise + 1) b)) (sym is)

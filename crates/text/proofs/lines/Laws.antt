@@ -251,7 +251,8 @@ row_is w first k cells e =
     only : (w first : ℕ) → first + w - first ≡ w
     only w first = omega arith
 
-module _ (w n : ℕ) (cells : List ℤ) {t u : List ℕ} {i j k first : ℕ} (h : i + row_bytes w * suc n ≤ length t) (q : k ≤ n)
+module _ (w n : ℕ) (cells : List ℤ) {t u : List ℕ} {i j k first : ℕ} (h : i + row_bytes w * suc n ≤ length t)
+    (q : k ≤ n)
     (x : WrittenWithin (row_bytes w * k) t i (up_to (printed_row w cells) k) u j)
     (m : w * suc n ≤ length cells) (e : first ≡ w * k) where
   part-is : length (row_part w first cells) ≡ w

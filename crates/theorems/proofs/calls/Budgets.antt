@@ -31,7 +31,8 @@ split test n (suc b) k =
     let e : suc b + k ≡ suc (b + k) = omega arith in
     ap (least_from test n) e ∙ go (test n) (split test (suc n) b k)
   where
-    go : (t : Bool) → least_from test (suc n) (b + k) ≡ or_else (least_from test (suc n) b) (least_from test (suc n + b) k)
+    go : (t : Bool) → least_from test (suc n) (b + k)
+        ≡ or_else (least_from test (suc n) b) (least_from test (suc n + b) k)
         → ◌≡◌ {A = Option ℕ} (elim t [ true ↦ some n | false ↦ least_from test (suc n) (b + k) ])
         (or_else (elim t [ true ↦ some n | false ↦ least_from test (suc n) b ]) (least_from test (n + suc b) k))
     go true h = refl
@@ -117,7 +118,8 @@ module _ (test : ℕ → Bool) (first budget : ℕ) where
           inr
           (record {
             left = omega arith;
-            is = here ∙ ap (report_of first budget) e ∙ ap (not_found first budget) (lt-ltb budget (candidates first) h);
+            is = here ∙ ap (report_of first budget) e
+                ∙ ap (not_found first budget) (lt-ltb budget (candidates first) h);
             on = parts
                 ∙ ap (λ (o : Option ℕ). wholly first (or_else o (least_from test (first + budget) more))) e
                 ∙ from_next (least_from test (first + budget) more) refl;

@@ -19,8 +19,10 @@ use Rattle.model.specs.planning.Refusals.{last_tick, flies, flying_refused}
 use Rattle.model.specs.planning.Admission.{words, first_axis, Tests, axis_refusals, Admission, refused_at, Rules}
 use Rattle.model.specs.planning.Admission.{planning_rules, windowed, tested, job_admission}
 use Rattle.model.specs.planning.Outcome.{Outcome, outcome_after, call_by, job_outcome_by, job_outcome}
-use Rattle.model.specs.calls.Converter.{old_refusals, old_rules, old_outcome, converted, Conversion, unconverted, written}
-use Rattle.model.specs.calls.Converter.{conversion_refusals, conversion_rules, job_conversion, conversion_after, conversion}
+use Rattle.model.specs.calls.Converter.{old_refusals, old_rules, old_outcome, converted, Conversion, unconverted}
+use Rattle.model.specs.calls.Converter.{written}
+use Rattle.model.specs.calls.Converter.{conversion_refusals, conversion_rules, job_conversion, conversion_after}
+use Rattle.model.specs.calls.Converter.{conversion}
 use Rattle.theorems.specs.Converter.{converted_target, with_target, converted_axis, converted_axes, converted_job}
 use Rattle.theorems.specs.Converter.{ConversionKept, ConversionPlans, ConversionVerdict}
 use Rattle.theorems.proofs.jobs.OutsideWindows.{Clear}

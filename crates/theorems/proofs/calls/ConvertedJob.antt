@@ -20,7 +20,8 @@ use Rattle.model.specs.planning.Quantities.{as_moving, acceleration_limit, finer
 use Rattle.model.specs.planning.Motion.{Tick, reachable}
 use Rattle.model.specs.planning.Rows.{planned_axis, blend, blend_by, cells}
 use Rattle.model.specs.planning.Refusals.{last_tick, rest_allowed, limits_refused, damping_refused, blend_refused}
-use Rattle.model.specs.planning.Refusals.{sway_refused, values_refused, acceleration_refused, acceleration_refused_by, flies}
+use Rattle.model.specs.planning.Refusals.{sway_refused, values_refused, acceleration_refused, acceleration_refused_by}
+use Rattle.model.specs.planning.Refusals.{flies}
 use Rattle.model.specs.planning.Admission.{Admission, refused_at, tested}
 use Rattle.model.specs.planning.Outcome.{Outcome, outcome_after, job_outcome_by}
 use Rattle.model.specs.calls.Converter.{old_refusals, old_rules}
@@ -58,7 +59,8 @@ module _ (n : ℕ) where
   unfolding moved_to
   acceleration-kept = kept acceleration_refused (λ x r. still x.second_sway r)
     where
-      still : (s : SecondSway) (r : RestPoint) → acceleration_refused_by s (moved_to r) ≡ acceleration_refused_by s (Fixed r)
+      still : (s : SecondSway) (r : RestPoint)
+          → acceleration_refused_by s (moved_to r) ≡ acceleration_refused_by s (Fixed r)
       still Absent r = refl
       still (HalfPeriod d) r = refl
 
@@ -87,7 +89,8 @@ module _ (n : ℕ) where
       by-sway x r f (HalfPeriod d) = refl
 
       blends : (x : Axis) (r : RestPoint) (f : Tick → ℤ)
-          → blend (planned_axis n (with_target x (moved_to r))) k f ≡ blend (planned_axis n (with_target x (Fixed r))) k f
+          → blend (planned_axis n (with_target x (moved_to r))) k f
+          ≡ blend (planned_axis n (with_target x (Fixed r))) k f
       blends x r f = by-sway x r f x.second_sway
 
 -- an asked arrival: the same answer and the same table

@@ -18,7 +18,8 @@ use Rattle.model.specs.planning.Quantities.{as_moving}
 use Rattle.model.specs.planning.Job.{Job, set_bits}
 use Rattle.model.specs.planning.Words.{kind, payload, twos, long_position, long_allowed, first_bad_long, Reading, got}
 use Rattle.model.specs.planning.Words.{wrong, Reader, ◌>>=◌, give, field, signed, next, position_by, position, sway_by}
-use Rattle.model.specs.planning.Words.{second_sway, target, axis, axes, ending, read_job, after_mask, good_mask, Decoded}
+use Rattle.model.specs.planning.Words.{second_sway, target, axis, axes, ending, read_job, after_mask, good_mask}
+use Rattle.model.specs.planning.Words.{Decoded}
 use Rattle.model.specs.planning.Words.{no_mask, job, spelled, decided, decode, word}
 use Rattle.model.specs.calls.Converter.{begins, flying_word, converted}
 use Rattle.theorems.specs.Converter.{converted_target, converted_axis, converted_axes, converted_job}
@@ -471,7 +472,11 @@ module _ (n : ℕ) (soon : n ≤ 4096) where
       by-reading t m (wrong p) q e = absurd (let z : ◌≡◌ {A = ℕ} 0 1 = cc in omega arith)
 
       go : (a b : Bool) → eqb (kind w) 1 ≡ a → good_mask (payload w) ≡ b
-          → (elim (a && b) as (λ _. Decoded) [ true ↦ decided (w ∷ ws) (after_mask (payload w) 1 ws) | false ↦ no_mask ])
+          → (elim (a && b) as (λ _. Decoded) [
+            | true ↦ decided (w ∷ ws)
+                (after_mask (payload w) 1 ws)
+            | false ↦ no_mask
+          ])
           ≡ job j
           → decode (conv (w ∷ ws)) ≡ job (turned j)
       go true true t m e = by-reading (eqb-true (kind w) 1 t) m (after_mask (payload w) 1 ws) refl e

@@ -30,7 +30,8 @@ limit-range Acceleration x p = acceleration-limit x p
 limit-range Speed x p = speed-limit x p
 
 -- an axis with a higher limit has passed too
-limit-passes : (q : Limit) (x : Axis) → Passed x → (k : ℕ) → limit_of q x ≤ k → k ≤ highest q → Passed (with_limit q k x)
+limit-passes : (q : Limit) (x : Axis) → Passed x → (k : ℕ) → limit_of q x ≤ k → k ≤ highest q
+    → Passed (with_limit q k x)
 limit-passes Acceleration x p k a b = wider-passes x (speed_limit x) k (omega arith) a p (speed-limit x p) b
 limit-passes Speed x p k a b = wider-passes x k (acceleration_limit x) a (omega arith) p b (acceleration-limit x p)
 

@@ -28,7 +28,8 @@ use Rattle.model.specs.planning.Words.{good_mask}
 use Rattle.model.specs.planning.Refusals.{last_tick}
 use Rattle.model.specs.planning.Admission.{typed, axis_refusals, Admission, refused_at, admitted, Rules}
 use Rattle.model.specs.planning.Admission.{planning_rules, tested, asked_admission, job_admission}
-use Rattle.model.specs.planning.Outcome.{Outcome, call, call_in, ordered, outcome_after, part_over, before_ten, answer_of}
+use Rattle.model.specs.planning.Outcome.{Outcome, call, call_in, ordered, outcome_after, part_over, before_ten}
+use Rattle.model.specs.planning.Outcome.{answer_of}
 use Rattle.model.specs.calls.Parts.{PartOutcome, part_rows, part_accepted, part_refused, part_with, part_call}
 use Rattle.model.specs.calls.Raises.{raise_of, raises_of, raises_from, none_raised, raises_with, raises_call}
 use Rattle.model.specs.calls.Search.{search_from, refuse_search, search_answer, first_allowed, first_checked, asking}
@@ -86,7 +87,8 @@ tables : (o : Order) (t : Typed.Job) (lent : List ℤ) → ((call_in o (typed t)
     → call_in o (typed (typed_with_weight t)) lent ≡ call_in o (typed t) lent
 tables o t lent h =
     let r = call (typed t) lent in
-    let same = called t lent (λ e. h (ap (λ (a : Answer). a.number) (answer-stays (axes_of (job_of t)) lent r o) ∙ e)) in
+    let same = called t lent (λ e. h (ap (λ (a : Answer). a.number) (answer-stays (axes_of (job_of t)) lent r o)
+    ∙ e)) in
     (λ i. ordered o (axes_of (job-with-weight t i)) lent (same i)) ∙ ordered-with-weight o (job_of t) lent r
 
 -- ---- the answer before 10
@@ -152,7 +154,8 @@ raises-of : (x : Axis) (n : ℕ) → raises_of (with_weight x) n ≡ raises_of x
 unfolding raise_of finer
 raises-of x n = refl
 
-raises-from : (n : ℕ) (xs : List JobAxis) (l : List AxisRaises) → raises_from n (axes_with_weight xs) l ≡ raises_from n xs l
+raises-from : (n : ℕ) (xs : List JobAxis) (l : List AxisRaises)
+    → raises_from n (axes_with_weight xs) l ≡ raises_from n xs l
 unfolding finer
 raises-from n [] l = refl
 raises-from n (x ∷ xs) l =

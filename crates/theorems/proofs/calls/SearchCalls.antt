@@ -18,7 +18,8 @@ use Rattle.model.specs.planning.Job.{Job}
 use Rattle.model.specs.planning.Admission.{Input, input_job, axis_refusals, Admission, tested, job_admission, admission}
 use Rattle.model.specs.planning.Outcome.{arrives, least_from, outcome_after}
 use Rattle.theorems.specs.Verdict.{Arrives, Passing}
-use Rattle.model.specs.calls.Search.{candidates, search_from, refuse_search, search_answer, first_allowed, first_checked}
+use Rattle.model.specs.calls.Search.{candidates, search_from, refuse_search, search_answer, first_allowed}
+use Rattle.model.specs.calls.Search.{first_checked}
 use Rattle.model.specs.calls.Search.{asking, search_rules, search_after, search_call}
 use Rattle.theorems.specs.Search.{undivided, after, continued, calls_made}
 use Rattle.theorems.specs.Search.{Continues, ended, goes_on, ContinuingIsUndivided, AtLeast1, EndsWithin4096}

@@ -103,7 +103,8 @@ module _ (r : Rules) (s : Numbered r) where
   comes (typed t) = go (good_mask t.mask)
     where
       go : (b : Bool)
-          → Comes r (job_of t) (elim b as (λ _. Admission) [ true ↦ job_admission r (job_of t) | false ↦ refused_at 1 0 ])
+          → Comes r (job_of t) (elim b as
+          (λ _. Admission) [ true ↦ job_admission r (job_of t) | false ↦ refused_at 1 0 ])
       go true = job-comes (job_of t)
       go false = refuses 1 0 (λ z. omega arith) (λ z. omega arith)
 

@@ -25,7 +25,8 @@ use Rattle.model.specs.planning.Quantities.{finer}
 use Rattle.model.specs.planning.Refusals.{last_tick, limits_refused, damping_refused, blend_refused, sway_refused}
 use Rattle.model.specs.planning.Refusals.{values_refused, acceleration_refused, flying_refused}
 use Rattle.model.specs.planning.Refusals.{rest_allowed, target_allowed, AllPassed}
-use Rattle.model.specs.planning.Outcome.{Outcome, outcome_of, answer_in, refuse, part_over, ordered, all_reach, least_from}
+use Rattle.model.specs.planning.Outcome.{Outcome, outcome_of, answer_in, refuse, part_over, ordered, all_reach}
+use Rattle.model.specs.planning.Outcome.{least_from}
 use Rattle.model.specs.planning.Outcome.{arrives, reaches_none, filled, arrived}
 use Rattle.model.specs.planning.Admission.{first_axis, Tests, axis_refusals, Admission, refused_at, admitted, tested}
 use Rattle.theorems.proofs.jobs.MappedAxes.{cells-alike, Blind, AllBlind, first-mapped}
@@ -57,7 +58,8 @@ passed-with-weight (x ∷ l) (p, ps) = (
   passed-with-weight l ps,
 )
 
-pub set-with-weight : (i m : ℕ) (six : List Axis) → set_axes i m (map with_weight six) ≡ axes_with_weight (set_axes i m six)
+pub set-with-weight : (i m : ℕ) (six : List Axis)
+    → set_axes i m (map with_weight six) ≡ axes_with_weight (set_axes i m six)
 set-with-weight i m [] = refl
 set-with-weight i m (x ∷ xs) = go (eqb (m % 2) 1) (set-with-weight (suc i) (m / 2) xs)
   where
@@ -85,7 +87,8 @@ pub arrives-with-weight : (j : Job) (n : ℕ) → arrives (job_with_weight j) n 
 unfolding finer
 arrives-with-weight j n = arrives-mapped with_weight n (λ x. refl) j
 
-least-with-weight : (j : Job) → least_from (arrives (job_with_weight j)) 1 last_tick ≡ least_from (arrives j) 1 last_tick
+least-with-weight : (j : Job)
+    → least_from (arrives (job_with_weight j)) 1 last_tick ≡ least_from (arrives j) 1 last_tick
 least-with-weight j = ap (λ (t : ℕ → Bool). least_from t 1 last_tick) (λ i n. arrives-with-weight j n i)
 
 none-with-weight : Blind with_weight (λ x. reaches_none x)
@@ -113,7 +116,8 @@ cells-with-weight n k x = cells-alike n k (with_weight x) x (blend-with-weight n
 
 abbrev after_damping : Tests
 after_damping =
-    (5, blend_refused) ∷ (15, sway_refused) ∷ (6, values_refused) ∷ (16, acceleration_refused) ∷ (17, flying_refused) ∷ []
+    (5, blend_refused) ∷ (15, sway_refused) ∷ (6, values_refused) ∷ (16, acceleration_refused) ∷
+    (17, flying_refused) ∷ []
 
 abbrev from_damping : Tests
 from_damping = (12, damping_refused) ∷ after_damping

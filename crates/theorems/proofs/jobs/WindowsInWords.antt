@@ -14,7 +14,8 @@ use Rattle.whole.proofs.Tests.{both, and, true-T}
 use Rattle.whole.proofs.Elements.{none-some}
 use Rattle.model.specs.declared.Window.{Window}
 use Rattle.model.specs.declared.Windows.{Windows}
-use Rattle.model.specs.planning.Windows.{fits_window, fits_one, in_windows, in_order_after, first_wrong_window, windows_refused}
+use Rattle.model.specs.planning.Windows.{fits_window, fits_one, in_windows, in_order_after, first_wrong_window}
+use Rattle.model.specs.planning.Windows.{windows_refused}
 use Rattle.theorems.specs.Windows.{FitsOne, InOrder, FirstWrongWindow, WindowsWrong, WindowsRight, empty, too_many}
 use Rattle.model.specs.planning.Windows.{refused13, brought}
 use Rattle.theorems.specs.Windows.{long_dwell, wrong_window}

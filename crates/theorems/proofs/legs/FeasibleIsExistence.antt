@@ -32,7 +32,8 @@ module _ (g : Leg) (n : ℕ) (hT : g.ticks ≡ suc n) (δ : ℤ) (w : ℕ → �
   required-is = ap (λ (z : ℤ). shr_z z 2) twice-is ∙ half_twice (sum_to w n)
 
   whole-test : T (sum_is_whole g δ)
-  whole-test = subst (λ (k : ℕ). T (eqb k 0)) (sym (ap (λ (z : ℤ). nat_abs z % 2) twice-is ∙ twice-even (sum_to w n))) tt
+  whole-test = subst (λ (k : ℕ). T (eqb k 0)) (sym (ap (λ (z : ℤ). nat_abs z % 2) twice-is
+      ∙ twice-even (sum_to w n))) tt
 
   last : g.ticks - 1 ≡ n
   last = omega arith

@@ -11,7 +11,8 @@ use Rattle.whole.proofs.Ring.{same, pol}
 use Rattle.whole.proofs.Rounding.{twice-even}
 use Rattle.model.specs.declared.Axis.{Axis}
 use Rattle.model.specs.declared.State.{State}
-use Rattle.model.specs.planning.Quantities.{half_period, second_weight, second_half_period, as_moving, twice_position_at}
+use Rattle.model.specs.planning.Quantities.{half_period, second_weight, second_half_period, as_moving}
+use Rattle.model.specs.planning.Quantities.{twice_position_at}
 use Rattle.model.specs.planning.Quantities.{velocity_at, sway_steps, finest_steps, finer, on_grid}
 use Rattle.model.specs.planning.Leg.{twice_required, sum_is_whole}
 use Rattle.model.specs.planning.Motion.{shift, landing_tick, leg, displacement}

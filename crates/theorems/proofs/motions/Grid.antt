@@ -15,7 +15,8 @@ use Rattle.model.specs.declared.SecondSway.TheVariants.{Absent, HalfPeriod}
 use Rattle.model.specs.declared.Target.{Target}
 use Rattle.model.specs.declared.Target.TheVariants.{Fixed, Moving}
 use Rattle.model.specs.planning.Quantities.{fine_steps, speed_limit, acceleration_limit, half_period, second_weight}
-use Rattle.model.specs.planning.Quantities.{as_moving, accelerates, sway_steps, finest_steps, finer, finer_by, speed_steps}
+use Rattle.model.specs.planning.Quantities.{as_moving, accelerates, sway_steps, finest_steps, finer, finer_by}
+use Rattle.model.specs.planning.Quantities.{speed_steps}
 use Rattle.model.specs.planning.Quantities.{acceleration_steps}
 
 pub data Grid (x : Axis) : Type 0 where

@@ -45,7 +45,8 @@ distance v [] = pos 0
 distance v (w ∷ ws) = pos 2 *ℤ v +ℤ (w -ℤ v) +ℤ distance w ws
 
 pub run-over : (q v : ℤ) (ws αs : List ℤ) (d : Tick) (j : ℕ)
-    → get_or (run q v (changes_from v ws ++ αs)) (length ws + j) d ≡ get_or (run (q +ℤ distance v ws) (final v ws) αs) j d
+    → get_or (run q v (changes_from v ws ++ αs)) (length ws + j) d
+    ≡ get_or (run (q +ℤ distance v ws) (final v ws) αs) j d
 run-over q v [] αs d j = ap₂ (λ (x : ℤ) (i : ℕ). get_or (run x v αs) i d) (sym (+ℤ_idr q)) (zero-add j)
 run-over q v (w ∷ ws) αs d j =
     ap (λ (i : ℕ). get_or (run q v (changes_from v (w ∷ ws) ++ αs)) i d) (suc-add (length ws) j)

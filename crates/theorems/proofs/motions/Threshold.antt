@@ -20,7 +20,8 @@ use Rattle.model.specs.declared.RestPoint.{RestPoint}
 use Rattle.model.specs.declared.State.{State}
 use Rattle.model.specs.declared.Target.{Target}
 use Rattle.model.specs.declared.Target.TheVariants.{Fixed, Moving}
-use Rattle.model.specs.planning.Quantities.{fine_steps, acceleration_limit, half_period, second_weight, delay, as_moving}
+use Rattle.model.specs.planning.Quantities.{fine_steps, acceleration_limit, half_period, second_weight, delay}
+use Rattle.model.specs.planning.Quantities.{as_moving}
 use Rattle.model.specs.planning.Quantities.{finer, speed_steps, acceleration_steps}
 use Rattle.model.specs.planning.Leg.{Leg, Meets, Feasible, travelled}
 use Rattle.model.specs.planning.Motion.{shift, start_position, start_velocity, landing_position, landing_velocity}
@@ -138,7 +139,8 @@ moving-velocity : (f s v a d : ℤ) → lands_with f s v a (d +ℤ pos 1) ≡ la
 moving-velocity f s v a d = same (f ∷ s ∷ v ∷ a ∷ d ∷ []) (search pol depth 30 fits 9000) tt
 
 moving-position : (f s c p v a d : ℤ)
-    → lands_at f s c p v a (d +ℤ pos 1) ≡ lands_at f s c p v a d +ℤ (pos 2 *ℤ lands_with f s v a d +ℤ f *ℤ (pos 256 *ℤ a))
+    → lands_at f s c p v a (d +ℤ pos 1) ≡ lands_at f s c p v a d
+    +ℤ (pos 2 *ℤ lands_with f s v a d +ℤ f *ℤ (pos 256 *ℤ a))
 moving-position f s c p v a d = same (f ∷ s ∷ c ∷ p ∷ v ∷ a ∷ d ∷ []) (search pol depth 30 fits 9000) tt
 
 fixed-velocity : (f s v d e : ℤ) → lands_with f s v (pos 0) e ≡ lands_with f s v (pos 0) d +ℤ f *ℤ (pos 256 *ℤ pos 0)
@@ -315,7 +317,8 @@ module _ (x : Axis) (passed : Passed x) where
         arrived = part (arrival_velocity x) (λ i. arrival-later n i h) s.arrived t.arrived;
       }
     where
-      part : (f : ℕ → ℤ) → ((i : ℕ) → f (n + i) ≡ f n +ℤ pos i *ℤ landing_acceleration x n) → nat_abs (f n) ≤ speed_steps x
+      part : (f : ℕ → ℤ) → ((i : ℕ) → f (n + i) ≡ f n +ℤ pos i *ℤ landing_acceleration x n)
+          → nat_abs (f n) ≤ speed_steps x
           → nat_abs (f k) ≤ speed_steps x → nat_abs (f j) ≤ speed_steps x
       part f e a b =
           let j-is : n + (j - n) ≡ j = omega arith in

@@ -16,7 +16,8 @@ use Rattle.theorems.proofs.motions.PlannedMotion.{run-first}
 pub tick-start : (x : Axis) (n : ℕ) → ((tick_at (planned_axis n x) 0).position ≡ start_position x)
     × ((tick_at (planned_axis n x) 0).velocity ≡ start_velocity x)
 tick-start x n =
-    run-first (start_position x) (start_velocity x) (changes_from (start_velocity x) (chosen (leg x n) (required_sum x n)))
+    run-first (start_position x) (start_velocity x)
+    (changes_from (start_velocity x) (chosen (leg x n) (required_sum x n)))
     (landing_acceleration x n) (replicate (delay x) (landing_acceleration x n)) (earlier x 0)
 
 -- before tick h it is before tick 0

@@ -15,7 +15,8 @@ use Rattle.whole.proofs.Bounds.{add_holds, mul_holds}
 use Rattle.whole.proofs.Rounding.{nearest-half, half-size}
 use Rattle.model.specs.declared.Axis.{Axis}
 use Rattle.model.specs.planning.Quantities.{fine_steps, speed_limit, acceleration_limit, half_period, second_weight}
-use Rattle.model.specs.planning.Quantities.{second_half_period, delay, as_moving, finer, speed_steps, acceleration_steps}
+use Rattle.model.specs.planning.Quantities.{second_half_period, delay, as_moving, finer, speed_steps}
+use Rattle.model.specs.planning.Quantities.{acceleration_steps}
 use Rattle.model.specs.planning.Leg.{Meets, chosen}
 use Rattle.model.specs.planning.Motion.{Tick, run, changes_from, leg, displacement, required_sum, earlier, landing_tick}
 use Rattle.model.specs.planning.Motion.{start_position, start_velocity, landing_velocity, landing_acceleration}
@@ -46,13 +47,15 @@ run-change : (q v : ℤ) (ws αs : List ℤ) (d : Tick) (k : ℕ) → k < length
 run-change q v [] αs d k h = absurd (omega arith)
 run-change q v (w ∷ ws) αs d zero h = refl
 run-change q v (w ∷ ws) αs d (suc k) h =
-    ap (λ (u : ℤ). (get_or (run (q +ℤ pos 2 *ℤ v +ℤ (w -ℤ v)) u (changes_from w ws ++ αs)) k d).acceleration) (add-sub v w)
+    ap (λ (u : ℤ). (get_or (run (q +ℤ pos 2 *ℤ v +ℤ (w -ℤ v)) u (changes_from w ws ++ αs)) k d).acceleration)
+    (add-sub v w)
     ∙ run-change (q +ℤ pos 2 *ℤ v +ℤ (w -ℤ v)) w ws αs d k (omega arith)
 
 -- ---- sizes
 
 -- a velocity that changes steadily lies between its ends
-pub between : (v a : ℤ) (j h c : ℕ) → j ≤ h → nat_abs v ≤ c → nat_abs (v +ℤ pos h *ℤ a) ≤ c → nat_abs (v +ℤ pos j *ℤ a) ≤ c
+pub between : (v a : ℤ) (j h c : ℕ) → j ≤ h → nat_abs v ≤ c → nat_abs (v +ℤ pos h *ℤ a) ≤ c
+    → nat_abs (v +ℤ pos j *ℤ a) ≤ c
 between v (pos b) j h c q = up v (j * b) (h * b) c (N.mul-le-mul_right b q)
   where
     up : (v : ℤ) (x y c : ℕ) → x ≤ y → nat_abs v ≤ c → nat_abs (v +ℤ pos y) ≤ c → nat_abs (v +ℤ pos x) ≤ c
@@ -62,7 +65,8 @@ between v (pos b) j h c q = up v (j * b) (h * b) c (N.mul-le-mul_right b q)
         sizes = all₁ _ (λ a b. simp whole (omega arith))
 between v (negsuc b) j h c q = down v (j * suc b) (h * suc b) c (N.mul-le-mul_right (suc b) q)
   where
-    down : (v : ℤ) (x y c : ℕ) → x ≤ y → nat_abs v ≤ c → nat_abs (v +ℤ neg_ℤ (pos y)) ≤ c → nat_abs (v +ℤ neg_ℤ (pos x)) ≤ c
+    down : (v : ℤ) (x y c : ℕ) → x ≤ y → nat_abs v ≤ c → nat_abs (v +ℤ neg_ℤ (pos y)) ≤ c
+        → nat_abs (v +ℤ neg_ℤ (pos x)) ≤ c
     down v x y c l = sizes v
       where
         sizes : (v : ℤ) → nat_abs v ≤ c → nat_abs (v +ℤ neg_ℤ (pos y)) ≤ c → nat_abs (v +ℤ neg_ℤ (pos x)) ≤ c
@@ -116,7 +120,8 @@ module _ (x : Axis) (n : ℕ) (r : Plannable x n) where
       (λ q l.
       subst (λ (v : ℤ). nat_abs v ≤ speed_steps x)
       (sym
-      (run-velocity (start_position x) (start_velocity x) (chosen (leg x n) (required_sum x n)) (landing_acceleration x n)
+      (run-velocity (start_position x) (start_velocity x) (chosen (leg x n) (required_sum x n))
+      (landing_acceleration x n)
       (replicate (delay x) (landing_acceleration x n)) (earlier x 0) k (omega (arith, long))))
       (meets.speeds k (omega arith)))
       (λ j e l.

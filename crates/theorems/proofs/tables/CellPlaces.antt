@@ -26,7 +26,8 @@ module _ (b : ℕ) (f : ℕ → List ℤ) (even : (k : ℕ) → length (f k) ≡
       ∙ add_comm b (b * m)
       ∙ sym (mul-suc b m)
 
-  rows_at : (k m i r : ℕ) (d : ℤ) → i < m → r < b → get_or (flatten (tabulate f k m)) (b * i + r) d ≡ get_or (f (k + i)) r d
+  rows_at : (k m i r : ℕ) (d : ℤ) → i < m → r < b
+      → get_or (flatten (tabulate f k m)) (b * i + r) d ≡ get_or (f (k + i)) r d
   unfolding flatten
   rows_at k zero i r d h q = absurd (omega arith)
   rows_at k (suc m) zero r d h q =

@@ -21,7 +21,8 @@ use Rattle.model.specs.planning.Rows.{planned_axis, blend, divisor, cells, row_a
 use Rattle.theorems.specs.Rows.{from_landing, SameRows, CellsFromLanding}
 use Rattle.model.specs.planning.Job.{Job, JobAxis, axes_of}
 use Rattle.model.specs.planning.Motion.{reachable}
-use Rattle.model.specs.planning.Demand.{table_in, cell_at, position_cell, velocity_cell, acceleration_cell, Lands, Carries}
+use Rattle.model.specs.planning.Demand.{table_in, cell_at, position_cell, velocity_cell, acceleration_cell, Lands}
+use Rattle.model.specs.planning.Demand.{Carries}
 use Rattle.model.specs.planning.Demand.{SwayCancelled, Demand3, Demand3Holds, CellLimits, CellLimitsHold}
 use Rattle.model.specs.planning.Demand.{ExactStart, ExactStartHolds}
 use Rattle.theorems.specs.Misfit.{planned_variation, rounding_left, SwayLeft, SwayLeftHolds}

@@ -33,7 +33,8 @@ module _ (w : ℕ → ℤ) (m D : ℕ) (gentle : Gentle m D w) where
       omega arith
   further i (suc k) h =
       let e : suc (i + k) ≡ i + suc k = omega arith in
-      subst (λ (z : ℤ). nat_abs z ≤ suc k * D) (steps (w (suc (i + k))) (w (i + k)) (w i) ∙ ap (λ (n : ℕ). w n -ℤ w i) e)
+      subst (λ (z : ℤ). nat_abs z ≤ suc k * D) (steps (w (suc (i + k))) (w (i + k)) (w i)
+      ∙ ap (λ (n : ℕ). w n -ℤ w i) e)
       (le_trans
       (add_holds (w (suc (i + k)) -ℤ w (i + k)) (w (i + k) -ℤ w i) D (k * D)
       (gentle (i + k) (omega arith)) (further i k (omega arith)))

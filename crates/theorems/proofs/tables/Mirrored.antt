@@ -22,7 +22,8 @@ use Rattle.model.specs.planning.Rows.{PlannedAxis, tick_at, tick_back, blend_onc
 use Rattle.theorems.specs.Mirror.{negated_tick, negated_target, negated_axis, negated_plan, Mirrored}
 use Rattle.theorems.proofs.tables.TwoBlends.{divisor-some}
 
-map-get_or : (l : List Tick) (k : ℕ) (d : Tick) → get_or (map negated_tick l) k (negated_tick d) ≡ negated_tick (get_or l k d)
+map-get_or : (l : List Tick) (k : ℕ) (d : Tick)
+    → get_or (map negated_tick l) k (negated_tick d) ≡ negated_tick (get_or l k d)
 map-get_or [] k d = refl
 map-get_or (s ∷ l) zero d = refl
 map-get_or (s ∷ l) (suc k) d = map-get_or l k d

@@ -17,7 +17,8 @@ use Rattle.whole.proofs.Rounding.{nearest-half}
 use Rattle.model.specs.declared.Axis.{Axis}
 use Rattle.model.specs.declared.SecondSway.{SecondSway}
 use Rattle.model.specs.declared.SecondSway.TheVariants.{Absent, HalfPeriod}
-use Rattle.model.specs.planning.Quantities.{half_period, second_weight, sway_delay, second_half_period, as_moving, finer}
+use Rattle.model.specs.planning.Quantities.{half_period, second_weight, sway_delay, second_half_period, as_moving}
+use Rattle.model.specs.planning.Quantities.{finer}
 use Rattle.model.specs.planning.Motion.{Tick, earlier, landing_tick, landing_acceleration}
 use Rattle.model.specs.planning.Rows.{planned_axis, tick_at, tick_back, blend, divisor}
 use Rattle.model.specs.planning.Refusals.{Plannable}
@@ -191,7 +192,8 @@ module _ (x : Axis) (n : ℕ) (r : Plannable x n) where
       omega (
         arith,
         le_of_mul-le-mul_left {k = times x}
-            (shared (times x) (divisor x) (both_divisor x) (nat_abs (sway cell w m n)) (planned_variation x n * E) (n * G)
+            (shared (times x) (divisor x) (both_divisor x) (nat_abs (sway cell w m n)) (planned_variation x n * E)
+            (n * G)
             (weights-times x.second_sway (finer x))
             (go n (omega arith) (omega (arith, R.after x n r)) (both_left m E w q f) last-whole))
             (times-some x),
@@ -202,7 +204,8 @@ module _ (x : Axis) (n : ℕ) (r : Plannable x n) where
 
       go : (i : ℕ) → i ≤ n → 0 < i → nat_abs (sway exact w m i) ≤ times x * (planned_variation x n * E)
           → pos (both_divisor x) *ℤ cell i -ℤ exact i ≡ pos 0
-          → both_divisor x * nat_abs (sway cell w m i) ≤ times x * (planned_variation x n * E) + both_divisor x * (i * G)
+          → both_divisor x * nat_abs (sway cell w m i)
+          ≤ times x * (planned_variation x n * E) + both_divisor x * (i * G)
       go zero l z e f = absurd (omega arith)
       go (suc i) l z e f =
           sway-rounded (both_divisor x) (256 * finer x) (omega arith) exact cell w n m G

@@ -76,7 +76,8 @@ module _ (d e : ℕ) (even : d ≡ 2 * e) (x c w : ℕ → ℤ) (l m G : ℕ) (n
         same_size : (e G n : ℕ) → e * G + 2 * (e * G) * n + e * G ≤ 2 * e * (suc n * G)
         same_size e G n = omega arith
 
-    pub sway-rounded : (X : ℕ) → nat_abs (sway x w m (suc n)) ≤ X → d * nat_abs (sway c w m (suc n)) ≤ X + d * (suc n * G)
+    pub sway-rounded : (X : ℕ) → nat_abs (sway x w m (suc n)) ≤ X
+        → d * nat_abs (sway c w m (suc n)) ≤ X + d * (suc n * G)
     sway-rounded X left =
         subst (λ (k : ℕ). k ≤ X + d * (suc n * G))
         (ap nat_abs (sym (in_two (suc n))) ∙ nat_abs-* (pos d) (sway c w m (suc n)))

@@ -131,7 +131,8 @@ abbrev pub MaskWord : ℕ → Type 0
 MaskWord w = (kind w ≡ 1) × ((1 ≤ payload w) × (payload w ≤ 63))
 
 module _ (w : ℕ) (ws : List ℕ) (m : MaskWord w) where
-  found : (r : Reading Job) → after_mask (payload w) 1 ws ≡ r → Follow {A = Job} r done (after_mask_walk (payload w) 1 ws)
+  found : (r : Reading Job) → after_mask (payload w) 1 ws ≡ r
+      → Follow {A = Job} r done (after_mask_walk (payload w) 1 ws)
   found r e = subst (λ (r : Reading Job). Follow {A = Job} r done (after_mask_walk (payload w) 1 ws)) e
       (after-mask-goes (payload w) 1 ws)
 

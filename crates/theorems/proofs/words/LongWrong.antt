@@ -11,7 +11,8 @@ use lib.Dec.{eqb}
 use lib.IntN.{pos, negsuc}
 use lib.ListN.{get_elem?}
 use borrow.Author.Tests.{eq-eqb, eqb-true}
-use Rattle.model.specs.planning.Words.{kind, payload, twos, long_position, between, fits_word, long_allowed, first_bad_long}
+use Rattle.model.specs.planning.Words.{kind, payload, twos, long_position, between, fits_word, long_allowed}
+use Rattle.model.specs.planning.Words.{first_bad_long}
 use Rattle.theorems.specs.Verdict.{LongWrong, FirstLongWrong, NoneLongWrong}
 
 -- the test of refusal 14
@@ -112,7 +113,8 @@ none-long-wrong i (v ∷ []) e (suc k) w u a b h = absurd (let z : ◌≡◌ {A 
 none-long-wrong i (v ∷ t ∷ ws) e k w u a b h = go (bad v t) refl e (none-long-wrong (suc i) (t ∷ ws)) k a b
   where
     go : (c : Bool) → bad v t ≡ c
-        → ◌≡◌ {A = Option ℕ} (elim c as (λ _. Option ℕ) [ true ↦ some i | false ↦ first_bad_long (suc i) (t ∷ ws) ]) none
+        → ◌≡◌ {A = Option ℕ} (elim c as (λ _. Option ℕ) [ true ↦ some i | false ↦ first_bad_long (suc i) (t ∷ ws) ])
+        none
         → (first_bad_long (suc i) (t ∷ ws) ≡ none → NoneLongWrong (t ∷ ws))
         → (k : ℕ) → get_elem? (v ∷ t ∷ ws) k ≡ some w → get_elem? (v ∷ t ∷ ws) (suc k) ≡ some u → ⊥
     go true c e more k a b = let z : ◌≡◌ {A = ℕ} 0 1 = cc in omega arith

@@ -11,7 +11,8 @@ use lib.ListN.{length}
 use lib.IntN.{ℤ, pos, negsuc, neg_ℤ, ◌+ℤ◌, ◌*ℤ◌}
 use borrow.Author.Tests.{le-leb, leb-true, eqb-true, lt-ltb, le-ltb, eq-eqb, ne_eqb}
 use Rattle.whole.proofs.Differences.{whole}
-use Rattle.model.specs.planning.Words.{kind, payload, twos, long_position, between, fits_word, long_allowed, first_bad_long}
+use Rattle.model.specs.planning.Words.{kind, payload, twos, long_position, between, fits_word, long_allowed}
+use Rattle.model.specs.planning.Words.{first_bad_long}
 use Rattle.model.specs.planning.Words.{Reading, got, wrong, ◌>>=◌, give, field, signed, position_by, position}
 use Rattle.model.specs.planning.Words.{word}
 use Rattle.model.specs.planning.Refusals.{position_allowed}
@@ -85,7 +86,8 @@ clean i (w ∷ []) e = tt
 clean i (w ∷ u ∷ ws) e = go (bad w u) refl e (clean (suc i) (u ∷ ws))
   where
     go : (b : Bool) → bad w u ≡ b
-        → ◌≡◌ {A = Option ℕ} (elim b as (λ _. Option ℕ) [ true ↦ some i | false ↦ first_bad_long (suc i) (u ∷ ws) ]) none
+        → ◌≡◌ {A = Option ℕ} (elim b as (λ _. Option ℕ) [ true ↦ some i | false ↦ first_bad_long (suc i) (u ∷ ws) ])
+        none
         → (first_bad_long (suc i) (u ∷ ws) ≡ none → Clean (u ∷ ws)) → Clean (w ∷ u ∷ ws)
     go true t e h = absurd (let z : ◌≡◌ {A = ℕ} 0 1 = cc in omega arith)
     go false t e h = (t, h e)

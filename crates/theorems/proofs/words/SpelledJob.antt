@@ -21,7 +21,8 @@ use Rattle.model.specs.declared.Windows.{Windows}
 use Rattle.model.specs.planning.Quantities.{speed_limit, acceleration_limit, half_period, second_weight}
 use Rattle.model.specs.planning.Job.{Job, JobAxis, set_bits}
 use Rattle.theorems.specs.GivenWeights.{with_weight}
-use Rattle.model.specs.planning.Words.{kind, payload, fits_word, first_bad_long, Reading, got, wrong, Reader, ◌>>=◌, give}
+use Rattle.model.specs.planning.Words.{kind, payload, fits_word, first_bad_long, Reading, got, wrong, Reader, ◌>>=◌}
+use Rattle.model.specs.planning.Words.{give}
 use Rattle.model.specs.planning.Words.{field, signed, next, position, sway_by, second_sway, target, axis, axes, ending}
 use Rattle.model.specs.planning.Words.{read_job, after_mask, good_mask, Decoded, no_mask, job, spelled, decided, decode}
 use Rattle.model.specs.planning.Words.{word}
@@ -129,7 +130,8 @@ velocity_of (Fixed r) = r.velocity
 velocity_of (Moving m) = m.velocity
 
 target-reads : {B : Type 0} (f : Target → B) (g : Target) (vs : List ℕ) → TargetInWords g → Other 11 vs
-    → Reads (λ i ws. ◌>>=◌ (next 11) (λ moving. ◌>>=◌ (target moving (position_of g) (velocity_of g)) (λ h. give (f h))) i
+    → Reads (λ i ws. ◌>>=◌ (next 11)
+    (λ moving. ◌>>=◌ (target moving (position_of g) (velocity_of g)) (λ h. give (f h))) i
     ws) (f g) (rest_words g ++ vs) vs
 target-reads f (Fixed r) vs h o =
     then (next 11) _ false (f (Fixed r)) vs vs vs (next-no 11 vs o) (gives (f (Fixed r)) vs)

@@ -14,7 +14,8 @@ use Rattle.model.specs.declared.Target.{Target}
 use Rattle.model.specs.declared.Target.TheVariants.{Fixed, Moving}
 use Rattle.model.specs.declared.Weight.TheVariants.{Given}
 use Rattle.model.specs.planning.Job.{Job, set_bits}
-use Rattle.model.specs.planning.Words.{kind, payload, fits_word, Reading, got, wrong, Reader, ◌>>=◌, give, field, signed}
+use Rattle.model.specs.planning.Words.{kind, payload, fits_word, Reading, got, wrong, Reader, ◌>>=◌, give, field}
+use Rattle.model.specs.planning.Words.{signed}
 use Rattle.model.specs.planning.Words.{next, position, sway_by, second_sway, target, axis, axes, ending, read_job}
 use Rattle.model.specs.planning.Words.{after_mask, word}
 use Rattle.model.specs.planning.Refusals.{position_allowed}

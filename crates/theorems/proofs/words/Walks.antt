@@ -233,7 +233,8 @@ moving_walk c = either 11 (of_kind 11 (of_kind 12 c)) c
 unfoldable pub axis_walk : Walk → Walk
 axis_walk c =
     position_walk 3
-    (of_kind 4 (of_kind 5 (of_kind 6 (of_kind 7 (of_kind 8 (sway_walk (position_walk 9 (of_kind 10 (moving_walk c)))))))))
+    (of_kind 4 (of_kind 5
+    (of_kind 6 (of_kind 7 (of_kind 8 (sway_walk (position_walk 9 (of_kind 10 (moving_walk c)))))))))
 
 unfoldable pub axes_walk : List ℕ → Walk → Walk
 axes_walk [] c = c

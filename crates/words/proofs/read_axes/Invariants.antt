@@ -9,7 +9,8 @@ invariant-loop-number l =
     record {
       low : l.number ≤ 6;
       within : l.at ≤ 2 + 13 * l.number;
-      reads : read_all l.fn.words (6 - l.number) l.number l.bits (going l.at l.axes) ≡ read_all l.fn.words 6 0 l.fn.mask begun;
+      reads : read_all l.fn.words (6 - l.number) l.number l.bits (going l.at l.axes)
+          ≡ read_all l.fn.words 6 0 l.fn.mask begun;
     }
 
 abbrev pub decreases-loop-number : goal.decreases-loop-number

@@ -79,7 +79,8 @@ turn c =
     let one = axis-misses mask axes l.number (omega (arith, here, l.invariant.six)) in
     turn-done (all_reach (set_axes 0 mask axes)) (reach mask axes) a.args.first a.args.last l.number l.again
     l.n l.invariant.led _ next one
-    (λ i h. reach-between mask axes a.requires.all_passed i (omega (arith, here, l.invariant.six))) _ c.again_after-again.ensures
+    (λ i h. reach-between mask axes a.requires.all_passed i (omega (arith, here, l.invariant.six))) _
+    c.again_after-again.ensures
 
 more : (bits number r : ℕ) → After bits number r → number < 6 → (number < r) × (r ≤ 6)
 more bits number r (inl (e, f)) h = (omega arith, omega arith)

@@ -15,7 +15,8 @@ invariant-loop-number l =
       six : length l.fn.axes ≡ 6;
       bits : l.bits ≡ bits_from l.fn.mask l.number;
       inside : 0 < l.number → l.n ≤ l.fn.last;
-      led : Led (all_reach (set_axes 0 l.fn.mask l.fn.axes)) (reach l.fn.mask l.fn.axes) l.fn.first l.fn.last l.number l.again l.n;
+      led : Led (all_reach (set_axes 0 l.fn.mask l.fn.axes))
+          (reach l.fn.mask l.fn.axes) l.fn.first l.fn.last l.number l.again l.n;
     }
 
 abbrev pub decreases-loop-number : goal.decreases-loop-number
@@ -28,7 +29,8 @@ invariant-loop-asked l =
       few : l.asked ≤ l.again;
       bits : l.left ≡ bits_from l.fn.mask l.asked;
       inside : l.n ≤ l.fn.last;
-      led : Led (all_reach (set_axes 0 l.fn.mask l.fn.axes)) (reach l.fn.mask l.fn.axes) l.fn.first l.fn.last 6 l.again l.n;
+      led : Led (all_reach (set_axes 0 l.fn.mask l.fn.axes))
+          (reach l.fn.mask l.fn.axes) l.fn.first l.fn.last 6 l.again l.n;
       lower : (j : ℕ) → j < l.asked → reach l.fn.mask l.fn.axes j l.n ≡ true;
     }
 

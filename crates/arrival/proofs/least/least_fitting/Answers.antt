@@ -32,7 +32,8 @@ module _ (w : Windows) (xs : List JobAxis) (first after : ℕ) (passed : AllPass
 pub all_reach-requires-clause-tick_le_last_tick : goal.all_reach-requires-clause-tick_le_last_tick
 all_reach-requires-clause-tick_le_last_tick c =
     let a = c.args in
-    let is = c.least_in-fitting.ensures ∙ with-windows a.windows a.first a.after c.requires.windows_value c.requires.given_value in
+    let is = c.least_in-fitting.ensures
+    ∙ with-windows a.windows a.first a.after c.requires.windows_value c.requires.given_value in
     let l = least-is (in_windows a.windows) a.first (a.after - a.first) c.in-At.tick (sym is ∙ ap tick_of c.in-At.is) in
     omega (arith, l.first, l.last, c.requires.after_bound)
 
@@ -40,7 +41,8 @@ pub returns-then-all_reach : goal.returns-then-all_reach
 returns-then-all_reach c =
     let a = c.args in
     let xs = set_axes 0 a.mask a.axes in
-    let is = c.least_in-fitting.ensures ∙ with-windows a.windows a.first a.after c.requires.windows_value c.requires.given_value in
+    let is = c.least_in-fitting.ensures
+    ∙ with-windows a.windows a.first a.after c.requires.windows_value c.requires.given_value in
     let l = least-is (in_windows a.windows) a.first (a.after - a.first) c.in-At.tick (sym is ∙ ap tick_of c.in-At.is) in
     let d = led a.windows xs a.first a.after c.requires.all_passed c.requires.le_after c.requires.first_le_after
     c.requires.first_value c.in-At.tick l in
@@ -52,11 +54,13 @@ pub returns-else-all_reach : goal.returns-else-all_reach
 returns-else-all_reach c =
     let a = c.args in
     let xs = set_axes 0 a.mask a.axes in
-    let is = c.least_in-fitting.ensures ∙ with-windows a.windows a.first a.after c.requires.windows_value c.requires.given_value in
+    let is = c.least_in-fitting.ensures
+    ∙ with-windows a.windows a.first a.after c.requires.windows_value c.requires.given_value in
     let l = least-is (in_windows a.windows) a.first (a.after - a.first) c.in-At.tick (sym is ∙ ap tick_of c.in-At.is) in
     let d = led a.windows xs a.first a.after c.requires.all_passed c.requires.le_after c.requires.first_le_after
     c.requires.first_value c.in-At.tick l in
-    let n = reached-first a.windows xs a.first a.after c.requires.all_passed c.requires.le_after c.requires.first_le_after c.requires.first_value in
+    let n = reached-first a.windows xs a.first a.after c.requires.all_passed c.requires.le_after
+    c.requires.first_le_after c.requires.first_value in
     let missed = sym c.all_reach.ensures ∙ c.if-all_reach.false in
     none_passes (arrives_in a.windows xs) a.first a.after
     (λ k p q.
@@ -70,8 +74,10 @@ pub returns-in_default : goal.returns-in_default
 returns-in_default c =
     let a = c.args in
     let xs = set_axes 0 a.mask a.axes in
-    let is = c.least_in-fitting.ensures ∙ with-windows a.windows a.first a.after c.requires.windows_value c.requires.given_value in
-    let n = reached-first a.windows xs a.first a.after c.requires.all_passed c.requires.le_after c.requires.first_le_after c.requires.first_value in
+    let is = c.least_in-fitting.ensures
+    ∙ with-windows a.windows a.first a.after c.requires.windows_value c.requires.given_value in
+    let n = reached-first a.windows xs a.first a.after c.requires.all_passed c.requires.le_after
+    c.requires.first_le_after c.requires.first_value in
     let none_left = none_is (in_windows a.windows) a.first (a.after - a.first) (sym is ∙ ap tick_of c.in_default.is) in
     none_passes (arrives_in a.windows xs) a.first a.after
     (nothing-fits (in_windows a.windows) (all_reach xs) a.first a.after a.first n none_left) c.requires.first_le_after

@@ -13,7 +13,8 @@ invariant-loop-number l =
       low : l.number ≤ 6;
       six : length l.fn.axes ≡ 6;
       passed : AllPassed (from l.number l.bits l.fn.axes);
-      reach : all_reach (from l.number l.bits l.fn.axes) l.fn.tick ≡ all_reach (set_axes 0 l.fn.mask l.fn.axes) l.fn.tick;
+      reach : all_reach (from l.number l.bits l.fn.axes) l.fn.tick
+          ≡ all_reach (set_axes 0 l.fn.mask l.fn.axes) l.fn.tick;
     }
 
 abbrev pub decreases-loop-number : goal.decreases-loop-number

@@ -16,7 +16,8 @@ invariant-loop-number l =
       passed : AllPassed (from l.number l.bits l.fn.axes);
       power : l.bit ≡ 2 ^ l.number;
       small : l.unable + 1 ≤ l.bit;
-      sum : l.unable + rest l.fn.asked l.number l.bits l.fn.axes ≡ mask_where (cannot_arrive l.fn.asked) (set_axes 0 l.fn.mask l.fn.axes);
+      sum : l.unable + rest l.fn.asked l.number l.bits l.fn.axes
+          ≡ mask_where (cannot_arrive l.fn.asked) (set_axes 0 l.fn.mask l.fn.axes);
     }
 
 abbrev pub decreases-loop-number : goal.decreases-loop-number

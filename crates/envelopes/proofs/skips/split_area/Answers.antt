@@ -36,6 +36,7 @@ returns c =
     let last = c.ramp_area-last.ensures in
     let s : to_z w64 (of_z w64 a.p.start) ≡ a.p.start = exactly (search exact depth 9) tt in
     let e : to_z w64 (of_z w64 a.p.end) ≡ a.p.end = exactly (search exact depth 9) tt in
-    let u : to_z w64 (of_z w64 c.signed-steep.result) ≡ pos a.p.acceleration_limit = exactly (search exact depth 9) tt in
+    let u : to_z w64 (of_z w64 c.signed-steep.result) ≡ pos a.p.acceleration_limit =
+    exactly (search exact depth 9) tt in
     then_is (is-of (search exact depth 30 fits 9000) tt)
     (λ i. ramp_area (s i) (u i) a.rising +ℤ pos n *ℤ pos a.p.speed_limit +ℤ ramp_area (e i) (u i) a.falling)

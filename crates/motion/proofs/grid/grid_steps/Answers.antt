@@ -6,4 +6,5 @@ use Rattle.theorems.proofs.motions.Grid.{finer-range}
 use Rattle.motion.proofs.grid.grid_steps.Goals as goal
 
 pub returns : goal.returns
-returns c = then_is (cast-small 256 c.finer.result (subst (λ (n : ℕ). n ≤ 256) (sym c.finer.ensures) (finer-range c.args.x).1) tt) (ap pos c.finer.ensures)
+returns c = then_is (cast-small 256 c.finer.result
+    (subst (λ (n : ℕ). n ≤ 256) (sym c.finer.ensures) (finer-range c.args.x).1) tt) (ap pos c.finer.ensures)

@@ -40,7 +40,8 @@ returns-then-ticks-most c =
     let α = back-id c.ranges.change in
     exactly (search computed depth 9) tt ∙ (λ i. room_toward a.limit (v i) (α i))) in
     let room-some : pos 0 ≤ℤ to_z w64 (of_z w64 c.room_toward-room.result) = lt_z_no (false-T c.if-room-lt0.false) in
-    ticks-divided a.limit a.velocity a.change a.most _ _ steps-is (omega (arith, c.if-steps-eq0.false)) room-is room-some
+    ticks-divided a.limit a.velocity a.change a.most _ _ steps-is
+    (omega (arith, c.if-steps-eq0.false)) room-is room-some
     _ (omega (arith, c.if-ticks-most.true)) (omega arith) (λ k h q. q)
 
 pub returns : goal.returns
@@ -53,5 +54,6 @@ returns c =
     let α = back-id c.ranges.change in
     exactly (search computed depth 9) tt ∙ (λ i. room_toward a.limit (v i) (α i))) in
     let room-some : pos 0 ≤ℤ to_z w64 (of_z w64 c.room_toward-room.result) = lt_z_no (false-T c.if-room-lt0.false) in
-    ticks-divided a.limit a.velocity a.change a.most _ _ steps-is (omega (arith, c.if-steps-eq0.false)) room-is room-some
+    ticks-divided a.limit a.velocity a.change a.most _ _ steps-is
+    (omega (arith, c.if-steps-eq0.false)) room-is room-some
     a.most (omega arith) (omega (arith, c.if-ticks-most.false)) (λ k h q. h)

@@ -14,16 +14,22 @@ pub put_labelled-after_place-requires : goal.put_labelled-after_place-requires
 put_labelled-after_place-requires c =
     let a = c.args in
     let f = c.ranges in
-    let most = laws.refusal-most a.number a.place a.mask a.arrival f.number.fits f.place.fits f.mask.fits f.arrival.fits in
-    let room : Room a.out.now a.at (refusal_line a.number a.place a.mask a.arrival) = record { room = omega (arith, most, c.requires) } in
+    let most = laws.refusal-most a.number a.place a.mask a.arrival f.number.fits f.place.fits f.mask.fits
+    f.arrival.fits in
+    let room : Room a.out.now a.at (refusal_line a.number a.place a.mask a.arrival) = record {
+      room = omega (arith, most, c.requires);
+    } in
     laws.place-room a.number a.place a.mask a.arrival room c.put_labelled-after_number.ensures
 
 pub put_labelled-after_arrival-requires : goal.put_labelled-after_arrival-requires
 put_labelled-after_arrival-requires c =
     let a = c.args in
     let f = c.ranges in
-    let most = laws.refusal-most a.number a.place a.mask a.arrival f.number.fits f.place.fits f.mask.fits f.arrival.fits in
-    let room : Room a.out.now a.at (refusal_line a.number a.place a.mask a.arrival) = record { room = omega (arith, most, c.requires) } in
+    let most = laws.refusal-most a.number a.place a.mask a.arrival f.number.fits f.place.fits f.mask.fits
+    f.arrival.fits in
+    let room : Room a.out.now a.at (refusal_line a.number a.place a.mask a.arrival) = record {
+      room = omega (arith, most, c.requires);
+    } in
     let one = c.put_labelled-after_number.ensures in
     laws.arrival-room a.number a.place a.mask a.arrival room one c.put_labelled-after_place.ensures
     c.put_labelled-after_mask.ensures
@@ -32,8 +38,11 @@ pub bounds-out-after_arrival : goal.bounds-out-after_arrival
 bounds-out-after_arrival c =
     let a = c.args in
     let f = c.ranges in
-    let most = laws.refusal-most a.number a.place a.mask a.arrival f.number.fits f.place.fits f.mask.fits f.arrival.fits in
-    let room : Room a.out.now a.at (refusal_line a.number a.place a.mask a.arrival) = record { room = omega (arith, most, c.requires) } in
+    let most = laws.refusal-most a.number a.place a.mask a.arrival f.number.fits f.place.fits f.mask.fits
+    f.arrival.fits in
+    let room : Room a.out.now a.at (refusal_line a.number a.place a.mask a.arrival) = record {
+      room = omega (arith, most, c.requires);
+    } in
     let one = c.put_labelled-after_number.ensures in
     let two = c.put_labelled-after_place.ensures in
     laws.feed-index a.number a.place a.mask a.arrival room one two c.put_labelled-after_mask.ensures
@@ -41,7 +50,8 @@ bounds-out-after_arrival c =
 
 pub overflow_add-result : goal.overflow_add-result
 overflow_add-result c =
-    let long = c.put_labelled-after_arrival.auto.out ∙ c.put_labelled-after_mask.auto.out ∙ c.put_labelled-after_place.auto.out
+    let long = c.put_labelled-after_arrival.auto.out ∙ c.put_labelled-after_mask.auto.out
+    ∙ c.put_labelled-after_place.auto.out
     ∙ c.put_labelled-after_number.auto.out in
     omega (arith, bounds-out-after_arrival c, long, c.well_formed)
 
@@ -49,8 +59,11 @@ pub returns : goal.returns
 returns c =
     let a = c.args in
     let f = c.ranges in
-    let most = laws.refusal-most a.number a.place a.mask a.arrival f.number.fits f.place.fits f.mask.fits f.arrival.fits in
-    let room : Room a.out.now a.at (refusal_line a.number a.place a.mask a.arrival) = record { room = omega (arith, most, c.requires) } in
+    let most = laws.refusal-most a.number a.place a.mask a.arrival f.number.fits f.place.fits f.mask.fits
+    f.arrival.fits in
+    let room : Room a.out.now a.at (refusal_line a.number a.place a.mask a.arrival) = record {
+      room = omega (arith, most, c.requires);
+    } in
     let one = c.put_labelled-after_number.ensures in
     let two = c.put_labelled-after_place.ensures in
     let labels =
@@ -62,14 +75,21 @@ pub put_labelled-after_number-requires : goal.put_labelled-after_number-requires
 put_labelled-after_number-requires c =
     let a = c.args in
     let f = c.ranges in
-    let most = laws.refusal-most a.number a.place a.mask a.arrival f.number.fits f.place.fits f.mask.fits f.arrival.fits in
-    let room : Room a.out.now a.at (refusal_line a.number a.place a.mask a.arrival) = record { room = omega (arith, most, c.requires) } in
+    let most = laws.refusal-most a.number a.place a.mask a.arrival f.number.fits f.place.fits f.mask.fits
+    f.arrival.fits in
+    let room : Room a.out.now a.at (refusal_line a.number a.place a.mask a.arrival) = record {
+      room = omega (arith, most, c.requires);
+    } in
     laws.number-room a.number a.place a.mask a.arrival room
 
 pub put_labelled-after_mask-requires : goal.put_labelled-after_mask-requires
 put_labelled-after_mask-requires c =
     let a = c.args in
     let f = c.ranges in
-    let most = laws.refusal-most a.number a.place a.mask a.arrival f.number.fits f.place.fits f.mask.fits f.arrival.fits in
-    let room : Room a.out.now a.at (refusal_line a.number a.place a.mask a.arrival) = record { room = omega (arith, most, c.requires) } in
-    laws.mask-room a.number a.place a.mask a.arrival room c.put_labelled-after_number.ensures c.put_labelled-after_place.ensures
+    let most = laws.refusal-most a.number a.place a.mask a.arrival f.number.fits f.place.fits f.mask.fits
+    f.arrival.fits in
+    let room : Room a.out.now a.at (refusal_line a.number a.place a.mask a.arrival) = record {
+      room = omega (arith, most, c.requires);
+    } in
+    laws.mask-room a.number a.place a.mask a.arrival room c.put_labelled-after_number.ensures
+    c.put_labelled-after_place.ensures

@@ -16,7 +16,8 @@ invariant-loop-k l =
       low : l.k ≤ suc l.fn.n;
       place : l.first ≡ l.fn.width * l.k;
       long : length l.out ≡ length l.initial.out;
-      text : WrittenWithin (row_bytes l.fn.width * l.k) l.initial.out l.fn.at (up_to (printed_row l.fn.width l.fn.table) l.k) l.out l.next;
+      text : WrittenWithin (row_bytes l.fn.width * l.k) l.initial.out l.fn.at
+          (up_to (printed_row l.fn.width l.fn.table) l.k) l.out l.next;
     }
 
 abbrev pub decreases-loop-k : goal.decreases-loop-k

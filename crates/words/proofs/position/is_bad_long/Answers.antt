@@ -8,8 +8,8 @@ use Rattle.model.specs.planning.Words.{between, fits_word}
 use Rattle.words.specs.ByIndex.{signed_at, long_at, is_bad_long}
 use Rattle.words.proofs.position.is_bad_long.Goals as goal
 
--- `is_bad_long` by its three tests: kind 14, a payload from −64 to 63, a position that a single word
--- holds
+-- `is_bad_long` by its three tests: kind 14, a payload from −64 to 63, a position that a single
+-- word holds
 abbrev by : Bool → Bool → Bool → Bool
 by k a f = cond k (not (a && not f)) false
 

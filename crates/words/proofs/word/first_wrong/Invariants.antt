@@ -5,7 +5,8 @@ use Rattle.words.proofs.Run.{from}
 use Rattle.words.proofs.word.first_wrong.Given as goal
 
 abbrev pub invariant-loop-i : goal.invariant-loop-i
-invariant-loop-i l = (l.i ≤ l.fn.count) × (from l.fn.words l.fn.at l.fn.first l.fn.count l.i ≡ first_wrong l.fn.words l.fn.at l.fn.first l.fn.count)
+invariant-loop-i l = (l.i ≤ l.fn.count)
+    × (from l.fn.words l.fn.at l.fn.first l.fn.count l.i ≡ first_wrong l.fn.words l.fn.at l.fn.first l.fn.count)
 
 abbrev pub decreases-loop-i : goal.decreases-loop-i
 decreases-loop-i l = l.fn.count - l.i
