@@ -2,17 +2,19 @@
 -- has.
 use Prim.Native.Nat.{ℕ, ◌<◌, ◌≤◌}
 use native.Mathlib.Omega.{arith}
-use mathlib.Core.Path.{◌≡◌, refl, sym, ◌∙◌}
+use mathlib.Core.Path.{◌≡◌, refl, sym, ap, ◌∙◌}
 use mathlib.Core.Bool.{Bool, true, false, ◌&&◌, false≢true}
-use mathlib.Core.Option.{none}
+use Rattle.std.specs.Prelude.{None}
 use lib.Dec.{ltb, leb}
 use borrow.Author.Tests.{leb-true, ltb-true}
-use Rattle.model.specs.declared.Checked.{Checked}
-use Rattle.model.specs.declared.Checked.TheVariants.{Passed, Refused}
+use Rattle.std.specs.declared.result.Result.{Result}
+use Rattle.std.specs.declared.result.Result.TheVariants.{Ok, Err}
+use Rattle.model.specs.declared.Answer.{Answer}
 use Rattle.model.specs.declared.Job as Typed
 use Rattle.model.specs.planning.Windows.{refused13}
 use Rattle.model.specs.planning.Job.{Job, job_of}
 use Rattle.model.specs.planning.Words.{good_mask}
+use Rattle.model.specs.planning.Told as Told
 use Rattle.model.specs.planning.Refusals.{last_tick}
 use Rattle.model.specs.planning.Admission.{Input, typed, input_job, Admission, refused_at, admitted, Rules}
 use Rattle.model.specs.planning.Admission.{job_admission}
@@ -35,7 +37,7 @@ pub record Goes (r : Rules) (q : Input) : Type 0 where
   pub is : admission r q ≡ admitted (r.reads (input_job q))
   pub asked : (r.reads (input_job q)).asked ≤ last_tick
   pub clear : Clear (r.tests (r.reads (input_job q)).asked) (r.reads (input_job q)).axes
-  pub windows : refused13 (r.reads (input_job q)).windows ≡ none
+  pub windows : refused13 (r.reads (input_job q)).windows ≡ None
 
 module _ (r : Rules) (s : Numbered r) (q : Input) where
   pub refusal : (n p : ℕ) → admission r q ≡ refused_at n p → Refusal r q n p
@@ -47,18 +49,30 @@ module _ (r : Rules) (s : Numbered r) (q : Input) where
           record { is = f ∙ w; not-0 = λ z. h (same ∙ z); not-10 = λ z. t (same ∙ z) }
       go a f (goes h c v) w = absurd (let z : ◌≡◌ {A = ℕ} 0 1 = cc in omega arith)
 
-  module _ (c : Checked) (is : c ≡ without_job (admission r q)) where
-    pub refused : (n p : ℕ) → c ≡ Refused n p → Refusal r q n p
+  module _ (c : Result Unit Answer) (is : c ≡ without_job (admission r q)) where
+    pub refused : (n p : ℕ) → c ≡ Err (Told.refusal n p) → Refusal r q n p
     refused n p e = refusal n p (go (admission r q) (sym is ∙ e))
       where
-        go : (a : Admission) → without_job a ≡ Refused n p → a ≡ refused_at n p
-        go (refused_at m k) w = let m' : m ≡ n = cc in let k' : k ≡ p = cc in λ i. refused_at (m' i) (k' i)
+        go : (a : Admission) → without_job a ≡ Err (Told.refusal n p) → a ≡ refused_at n p
+        go (refused_at m k) w =
+            let f : Told.refusal m k ≡ Told.refusal n p = cc in
+            ap (λ (a : Answer). refused_at a.number a.place) f
         go (admitted j) w = absurd (let z : ◌≡◌ {A = ℕ} 0 1 = cc in omega arith)
 
-    pub passed : c ≡ Passed → Goes r q
+    -- it names no axes and no arrival
+    pub place-alone : (a : Answer) → c ≡ Err a → a ≡ Told.refusal a.number a.place
+    place-alone a e = go (admission r q) (sym is ∙ e)
+      where
+        go : (b : Admission) → without_job b ≡ Err a → a ≡ Told.refusal a.number a.place
+        go (refused_at m k) w =
+            let f : Told.refusal m k ≡ a = cc in
+            sym f ∙ ap (λ (d : Answer). Told.refusal d.number d.place) f
+        go (admitted j) w = absurd (let z : ◌≡◌ {A = ℕ} 0 1 = cc in omega arith)
+
+    pub passed : c ≡ Ok tt → Goes r q
     passed e = go (admission r q) refl (comes r s q) (sym is ∙ e)
       where
-        go : (a : Admission) → admission r q ≡ a → Comes r (input_job q) a → without_job a ≡ Passed → Goes r q
+        go : (a : Admission) → admission r q ≡ a → Comes r (input_job q) a → without_job a ≡ Ok tt → Goes r q
         go a f (refuses m k h t) w = absurd (let z : ◌≡◌ {A = ℕ} 0 1 = cc in omega arith)
         go a f (goes h c v) w = record { is = f; asked = h; clear = c; windows = v }
 

@@ -5,12 +5,14 @@ use mathlib.Core.Path.{◌≡◌, refl, sym, ap, ◌∙◌}
 use mathlib.Core.Bool.{Bool, true, false}
 use lib.Dec.{eqb, leb}
 use borrow.Author.Tests.{le-leb, lt-leb, ne_eqb}
-use Rattle.model.specs.declared.Checked.{Checked}
-use Rattle.model.specs.declared.Checked.TheVariants.{Refused}
+use Rattle.std.specs.declared.result.Result.{Result}
+use Rattle.std.specs.declared.result.Result.TheVariants.{Err}
+use Rattle.model.specs.declared.Answer.{Answer}
 use Rattle.model.specs.declared.Job as Typed
 use Rattle.model.specs.planning.Job.{Job, job_of, job_with, set_axes}
 use Rattle.model.specs.planning.Words.{good_mask}
 use Rattle.model.specs.planning.Refusals.{last_tick}
+use Rattle.model.specs.planning.Told.{refusal}
 use Rattle.model.specs.planning.Admission.{typed, Admission, refused_at, tested, asked_admission, job_admission}
 use Rattle.model.specs.planning.Admission.{admission}
 use Rattle.model.specs.calls.Converter.{conversion_refusals}
@@ -53,11 +55,11 @@ module _ (p : Purpose) (t : Typed.Job) (good : good_mask t.mask ≡ true) (asked
       ∙ sym (by-purpose p t)
       ∙ sym (mask-passed (rules_for p) t good)
 
-  pub asked-late : last_tick < asked → Refused 3 1 ≡ without_job (admission (rules_for p) (typed t))
+  pub asked-late : last_tick < asked → Err (refusal 3 1) ≡ without_job (admission (rules_for p) (typed t))
   unfolding by-asked
   asked-late h = ap without_job (sym (ap by-asked (lt-leb asked last_tick h)) ∙ from-three)
 
-  pub asked-in-time : asked ≤ last_tick → (rests : Bool) → rests ≡ must_rest p asked → (c : Checked)
+  pub asked-in-time : asked ≤ last_tick → (rests : Bool) → rests ≡ must_rest p asked → (c : Result Unit Answer)
       → c ≡ first_refusal (tests_for rests) (set_axes 0 t.mask t.axes) t.windows
       → c ≡ without_job (admission (rules_for p) (typed t))
   unfolding by-asked

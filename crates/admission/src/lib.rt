@@ -13,10 +13,11 @@
 ghost use Rattle.std.specs.Prelude.{◌≡◌};
 ghost use Rattle.model.specs.planning.Job.{set_axes};
 ghost use Rattle.model.specs.planning.Admission.{typed, admission};
+ghost use Rattle.model.specs.planning.Told.{told};
 ghost use Rattle.refusals.specs.Checks.{without_job};
 ghost use Rattle.admission.specs.Admitting.{rules_for, asked_read, must_rest, any_measured, named_with_weight};
 
-use model::{AXES, Axis, Checked, LAST_TICK, Windows};
+use model::{AXES, Axis, LAST_TICK, Refusal, Windows};
 
 // What a call admits a job for: planning; a search, which reads 0 for the asked arrival; or
 // conversion, where a fixed target may have a velocity unless the least arrival is sought.
@@ -27,66 +28,63 @@ pub enum Purpose {
     Converting,
 }
 
+impl Purpose {
+    // The asked arrival as a call reads it.
+    fn asked_read(self, asked: u32) -> u32
+        ensures { result ≡ asked_read self asked }
+    {
+        match self {
+            Purpose::Planning | Purpose::Converting => asked,
+            Purpose::Searching => 0,
+        }
+    }
+
+    // Whether fixed targets must be at rest.
+    fn must_rest(self, asked: u32) -> bool
+        ensures { result ≡ must_rest self asked }
+    {
+        match self {
+            Purpose::Planning | Purpose::Searching => true,
+            Purpose::Converting => asked == 0,
+        }
+    }
+}
+
 // The first refusal of a job, by its parts, before its arrival is looked for, or none. Axes that
 // the mask does not name are not looked at.
 pub fn check(
     mask: u32,
     asked: u32,
     axes: [Axis; AXES],
-    windows: Windows,
+    windows: Option<Windows>,
     purpose: Purpose,
-) -> Checked
-    ensures { result ≡ without_job (admission (rules_for purpose)
+) -> Result<(), Refusal>
+    ensures { told result ≡ without_job (admission (rules_for purpose)
         (typed (record { mask = mask; asked = asked; axes = axes; windows = windows }))) }
 {
     if !model::mask_allowed(mask) {
-        return Checked::Refused(1, 0);
+        return Err(Refusal::Mask);
     }
-    let read = asked_read(purpose, asked);
+    let read = purpose.asked_read(asked);
     if LAST_TICK < read {
-        return Checked::Refused(3, 1);
+        return Err(Refusal::Asked);
     }
-    refusals::check(mask, axes, windows, must_rest(purpose, read))
-}
-
-// The asked arrival as a call reads it.
-fn asked_read(purpose: Purpose, asked: u32) -> u32
-    ensures { result ≡ asked_read purpose asked }
-{
-    match purpose {
-        Purpose::Planning => asked,
-        Purpose::Searching => 0,
-        Purpose::Converting => asked,
-    }
-}
-
-// Whether fixed targets must be at rest.
-fn must_rest(purpose: Purpose, asked: u32) -> bool
-    ensures { result ≡ must_rest purpose asked }
-{
-    match purpose {
-        Purpose::Planning => true,
-        Purpose::Searching => true,
-        Purpose::Converting => asked == 0,
-    }
+    refusals::check(mask, axes, windows, purpose.must_rest(read))
 }
 
 // Whether the number B of an axis that the mask names is to be worked out from damping as
 // measured. The other axes are not read.
+#[inline(never)] // inlined, its walk copies the axes: 500 instructions more a plan
+#[tactic(auto, using(crate::proofs::Weights::measured_later, crate::proofs::Weights::measured_unnamed))]
 pub fn any_measured(mask: u32, axes: [Axis; AXES]) -> bool
     ensures { result ≡ any_measured (set_axes 0 mask axes) }
 {
     let mut bits = mask;
-    let mut i: usize = 0;
-    while i < AXES {
-        if bits % 2 == 1 {
-            let x = axes[i];
-            if motion::measured(x) {
-                return true;
-            }
+    for x in &axes {
+        if bits % 2 == 1 && motion::measured(*x) {
+            return true;
         }
-        bits = bits / 2;
-        i += 1;
+        bits /= 2;
     }
     false
 }
@@ -98,15 +96,11 @@ pub fn with_weight(mask: u32, axes: [Axis; AXES]) -> [Axis; AXES]
 {
     let mut given = axes;
     let mut bits = mask;
-    let mut i: usize = 0;
-    while i < AXES {
+    for x in &mut given {
         if bits % 2 == 1 {
-            let x = given[i];
-            let with_weight = motion::with_weight(x);
-            given[i] = with_weight;
+            *x = motion::with_weight(*x);
         }
-        bits = bits / 2;
-        i += 1;
+        bits /= 2;
     }
     given
 }

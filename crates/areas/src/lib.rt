@@ -7,7 +7,7 @@ ghost use Rattle.whole.specs.Integers.{sum_to};
 ghost use Rattle.whole.specs.Ranges.{Within, Is};
 ghost use Rattle.model.specs.planning.Leg.{sum_at};
 ghost use Rattle.areas.specs.Areas.{ramp_area, parts_of, area_of, parts_to, fall_area, UpperAreaIs};
-ghost use Rattle.profile.specs.Profiles.{leg_of, Joinable};
+ghost use Rattle.profile.specs.Profiles.{Joinable};
 ghost use Rattle.regions.specs.Regions.{velocity_in, RegionsRanged};
 
 use profile::Profile;
@@ -45,28 +45,18 @@ pub fn ramp_area(v: i64, u: i64, n: u64) -> i64
 
 // ---- all ticks
 
-// n, or the limit where that is less.
-fn at_most(n: u64, limit: u64) -> u64
-    ensures { result ≡ min n limit }
-{
-    if n <= limit {
-        return n;
-    }
-    limit
-}
-
 // The parts of the velocities of ticks 1 to r.ticks - 1.
 fn parts_of(r: Regions) -> Parts
     requires { 0 < r.ticks }
     ensures { result ≡ parts_of r }
 {
     let inner = r.ticks - 1;
-    let rising = at_most(r.rise, inner);
-    let falling = at_most(r.fall, inner - rising);
+    let rising = r.rise.min(inner);
+    let falling = r.fall.min(inner - rising);
     Parts {
-        rising: rising,
+        rising,
         level: inner - rising - falling,
-        falling: falling,
+        falling,
     }
 }
 
@@ -78,19 +68,19 @@ fn area_of(r: Regions) -> i64
     ensures { Is (2 ^ 60) result (area_of r) }
 {
     let parts = parts_of(r);
-    let level = parts.level as i64;
     let first = ramp_area(r.start, r.up, parts.rising);
     let last = ramp_area(r.end, r.down, parts.falling);
-    let cruise = r.cruise;
-    first + level * cruise + last
+    first + parts.level as i64 * r.cruise + last
 }
 
 // The same sum as `sum_at` gives, with no tick visited.
 pub fn area_at(p: Profile, c: i64) -> i64
     requires joinable { Joinable p }
     requires within { Within p.speed_limit c }
-    ensures { Is (2 ^ 60) result (sum_at (leg_of p) c) }
+    ensures { Is (2 ^ 60) result (sum_at p c) }
 {
+    // The cruise is in range, since the profile's speed limit is.
+    let _ = &p.speed_limit;
     let cruise = CruisePlan {
         velocity: c,
         raised: 0,
@@ -101,44 +91,32 @@ pub fn area_at(p: Profile, c: i64) -> i64
 // The area under the upper envelope, which are the velocities at the highest cruise, and its parts.
 pub fn upper_area(p: Profile) -> UpperArea
     requires { Joinable p }
-    ensures { UpperAreaIs (leg_of p) result }
+    ensures { UpperAreaIs p result }
 {
     let cruise = CruisePlan {
         velocity: profile::signed(p.speed_limit),
         raised: 0,
     };
     let r = regions::regions_of(p, cruise);
-    let sum = area_of(r);
-    let parts = parts_of(r);
     UpperArea {
-        sum: sum,
-        parts: parts,
+        sum: area_of(r),
+        parts: parts_of(r),
     }
 }
 
 // ---- the first ticks
-
-// n less m, or 0 where that is more.
-fn less(n: u64, m: u64) -> u64
-    ensures { result ≡ n - m }
-{
-    if n < m {
-        return 0;
-    }
-    n - m
-}
 
 // The parts of the velocities of ticks 1 to k.
 fn parts_to(r: Regions, k: u64) -> Parts
     requires { k < r.ticks }
     ensures { result ≡ parts_to r k }
 {
-    let rising = at_most(r.rise, k);
-    let last = less(r.ticks - 1, r.fall);
-    let level = less(at_most(k, last), r.rise);
+    let rising = r.rise.min(k);
+    let last_level = (r.ticks - 1).saturating_sub(r.fall);
+    let level = k.min(last_level).saturating_sub(r.rise);
     Parts {
-        rising: rising,
-        level: level,
+        rising,
+        level,
         falling: k - rising - level,
     }
 }
@@ -151,9 +129,7 @@ fn fall_area(r: Regions, k: u64, n: u64) -> i64
     ensures { Is (3 * 2 ^ 57) result (fall_area r k n) }
 {
     let left = (r.ticks - 1 - k) as i64;
-    let down = r.down;
-    let after = r.end + left * down;
-    ramp_area(after, down, n)
+    ramp_area(r.end + left * r.down, r.down, n)
 }
 
 // The sum of the velocities of ticks 1 to k, with no tick visited.
@@ -163,10 +139,8 @@ pub fn sum_to(r: Regions, k: u64) -> i64
     ensures { Is (2 ^ 60) result (sum_to (velocity_in r) k) }
 {
     let parts = parts_to(r, k);
-    let raised = at_most(r.raised, parts.level) as i64;
-    let level = parts.level as i64;
+    let raised = r.raised.min(parts.level) as i64;
     let first = ramp_area(r.start, r.up, parts.rising);
     let last = fall_area(r, k, parts.falling);
-    let cruise = r.cruise;
-    first + (level * cruise + raised) + last
+    first + (parts.level as i64 * r.cruise + raised) + last
 }

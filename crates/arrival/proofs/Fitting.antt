@@ -5,7 +5,7 @@ use mathlib.Core.Path.{◌≡◌, refl, sym, ap, subst, ◌∙◌}
 use lib.Dec.{T}
 use mathlib.Core.Bool.{Bool, true, false, ◌&&◌}
 use mathlib.Core.Logic.{◌⊎◌, inl, inr}
-use mathlib.Core.Option.{none}
+use Rattle.std.specs.Prelude.{None}
 use native.Mathlib.Omega.{arith}
 use Rattle.whole.proofs.Tests.{T_true, T_false, true-T, right, and_no, lt-or-le}
 use Rattle.theorems.proofs.jobs.LeastTick.{Least, Result}
@@ -51,7 +51,7 @@ module _ (fit reach : ℕ → Bool) (first after n : ℕ) (led : Next reach firs
       go false = refl
 
   -- none fits
-  pub nothing-fits : Result fit n (after - n) none → (k : ℕ) → first ≤ k → k < after → test k ≡ false
+  pub nothing-fits : Result fit n (after - n) None → (k : ℕ) → first ≤ k → k < after → test k ≡ false
   nothing-fits r k p q = go (lt-or-le k n)
     where
       go : (k < n) ⊎ (n ≤ k) → test k ≡ false

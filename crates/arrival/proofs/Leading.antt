@@ -2,7 +2,7 @@
 -- which every one is missed by some axis.
 use Prim.Native.Nat.{ℕ, zero, suc, ◌+◌, ◌/◌, ◌%◌, ◌≤◌, ◌<◌}
 use mathlib.Core.Path.{◌≡◌, refl, sym, ap, subst, ◌∙◌}
-use mathlib.Core.Bool.{Bool, true, false, cond, not}
+use mathlib.Core.Bool.{Bool, true, false, cond, not, false≢true}
 use mathlib.Core.List.{List}
 use mathlib.Core.Logic.{◌⊎◌, inl, inr}
 use native.Mathlib.Omega.{arith}
@@ -19,9 +19,9 @@ use Rattle.reach.specs.Halving.{Loses}
 use Rattle.model.specs.planning.Job.{JobAxis, set_axes}
 use Rattle.model.specs.planning.Refusals.{Passed, AllPassed}
 use Rattle.theorems.proofs.motions.Threshold.{reached-slow, reached-later}
-use Rattle.arrival.specs.Arrivals.{missed_by, reached_by, Again}
+use Rattle.arrival.specs.Arrivals.{missed_by, reached_by}
 use Rattle.model.proofs.SetAxes.{from, axis_at, passed-from}
-use Rattle.arrival.proofs.Reaching.{missed, not-missed, no_more, later-missed}
+use Rattle.arrival.proofs.Reaching.{missed, not_missed, no_more, later-missed}
 
 -- ---- one axis
 
@@ -44,13 +44,13 @@ unfolding missed_by
 named m x k e =
     twice-not (reachable x k) ∙ ap (λ (b : Bool). not (cond b (not (reachable x k)) false)) (sym (eq-eqb (m % 2) 1 e))
 
-pub next-named : (m : ℕ) (x : Axis) (n last r : ℕ) → m % 2 ≡ 1 → Next (reachable x) n last r
+pub next_named : (m : ℕ) (x : Axis) (n last r : ℕ) → m % 2 ≡ 1 → Next (reachable x) n last r
     → Next (reached_by m x) n last r
-next-named m x n last r e w = same_test (λ k. named m x k e) w
+next_named m x n last r e w = same_test (λ k. named m x k e) w
 
-pub next-unnamed : (m : ℕ) (x : Axis) (n last : ℕ) → (m % 2 ≡ 1 → ⊥) → n ≤ suc last → Next (reached_by m x) n last n
+pub next_unnamed : (m : ℕ) (x : Axis) (n last : ℕ) → (m % 2 ≡ 1 → ⊥) → n ≤ suc last → Next (reached_by m x) n last n
 unfolding missed_by
-next-unnamed m x n last e h =
+next_unnamed m x n last e h =
     record {
       low = omega arith;
       high = h;
@@ -58,19 +58,19 @@ next-unnamed m x n last e h =
       passed = λ p. ap (λ (b : Bool). not (cond b (not (reachable x n)) false)) (ne_eqb (m % 2) 1 e);
     }
 
-pub loses-named : (m : ℕ) (x : Axis) (n : ℕ) (r : Bool) → m % 2 ≡ 1
+pub loses_named : (m : ℕ) (x : Axis) (n : ℕ) (r : Bool) → m % 2 ≡ 1
     → Loses (reachable x) n r → Loses (reached_by m x) n r
-loses-named m x n r e w =
+loses_named m x n r e w =
     record {
       lost = λ h. sym (named m x n e) ∙ w.lost h;
       kept = λ h i p q. sym (named m x n e) ∙ w.kept h i p (named m x i e ∙ q);
     }
 
-pub loses-unnamed : (m : ℕ) (x : Axis) (n : ℕ) → (m % 2 ≡ 1 → ⊥) → Loses (reached_by m x) n false
-loses-unnamed m x n e =
+pub loses_unnamed : (m : ℕ) (x : Axis) (n : ℕ) → (m % 2 ≡ 1 → ⊥) → Loses (reached_by m x) n (eqb (m % 2) 1)
+loses_unnamed m x n e =
     record {
-      lost = λ h. absurd (subst T (sym h) tt);
-      kept = λ h i p q. (next-unnamed m x n n e (omega arith)).passed (omega arith);
+      lost = λ h. absurd (false≢true (sym (ne_eqb (m % 2) 1 e) ∙ h));
+      kept = λ h i p q. (next_unnamed m x n n e (omega arith)).passed (omega arith);
     }
 
 -- an axis that reaches two candidates reaches every one between them
@@ -84,7 +84,7 @@ between m x f j n k p q d e = go (either (eqb (m % 2) 1))
         let y = f h in
         sym (named m x n h) ∙ reached-later x y j n k p q (reached-slow x y k (named m x k h ∙ e)) (named m x j h ∙ d)
     go (inr t) =
-        (next-unnamed m x n n (λ h. subst T (sym (eq-eqb (m % 2) 1 h) ∙ t) tt) (omega arith)).passed (omega arith)
+        (next_unnamed m x n n (λ h. subst T (sym (eq-eqb (m % 2) 1 h) ∙ t) tt) (omega arith)).passed (omega arith)
 
 -- ---- the axes by their numbers
 
@@ -100,16 +100,6 @@ bits-first m = refl
 pub bits-later : (m i bits : ℕ) → bits ≡ bits_from m i → bits / 2 ≡ bits_from m (i + 1)
 unfolding bits_from
 bits-later m i bits e = ap (λ (k : ℕ). k / 2) e ∙ ap (bits_from m) (next_one i)
-
--- where no bit is left none comes
-pub bits_none : (m i d : ℕ) → bits_from m i ≡ 0 → bits_from m (i + d) ≡ 0
-unfolding bits_from
-bits_none m i zero e =
-    let k : i + 0 ≡ i = omega arith in
-    ap (bits_from m) k ∙ e
-bits_none m i (suc d) e =
-    let k : i + suc d ≡ suc (i + d) = omega arith in
-    ap (bits_from m) k ∙ ap (λ (n : ℕ). n / 2) (bits_none m i d e)
 
 module _ (m : ℕ) (six : List Axis) where
   -- the axis of number i is not named, or reaches n
@@ -161,7 +151,7 @@ module _ (m : ℕ) (six : List Axis) where
   unfolding reach
   all-on zero i n h e = no_more n i (bits_from m i) six (omega arith)
   all-on (suc d) i n h e =
-      not-missed n i (bits_from m i) six (omega arith)
+      not_missed n i (bits_from m i) six (omega arith)
       (not-true (missed_by (bits_from m i) (axis_at six i) n) (e i (omega arith)))
       ∙ ap (λ (l : List JobAxis). all_reach l n) (next-on i)
       ∙ all-on d (suc i) n (omega arith) e
@@ -175,15 +165,6 @@ module _ (m : ℕ) (six : List Axis) where
       → Loses (reached_by bits (axis_at six i)) n r → Loses (reach i) n r
   unfolding reach
   reach-loses i bits n r e w = subst (λ (k : ℕ). Loses (reached_by k (axis_at six i)) n r) e w
-
-  pub reach-unnamed : (i n : ℕ) → bits_from m i ≡ 0 → reach i n ≡ true
-  unfolding reach
-  reach-unnamed i n e =
-      (next-unnamed (bits_from m i) (axis_at six i) n n (λ h. none (subst (λ (k : ℕ). k % 2 ≡ 1) e h))
-      (omega arith)).passed (omega arith)
-    where
-      none : 0 % 2 ≡ 1 → ⊥
-      none h = omega arith
 
   -- an axis that reaches two candidates reaches every one between them
   pub reach-between : AllPassed (set_axes 0 m six) → (i : ℕ) → i < length six → (j n k : ℕ) → j ≤ n → n ≤ k
@@ -215,16 +196,17 @@ module _ (test : ℕ → Bool) (reaches : ℕ → ℕ → Bool) (first last numb
   here : (j : ℕ) → j ≡ number → r ≤ last → reaches j r ≡ true
   here j e h = ap (λ (i : ℕ). reaches i r) e ∙ w.passed h
 
-  pub turn-done : (a : ℕ) → Again again number n r a → Led test reaches first last (number + 1) a r
-  turn-done a c =
+  -- it led on, or left n
+  pub turn-done : (a : ℕ) → (n < r → a ≡ number) → (r ≤ n → a ≡ again) → Led test reaches first last (number + 1) a r
+  turn-done a led-on left =
       record {
         low = omega (arith, s.low, w.low);
         high = w.high;
         missed = missed;
         held = held;
         turned = turned;
-        few = few c;
-        upper = upper c;
+        few = few (lt-or-le n r);
+        upper = λ j p q h. upper j p q h (lt-or-le n r);
       }
     where
       missed : (k : ℕ) → first ≤ k → k < r → test k ≡ false
@@ -250,68 +232,31 @@ module _ (test : ℕ → Bool) (reaches : ℕ → ℕ → Bool) (first last numb
               (t.0, (omega (arith, t.1.0, w.low), t.1.1))
           go (inr u) = (r, (omega arith, here j (omega arith) l))
 
-      few : Again again number n r a → a ≤ number + 1
-      few (inl (e, f)) = omega (arith, s.few)
-      few (inr (e, f)) = omega arith
+      few : (n < r) ⊎ (r ≤ n) → a ≤ number + 1
+      few (inl u) = omega (arith, led-on u)
+      few (inr u) = omega (arith, left u, s.few)
 
-      upper : Again again number n r a → (j : ℕ) → a ≤ j → j < number + 1 → r ≤ last → reaches j r ≡ true
-      upper (inl (e, f)) j p q h = go (lt-or-le j number)
+      upper : (j : ℕ) → a ≤ j → j < number + 1 → r ≤ last → (n < r) ⊎ (r ≤ n) → reaches j r ≡ true
+      upper j p q h (inl u) = here j (omega (arith, led-on u)) h
+      upper j p q h (inr u) = go (lt-or-le j number)
         where
           go : (j < number) ⊎ (number ≤ j) → reaches j r ≡ true
-          go (inl u) = ap (reaches j) e ∙ s.upper j (omega arith) u (omega arith)
-          go (inr u) = here j (omega arith) h
-      upper (inr (e, f)) j p q h = here j (omega arith) h
-
--- where no other axis is named, every axis had its turn
-pub led-rest : (test : ℕ → Bool) (reaches : ℕ → ℕ → Bool) (first last i again n : ℕ)
-    → Led test reaches first last i again n → i ≤ 6
-    → ((j k : ℕ) → i ≤ j → reaches j k ≡ true) → Led test reaches first last 6 again n
-led-rest test reaches first last i again n s h rest =
-    record {
-      low = s.low;
-      high = s.high;
-      missed = s.missed;
-      held = held;
-      turned = turned;
-      few = omega (arith, s.few);
-      upper = upper;
-    }
-  where
-    turned : (j : ℕ) → j < 6 → n ≤ last → (k : ℕ) × ((k ≤ n) × (reaches j k ≡ true))
-    turned j p l = go (lt-or-le j i)
-      where
-        go : (j < i) ⊎ (i ≤ j) → (k : ℕ) × ((k ≤ n) × (reaches j k ≡ true))
-        go (inl u) = s.turned j u l
-        go (inr u) = (n, (omega arith, rest j n u))
-
-    held : (j : ℕ) → j < 6 → (k : ℕ) → n ≤ k → k ≤ last → reaches j k ≡ true → reaches j n ≡ true
-    held j p k a b e = go (lt-or-le j i)
-      where
-        go : (j < i) ⊎ (i ≤ j) → reaches j n ≡ true
-        go (inl u) = s.held j u k a b e
-        go (inr u) = rest j n u
-
-    upper : (j : ℕ) → again ≤ j → j < 6 → n ≤ last → reaches j n ≡ true
-    upper j a p b = go (lt-or-le j i)
-      where
-        go : (j < i) ⊎ (i ≤ j) → reaches j n ≡ true
-        go (inl u) = s.upper j a u b
-        go (inr u) = rest j n u
+          go (inl o) =
+              let k : r ≡ n = omega (arith, w.low) in
+              ap (reaches j) k ∙ s.upper j (omega (arith, left u)) o (omega arith)
+          go (inr o) = here j (omega arith) h
 
 -- ---- what they lead to: it is reached by all, or no candidate is
 
-module _ (test : ℕ → Bool) (reaches : ℕ → ℕ → Bool) (first last again n : ℕ) (s : Led test reaches first last 6 again n)
-    (one : (i : ℕ) → i < 6 → (k : ℕ) → reaches i k ≡ false → test k ≡ false)
-    (all : (k : ℕ) → ((i : ℕ) → i < 6 → reaches i k ≡ true) → test k ≡ true) where
-  -- past the last
-  pub led-past : last < n → Next test first last n
-  led-past h = record { low = s.low; high = s.high; missed = s.missed; passed = λ l. absurd (omega arith) }
-
+module _ (test : ℕ → Bool) (reaches : ℕ → ℕ → Bool) (first last count again n : ℕ)
+    (s : Led test reaches first last count again n)
+    (one : (i : ℕ) → i < count → (k : ℕ) → reaches i k ≡ false → test k ≡ false)
+    (all : (k : ℕ) → ((i : ℕ) → i < count → reaches i k ≡ true) → test k ≡ true) where
   -- those before the one that led on last reach it too
   pub led-all : n ≤ last → ((j : ℕ) → j < again → reaches j n ≡ true) → Next test first last n
   led-all h f = record { low = s.low; high = s.high; missed = s.missed; passed = λ l. all n each }
     where
-      each : (j : ℕ) → j < 6 → reaches j n ≡ true
+      each : (j : ℕ) → j < count → reaches j n ≡ true
       each j o = go (lt-or-le j again)
         where
           go : (j < again) ⊎ (again ≤ j) → reaches j n ≡ true
@@ -319,7 +264,7 @@ module _ (test : ℕ → Bool) (reaches : ℕ → ℕ → Bool) (first last agai
           go (inr u) = s.upper j u o h
 
   -- one of them does not
-  pub led-nowhere : (i : ℕ) → i < 6 → reaches i n ≡ false → Next test first last (last + 1)
+  pub led-nowhere : (i : ℕ) → i < count → reaches i n ≡ false → Next test first last (last + 1)
   led-nowhere i o e =
       record {
         low = omega (arith, s.low, s.high);

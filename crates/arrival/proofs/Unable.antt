@@ -3,16 +3,17 @@ use Prim.Native.Nat.{ℕ, zero, suc, ◌+◌, ◌/◌, ◌%◌, ◌^◌, ◌<◌
 use native.Mathlib.Omega.{arith}
 use mathlib.Core.Path.{◌≡◌, refl, sym, ap, ◌∙◌}
 use mathlib.Core.Bool.{Bool, true, false, cond, not, false≢true}
-use mathlib.Core.Option.{Option, none, some}
+use Rattle.std.specs.Prelude.{Option, None, Some}
 use mathlib.Core.List.{List, [], ◌∷◌}
 use lib.ListN.{length}
 use lib.Dec.{eqb}
+use borrow.Author.Tests.{eq-eqb, ne_eqb}
 use Rattle.reach.specs.Halving.{ReachesSome}
 use Rattle.model.specs.declared.Axis.{Axis}
 use Rattle.model.specs.planning.Motion.{reachable}
 use Rattle.model.specs.planning.Job.{JobAxis, set_axes, mask_where}
 use Rattle.model.specs.planning.Outcome.{all_reach, least_arrival}
-use Rattle.arrival.specs.Arrivals.{cannot_arrive, bit_of}
+use Rattle.arrival.specs.Arrivals.{cannot_arrive}
 use Rattle.model.proofs.SetAxes.{pick, from, axis_at, from_more, from-none}
 use Rattle.theorems.proofs.jobs.LeastTick.{Result, result}
 
@@ -30,28 +31,44 @@ module _ (x : Axis) where
       go false = refl
 
   none-reached : (r : Bool) (o : Option ℕ) → ReachesSome (reachable x) 4096 r → Result (all_reach alone) 1 4096 o
-      → not r ≡ elim o as (λ _. Bool) [ some n ↦ false | none ↦ true ]
-  none-reached true none w h =
+      → not r ≡ elim o as (λ _. Bool) [ Some n ↦ false | None ↦ true ]
+  none-reached true None w h =
       let k = w.some refl in
       absurd (h k.0 k.1.0 (omega (arith, k.1.1.0)) (alone-is k.0 ∙ k.1.1.1))
-  none-reached false none w h = refl
-  none-reached true (some m) w h = refl
-  none-reached false (some m) w h =
+  none-reached false None w h = refl
+  none-reached true (Some m) w h = refl
+  none-reached false (Some m) w h =
       absurd (false≢true (sym (w.none refl m (omega (arith, h.last))) ∙ sym (alone-is m) ∙ h.passes))
 
-  pub reaches-none : (r : Bool) (asked : ℕ) → asked ≡ 0 → ReachesSome (reachable x) 4096 r
+  pub misses_all : (r : Bool) (asked : ℕ) → asked ≡ 0 → ReachesSome (reachable x) 4096 r
       → not r ≡ cannot_arrive asked x
   unfolding cannot_arrive
-  reaches-none r asked z w =
+  misses_all r asked z w =
       none-reached r (least_arrival alone) w (result (all_reach alone) 1 4096)
       ∙ sym (ap (λ (k : ℕ). cannot_arrive k x) z)
 
-pub misses-asked : (asked : ℕ) (x : Axis) → (asked ≡ 0 → ⊥) → not (reachable x asked) ≡ cannot_arrive asked x
+pub misses_asked : (asked : ℕ) (x : Axis) → (asked ≡ 0 → ⊥) → not (reachable x asked) ≡ cannot_arrive asked x
 unfolding cannot_arrive
-misses-asked zero x h = absurd (h refl)
-misses-asked (suc n) x h = refl
+misses_asked zero x h = absurd (h refl)
+misses_asked (suc n) x h = refl
 
 -- ---- the axes of a mask
+
+-- the bit of an axis that the lowest bit of m names and that cannot arrive, or 0
+pub bit_of : ℕ → Axis → ℕ → ℕ → ℕ
+bit_of m x asked bit = cond (cond (eqb (m % 2) 1) (cannot_arrive asked x) false) bit 0
+
+pub bit-named : (m : ℕ) (x : Axis) (asked bit : ℕ) (b : Bool) → m % 2 ≡ 1 → cannot_arrive asked x ≡ b
+    → bit_of m x asked bit ≡ cond b bit 0
+unfolding bit_of
+bit-named m x asked bit b e f =
+    ap (λ (t : Bool). cond (cond t (cannot_arrive asked x) false) bit 0) (eq-eqb (m % 2) 1 e)
+    ∙ ap (λ (t : Bool). cond t bit 0) f
+
+pub bit-unnamed : (m : ℕ) (x : Axis) (asked bit : ℕ) → (m % 2 ≡ 1 → ⊥) → bit_of m x asked bit ≡ 0
+unfolding bit_of
+bit-unnamed m x asked bit e =
+    ap (λ (t : Bool). cond (cond t (cannot_arrive asked x) false) bit 0) (ne_eqb (m % 2) 1 e)
 
 weighed : (f : Axis → Bool) (b : Bool) (i : ℕ) (x : Axis) (xs : List JobAxis)
     → mask_where f (pick b i x xs) ≡ cond (cond b (f x) false) (2 ^ i) 0 + mask_where f xs

@@ -5,10 +5,10 @@ use Prim.Native.Nat.{ℕ, suc, ◌+◌, ◌-◌, ◌<◌, ◌≤◌}
 use native.Mathlib.Omega.{arith}
 use mathlib.Core.Path.{◌≡◌, refl, sym, ap, ap₂, ◌∙◌}
 use mathlib.Core.Bool.{Bool, true, false, ◌&&◌, false≢true}
-use mathlib.Core.Option.{Option, none, some}
+use Rattle.std.specs.Prelude.{Option, None, Some}
 use mathlib.Core.List.{List, [], ◌∷◌}
 use lib.Dec.{eqb, leb}
-use lib.ListN.{length, get_or, take, drop}
+use lib.ListN.{length, get_or, drop}
 use Rattle.whole.proofs.Elements.{none-some}
 use Rattle.model.specs.declared.Window.{Window}
 use Rattle.model.specs.declared.Windows.{Windows}
@@ -19,7 +19,9 @@ use Rattle.model.specs.planning.Outcome.{least_from}
 use Rattle.theorems.proofs.jobs.WindowsInWords.{none-wrong}
 use Rattle.windows.specs.Ticks.{first_tick, after_last}
 use Rattle.windows.proofs.Ticks.{Fit, fit_is, fit-ticks, ticks-fit}
-use Rattle.windows.proofs.Listed.{no_window, split}
+use Rattle.windows.proofs.Listed.{no_window}
+use lib.Seq.{drop-cons}
+use native.Mathlib.Numerals.{add-one}
 use Rattle.theorems.proofs.jobs.LeastTick.{Least, Result, result, one-result}
 use Rattle.arrival.specs.Arrivals.{searched}
 
@@ -28,22 +30,22 @@ use Rattle.arrival.specs.Arrivals.{searched}
 pub record Ordered (i c : ℕ) (w : Window) (l : List Window) : Type 0 where
   pub closes : w.opening < w.closing
   pub follows : c ≤ w.opening
-  pub later : first_wrong_window (suc i) w.closing l ≡ none
+  pub later : first_wrong_window (suc i) w.closing l ≡ None
 
-ordered : (i c : ℕ) (w : Window) (l : List Window) → first_wrong_window i c (w ∷ l) ≡ none → Ordered i c w l
+ordered : (i c : ℕ) (w : Window) (l : List Window) → first_wrong_window i c (w ∷ l) ≡ None → Ordered i c w l
 ordered i c w l e =
     let r = none-wrong i c (w ∷ l) e 0 w refl in
     record { closes = r.closes; follows = r.follows; later = go (in_order_after c w) e }
   where
     go : (b : Bool) → ◌≡◌ {A = Option ℕ}
-        (elim b as (λ _. Option ℕ) [ true ↦ first_wrong_window (suc i) w.closing l | false ↦ some i ]) none
-        → first_wrong_window (suc i) w.closing l ≡ none
+        (elim b as (λ _. Option ℕ) [ true ↦ first_wrong_window (suc i) w.closing l | false ↦ Some i ]) None
+        → first_wrong_window (suc i) w.closing l ≡ None
     go true e = e
     go false e = absurd (none-some (sym e))
 
 module _ (test : ℕ → Bool) (first end dwell : ℕ) where
   -- a tick that fits one of them is at c or later
-  after : (i c : ℕ) (l : List Window) → first_wrong_window i c l ≡ none → (n : ℕ) → fits_one n dwell l ≡ true → c ≤ n
+  after : (i c : ℕ) (l : List Window) → first_wrong_window i c l ≡ None → (n : ℕ) → fits_one n dwell l ≡ true → c ≤ n
   after i c [] e n f = absurd (false≢true f)
   after i c (w ∷ l) e n f =
       let o = ordered i c w l e in
@@ -108,15 +110,15 @@ module _ (test : ℕ → Bool) (first end dwell : ℕ) where
               (λ p q. let s = far k q in omega (arith, f.within));
         }
 
-    missed : Result test (first_tick first w) count none → (k : ℕ) → first ≤ k → k < end
+    missed : Result test (first_tick first w) count None → (k : ℕ) → first ≤ k → k < end
         → fits_window k dwell w ≡ true → test k ≡ true → ⊥
     missed r k a b p q = let s = fit-ticks first end k dwell w a b p in r k s.0 (omega (arith, s.1, s.0)) q
 
     -- not found there
-    onward : (o : Option ℕ) → Result test (first_tick first w) count none → Result (both l) first (end - first) o
+    onward : (o : Option ℕ) → Result test (first_tick first w) count None → Result (both l) first (end - first) o
         → Result (both (w ∷ l)) first (end - first) o
-    onward none none_here h = λ k a b e. of-first ⊥ k e (missed none_here k a (omega arith)) (λ p q. h k a b q)
-    onward (some n) none_here h =
+    onward None none_here h = λ k a b e. of-first ⊥ k e (missed none_here k a (omega arith)) (λ p q. h k a b q)
+    onward (Some n) none_here h =
         record {
           first = h.first;
           last = h.last;
@@ -127,7 +129,7 @@ module _ (test : ℕ → Bool) (first end dwell : ℕ) where
 
   -- ---- all windows
 
-  searched-least : (i c : ℕ) (l : List Window) → first_wrong_window i c l ≡ none
+  searched-least : (i c : ℕ) (l : List Window) → first_wrong_window i c l ≡ None
       → Result (both l) first (end - first) (searched test first end dwell l)
   searched-least i c [] e = λ k a b f. absurd (false≢true f)
   searched-least i c (w ∷ l) e =
@@ -136,84 +138,72 @@ module _ (test : ℕ → Bool) (first end dwell : ℕ) where
       (searched-least (suc i) w.closing l o.later)
     where
       go : (o : Option ℕ) → Result test (first_tick first w) (count w l) o
-          → first_wrong_window (suc i) w.closing l ≡ none
+          → first_wrong_window (suc i) w.closing l ≡ None
           → Result (both l) first (end - first) (searched test first end dwell l)
           → Result (both (w ∷ l)) first (end - first)
-          (elim o as (λ _. Option ℕ) [ some n ↦ some n | none ↦ searched test first end dwell l ])
-      go none r s h = onward w l (searched test first end dwell l) r h
-      go (some n) r s h = found w l n (λ k q. after (suc i) w.closing l s k (fits-of w l k q)) r
+          (elim o as (λ _. Option ℕ) [ Some n ↦ Some n | None ↦ searched test first end dwell l ])
+      go None r s h = onward w l (searched test first end dwell l) r h
+      go (Some n) r s h = found w l n (λ k q. after (suc i) w.closing l s k (fits-of w l k q)) r
 
-  pub searched-is : (l : List Window) → first_wrong_window 0 0 l ≡ none
+  pub searched-is : (l : List Window) → first_wrong_window 0 0 l ≡ None
       → searched test first end dwell l ≡ least_from (λ n. fits_one n dwell l && test n) first (end - first)
   searched-is l e =
       let c = end - first in
       one-result (both l) first c (searched test first end dwell l) (least_from (both l) first c)
       (searched-least 0 0 l e) (result (both l) first c)
 
--- ---- what a loop over the first `count` windows of a list has before it
+-- ---- what a loop over windows has before it
 
-module _ (test : ℕ → Bool) (first end dwell : ℕ) (list : List Window) (count i : ℕ)
-    (inside : i < length (take count list))
-    (below : i < count) where
+module _ (test : ℕ → Bool) (first end dwell : ℕ) (list : List Window) (i : ℕ) (inside : i < length list) where
   abbrev others : List Window
-  others = drop (i + 1) (take count list)
+  others = drop (i + 1) list
 
   abbrev window : Window
   window = get_or list i no_window
 
   by-window : Option ℕ → Option ℕ
-  by-window o = elim o [ some n ↦ some n | none ↦ searched test first end dwell others ]
+  by-window o = elim o [ Some n ↦ Some n | None ↦ searched test first end dwell others ]
 
   -- window i, its first tick being a and the one after its last b
   module _ (a b : ℕ) (from : a ≡ first_tick first window) (last : b ≡ after_last dwell end window) where
-    opened : searched test first end dwell (drop i (take count list)) ≡ by-window (least_from test a (b - a))
+    opened : searched test first end dwell (drop i list) ≡ by-window (least_from test a (b - a))
     unfolding by-window
     opened =
-        ap (searched test first end dwell) (split list count i inside below)
+        ap (searched test first end dwell) (drop-cons list i no_window inside
+        ∙ ap (λ (j : ℕ). window ∷ drop j list) (sym (add-one i)))
         ∙ ap₂ (λ (k m : ℕ). by-window (least_from test k (m - k))) (sym from) (sym last)
 
-    pub in_window : (n : ℕ) → some n ≡ least_from test a (b - a)
-        → searched test first end dwell (drop i (take count list)) ≡ some n
+    pub in_window : (n : ℕ) → Some n ≡ least_from test a (b - a)
+        → searched test first end dwell (drop i list) ≡ Some n
     unfolding by-window
     in_window n is = opened ∙ ap by-window (sym is)
 
-    pub past-window : none ≡ least_from test a (b - a)
-        → searched test first end dwell (drop i (take count list)) ≡ searched test first end dwell others
+    pub past-window : None ≡ least_from test a (b - a)
+        → searched test first end dwell (drop i list) ≡ searched test first end dwell others
     unfolding by-window
     past-window is = opened ∙ ap by-window (sym is)
 
 -- ---- with windows and without
 
-in_order : (w : Windows) → refused13 w ≡ none → w.given ≡ true → first_wrong_window 0 0 (brought w) ≡ none
-in_order w e t = by-given w.given t e
+in_order : (w : Windows) → windows_refused w ≡ None → first_wrong_window 0 0 (brought w) ≡ None
+in_order w e = by_count (eqb w.count 0) (leb w.count 32 && leb w.dwell 4096) e
   where
     by_count : (a b : Bool)
         → ◌≡◌ {A = Option ℕ} (elim a as (λ _. Option ℕ) [
-          | true ↦ some 0
-          | false ↦ elim b as (λ _. Option ℕ) [ true ↦ first_wrong_window 0 0 (brought w) | false ↦ some 32 ]
-        ]) none
-        → first_wrong_window 0 0 (brought w) ≡ none
+          | true ↦ Some 0
+          | false ↦ elim b as (λ _. Option ℕ) [ true ↦ first_wrong_window 0 0 (brought w) | false ↦ Some 32 ]
+        ]) None
+        → first_wrong_window 0 0 (brought w) ≡ None
     by_count true b e = absurd (none-some (sym e))
     by_count false true e = e
     by_count false false e = absurd (none-some (sym e))
-
-    by-given : (b : Bool) → b ≡ true
-        → ◌≡◌ {A = Option ℕ} (elim b as (λ _. Option ℕ) [ true ↦ windows_refused w | false ↦ none ]) none
-        → first_wrong_window 0 0 (brought w) ≡ none
-    by-given true t e = by_count (eqb w.count 0) (leb w.count 32 && leb w.dwell 4096) e
-    by-given false t e = absurd (false≢true t)
 
 and-true : (b : Bool) → b && true ≡ b
 and-true true = refl
 and-true false = refl
 
-pub with-windows : (w : Windows) (first end : ℕ) → refused13 w ≡ none → w.given ≡ true
-    → searched (λ n. true) first end w.dwell (brought w) ≡ least_from (in_windows w) first (end - first)
-with-windows w first end e t =
-    searched-is (λ n. true) first end w.dwell (brought w) (in_order w e t)
+pub with-windows : (w : Windows) (first end : ℕ) → refused13 (Some w) ≡ None
+    → searched (λ n. true) first end w.dwell (brought w) ≡ least_from (in_windows (Some w)) first (end - first)
+with-windows w first end e =
+    searched-is (λ n. true) first end w.dwell (brought w) (in_order w e)
     ∙ (λ i. least_from (λ n. and-true (fits_one n w.dwell (brought w)) i) first (end - first))
-    ∙ ap (λ (b : Bool). least_from
-    (λ n. elim b as (λ _. Bool) [ true ↦ fits_one n w.dwell (brought w) | false ↦ true ]) first (end - first)) (sym t)
-
-pub no-windows : (w : Windows) (n : ℕ) → w.given ≡ false → in_windows w n ≡ true
-no-windows w n t = ap (λ (b : Bool). elim b as (λ _. Bool) [ true ↦ fits_one n w.dwell (brought w) | false ↦ true ]) t

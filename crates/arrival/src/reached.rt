@@ -3,39 +3,35 @@ ghost use Rattle.std.specs.Prelude.{◌≡◌, ◌%◌, ◌≤◌};
 ghost use Rattle.model.specs.planning.Job.{set_axes, mask_where};
 ghost use Rattle.model.specs.planning.Refusals.{Passed, AllPassed, last_tick};
 ghost use Rattle.model.specs.planning.Outcome.{all_reach};
-ghost use Rattle.arrival.specs.Arrivals.{cannot_arrive, missed_by, bit_of};
+ghost use Rattle.arrival.specs.Arrivals.{cannot_arrive, missed_by};
 
 use model::{AXES, Axis, LAST_TICK};
 
 // Whether every axis of the mask reaches a tick.
+#[tactic(auto, using(crate::proofs::Reaching::missed))]
 pub fn all_reach(mask: u32, axes: [Axis; AXES], tick: u32) -> bool
     requires all_passed { AllPassed (set_axes 0 mask axes) }
     requires tick_le_last_tick { tick ≤ last_tick }
     ensures { result ≡ all_reach (set_axes 0 mask axes) tick }
 {
     let mut bits = mask;
-    let mut number: usize = 0;
-    while number < AXES {
-        let axis = axes[number];
-        if misses(bits, axis, tick) {
+    for axis in &axes {
+        if misses(bits, *axis, tick) {
             return false;
         }
-        bits = bits / 2;
-        number += 1;
+        bits /= 2;
     }
     true
 }
 
 // Whether the lowest of the bits names the axis and the axis does not reach the tick.
+#[tactic(auto, unfolding(crate::specs::Arrivals::missed_by))]
 pub fn misses(bits: u32, axis: Axis, tick: u32) -> bool
     requires passed { bits % 2 ≡ 1 → Passed axis }
     requires tick_le_last_tick { tick ≤ last_tick }
     ensures { result ≡ missed_by bits axis tick }
 {
-    if bits % 2 == 1 {
-        return !reach::reaches(axis, tick);
-    }
-    false
+    bits % 2 == 1 && !reach::reaches(axis, tick)
 }
 
 // The mask of those axes of a mask that do not reach the asked arrival or, where 0 is asked, any.
@@ -47,42 +43,26 @@ pub fn unable_axes(mask: u32, axes: [Axis; AXES], asked: u32) -> u32
     let mut unable: u32 = 0;
     let mut bit: u32 = 1;
     let mut bits = mask;
-    let mut number: usize = 0;
-    while number < AXES {
-        let axis = axes[number];
-        let more = unable_bit(bits, axis, asked, bit);
-        unable = unable + more;
-        bit = bit * 2;
-        bits = bits / 2;
-        number += 1;
+    for axis in &axes {
+        if bits % 2 == 1 && cannot_arrive(*axis, asked) {
+            unable += bit;
+        }
+        bit *= 2;
+        bits /= 2;
     }
     unable
 }
 
-// The bit of an axis where the lowest of the bits names the axis and it does not reach the asked
-// arrival, or any where 0 is asked; else 0.
-fn unable_bit(bits: u32, axis: Axis, asked: u32, bit: u32) -> u32
-    requires passed { bits % 2 ≡ 1 → Passed axis }
-    requires asked_le_last_tick { asked ≤ last_tick }
-    ensures { result ≡ bit_of bits axis asked bit }
-{
-    if bits % 2 != 1 {
-        return 0;
-    }
-    if cannot_arrive(axis, asked) {
-        return bit;
-    }
-    0
-}
-
 // Whether an axis does not reach the asked arrival or, where 0 is asked, any from 1 to 4,096.
+#[tactic(auto, using(crate::proofs::Unable::misses_all, crate::proofs::Unable::misses_asked))]
 fn cannot_arrive(axis: Axis, asked: u32) -> bool
     requires passed { Passed axis }
     requires asked_le_last_tick { asked ≤ last_tick }
     ensures { result ≡ cannot_arrive asked axis }
 {
     if asked == 0 {
-        return !reach::reaches_some(axis, LAST_TICK);
+        !reach::reaches_some(axis, LAST_TICK)
+    } else {
+        !reach::reaches(axis, asked)
     }
-    !reach::reaches(axis, asked)
 }

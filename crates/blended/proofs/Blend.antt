@@ -6,8 +6,7 @@ use Rattle.whole.proofs.Ring.{pol, same}
 use mathlib.Core.List.{[], ◌∷◌}
 use Prim.Native.Nat.{ℕ, ◌+◌, ◌*◌}
 use lib.IntN.{ℤ, pos, ◌+ℤ◌, ◌-ℤ◌, ◌*ℤ◌}
-use Rattle.model.specs.declared.SecondSway.{SecondSway}
-use Rattle.model.specs.declared.SecondSway.TheVariants.{Absent, HalfPeriod}
+use Rattle.std.specs.Prelude.{Option, None, Some}
 use Rattle.model.specs.planning.Quantities.{sway_delay}
 use Rattle.blended.specs.BlendedStates.{mix, added}
 use Rattle.planned.specs.Plans.{blends_by}
@@ -50,48 +49,48 @@ mix-times s a b = ring (pos s) (pos a) (pos b)
 
 -- ---- the blends added up
 
-pub added-same : (s : SecondSway) (w : ℕ) (v : ℤ) → added s (λ d. pos w *ℤ v) ≡ pos (blends_by s * w) *ℤ v
-added-same Absent w = ring (pos w)
+pub added-same : (s : Option ℕ) (w : ℕ) (v : ℤ) → added s (λ d. pos w *ℤ v) ≡ pos (blends_by s * w) *ℤ v
+added-same None w = ring (pos w)
   where
     ring : (w v : ℤ) → w *ℤ v ≡ (pos 1 *ℤ w) *ℤ v
     ring w v = same (w ∷ v ∷ []) (search pol depth 20 fits 9000) tt
-added-same (HalfPeriod d) w = ring (pos w)
+added-same (Some d) w = ring (pos w)
   where
     ring : (w v : ℤ) → w *ℤ v +ℤ w *ℤ v ≡ (pos 2 *ℤ w) *ℤ v
     ring w v = same (w ∷ v ∷ []) (search pol depth 20 fits 9000) tt
 
-pub added-sum : (s : SecondSway) (f g h : ℕ → ℤ)
+pub added-sum : (s : Option ℕ) (f g h : ℕ → ℤ)
     → added s (λ d. f d +ℤ g d +ℤ h d) ≡ added s f +ℤ added s g +ℤ added s h
-added-sum Absent f g h = refl
-added-sum (HalfPeriod d) f g h = ring (f 0) (g 0) (h 0) (f d) (g d) (h d)
+added-sum None f g h = refl
+added-sum (Some d) f g h = ring (f 0) (g 0) (h 0) (f d) (g d) (h d)
   where
     ring : (x y z x' y' z' : ℤ) → (x +ℤ y +ℤ z) +ℤ (x' +ℤ y' +ℤ z') ≡ (x +ℤ x') +ℤ (y +ℤ y') +ℤ (z +ℤ z')
     ring x y z x' y' z' = same (x ∷ y ∷ z ∷ x' ∷ y' ∷ z' ∷ []) (search pol depth 20 fits 9000) tt
 
-pub added-change : (s : SecondSway) (f g : ℕ → ℤ) → added s (λ d. f d -ℤ g d) ≡ added s f -ℤ added s g
-added-change Absent f g = refl
-added-change (HalfPeriod d) f g = ring (f 0) (g 0) (f d) (g d)
+pub added-change : (s : Option ℕ) (f g : ℕ → ℤ) → added s (λ d. f d -ℤ g d) ≡ added s f -ℤ added s g
+added-change None f g = refl
+added-change (Some d) f g = ring (f 0) (g 0) (f d) (g d)
   where
     ring : (x y x' y' : ℤ) → (x -ℤ y) +ℤ (x' -ℤ y') ≡ (x +ℤ x') -ℤ (y +ℤ y')
     ring x y x' y' = same (x ∷ y ∷ x' ∷ y' ∷ []) (search pol depth 20 fits 9000) tt
 
-pub added-times : (s : SecondSway) (c : ℤ) (f : ℕ → ℤ) → added s (λ d. c *ℤ f d) ≡ c *ℤ added s f
-added-times Absent c f = refl
-added-times (HalfPeriod d) c f = ring c (f 0) (f d)
+pub added-times : (s : Option ℕ) (c : ℤ) (f : ℕ → ℤ) → added s (λ d. c *ℤ f d) ≡ c *ℤ added s f
+added-times None c f = refl
+added-times (Some d) c f = ring c (f 0) (f d)
   where
     ring : (c x y : ℤ) → c *ℤ x +ℤ c *ℤ y ≡ c *ℤ (x +ℤ y)
     ring c x y = same (c ∷ x ∷ y ∷ []) (search pol depth 20 fits 9000) tt
 
 -- at tick 0: w is both weights together, l the second times h
-pub added-start : (s : SecondSway) (w l : ℕ) (q v : ℤ)
+pub added-start : (s : Option ℕ) (w l : ℕ) (q v : ℤ)
     → added s (λ d. pos w *ℤ q -ℤ pos 2 *ℤ (pos (l + w * d) *ℤ v))
     ≡ pos (blends_by s * w) *ℤ q -ℤ pos 2 *ℤ (pos (blends_by s * l + w * sway_delay s) *ℤ v)
-added-start Absent w l = ring (pos w) (pos l)
+added-start None w l = ring (pos w) (pos l)
   where
     ring : (w l q v : ℤ)
         → w *ℤ q -ℤ pos 2 *ℤ ((l +ℤ w *ℤ pos 0) *ℤ v) ≡ (pos 1 *ℤ w) *ℤ q -ℤ pos 2 *ℤ ((pos 1 *ℤ l +ℤ w *ℤ pos 0) *ℤ v)
     ring w l q v = same (w ∷ l ∷ q ∷ v ∷ []) (search pol depth 20 fits 9000) tt
-added-start (HalfPeriod d) w l = ring (pos w) (pos l) (pos d)
+added-start (Some d) w l = ring (pos w) (pos l) (pos d)
   where
     ring : (w l d q v : ℤ)
         → (w *ℤ q -ℤ pos 2 *ℤ ((l +ℤ w *ℤ pos 0) *ℤ v)) +ℤ (w *ℤ q -ℤ pos 2 *ℤ ((l +ℤ w *ℤ d) *ℤ v))

@@ -7,8 +7,7 @@ use Prim.Native.Nat.{ℕ, zero, suc, ◌+◌, ◌*◌, ◌^◌, ◌≤◌}
 use native.Mathlib.Omega.{arith}
 use native.Mathlib.Nat.{mul-le-mul_left, mul-le-mul_right}
 use lib.IntN.{ℤ, pos, neg_ℤ, nat_abs, ◌+ℤ◌, ◌*ℤ◌}
-use Rattle.model.specs.declared.SecondSway.{SecondSway}
-use Rattle.model.specs.declared.SecondSway.TheVariants.{Absent, HalfPeriod}
+use Rattle.std.specs.Prelude.{Option, None, Some}
 use Rattle.planned.specs.declared.AxisPlan.{AxisPlan}
 use Rattle.blended.specs.declared.BlendedState.{BlendedState}
 use Rattle.planned.specs.Plans.{arrival_of, PlanRanges, velocity_back, blends_by, total_weight}
@@ -17,9 +16,9 @@ use Rattle.blended.specs.BlendedStates.{lag_of, blended_position, blended_state_
 use Rattle.planned.proofs.PlannedRanges.{weighed, blends-some, start-weighed, back-weighed}
 
 -- the blends added up, of which each is small
-added-by : (s : SecondSway) (g : ℕ → ℤ) (m : ℕ) → ((d : ℕ) → blends_by s * nat_abs (g d) ≤ m) → nat_abs (added s g) ≤ m
-added-by Absent g m h = omega (arith, h 0)
-added-by (HalfPeriod d) g m h = omega (arith, nat_abs-+ (g 0) (g d), h 0, h d)
+added-by : (s : Option ℕ) (g : ℕ → ℤ) (m : ℕ) → ((d : ℕ) → blends_by s * nat_abs (g d) ≤ m) → nat_abs (added s g) ≤ m
+added-by None g m h = omega (arith, h 0)
+added-by (Some d) g m h = omega (arith, nat_abs-+ (g 0) (g d), h 0, h d)
 
 module _ (p : AxisPlan) (s : PlanRanges p) where
   pub origin-within : Within (2 ^ 52) p.origin

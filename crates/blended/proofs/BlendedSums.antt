@@ -10,8 +10,7 @@ use Rattle.whole.specs.Integers.{sum_to}
 use Rattle.whole.specs.Ranges.{Is}
 use Rattle.whole.proofs.Laws.{nat_abs-*}
 use Rattle.whole.proofs.Ring.{pol, same}
-use Rattle.model.specs.declared.SecondSway.{SecondSway}
-use Rattle.model.specs.declared.SecondSway.TheVariants.{Absent, HalfPeriod}
+use Rattle.std.specs.Prelude.{Option, None, Some}
 use Rattle.planned.specs.declared.AxisPlan.{AxisPlan}
 use Rattle.blended.specs.declared.BlendedState.{BlendedState}
 use Rattle.planned.specs.Plans.{arrival_of, PlanRanges, total_weight, velocity_back}
@@ -34,13 +33,13 @@ sum-mix a b f g (suc n) =
     ring : (a b x y u v : ℤ) → a *ℤ (x +ℤ y) +ℤ b *ℤ (u +ℤ v) ≡ (a *ℤ x +ℤ b *ℤ u) +ℤ (a *ℤ y +ℤ b *ℤ v)
     ring a b x y u v = same (a ∷ b ∷ x ∷ y ∷ u ∷ v ∷ []) (search pol depth 20 fits 9000) tt
 
-sum_added : (s : SecondSway) (f : ℕ → ℕ → ℤ) (n : ℕ)
+sum_added : (s : Option ℕ) (f : ℕ → ℕ → ℤ) (n : ℕ)
     → added s (λ d. sum_to (f d) n) ≡ sum_to (λ k. added s (λ d. f d k)) n
-sum_added Absent f n = refl
-sum_added (HalfPeriod d) f zero = refl
-sum_added (HalfPeriod d) f (suc n) =
+sum_added None f n = refl
+sum_added (Some d) f zero = refl
+sum_added (Some d) f (suc n) =
     ring (sum_to (f 0) n) (f 0 (suc n)) (sum_to (f d) n) (f d (suc n))
-    ∙ ap (λ (z : ℤ). z +ℤ (f 0 (suc n) +ℤ f d (suc n))) (sum_added (HalfPeriod d) f n)
+    ∙ ap (λ (z : ℤ). z +ℤ (f 0 (suc n) +ℤ f d (suc n))) (sum_added (Some d) f n)
   where
     ring : (x y u v : ℤ) → (x +ℤ y) +ℤ (u +ℤ v) ≡ (x +ℤ u) +ℤ (y +ℤ v)
     ring x y u v = same (x ∷ y ∷ u ∷ v ∷ []) (search pol depth 20 fits 9000) tt

@@ -14,8 +14,7 @@ use lib.IntN.{ℤ, pos, ◌+ℤ◌, ◌-ℤ◌, ◌*ℤ◌}
 use Rattle.whole.specs.Integers.{nearest_quotient}
 use Rattle.whole.proofs.Rounding.{nearest-times}
 use Rattle.model.specs.declared.Axis.{Axis}
-use Rattle.model.specs.declared.SecondSway.{SecondSway}
-use Rattle.model.specs.declared.SecondSway.TheVariants.{Absent, HalfPeriod}
+use Rattle.std.specs.Prelude.{Option, None, Some}
 use Rattle.model.specs.planning.Quantities.{half_period, second_weight, as_moving, twice_position_at}
 use Rattle.model.specs.planning.Motion.{Tick, earlier}
 use Rattle.model.specs.planning.Rows.{planned_axis, tick_at, tick_back, blend_once, blend_by, blend, divisor, cells}
@@ -161,7 +160,7 @@ module _ (x : Axis) (n k : ℕ) (plannable : Plannable x n) (last : k ≤ n) whe
   abbrev p : AxisPlan
   p = plan_of n x
 
-  abbrev S : SecondSway
+  abbrev S : Option ℕ
   S = x.second_sway
 
   some : 0 < p.regions.ticks
@@ -216,9 +215,9 @@ module _ (x : Axis) (n k : ℕ) (plannable : Plannable x n) (last : k ≤ n) whe
           mix-times (scale x) a b (f (back_tick p k d)) (f (back_tick p k (d + half_period x)))
           ∙ (λ i. pos (scale x) *ℤ mix a b (f (sym (back_is d) i)) (f (sym (back_is (d + half_period x)) i)))
 
-      all : (s : SecondSway) → added s (λ d. blend_once (planned_axis n x) k d f) ≡ blend_by s (planned_axis n x) k f
-      all Absent = refl
-      all (HalfPeriod d) = refl
+      all : (s : Option ℕ) → added s (λ d. blend_once (planned_axis n x) k d f) ≡ blend_by s (planned_axis n x) k f
+      all None = refl
+      all (Some d) = refl
 
   -- rounded
   cell : (z y : ℤ) → z ≡ pos (scale x) *ℤ y → nearest_quotient z 65536 ≡ nearest_quotient y (divisor x)

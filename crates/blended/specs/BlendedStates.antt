@@ -4,8 +4,7 @@ use Rattle.std.specs.Prelude.{ℕ, zero, suc, ◌+◌, ◌-◌, ◌*◌, ◌≡�
 use Rattle.whole.specs.Integers.{nearest_quotient}
 use Rattle.model.specs.declared.Order.{Order}
 use Rattle.model.specs.declared.Order.TheVariants.{Forwards, Backwards}
-use Rattle.model.specs.declared.SecondSway.{SecondSway}
-use Rattle.model.specs.declared.SecondSway.TheVariants.{Absent, HalfPeriod}
+use Rattle.std.specs.Prelude.{Option, None, Some}
 use Rattle.model.specs.planning.Quantities.{sway_delay}
 use Rattle.planned.specs.declared.AxisPlan.{AxisPlan}
 use Rattle.blended.specs.declared.BlendedState.{BlendedState}
@@ -23,9 +22,9 @@ blended_back p d k =
 
 -- the blends added up, g d being the one of delay d: that of delay 0 and, for a second sway, that
 -- of delay h₂
-abbrev pub added : SecondSway → (ℕ → ℤ) → ℤ
-added Absent g = g 0
-added (HalfPeriod d) g = g 0 +ℤ g d
+abbrev pub added : Option ℕ → (ℕ → ℤ) → ℤ
+added None g = g 0
+added (Some d) g = g 0 +ℤ g d
 
 unfoldable pub blended_velocity : AxisPlan → ℕ → ℤ
 blended_velocity p k = added p.second_sway (λ d. blended_back p d k)

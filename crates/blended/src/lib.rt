@@ -9,7 +9,7 @@ ghost use Rattle.blended.specs.BlendedStates.{mix, blended_back, blended_velocit
 ghost use Rattle.blended.specs.BlendedStates.{LandsAt};
 ghost use Rattle.planned.specs.Plans.{arrival_of, PlanRanges, total_weight};
 
-use model::{Order, SecondSway};
+use model::Order;
 use planned::AxisPlan;
 
 // An axis at a tick: its exact position after the blends, in half 1/65,536 of a fine step, and its
@@ -30,7 +30,7 @@ pub fn mix(first_weight: u32, second_weight: u32, ahead: i64, behind: i64) -> i6
     requires within_2 { Within (2 ^ 39) behind }
     ensures { Is (2 ^ 56) result (mix first_weight second_weight ahead behind) }
 {
-    (first_weight as i64) * ahead + (second_weight as i64) * behind
+    i64::from(first_weight) * ahead + i64::from(second_weight) * behind
 }
 
 // One blend, d ticks before tick k.
@@ -51,11 +51,10 @@ fn blended_velocity(p: AxisPlan, k: u32) -> i64
     requires k_bound { k ≤ suc (arrival_of p) }
     ensures { Is (2 ^ 46) result (blended_velocity p k) }
 {
-    let sway = p.second_sway;
     let once = blended_back(p, 0, k);
-    match sway {
-        SecondSway::Absent => once,
-        SecondSway::HalfPeriod(d) => once + blended_back(p, d, k),
+    match p.second_sway {
+        None => once,
+        Some(d) => once + blended_back(p, d, k),
     }
 }
 
@@ -64,8 +63,7 @@ fn total_weight(p: AxisPlan) -> u32
     requires { PlanRanges p }
     ensures { result ≡ total_weight p }
 {
-    let sway = p.second_sway;
-    planned::blends(sway) * (p.first_weight + p.second_weight)
+    planned::blends(p.second_sway) * (p.first_weight + p.second_weight)
 }
 
 // Each weight times its delay, together.
@@ -73,10 +71,8 @@ fn lag_of(p: AxisPlan) -> u32
     requires { PlanRanges p }
     ensures { result ≡ lag_of p }
 {
-    let sway = p.second_sway;
-    let second_delay = motion::sway_delay(sway);
-    planned::blends(sway) * (p.second_weight * p.half_period)
-        + (p.first_weight + p.second_weight) * second_delay
+    planned::blends(p.second_sway) * (p.second_weight * p.half_period)
+        + (p.first_weight + p.second_weight) * motion::sway_delay(p.second_sway)
 }
 
 // ---- sums of the velocities of ticks 1 to k, with no tick visited
@@ -90,7 +86,7 @@ fn blended_sum_back(p: AxisPlan, d: u32, k: u32) -> i64
 {
     let ahead = planned::sum_back(p, d, k);
     let behind = planned::sum_back(p, d + p.half_period, k);
-    (p.first_weight as i64) * ahead + (p.second_weight as i64) * behind
+    i64::from(p.first_weight) * ahead + i64::from(p.second_weight) * behind
 }
 
 // Of the velocities after the blends.
@@ -99,11 +95,10 @@ fn blended_sum(p: AxisPlan, k: u32) -> i64
     requires k_bound { k ≤ suc (arrival_of p) }
     ensures { Is (2 ^ 59) result (sum_to (blended_velocity p) k) }
 {
-    let sway = p.second_sway;
     let once = blended_sum_back(p, 0, k);
-    match sway {
-        SecondSway::Absent => once,
-        SecondSway::HalfPeriod(d) => once + blended_sum_back(p, d, k),
+    match p.second_sway {
+        None => once,
+        Some(d) => once + blended_sum_back(p, d, k),
     }
 }
 
@@ -114,10 +109,9 @@ fn started(p: AxisPlan) -> BlendedState
     requires { PlanRanges p }
     ensures { result ≡ blended_state_at p 0 }
 {
-    let regions = p.regions;
-    let start = regions.start;
-    let weight = total_weight(p) as i64;
-    let lag = lag_of(p) as i64;
+    let start = p.regions.start;
+    let weight = i64::from(total_weight(p));
+    let lag = i64::from(lag_of(p));
     BlendedState {
         position: weight * p.origin - 2 * (lag * start),
         velocity: weight * start,
@@ -134,13 +128,11 @@ fn blended_state_at(p: AxisPlan, k: u32) -> BlendedState
     if k == 0 {
         return first;
     }
-    let position = first.position;
-    let start = first.velocity;
     let sum = blended_sum(p, k);
     let velocity = blended_velocity(p, k);
     BlendedState {
-        position: position + start + 2 * sum - velocity,
-        velocity: velocity,
+        position: first.position + first.velocity + 2 * sum - velocity,
+        velocity,
     }
 }
 
@@ -153,12 +145,10 @@ fn next_state(p: AxisPlan, k: u32, t: BlendedState) -> BlendedState
     requires t_value { t ≡ blended_state_at p k }
     ensures { result ≡ blended_state_at p (suc k) }
 {
-    let next = blended_velocity(p, k + 1);
-    let velocity = t.velocity;
-    let position = t.position + velocity + next;
+    let velocity = blended_velocity(p, k + 1);
     BlendedState {
-        position: position,
-        velocity: next,
+        position: t.position + t.velocity + velocity,
+        velocity,
     }
 }
 
@@ -169,11 +159,9 @@ fn arrived(p: AxisPlan, n: u32) -> BlendedState
     requires lands_at { LandsAt n p }
     ensures { result ≡ blended_state_at p n }
 {
-    let destination = p.destination;
-    let velocity = blended_velocity(p, n);
     BlendedState {
-        position: 16777216 * destination,
-        velocity: velocity,
+        position: 16777216 * p.destination,
+        velocity: blended_velocity(p, n),
     }
 }
 
@@ -193,8 +181,7 @@ pub fn first_state(p: AxisPlan, order: Order, n: u32, place: u32) -> BlendedStat
         Order::Forwards => blended_state_at(p, place),
         Order::Backwards => {
             if place == 0 {
-                let landed = arrived(p, n);
-                return next_state(p, n, landed);
+                return next_state(p, n, arrived(p, n));
             }
             blended_state_at(p, n + 1 - place)
         }

@@ -15,7 +15,7 @@ ghost use Rattle.planner.specs.Promise.{Promise};
 ghost use Rattle.converter.specs.Promise.{Converts};
 ghost use Rattle.layout.specs.Jobs.{job_from_c, answer_for_c};
 
-use layout::{PolgamirAnswer, PolgamirJob, job_of, returned};
+use layout::{PolgamirAnswer, PolgamirJob};
 
 // The version of the library, 1,000,000 * major + 1,000 * minor + patch, as the header it belongs
 // to says.
@@ -35,7 +35,7 @@ pub extern "C" fn polgamir_plan_words(words: &[u32], table: &mut [i64]) -> Polga
     ensures { Promise Forwards (Input.words words.now) table.old
         (answer_for_c result) table.new }
 {
-    returned(planner::plan_words(words, table))
+    planner::plan_words(words, table).into()
 }
 
 // Plans the axes of a job that its mask names and writes their rows into the table. The asked
@@ -46,8 +46,7 @@ pub extern "C" fn polgamir_plan_words(words: &[u32], table: &mut [i64]) -> Polga
 pub extern "C" fn polgamir_plan_job(job: PolgamirJob, table: &mut [i64]) -> PolgamirAnswer
     ensures { Promise Forwards (Input.typed (job_from_c job)) table.old (answer_for_c result) table.new }
 {
-    let typed = job_of(job);
-    returned(planner::plan_job(typed, table))
+    planner::plan_job(job.into(), table).into()
 }
 
 // Writes the converted words of an old job at the start of the lent words: each fixed target that
@@ -58,7 +57,7 @@ pub extern "C" fn polgamir_plan_job(job: PolgamirJob, table: &mut [i64]) -> Polg
 pub extern "C" fn polgamir_convert(words: &[u32], lent: &mut [u32]) -> PolgamirAnswer
     ensures { Converts words.now lent.old (answer_for_c result) lent.new }
 {
-    returned(converter::convert(words, lent))
+    converter::convert(words, lent).into()
 }
 
 // ---- the same calls with the rows backwards
@@ -69,7 +68,7 @@ pub extern "C" fn polgamir_plan_words_backwards(words: &[u32], table: &mut [i64]
     ensures { Promise Backwards (Input.words words.now) table.old
         (answer_for_c result) table.new }
 {
-    returned(planner::plan_words_backwards(words, table))
+    planner::plan_words_backwards(words, table).into()
 }
 
 // The answer of `polgamir_plan_job`, and the same rows with the arrival's first and row 0 last.
@@ -77,6 +76,5 @@ pub extern "C" fn polgamir_plan_words_backwards(words: &[u32], table: &mut [i64]
 pub extern "C" fn polgamir_plan_job_backwards(job: PolgamirJob, table: &mut [i64]) -> PolgamirAnswer
     ensures { Promise Backwards (Input.typed (job_from_c job)) table.old (answer_for_c result) table.new }
 {
-    let typed = job_of(job);
-    returned(planner::plan_job_backwards(typed, table))
+    planner::plan_job_backwards(job.into(), table).into()
 }

@@ -4,8 +4,8 @@ ghost use Rattle.model.specs.planning.Outcome as Input;
 ghost use Rattle.layout.specs.Jobs.{job_from_c};
 ghost use Rattle.capi.specs.Raises.{RaisesReturned};
 
-use layout::limit_raises::{PolgamirRaises, raises_in_c};
-use layout::{PolgamirJob, job_of};
+use layout::PolgamirJob;
+use layout::limit_raises::PolgamirRaises;
 
 // The answer to the job that the words hold, with no table lent, so that 10 never
 // comes; where its number is 8, with the least raise of each limit alone for which an
@@ -14,7 +14,7 @@ use layout::{PolgamirJob, job_of};
 pub extern "C" fn polgamir_raises_words(words: &[u32]) -> PolgamirRaises
     ensures { RaisesReturned (Input.words words.now) result }
 {
-    raises_in_c(raises::raises_words(words))
+    raises::raises_words(words).into()
 }
 
 // The same for a job of typed values.
@@ -22,6 +22,5 @@ pub extern "C" fn polgamir_raises_words(words: &[u32]) -> PolgamirRaises
 pub extern "C" fn polgamir_raises_job(job: PolgamirJob) -> PolgamirRaises
     ensures { RaisesReturned (Input.typed (job_from_c job)) result }
 {
-    let typed = job_of(job);
-    raises_in_c(raises::raises_job(typed))
+    raises::raises_job(job.into()).into()
 }

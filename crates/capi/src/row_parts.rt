@@ -4,8 +4,8 @@ ghost use Rattle.parts.specs.Promise.{PartPromise};
 ghost use Rattle.layout.specs.Jobs.{job_from_c};
 ghost use Rattle.layout.specs.Parts.{part_of};
 
-use layout::row_parts::{PolgamirPartAnswer, part_returned};
-use layout::{PolgamirJob, job_of};
+use layout::PolgamirJob;
+use layout::row_parts::PolgamirPartAnswer;
 
 // Plans a job and writes its rows from a first one on into the table, as many whole
 // rows as it holds, up to the arrival's. Gives back the answer of `polgamir_plan_job`
@@ -18,8 +18,7 @@ pub extern "C" fn polgamir_plan_job_part(
 ) -> PolgamirPartAnswer
     ensures { PartPromise (Input.typed (job_from_c job)) first table.old (part_of result) table.new }
 {
-    let typed = job_of(job);
-    part_returned(parts::plan_job_part(typed, first, table))
+    parts::plan_job_part(job.into(), first, table).into()
 }
 
 // The same for a job as words.
@@ -31,5 +30,5 @@ pub extern "C" fn polgamir_plan_words_part(
 ) -> PolgamirPartAnswer
     ensures { PartPromise (Input.words words.now) first table.old (part_of result) table.new }
 {
-    part_returned(parts::plan_words_part(words, first, table))
+    parts::plan_words_part(words, first, table).into()
 }

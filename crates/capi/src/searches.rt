@@ -3,8 +3,8 @@ ghost use Rattle.model.specs.planning.Outcome as Input;
 ghost use Rattle.layout.specs.Jobs.{job_from_c};
 ghost use Rattle.capi.specs.Searches.{SearchReturned};
 
-use layout::searches::{PolgamirSearchAnswer, searched};
-use layout::{PolgamirJob, job_of};
+use layout::PolgamirJob;
+use layout::searches::PolgamirSearchAnswer;
 
 // Looks for the least tick from the first candidate on, up to 4,096 and within the budget, that
 // every axis of the mask reaches and that fits a window where windows are given. The asked arrival
@@ -19,8 +19,7 @@ pub extern "C" fn polgamir_search_job(
 ) -> PolgamirSearchAnswer
     ensures { SearchReturned (Input.typed (job_from_c job)) first budget result }
 {
-    let typed = job_of(job);
-    searched(search::search_job(typed, first, budget))
+    search::search_job(job.into(), first, budget).into()
 }
 
 // The same for a job as words: the refusals of `polgamir_plan_words` before 8, but for 3, and
@@ -33,5 +32,5 @@ pub extern "C" fn polgamir_search_words(
 ) -> PolgamirSearchAnswer
     ensures { SearchReturned (Input.words words.now) first budget result }
 {
-    searched(search::search_words(words, first, budget))
+    search::search_words(words, first, budget).into()
 }

@@ -3,7 +3,7 @@ ghost use Rattle.stops.specs.Promise.{TourPromise};
 ghost use Rattle.stops.specs.Rows.{row_stops};
 ghost use Rattle.layout.specs.Tours.{settings_of};
 
-use layout::tours::{PolgamirTour, settings_of};
+use layout::tours::PolgamirTour;
 use model::{Stop, TourAnswer};
 use stops::{StopRow, stop_row};
 
@@ -38,6 +38,5 @@ fn tour_by_value(tour: PolgamirTour, row: StopRow, arrivals: &mut [u32]) -> Tour
             total: 0,
         };
     }
-    let settings = settings_of(tour);
-    tour::tour_of_row(settings, row, arrivals)
+    tour::tour_of_row(tour.into(), row, arrivals)
 }

@@ -28,11 +28,7 @@ pub struct RowStates {
 pub fn kept_at(segment: Segment, k: u32) -> bool
     ensures { result ≡ kept_at segment k }
 {
-    let tick = k as u64;
-    if segment.from <= tick {
-        return tick < segment.until;
-    }
-    false
+    segment.from <= u64::from(k) && u64::from(k) < segment.until
 }
 
 // The states of a row, from the one that comes to it and the change of velocity in the row's tick.
@@ -42,29 +38,27 @@ pub fn row_states(order: Order, t: BlendedState, change: i64) -> RowStates
     requires within_3 { Within (2 ^ 47) change }
     ensures { result ≡ changed order t change }
 {
-    let position = t.position;
-    let velocity = t.velocity;
     match order {
         Order::Forwards => {
-            let faster = velocity + change;
+            let velocity = t.velocity + change;
             let next = BlendedState {
-                position: position + velocity + faster,
-                velocity: faster,
+                position: t.position + t.velocity + velocity,
+                velocity,
             };
             RowStates {
                 now: t,
-                next: next,
+                next,
                 onward: next,
             }
         }
         Order::Backwards => {
-            let slower = velocity - change;
+            let velocity = t.velocity - change;
             let now = BlendedState {
-                position: position - velocity - slower,
-                velocity: slower,
+                position: t.position - t.velocity - velocity,
+                velocity,
             };
             RowStates {
-                now: now,
+                now,
                 next: t,
                 onward: now,
             }
@@ -97,7 +91,7 @@ pub fn write_cells(table: &mut [i64], at: usize, t: BlendedState, u: BlendedStat
     let position = t.position;
     let velocity = t.velocity;
     let acceleration = u.velocity - velocity;
-    table[at] = whole::nearest_131072(position);
-    table[at + 1] = whole::nearest_65536(velocity);
-    table[at + 2] = whole::nearest_65536(acceleration);
+    table[at] = whole::nearest::<131072>(position);
+    table[at + 1] = whole::nearest::<65536>(velocity);
+    table[at + 2] = whole::nearest::<65536>(acceleration);
 }

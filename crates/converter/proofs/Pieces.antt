@@ -8,7 +8,6 @@ use mathlib.Core.List.{List, [], ◌∷◌, ◌++◌, append_assoc, append-nil}
 use lib.Dec.{eqb}
 use lib.ListN.{length, get_or, set, drop, length-append, drop_of_length-le}
 use lib.Seq.{drop-cons}
-use borrow.Author.Tests.{eq-eqb, ne_eqb}
 use Rattle.whole.specs.Lists.{over, up_to, Room, Written}
 use Rattle.whole.proofs.Lists.{over-three, written-nil, written_one, written_then, room-on, up_to-more}
 use Rattle.model.specs.planning.Words.{word}
@@ -30,23 +29,37 @@ flying-is ws i h =
     (λ l. R.inside ws i 10 h l && (not (eqb (payload_at ws i) 0) && not (kind-begins ws (i + 1) 11 l)))
     ∙ ap (λ (k : ℕ). flying_word (get_or ws i 0) (drop k ws)) (add-one i)
 
--- by the three tests of the code
-abbrev by_tests : Bool → Bool → Bool → Bool
-by_tests k z m = k && (not z && not m)
+-- the code's first two tests
+pub moves_at : List ℕ → ℕ → Bool
+moves_at ws i = is_kind ws i 10 && not (eqb (payload_at ws i) 0)
 
 module _ (ws : List ℕ) (i : ℕ) where
-  pub not-kind : is_kind ws i 10 ≡ false → false ≡ flying_at ws i
-  unfolding flying_at
-  not-kind e = sym (ap (λ (k : Bool). by_tests k (eqb (payload_at ws i) 0) (is_kind ws (i + 1) 11)) e)
+  pub of-kind : {r : Bool} {n : ℕ} → r ≡ is_kind ws i 10 → r ≡ true → n ≡ payload_at ws i
+      → not (eqb n 0) ≡ moves_at ws i
+  unfolding moves_at
+  of-kind p t q = λ l. (sym t ∙ p) l && not (eqb (q l) 0)
 
-  pub at_rest : is_kind ws i 10 ≡ true → payload_at ws i ≡ 0 → false ≡ flying_at ws i
-  unfolding flying_at
-  at_rest e z = sym (λ l. by_tests (e l) (eq-eqb (payload_at ws i) 0 z l) (is_kind ws (i + 1) 11))
+  pub not-kind : {r : Bool} → r ≡ is_kind ws i 10 → r ≡ false → r ≡ moves_at ws i
+  unfolding moves_at
+  not-kind p t = t ∙ (λ l. (sym t ∙ p) l && not (eqb (payload_at ws i) 0))
 
-  pub by_next : is_kind ws i 10 ≡ true → (payload_at ws i ≡ 0 → ⊥) → {r : Bool}
-      → r ≡ is_kind ws (i + 1) 11 → not r ≡ flying_at ws i
-  unfolding flying_at
-  by_next e z q = sym (λ l. by_tests (e l) (ne_eqb (payload_at ws i) 0 z l) (sym q l))
+  pub by_next : {v r : Bool} → v ≡ moves_at ws i → v ≡ true → r ≡ is_kind ws (i + 1) 11 → not r ≡ flying_at ws i
+  unfolding moves_at flying_at
+  by_next p t q = ap not q ∙ go (is_kind ws i 10) (not (eqb (payload_at ws i) 0)) (sym p ∙ t)
+    where
+      go : (k z : Bool) → k && z ≡ true → not (is_kind ws (i + 1) 11) ≡ (k && (z && not (is_kind ws (i + 1) 11)))
+      go true true e = refl
+      go true false e = absurd (cc)
+      go false z e = absurd (cc)
+
+  pub at_rest : {v : Bool} → v ≡ moves_at ws i → v ≡ false → v ≡ flying_at ws i
+  unfolding moves_at flying_at
+  at_rest p t = t ∙ go (is_kind ws i 10) (not (eqb (payload_at ws i) 0)) (sym p ∙ t)
+    where
+      go : (k z : Bool) → k && z ≡ false → false ≡ (k && (z && not (is_kind ws (i + 1) 11)))
+      go true true e = absurd (cc)
+      go true false e = refl
+      go false z e = refl
 
 -- the words from word i on
 pub turn : (asked : ℕ) (ws : List ℕ) (i : ℕ) → i < length ws
@@ -104,13 +117,6 @@ pub count-more : (ws : List ℕ) (i n p : ℕ) → i < length ws → p ≡ lengt
 count-more ws i n p h e q =
     let t = ap length (turn 0 ws i h) ∙ length-append (piece_at ws 0 i) (converted 0 (drop (i + 1) ws)) in
     omega (arith, t, q)
-
-pub count-all : (ws : List ℕ) (i n : ℕ) → length ws ≤ i
-    → n + length (converted 0 (drop i ws)) ≡ needed_for ws → n ≡ needed_for ws
-count-all ws i n h q =
-    let none : length (converted 0 (drop i ws)) ≡ 0 =
-    ap (λ (l : List ℕ). length (converted 0 l)) (drop_of_length-le ws {i = i} h) in
-    omega (arith, none, q)
 
 -- ---- writing
 

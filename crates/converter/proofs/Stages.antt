@@ -1,7 +1,7 @@
 -- The stages of a conversion, in checking order.
 use Prim.Native.Nat.{ℕ, ◌≤◌, ◌<◌}
 use native.Mathlib.Omega.{arith}
-use mathlib.Core.Path.{◌≡◌, sym, ap, subst, ◌∙◌}
+use mathlib.Core.Path.{◌≡◌, refl, sym, ap, subst, ◌∙◌}
 use mathlib.Core.Bool.{Bool, true, false}
 use mathlib.Core.List.{List, ◌++◌}
 use lib.ListN.{length, take, drop}
@@ -9,8 +9,11 @@ use borrow.Author.Tests.{lt-ltb, le-ltb}
 use Rattle.whole.specs.Lists.{over}
 use Rattle.whole.proofs.Lists.{over-front}
 use Rattle.model.specs.declared.Answer.{Answer}
-use Rattle.model.specs.declared.Checked.{Checked}
-use Rattle.model.specs.declared.Checked.TheVariants.{Passed, Refused}
+use Rattle.std.specs.declared.result.Result.TheVariants.{Ok, Err}
+use Rattle.model.specs.declared.Job as Typed
+use Rattle.model.specs.declared.refusal.Refusal.{Refusal}
+use Rattle.model.specs.declared.refusal.Refusal.TheVariants.{ListShort}
+use Rattle.model.specs.planning.Told.{number_of, place_of, answer_to}
 use Rattle.model.specs.planning.Refusals.{last_tick}
 use Rattle.model.specs.planning.Admission.{words, typed, admission}
 use Rattle.model.specs.planning.Outcome.{call}
@@ -18,12 +21,11 @@ use Rattle.model.specs.calls.Converter.{old_outcome, converted, Conversion, unco
 use Rattle.model.specs.calls.Converter.{conversion_after, conversion}
 use Rattle.theorems.specs.Converter.{ConversionVerdict}
 use Rattle.theorems.proofs.calls.Conversion.{conversion-kept, conversion-plans, conversion-verdict, conversion-numbered}
-use Rattle.words.specs.declared.DecodedJob.{DecodedJob}
 use Rattle.words.specs.Decoding.{Decodes}
 use Rattle.admission.specs.Admitting.{without_job}
-use Rattle.admission.proofs.Admitted.{Goes, refused, passed}
-use Rattle.words.proofs.ReadWords.{words-refused, words-passed}
-use Rattle.converter.specs.Promise.{Converts, Answers}
+use Rattle.admission.proofs.Admitted.{Goes, refused, place-alone, passed}
+use Rattle.words.proofs.ReadWords.{words-answer, words-refused, words-passed}
+use Rattle.converter.specs.Promise.{Converts, Answers, conversion_answer}
 
 -- ---- refusal 10, or the words
 
@@ -34,34 +36,29 @@ by-room ws lent b =
       | false ↦ record { number = 0; place = length ws; words = ws ++ drop (length ws) lent }
     ]
 
-abbrev answered : ℕ → ℕ → Answer
-answered n p = record { number = n; place = p; mask = 0; arrival = 0 }
-
 -- n is the number of words needed
 module _ (ws lent : List ℕ) (n : ℕ) (e : n ≡ length ws) where
-  pub too_few : length lent < n → (r : Answer) → r ≡ answered 10 n → Answers (written ws lent) r lent
+  pub too_few : length lent < n → Answers (written ws lent) (conversion_answer (Err (ListShort n))) lent
   unfolding by-room
-  too_few h r q =
+  too_few h =
       record {
         conversion =
-            ap (λ (a : Answer). record { number = a.number; place = a.place; words = lent }) q
-            ∙ ap (λ (k : ℕ). unconverted 10 k lent) e
+            ap (λ (k : ℕ). unconverted 10 k lent) e
             ∙ sym (ap (by-room ws lent) (lt-ltb (length lent) (length ws) (omega arith)));
-        mask = ap (λ (a : Answer). a.mask) q;
-        arrival = ap (λ (a : Answer). a.arrival) q;
+        mask = refl;
+        arrival = refl;
       }
 
-  pub enough : n ≤ length lent → (exit : List ℕ) → exit ≡ over lent 0 ws → (r : Answer) → r ≡ answered 0 n
-      → Answers (written ws lent) r exit
+  pub enough : n ≤ length lent → (exit : List ℕ) → exit ≡ over lent 0 ws
+      → Answers (written ws lent) (conversion_answer (Ok n)) exit
   unfolding by-room
-  enough h exit x r q =
+  enough h exit x =
       record {
         conversion =
-            (λ i. record { number = (q i).number; place = (q i).place; words = x i })
-            ∙ (λ i. record { number = 0; place = e i; words = over-front lent ws i })
+            (λ i. record { number = 0; place = e i; words = (x ∙ over-front lent ws) i })
             ∙ sym (ap (by-room ws lent) (le-ltb (length lent) (length ws) (omega arith)));
-        mask = ap (λ (a : Answer). a.mask) q;
-        arrival = ap (λ (a : Answer). a.arrival) q;
+        mask = refl;
+        arrival = refl;
       }
 
 -- ---- the promise
@@ -84,46 +81,47 @@ promised ws lent r exit g =
     }
 
 -- the three ways out of the call: a refusal of the words, one of the job, and the last stage
-module _ (ws lent : List ℕ) (r : DecodedJob) (d : Decodes ws r) where
-  pub ends-at-words : (n p : ℕ) → r.checked ≡ Refused n p → (a : Answer) → a ≡ answered n p
-      → Converts ws lent a lent
-  ends-at-words n p z a e =
-      promised ws lent a lent
+pub ends-at-words : (ws lent : List ℕ) (x : Refusal) → Decodes ws (Err x) → Converts ws lent (answer_to x) lent
+ends-at-words ws lent x d =
+    let plain = words-answer ws (Err x) d x refl in
+    promised ws lent (answer_to x) lent
+    (record {
+      conversion = sym (ap (conversion_after ws lent) (words-refused conversion_rules ws (Err x) d x refl));
+      mask = ap (λ (a : Answer). a.mask) plain;
+      arrival = ap (λ (a : Answer). a.arrival) plain;
+    })
+
+module _ (ws lent : List ℕ) (t : Typed.Job) (d : Decodes ws (Ok t)) where
+  read : admission conversion_rules (typed t) ≡ admission conversion_rules (words ws)
+  read = words-passed conversion_rules ws (Ok t) d t refl
+
+  pub ends-at-job : (x : Refusal) → Err (answer_to x) ≡ without_job (admission conversion_rules (typed t))
+      → Converts ws lent (answer_to x) lent
+  ends-at-job x is =
+      let plain =
+      place-alone conversion_rules conversion-numbered (typed t) (Err (answer_to x)) is (answer_to x) refl in
+      let told = refused conversion_rules conversion-numbered (typed t) (Err (answer_to x)) is
+      (number_of x) (place_of x) (ap (λ (a : Answer). Err a) plain) in
+      promised ws lent (answer_to x) lent
       (record {
-        conversion = ap (λ (q : Answer). unconverted q.number q.place lent) e
-            ∙ sym (ap (conversion_after ws lent) (words-refused conversion_rules ws r d n p z));
-        mask = ap (λ (q : Answer). q.mask) e;
-        arrival = ap (λ (q : Answer). q.arrival) e;
+        conversion = ap (conversion_after ws lent) (sym told.is ∙ read);
+        mask = ap (λ (a : Answer). a.mask) plain;
+        arrival = ap (λ (a : Answer). a.arrival) plain;
       })
 
-  module _ (z : r.checked ≡ Passed) (c : Checked)
-      (is : c ≡ without_job (admission conversion_rules (typed r.job))) where
-    pub ends-at-job : (n p : ℕ) → c ≡ Refused n p → (a : Answer) → a ≡ answered n p → Converts ws lent a lent
-    ends-at-job n p e a f =
-        promised ws lent a lent
-        (record {
-          conversion =
-              ap (λ (q : Answer). unconverted q.number q.place lent) f
-              ∙ ap (conversion_after ws lent)
-              (sym (refused conversion_rules conversion-numbered (typed r.job) c is n p e).is
-              ∙ words-passed conversion_rules ws r d z);
-          mask = ap (λ (q : Answer). q.mask) f;
-          arrival = ap (λ (q : Answer). q.arrival) f;
-        })
+  module _ (is : Ok tt ≡ without_job (admission conversion_rules (typed t))) where
+    goes : Goes conversion_rules (typed t)
+    goes = passed conversion_rules conversion-numbered (typed t) (Ok tt) is refl
 
-    goes : c ≡ Passed → Goes conversion_rules (typed r.job)
-    goes e = passed conversion_rules conversion-numbered (typed r.job) c is e
+    pub soon : t.asked ≤ last_tick
+    soon = goes.asked
 
-    pub soon : c ≡ Passed → r.job.asked ≤ last_tick
-    soon e = (goes e).asked
-
-    pub ends-written : c ≡ Passed → (a : Answer) (exit : List ℕ)
-        → Answers (written (converted r.job.asked ws) lent) a exit → Converts ws lent a exit
-    ends-written e a exit g =
+    pub ends-written : (a : Answer) (exit : List ℕ) → Answers (written (converted t.asked ws) lent) a exit
+        → Converts ws lent a exit
+    ends-written a exit g =
         promised ws lent a exit
         (record {
-          conversion =
-              g.conversion ∙ ap (conversion_after ws lent) (sym (goes e).is ∙ words-passed conversion_rules ws r d z);
+          conversion = g.conversion ∙ ap (conversion_after ws lent) (sym goes.is ∙ read);
           mask = g.mask;
           arrival = g.arrival;
         })

@@ -1,6 +1,10 @@
 -- What the converter promises of any words and any lent words.
 use Rattle.std.specs.Prelude.{ℕ, ◌≡◌, List, ℤ, take}
+use Rattle.std.specs.declared.result.Result.{Result}
+use Rattle.std.specs.declared.result.Result.TheVariants.{Ok, Err}
 use Rattle.model.specs.declared.Answer.{Answer}
+use Rattle.model.specs.declared.refusal.Refusal.{Refusal}
+use Rattle.model.specs.planning.Told.{answer_to}
 use Rattle.model.specs.planning.Outcome.{words, call}
 use Rattle.model.specs.calls.Converter.{old_outcome, Conversion, conversion}
 use Rattle.theorems.specs.Converter.{ConversionVerdict}
@@ -22,6 +26,11 @@ pub record Converts (ws entry : List ℕ) (r : Answer) (exit : List ℕ) : Type 
   pub plans : r.number ≡ 0 → (cells : List ℤ) → call (words (take r.place exit)) cells ≡ old_outcome ws cells
 
 -- ---- the stages
+
+-- the answer for the number of words written, or for the refusal
+abbrev pub conversion_answer : Result ℕ Refusal → Answer
+conversion_answer (Ok n) = record { number = 0; place = n; mask = 0; arrival = 0 }
+conversion_answer (Err r) = answer_to r
 
 -- a stage that ends the call: the answer and the lent words are a conversion of the definitions
 pub record Answers (c : Conversion) (r : Answer) (exit : List ℕ) : Type 0 where

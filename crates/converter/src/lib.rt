@@ -15,10 +15,16 @@ ghost use Rattle.whole.specs.Lists.{over, Room, Written};
 ghost use Rattle.model.specs.planning.Refusals.{last_tick};
 ghost use Rattle.model.specs.calls.Converter.{converted, written};
 ghost use Rattle.converter.specs.Pieces.{flying_at, piece_at, needed_for};
-ghost use Rattle.converter.specs.Promise.{Converts, Answers};
+ghost use Rattle.converter.specs.Promise.{Converts, Answers, conversion_answer};
 
 use admission::Purpose;
-use model::{Answer, Checked, MOVING_WORD, TARGET_VELOCITY_WORD};
+use model::{Answer, MOVING_WORD, Refusal, TARGET_VELOCITY_WORD};
+
+// The word of an acceleration of 0.
+const NO_ACCELERATION: u32 = MOVING_WORD << 28;
+
+// The word of tick 0.
+const TICK_0: u32 = (MOVING_WORD + 1) << 28;
 
 // Writes the converted words of a job at the start of the lent ones. Words that are not the
 // velocity of a fixed target that flies are copied; such a one is followed by an acceleration of 0
@@ -30,33 +36,44 @@ use model::{Answer, Checked, MOVING_WORD, TARGET_VELOCITY_WORD};
 pub fn convert(words: &[u32], lent: &mut [u32]) -> Answer
     ensures { Converts words.now lent.old result lent.new }
 {
-    let decoded = words::decode(words);
-    let read = decoded.checked;
-    if let Checked::Refused(number, word) = read {
-        return answer(number, word);
+    match convert_in(words, lent) {
+        Ok(count) => Answer {
+            number: 0,
+            place: count,
+            mask: 0,
+            arrival: 0,
+        },
+        Err(refusal) => Answer::from(refusal),
     }
-    let job = decoded.job;
-    let axes = job.axes;
-    let windows = job.windows;
-    let checked = admission::check(job.mask, job.asked, axes, windows, Purpose::Converting);
-    if let Checked::Refused(number, place) = checked {
-        return answer(number, place);
-    }
+}
+
+// The number of words written, or the refusal.
+fn convert_in(words: &[u32], lent: &mut [u32]) -> Result<usize, Refusal>
+    ensures { Converts words.now lent.old (conversion_answer result) lent.new }
+{
+    let job = words::decode(words)?;
+    admission::check(
+        job.mask,
+        job.asked,
+        job.axes,
+        job.windows,
+        Purpose::Converting,
+    )?;
     write_converted(words, job.asked, lent)
 }
 
 // ---- refusal 10, or the converted words
 
-fn write_converted(words: &[u32], asked: u32, lent: &mut [u32]) -> Answer
+fn write_converted(words: &[u32], asked: u32, lent: &mut [u32]) -> Result<usize, Refusal>
     requires { asked ≤ last_tick }
-    ensures { Answers (written (converted asked words.now) lent.old) result lent.new }
+    ensures { Answers (written (converted asked words.now) lent.old) (conversion_answer result) lent.new }
 {
     let needed = words_needed(words);
     if lent.len() < needed {
-        return answer(10, needed);
+        return Err(Refusal::ListShort(needed));
     }
     put_words(words, asked, lent);
-    answer(0, needed)
+    Ok(needed)
 }
 
 // The number of converted words: three for each velocity of a fixed target that
@@ -65,10 +82,8 @@ fn words_needed(words: &[u32]) -> usize
     ensures { result ≡ needed_for words.now }
 {
     let mut needed: usize = 0;
-    let mut i: usize = 0;
-    while i < words.len() {
+    for i in 0..words.len() {
         needed += piece_length(words, i);
-        i += 1;
     }
     needed
 }
@@ -78,10 +93,7 @@ fn piece_length(words: &[u32], i: usize) -> usize
     ensures value { result ≡ length (piece_at words.now 0 i) }
     ensures upper_bound { result ≤ 3 }
 {
-    if is_flying(words, i) {
-        return 3;
-    }
-    1
+    if is_flying(words, i) { 3 } else { 1 }
 }
 
 // Writes the converted words at the start of the lent ones.
@@ -91,10 +103,8 @@ fn put_words(words: &[u32], asked: u32, lent: &mut [u32])
     ensures { lent.new ≡ over lent.old 0 (converted asked words.now) }
 {
     let mut at: usize = 0;
-    let mut i: usize = 0;
-    while i < words.len() {
+    for i in 0..words.len() {
         at = put_word(words, i, asked, lent, at);
-        i += 1;
     }
 }
 
@@ -109,8 +119,8 @@ fn put_word(words: &[u32], i: usize, asked: u32, lent: &mut [u32], at: usize) ->
     let flying = is_flying(words, i);
     lent[at] = words[i];
     if flying {
-        lent[at + 1] = 2952790016;
-        lent[at + 2] = 3221225472 + asked;
+        lent[at + 1] = NO_ACCELERATION;
+        lent[at + 2] = TICK_0 + asked;
         return at + 3;
     }
     at + 1
@@ -122,22 +132,7 @@ fn is_flying(words: &[u32], i: usize) -> bool
     requires { i < length words.now }
     ensures { result ≡ flying_at words.now i }
 {
-    if words::is_kind(words, i, TARGET_VELOCITY_WORD) {
-        if words[i] % 268435456 != 0 {
-            return !words::is_kind(words, i + 1, MOVING_WORD);
-        }
-    }
-    false
-}
-
-// An answer with mask 0 and arrival 0.
-fn answer(number: u32, place: usize) -> Answer
-    ensures { result ≡ record { number = number; place = place; mask = 0; arrival = 0 } }
-{
-    Answer {
-        number: number,
-        place: place,
-        mask: 0,
-        arrival: 0,
-    }
+    words::is_kind(words, i, TARGET_VELOCITY_WORD)
+        && words::payload(words, i) != 0
+        && !words::is_kind(words, i + 1, MOVING_WORD)
 }

@@ -1,10 +1,10 @@
--- The climb to the cruise as the code makes it: a step at a time, each half of the
--- one before, until none is left.
-use Prim.Native.Nat.{ℕ, zero, suc, ◌+◌, ◌/◌, ◌^◌, ◌<◌, ◌≤◌}
+-- The climb to the cruise as the code makes it: a step at a time, one for each bit from the highest
+-- down.
+use Prim.Native.Nat.{ℕ, suc, ◌*◌, ◌%◌, ◌^◌, ◌<◌, ◌≤◌}
 use mathlib.Core.Path.{◌≡◌, refl, sym, ap, ◌∙◌}
 use mathlib.Core.Bool.{Bool, true, false, ◌&&◌}
 use native.Mathlib.Omega.{arith}
-use native.Mathlib.Nat.{two-pow-succ, one-le-pow}
+use native.Mathlib.Nat.{pow-le-pow_right, mod-eq_of_lt}
 use lib.IntN.{ℤ, pos, neg_ℤ, ◌+ℤ◌}
 use lib.Signed.{le_z, le_z_yes, ◌≤ℤ◌}
 use Rattle.whole.proofs.Differences.{all₁, whole}
@@ -16,17 +16,6 @@ use Rattle.cruise.specs.Cruise.{climb_step}
 -- the climb from c with n steps to go: shut, so that a goal at 39 steps does not compute
 unfoldable pub climb_from : Leg → ℤ → ℕ → ℤ → ℤ
 climb_from g s n c = climb_by_bits g s n c
-
--- the first of n steps to go
-abbrev pub first_of : ℕ → ℕ
-first_of zero = 0
-first_of (suc n) = 2 ^ n
-
--- the code has come to c, and its next step leads on to the cruise
-pub record Climbing (g : Leg) (s : ℤ) (step : ℕ) (c : ℤ) : Type 0 where
-  pub left : ℕ
-  pub first : step ≡ first_of left
-  pub ahead : climb_from g s left c ≡ cruise g s
 
 step-taken : (g : Leg) (s : ℤ) (n : ℕ) (c : ℤ) → climb_from g s (suc n) c ≡ climb_from g s n (climb_step g s c (2 ^ n))
 unfolding climb_from
@@ -45,41 +34,29 @@ step-taken g s n c = go (le_z d (pos g.speed_limit)) (fits_at g s d)
     go true false = refl
     go false b = refl
 
-halved : (n : ℕ) → first_of (suc n) / 2 ≡ first_of n
-halved zero = refl
-halved (suc n) = half (2 ^ suc n) (2 ^ n) (two-pow-succ n)
-  where
-    half : (a b : ℕ) → a ≡ b + b → a / 2 ≡ b
-    half a b e = omega arith
+-- a bit's step, as the machine shifts it
+pub bit-bound : {n : ℕ} → n < climb_steps → 2 ^ n ≤ 2 ^ 38
+bit-bound {n} h = pow-le-pow_right {n = 2} (omega arith) {i = n} {j = 38} (omega arith)
+
+pub shifted : {n : ℕ} → n < climb_steps → 1 * 2 ^ n % 2 ^ 64 ≡ 2 ^ n
+shifted {n} h =
+    let b = bit-bound h in
+    ap (λ (k : ℕ). k % 2 ^ 64) {x = 1 * 2 ^ n} {y = 2 ^ n} (omega arith) ∙ mod-eq_of_lt (omega arith)
 
 module _ (g : Leg) (s : ℤ) where
-  starts : climb_from g s climb_steps (neg_ℤ (pos g.speed_limit)) ≡ cruise g s
+  pub climb-start : climb_from g s climb_steps (neg_ℤ (pos g.speed_limit)) ≡ cruise g s
   unfolding climb_from cruise
-  starts = refl
+  climb-start = refl
 
-  pub climb-start : Climbing g s (2 ^ 38) (neg_ℤ (pos g.speed_limit))
-  climb-start = record { left = climb_steps; first = refl; ahead = starts }
+  pub climb-next : {n m step : ℕ} (c : ℤ) → n ≡ suc m → step ≡ 2 ^ m
+      → climb_from g s m (climb_step g s c step) ≡ climb_from g s n c
+  climb-next {n} {m} c e f =
+      ap (λ (k : ℕ). climb_from g s m (climb_step g s c k)) f ∙ sym (step-taken g s m c)
+      ∙ ap (λ (k : ℕ). climb_from g s k c) (sym e)
 
-  pub climb-next : {step : ℕ} {c : ℤ} → 0 < step → Climbing g s step c → Climbing g s (step / 2) (climb_step g s c step)
-  climb-next {step} {c} h r = go r.left r.first r.ahead
-    where
-      go : (n : ℕ) → step ≡ first_of n → climb_from g s n c ≡ cruise g s
-          → Climbing g s (step / 2) (climb_step g s c step)
-      go zero e a = absurd (omega arith)
-      go (suc n) e a =
-          record {
-            left = n;
-            first = ap (λ (k : ℕ). k / 2) e ∙ halved n;
-            ahead = ap (λ (k : ℕ). climb_from g s n (climb_step g s c k)) e ∙ sym (step-taken g s n c) ∙ a;
-          }
-
-  pub climb-end : {step : ℕ} {c : ℤ} → step ≤ 0 → Climbing g s step c → c ≡ cruise g s
+  pub climb-end : {n : ℕ} (c : ℤ) → n ≡ 0 → climb_from g s n c ≡ c
   unfolding climb_from
-  climb-end {step} {c} h r = go r.left r.first r.ahead
-    where
-      go : (n : ℕ) → step ≡ first_of n → climb_from g s n c ≡ cruise g s → c ≡ cruise g s
-      go zero e a = a
-      go (suc n) e a = absurd (omega (arith, one-le-pow n 2 (omega arith)))
+  climb-end c e = ap (λ (k : ℕ). climb_from g s k c) e
 
 -- ---- one step, by its two tests
 

@@ -33,12 +33,11 @@ fn meets(ratio: f32, weight: u32) -> bool
 fn ratio_weight(ratio: f32) -> u32
     ensures { result ≡ ratio_weight ratio }
 {
-    let mut weight: u32 = HIGHEST_WEIGHT;
-    while 0 < weight {
+    // a loop: of the items of a range that is turned about, `find` says too little for the proof
+    for weight in (1..=HIGHEST_WEIGHT).rev() {
         if meets(ratio, weight) {
             return weight;
         }
-        weight -= 1;
     }
     1
 }
@@ -59,10 +58,7 @@ pub fn weight_of(weight: Weight) -> u32
 fn ratio_allowed(ratio: f32) -> bool
     ensures { result ≡ ratio_allowed ratio }
 {
-    if 0.0 < ratio {
-        return ratio <= 1.0;
-    }
-    false
+    0.0 < ratio && ratio <= 1.0
 }
 
 fn damping_allowed(damping: Damping) -> bool
@@ -70,12 +66,7 @@ fn damping_allowed(damping: Damping) -> bool
 {
     match damping {
         Damping::Ratio(ratio) => ratio_allowed(ratio),
-        Damping::Peaks(first, second) => {
-            if 0.0 < first {
-                return ratio_allowed(second / first);
-            }
-            false
-        }
+        Damping::Peaks(first, second) => 0.0 < first && ratio_allowed(second / first),
     }
 }
 

@@ -3,7 +3,6 @@ pub mod NextTicks
 pub mod RoundedUp
 pub mod Skipping
 pub mod Longer
-pub mod Halving
 pub mod StraightLine
 pub mod Mirrors
 pub mod OneEnvelope

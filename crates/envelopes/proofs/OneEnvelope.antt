@@ -2,20 +2,20 @@
 -- line between its ends, else of the leg mirrored.
 use Prim.Native.Nat.{ℕ, ◌-◌, ◌*◌, ◌%◌, ◌^◌, ◌≤◌, ◌<◌}
 use mathlib.Core.Path.{◌≡◌, sym, ap, subst, ◌∙◌}
-use mathlib.Core.Bool.{Bool, true, false}
+use mathlib.Core.Bool.{Bool, true}
 use mathlib.Core.List.{[], ◌∷◌}
 use native.Mathlib.Omega.{arith}
-use lib.Dec.{T, leb, le→leb, eqb}
+use lib.Dec.{T, le→leb, eqb}
 use lib.IntN.{ℤ, pos, neg_ℤ, nat_abs, ◌+ℤ◌, ◌-ℤ◌, ◌*ℤ◌}
 use lib.Signed.{le_z, ◌≤ℤ◌, ◌<ℤ◌}
 use Rattle.whole.specs.Integers.{sum_to}
 use Rattle.whole.proofs.Differences.{whole, all₂}
 use Rattle.whole.proofs.Laws.{nat_abs-neg}
 use Rattle.whole.proofs.Ring.{pol, same}
-use Rattle.whole.proofs.Tests.{T_false, true-T}
+use Rattle.whole.proofs.Tests.{true-T}
 use Rattle.model.specs.planning.Leg.{Leg, upper, required, twice_required, sum_is_whole, tests, feasible}
 use Rattle.theorems.proofs.legs.Envelopes.{Joined}
-use Rattle.theorems.proofs.legs.FeasibleTests.{every, feasible-joined, feasible-below}
+use Rattle.theorems.proofs.legs.FeasibleTests.{every, feasible-below}
 use Rattle.envelopes.proofs.EnvelopeSums.{mirrored}
 use Rattle.envelopes.proofs.Mirrors.{same_truth, feasible-mirrored, apart-neg}
 use Rattle.envelopes.proofs.StraightLine.{above_lower}
@@ -23,15 +23,6 @@ use Rattle.envelopes.proofs.StraightLine.{above_lower}
 -- the upper envelope's sum comes up to the required one
 abbrev pub comes_up : Leg → ℤ → Bool
 comes_up g d = le_z (required g d) (sum_to (upper g) (g.ticks - 1))
-
--- ends that are too far apart
-pub far_apart : (g : Leg) (d : ℤ) → leb (nat_abs (g.end -ℤ g.start)) (g.acceleration_limit * g.ticks) ≡ false
-    → false ≡ feasible g d
-far_apart g d e =
-    sym
-    (T_false (feasible g d)
-    (λ t. subst T e
-    (le→leb (nat_abs (g.end -ℤ g.start)) (g.acceleration_limit * g.ticks) (feasible-joined g d t).apart)))
 
 pub ahead : (g : Leg) (d : ℤ) → 0 < g.ticks → Joined g → (pos g.ticks *ℤ (g.start +ℤ g.end)) ≤ℤ d
     → sum_is_whole g d ≡ true → comes_up g d ≡ feasible g d

@@ -2,12 +2,13 @@
 -- that has one tick more. With a tick more the upper envelope has one velocity more, where its two
 -- ramps cross; the others stay, so that the sum grows by it. That `stepped` gives the next leg's
 -- sums is the theorem `step_is`.
-use Rattle.std.specs.Prelude.{ℕ, suc, ◌-◌, ◌*◌, ◌/◌, ◌^◌, ◌≤◌, ◌<◌, Bool, ◌&&◌, ℤ, pos, neg_ℤ, nat_abs, ◌+ℤ◌, ◌-ℤ◌}
+use Rattle.std.specs.Prelude.{ℕ, suc, ◌-◌, ◌*◌, ◌/◌, ◌^◌, ◌≤◌, ◌<◌, ◌≡◌, Bool, ◌&&◌, ℤ, pos, neg_ℤ, nat_abs, ◌+ℤ◌, ◌-ℤ◌}
 use Rattle.std.specs.Prelude.{◌*ℤ◌}
 use Rattle.std.specs.Int.Signed.{le_z}
 use Rattle.whole.specs.Integers.{least, greatest, sum_to}
 use Rattle.whole.specs.Ranges.{Within}
 use Rattle.model.specs.planning.Leg.{Leg, upper, lower}
+use Rattle.envelopes.specs.declared.sought.Sought.{Sought}
 use Rattle.envelopes.specs.declared.sums.Sums.{Sums}
 use Rattle.profile.specs.Profiles.{ends_allowed, sum_between}
 
@@ -74,6 +75,21 @@ with_ticks g t =
     }
 
 -- ---- the next number of ticks that will do
+
+-- the sum that is sought at t ticks
+abbrev pub sought_at : Sought → ℕ → ℤ
+sought_at s t = s.sum +ℤ pos (t - s.ticks) *ℤ s.change
+
+-- r is s with every sign turned
+pub record Turned (s r : Sought) : Type 0 where
+  pub sum : r.sum ≡ neg_ℤ s.sum
+  pub change : r.change ≡ neg_ℤ s.change
+  pub ticks : r.ticks ≡ s.ticks
+
+-- at t ticks: the ends can be joined, and the sum that is sought is between the sums of the
+-- envelopes
+abbrev pub between : Sought → Leg → ℕ → Bool
+between s g t = ends_allowed (with_ticks g t) && sum_between (with_ticks g t) (sought_at s t)
 
 -- at t ticks: the ends can be joined, and the required sum, which is s at g.ticks and changes by c
 -- a tick, is between the sums of the envelopes

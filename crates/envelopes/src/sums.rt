@@ -2,7 +2,7 @@
 // more by a step without a loop.
 ghost use Rattle.std.specs.Prelude.{◌*◌, ◌^◌, ◌≤◌, ◌<◌, ◌≡◌, ◌-ℤ◌};
 ghost use Rattle.whole.specs.Ranges.{Within, Is};
-ghost use Rattle.profile.specs.Profiles.{leg_of, Joinable};
+ghost use Rattle.profile.specs.Profiles.{Joinable};
 ghost use Rattle.envelopes.specs.Sums.{peak_of, trough_of, envelope_sums_at, stepped, SumsRanged, within_sums};
 
 use profile::Profile;
@@ -34,7 +34,7 @@ fn peak_of(limit: u64, start: i64, end: i64, ticks: u64) -> i64
     let crossing = way as u64 / (2 * limit);
     let rising = start + profile::change_after(limit, crossing + 1);
     let falling = end + profile::change_after(limit, ticks - crossing);
-    whole::least(rising, falling)
+    rising.min(falling)
 }
 
 // The same of the lower envelope.
@@ -47,32 +47,22 @@ fn trough_of(limit: u64, start: i64, end: i64, ticks: u64) -> i64
     requires within_3 { Within (limit * ticks) (end -ℤ start) }
     ensures { Is (2 ^ 47) result (trough_of limit start end ticks) }
 {
-    let peak = peak_of(limit, -start, -end, ticks);
-    -peak
+    -peak_of(limit, -start, -end, ticks)
 }
 
 // The envelope sums of a profile, with no tick visited.
 pub fn envelope_sums(p: Profile) -> Sums
     requires { Joinable p }
-    ensures { result ≡ envelope_sums_at (leg_of p) }
+    ensures { result ≡ envelope_sums_at p }
 {
-    let start = p.start;
-    let end = p.end;
     let limit = p.acceleration_limit;
-    let ticks = p.ticks;
-    let lowest = areas::area_at(p, profile::negative(p.speed_limit));
-    let highest = areas::area_at(p, profile::signed(p.speed_limit));
-    let trough = trough_of(limit, start, end, ticks);
-    let later_trough = trough_of(limit, start, end, ticks + 1);
-    let peak = peak_of(limit, start, end, ticks);
-    let later_peak = peak_of(limit, start, end, ticks + 1);
     Sums {
-        lowest: lowest,
-        highest: highest,
-        trough: trough,
-        later_trough: later_trough,
-        peak: peak,
-        later_peak: later_peak,
+        trough: trough_of(limit, p.start, p.end, p.ticks),
+        later_trough: trough_of(limit, p.start, p.end, p.ticks + 1),
+        peak: peak_of(limit, p.start, p.end, p.ticks),
+        later_peak: peak_of(limit, p.start, p.end, p.ticks + 1),
+        lowest: areas::area_at(p, profile::negative(p.speed_limit)),
+        highest: areas::area_at(p, profile::signed(p.speed_limit)),
     }
 }
 
@@ -84,17 +74,13 @@ pub fn step(r: Sums, limit: i64, change: i64) -> Sums
     requires within_2 { Within (2 ^ 33) change }
     ensures { result ≡ stepped limit change r }
 {
-    let lowest = r.lowest;
-    let highest = r.highest;
-    let trough = r.trough;
-    let peak = r.peak;
     Sums {
-        lowest: lowest + whole::greatest(-limit, trough),
-        highest: highest + whole::least(limit, peak),
+        lowest: r.lowest + (-limit).max(r.trough),
+        highest: r.highest + limit.min(r.peak),
         trough: r.later_trough,
-        later_trough: trough - change,
+        later_trough: r.trough - change,
         peak: r.later_peak,
-        later_peak: peak + change,
+        later_peak: r.peak + change,
     }
 }
 
@@ -102,10 +88,5 @@ pub fn step(r: Sums, limit: i64, change: i64) -> Sums
 pub fn within_sums(r: Sums, sum: i64) -> bool
     ensures { result ≡ within_sums r sum }
 {
-    let low = r.lowest;
-    let high = r.highest;
-    if low <= sum {
-        return sum <= high;
-    }
-    false
+    r.lowest <= sum && sum <= r.highest
 }

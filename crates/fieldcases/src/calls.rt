@@ -4,7 +4,7 @@ ghost use Rattle.std.specs.Prelude.{◌≤◌, length};
 use crate::printing::{
     print_answer, print_part, print_raises, print_search, print_tour, print_words,
 };
-use model::{AxisLimits, SecondSway, Stop, TourSettings, Weight};
+use model::{AXES, AxisLimits, Job, Stop, TourSettings, Weight};
 use stops::StopRow;
 
 // What every lent word holds before a call: DEADBEEF.
@@ -17,7 +17,7 @@ fn settings() -> TourSettings {
         acceleration_limit: 1,
         half_period: 0,
         second_weight: Weight::Given(128),
-        second_sway: SecondSway::Absent,
+        second_sway: None,
     };
     TourSettings {
         mask: 1,
@@ -30,7 +30,7 @@ fn settings() -> TourSettings {
 fn out_and_back(dwell: u32, position: u32) -> StopRow {
     let out = Stop {
         positions: [position as i64, 0, 0, 0, 0, 0],
-        dwell: dwell,
+        dwell,
     };
     let back = Stop {
         positions: [0; 6],
@@ -53,7 +53,20 @@ fn converted(words: &[u32]) {
     print_words(&list);
 }
 
-// A call by its number.
+// The job of the words, or one without axes where they are refused.
+fn job_of(words: &[u32]) -> Job {
+    match words::decode(words) {
+        Ok(job) => job,
+        Err(_) => Job {
+            mask: 0,
+            asked: 0,
+            axes: [model::unset_axis(); AXES],
+            windows: None,
+        },
+    }
+}
+
+// A call by its number, as a case on standard input has it.
 fn by_number(call: u32, words: &[u32], first: u32, second: u32, table: &mut [i64]) {
     match call {
         0 => print_answer(planner::plan_words(words, table)),
@@ -62,7 +75,7 @@ fn by_number(call: u32, words: &[u32], first: u32, second: u32, table: &mut [i64
         3 => print_raises(raises::raises_words(words)),
         4 => print_search(search::search_words(words, first, second)),
         5 => converted(words),
-        6 => print_answer(planner::plan_job(words::decode(words).job, table)),
+        6 => print_answer(planner::plan_job(job_of(words), table)),
         _ => toured(first, second),
     }
 }

@@ -13,36 +13,17 @@ mod printing;
 ghost use Rattle.std.specs.Prelude.{◌≡◌, ◌+◌, ◌≤◌, ◌<◌, length};
 
 use calls::called;
+use whole::checksum::added;
 
 // What every cell of the buffer holds before a call.
 const UNTOUCHED: i64 = -1234567890123;
-
-// The prime 2^31 - 1, below which the sum over the buffer stays.
-const PRIME: u64 = 2147483647;
-
-fn at_most(n: u32, most: usize) -> usize
-    ensures { result ≤ most }
-{
-    let n = n as usize;
-    if n <= most { n } else { most }
-}
 
 // The call of a case with the first cells of the buffer, as many as are lent.
 fn lent(case: &[u32], buffer: &mut [i64])
     requires { 5 ≤ length case.now }
 {
-    let count = at_most(case[1], buffer.len());
+    let count = (case[1] as usize).min(buffer.len());
     called(case, &mut buffer[..count]);
-}
-
-// The sum with one more cell: its weight is twice its size, and one more where it is below 0.
-fn added(sum: u64, x: i64) -> u64
-    requires { sum < 2147483647 }
-    ensures { result < 2147483647 }
-{
-    let twice = 2 * (whole::size(x) % PRIME);
-    let weight = if x < 0 { twice + 1 } else { twice };
-    (31 * sum + weight) % PRIME
 }
 
 // The sum over all cells: at each cell 31 times the sum so far and the cell's weight, modulo the
@@ -52,11 +33,8 @@ fn sum_of(buffer: &[i64]) -> u64
     ensures { result < 2147483647 }
 {
     let mut sum: u64 = 0;
-    let mut i = 0;
-    while i < buffer.len() {
-        let x = buffer[i];
-        sum = added(sum, x);
-        i += 1;
+    for x in buffer {
+        sum = added(sum, *x);
     }
     sum
 }
@@ -84,12 +62,13 @@ fn end_of(cases: &[u32], at: usize) -> usize
     ensures { (at + 5 ≤ result) × (result ≤ length cases.now) }
 {
     let job = at + 5;
-    job + at_most(cases[at + 4], cases.len() - job)
+    job + (cases[at + 4] as usize).min(cases.len() - job)
 }
 
 // Runs the cases one after the other.
 fn run_cases(cases: &[u32]) {
     let mut at: usize = 0;
+    // no range: each case says where the next one begins
     while 5 <= cases.len() - at {
         let end = end_of(cases, at);
         run_case(&cases[at..end]);

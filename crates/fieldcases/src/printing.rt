@@ -9,10 +9,8 @@ fn print(n: u64) {
 }
 
 pub(crate) fn print_words(words: &[u32]) {
-    let mut i: usize = 0;
-    while i < words.len() {
-        print(words[i] as u64);
-        i += 1;
+    for word in words {
+        print(*word as u64);
     }
 }
 
@@ -35,23 +33,19 @@ fn print_pair(kind: u64, n: u32) {
 }
 
 // 1 and the raise of M, 2 and the raise of L, or 0 and 0.
-fn print_raise(raise: Raise) {
+fn print_raise(raise: Option<Raise>) {
     match raise {
-        Raise::AccelerationBy(amount) => print_pair(1, amount),
-        Raise::SpeedBy(amount) => print_pair(2, amount),
-        Raise::NoRaise => print_pair(0, 0),
+        Some(Raise::AccelerationBy(amount)) => print_pair(1, amount),
+        Some(Raise::SpeedBy(amount)) => print_pair(2, amount),
+        None => print_pair(0, 0),
     }
 }
 
 // The raises of axis 0.
 pub(crate) fn print_raises(r: RaisesAnswer) {
     print_answer(r.answer);
-    let axes = r.axes;
-    let raises = axes[0];
-    let first = raises.first;
-    let second = raises.second;
-    print_raise(first);
-    print_raise(second);
+    print_raise(r.axes[0].first);
+    print_raise(r.axes[0].second);
 }
 
 // 1 and the tick that is found, 2 and the next candidate of a spent budget, or 0 and 0.
@@ -71,8 +65,7 @@ pub(crate) fn print_search(r: SearchAnswer) {
         mask: r.mask,
         arrival: r.arrival,
     });
-    let report = r.report;
-    print_report(report);
+    print_report(r.report);
     print(r.tried as u64);
 }
 

@@ -1,12 +1,11 @@
 -- What the structs of include/polgamir.h stand for.
-use Rattle.std.specs.Prelude.{ℕ, ◌/◌, ◌%◌, true, cond, List, [], ◌∷◌, eqb, Float}
+use Rattle.std.specs.Prelude.{ℕ, ◌/◌, ◌%◌, cond, List, [], ◌∷◌, eqb, Float}
 use Rattle.model.specs.declared.Answer.{Answer}
 use Rattle.model.specs.declared.Axis.{Axis}
 use Rattle.model.specs.declared.Damping.TheVariants.{Ratio, Peaks}
 use Rattle.model.specs.declared.Job.{Job}
 use Rattle.model.specs.declared.RestPoint.{RestPoint}
-use Rattle.model.specs.declared.SecondSway.{SecondSway}
-use Rattle.model.specs.declared.SecondSway.TheVariants.{Absent, HalfPeriod}
+use Rattle.std.specs.Prelude.{Option, None, Some}
 use Rattle.model.specs.declared.State.{State}
 use Rattle.model.specs.declared.Target.{Target}
 use Rattle.model.specs.declared.Target.TheVariants.{Fixed, Moving}
@@ -14,7 +13,6 @@ use Rattle.model.specs.declared.Weight.{Weight}
 use Rattle.model.specs.declared.Weight.TheVariants.{Given, Measured}
 use Rattle.model.specs.declared.Windows.{Windows}
 use Rattle.model.specs.planning.Job.{unset_axis}
-use Rattle.model.specs.planning.Windows.{no_windows}
 use Rattle.layout.specs.declared.PolgamirAnswer.{PolgamirAnswer}
 use Rattle.layout.specs.declared.PolgamirAxis.{PolgamirAxis}
 use Rattle.layout.specs.declared.PolgamirJob.{PolgamirJob}
@@ -38,21 +36,21 @@ moving_of a =
     }
 
 -- fixed where its kind is 0, moving where it is any other number
-unfoldable pub target_of : PolgamirAxis → Target
+abbrev pub target_of : PolgamirAxis → Target
 target_of a = cond (eqb a.target_kind 0) (Fixed (fixed_of a)) (Moving (moving_of a))
 
 -- of an axis or of a tour's limits: the number given where the kind is 0, of a ratio where it is 1,
 -- of two peaks where it is any other number
-unfoldable pub weight_from_c : ℕ → ℕ → Float → Float → Float → Weight
+abbrev pub weight_from_c : ℕ → ℕ → Float → Float → Float → Weight
 weight_from_c kind weight ratio first second =
     cond (eqb kind 0) (Given weight) (cond (eqb kind 1) (Measured (Ratio ratio)) (Measured (Peaks first second)))
 
 -- of an axis or of a tour's limits: none where it is given by 0, and by any
 -- other number of the half period
-unfoldable pub sway_of : ℕ → ℕ → SecondSway
-sway_of given period = cond (eqb given 0) Absent (HalfPeriod period)
+abbrev pub sway_of : ℕ → ℕ → Option ℕ
+sway_of given period = cond (eqb given 0) None (Some period)
 
-unfoldable pub axis_from_c : PolgamirAxis → Axis
+abbrev pub axis_from_c : PolgamirAxis → Axis
 axis_from_c a =
     record {
       start = start_of a;
@@ -78,9 +76,8 @@ axes_from_c m l = named_of axis_from_c unset_axis m l
 
 -- none where they are given by 0: what follows is then not looked at; by any other number as they
 -- stand
-unfoldable pub windows_of : PolgamirWindows → Windows
-windows_of w =
-    cond (eqb w.given 0) no_windows (record { given = true; dwell = w.dwell; count = w.count; list = w.list })
+abbrev pub windows_of : PolgamirWindows → Option Windows
+windows_of w = cond (eqb w.given 0) None (Some (record { dwell = w.dwell; count = w.count; list = w.list }))
 
 abbrev pub job_from_c : PolgamirJob → Job
 job_from_c j =

@@ -1,14 +1,14 @@
 -- What the structs of a tour of include/polgamir.h stand for.
 use Rattle.std.specs.Prelude.{ℕ, List}
 use Rattle.model.specs.declared.AxisLimits.{AxisLimits}
-use Rattle.model.specs.declared.SecondSway.TheVariants.{Absent}
+use Rattle.std.specs.Prelude.{None}
 use Rattle.model.specs.declared.TourSettings.{TourSettings}
 use Rattle.model.specs.declared.Weight.TheVariants.{Given}
 use Rattle.layout.specs.declared.tours.PolgamirLimits.{PolgamirLimits}
 use Rattle.layout.specs.declared.tours.PolgamirTour.{PolgamirTour}
 use Rattle.layout.specs.Jobs.{weight_from_c, sway_of, named_of}
 
-unfoldable pub limits_of : PolgamirLimits → AxisLimits
+abbrev pub limits_of : PolgamirLimits → AxisLimits
 limits_of l =
     record {
       speed_limit = l.speed_limit;
@@ -27,7 +27,7 @@ unset_limits =
       acceleration_limit = 0;
       half_period = 0;
       second_weight = Given 0;
-      second_sway = Absent;
+      second_sway = None;
     }
 
 -- the limits of the axes that the mask names; the others are not looked at, and unset

@@ -8,12 +8,12 @@ pub mod searches;
 pub mod tours;
 
 ghost use Rattle.std.specs.Prelude.{◌≡◌};
-ghost use Rattle.layout.specs.Jobs.{start_of, fixed_of, moving_of, target_of, weight_from_c, sway_of, axis_from_c};
-ghost use Rattle.layout.specs.Jobs.{axes_from_c, windows_of, job_from_c, answer_for_c};
+ghost use Rattle.layout.specs.Jobs.{target_of, weight_from_c, sway_of, axis_from_c, named_of};
+ghost use Rattle.layout.specs.Jobs.{windows_of, job_from_c, answer_for_c};
 
 use model::{
-    AXES, Answer, Axis, Damping, Job, MAX_WINDOWS, RestPoint, SecondSway, State, Target, Weight,
-    Window, Windows,
+    AXES, Answer, Axis, Damping, Job, MAX_WINDOWS, RestPoint, State, Target, Weight, Window,
+    Windows,
 };
 
 // What a call gives back, laid out as the header's `polgamir_answer`.
@@ -73,157 +73,130 @@ pub struct PolgamirJob {
 }
 
 // The planner's answer in the header's layout.
-pub fn returned(r: Answer) -> PolgamirAnswer
-    ensures { answer_for_c result ≡ r }
-{
-    PolgamirAnswer {
-        number: r.number,
-        mask: r.mask,
-        place: r.place,
-        arrival: r.arrival,
+impl From<Answer> for PolgamirAnswer {
+    ghost from_gives = { λ r c. answer_for_c c ≡ r };
+
+    fn from(r: Answer) -> PolgamirAnswer {
+        PolgamirAnswer {
+            number: r.number,
+            mask: r.mask,
+            place: r.place,
+            arrival: r.arrival,
+        }
     }
 }
 
 // ---- an axis
 
-fn start_of(a: PolgamirAxis) -> RestPoint
-    ensures { result ≡ start_of a }
-{
-    RestPoint {
-        position: a.start_position,
-        velocity: a.start_velocity,
+impl From<PolgamirAxis> for Target {
+    ghost from_gives = { λ a t. t ≡ target_of a };
+
+    fn from(a: PolgamirAxis) -> Target {
+        match a.target_kind {
+            0 => Target::Fixed(RestPoint {
+                position: a.target_position,
+                velocity: a.target_velocity,
+            }),
+            _ => Target::Moving(State {
+                position: a.target_position,
+                velocity: a.target_velocity,
+                acceleration: a.target_acceleration,
+                tick: a.target_tick,
+            }),
+        }
     }
 }
 
-fn fixed_of(a: PolgamirAxis) -> RestPoint
-    ensures { result ≡ fixed_of a }
-{
-    RestPoint {
-        position: a.target_position,
-        velocity: a.target_velocity,
-    }
-}
-
-fn moving_of(a: PolgamirAxis) -> State
-    ensures { result ≡ moving_of a }
-{
-    State {
-        position: a.target_position,
-        velocity: a.target_velocity,
-        acceleration: a.target_acceleration,
-        tick: a.target_tick,
-    }
-}
-
-fn target_of(a: PolgamirAxis) -> Target
-    ensures { result ≡ target_of a }
-{
-    if a.target_kind == 0 {
-        let point = fixed_of(a);
-        return Target::Fixed(point);
-    }
-    let state = moving_of(a);
-    Target::Moving(state)
-}
-
-// The second weight of an axis or of a tour's limits, from its five fields.
+// The second weight of an axis or of a tour's limits: a kind and the values of each kind stand side
+// by side, since that is the header's layout.
 fn weight_of(kind: u32, weight: u32, ratio: f32, first: f32, second: f32) -> Weight
     ensures { result ≡ weight_from_c kind weight ratio first second }
 {
-    if kind == 0 {
-        return Weight::Given(weight);
+    match kind {
+        0 => Weight::Given(weight),
+        1 => Weight::Measured(Damping::Ratio(ratio)),
+        _ => Weight::Measured(Damping::Peaks(first, second)),
     }
-    if kind == 1 {
-        let measured = Damping::Ratio(ratio);
-        return Weight::Measured(measured);
-    }
-    let peaks = Damping::Peaks(first, second);
-    Weight::Measured(peaks)
 }
 
-// The second sway of an axis or of a tour's limits, from its two fields.
-fn sway_of(given: u32, half_period: u32) -> SecondSway
+// The second sway of an axis or of a tour's limits, from the two fields of the header's layout.
+fn sway_of(given: u32, half_period: u32) -> Option<u32>
     ensures { result ≡ sway_of given half_period }
 {
-    if given == 0 {
-        return SecondSway::Absent;
-    }
-    SecondSway::HalfPeriod(half_period)
+    (given != 0).then_some(half_period)
 }
 
-fn axis_of(a: PolgamirAxis) -> Axis
-    ensures { result ≡ axis_from_c a }
-{
-    let start = start_of(a);
-    let weight = weight_of(
-        a.damping_kind,
-        a.second_weight,
-        a.swing_ratio,
-        a.first_peak,
-        a.second_peak,
-    );
-    let sway = sway_of(a.second_sway_given, a.second_half_period);
-    let target = target_of(a);
-    Axis {
-        start: start,
-        speed_limit: a.speed_limit,
-        acceleration_limit: a.acceleration_limit,
-        half_period: a.half_period,
-        second_weight: weight,
-        second_sway: sway,
-        target: target,
-    }
-}
+impl From<PolgamirAxis> for Axis {
+    ghost from_gives = { λ a r. r ≡ axis_from_c a };
 
-// The axes that the mask names. The others are not read, and unset.
-fn axes_of(mask: u32, list: [PolgamirAxis; AXES]) -> [Axis; AXES]
-    ensures { result ≡ axes_from_c mask list }
-{
-    let unset = model::unset_axis();
-    let mut axes = [unset; AXES];
-    let mut bits = mask;
-    let mut i: usize = 0;
-    while i < AXES {
-        if bits % 2 == 1 {
-            let entry = list[i];
-            let axis = axis_of(entry);
-            axes[i] = axis;
+    fn from(a: PolgamirAxis) -> Axis {
+        Axis {
+            start: RestPoint {
+                position: a.start_position,
+                velocity: a.start_velocity,
+            },
+            speed_limit: a.speed_limit,
+            acceleration_limit: a.acceleration_limit,
+            half_period: a.half_period,
+            second_weight: weight_of(
+                a.damping_kind,
+                a.second_weight,
+                a.swing_ratio,
+                a.first_peak,
+                a.second_peak,
+            ),
+            second_sway: sway_of(a.second_sway_given, a.second_half_period),
+            target: a.into(),
         }
-        bits = bits / 2;
-        i += 1;
     }
-    axes
+}
+
+// What the entries that the mask names stand for, its lowest bit standing for the first. The others
+// are not read, and unset.
+fn named_of<T: Copy + Into<U>, U: Copy>(mask: u32, list: [T; AXES], unset: U) -> [U; AXES]
+    ensures { (f : _) → ((x y : _) → T.converts x y → y ≡ f x) → result ≡ named_of f unset mask list }
+{
+    let mut named = [unset; AXES];
+    let mut bits = mask;
+    // by index: two arrays are walked, and one of them is written
+    for i in 0..AXES {
+        if bits % 2 == 1 {
+            named[i] = list[i].into();
+        }
+        bits /= 2;
+    }
+    named
 }
 
 // ---- a job
 
 // The windows where they are given. Where they are not, nothing else of them is read.
-fn windows_of(w: PolgamirWindows) -> Windows
-    ensures { result ≡ windows_of w }
-{
-    if w.given == 0 {
-        return model::no_windows();
-    }
-    let list = w.list;
-    Windows {
-        given: true,
-        dwell: w.dwell,
-        count: w.count,
-        list: list,
+impl From<PolgamirWindows> for Option<Windows> {
+    ghost from_gives = { λ w r. r ≡ windows_of w };
+
+    fn from(w: PolgamirWindows) -> Option<Windows> {
+        if w.given == 0 {
+            return None;
+        }
+        let list = w.list;
+        Some(Windows {
+            dwell: w.dwell,
+            count: w.count,
+            list,
+        })
     }
 }
 
-pub fn job_of(job: PolgamirJob) -> Job
-    ensures { result ≡ job_from_c job }
-{
-    let list = job.axes;
-    let axes = axes_of(job.mask, list);
-    let brought = job.windows;
-    let windows = windows_of(brought);
-    Job {
-        mask: job.mask,
-        asked: job.asked,
-        axes: axes,
-        windows: windows,
+impl From<PolgamirJob> for Job {
+    ghost from_gives = { λ c j. j ≡ job_from_c c };
+
+    fn from(job: PolgamirJob) -> Job {
+        let axes = named_of(job.mask, job.axes, model::unset_axis());
+        Job {
+            mask: job.mask,
+            asked: job.asked,
+            axes,
+            windows: job.windows.into(),
+        }
     }
 }

@@ -1,8 +1,8 @@
 // The raises of limits.
-ghost use Rattle.std.specs.Prelude.{◌≡◌, map};
+ghost use Rattle.std.specs.Prelude.{◌≡◌};
 ghost use Rattle.layout.specs.Raises.{raise_in_c, entry_in_c, raises_in_c};
 
-use crate::{PolgamirAnswer, returned};
+use crate::PolgamirAnswer;
 use model::{AXES, AxisRaises, Raise, RaisesAnswer};
 
 // A raise, laid out as the header's `polgamir_raise`: of the acceleration limit where the limit is
@@ -30,62 +30,37 @@ pub struct PolgamirRaises {
     pub axes: [PolgamirAxisRaises; AXES],
 }
 
-fn raise(limit: u32, by: u32) -> PolgamirRaise
-    ensures { result ≡ record { limit = limit; by = by } }
-{
-    PolgamirRaise {
-        limit: limit,
-        by: by,
+impl From<Option<Raise>> for PolgamirRaise {
+    ghost from_gives = { λ r c. c ≡ raise_in_c r };
+
+    fn from(r: Option<Raise>) -> PolgamirRaise {
+        match r {
+            Some(Raise::AccelerationBy(by)) => PolgamirRaise { limit: 1, by },
+            Some(Raise::SpeedBy(by)) => PolgamirRaise { limit: 2, by },
+            None => PolgamirRaise { limit: 0, by: 0 },
+        }
     }
 }
 
-fn raise_in_c(r: Raise) -> PolgamirRaise
-    ensures { result ≡ raise_in_c r }
-{
-    match r {
-        Raise::AccelerationBy(m) => raise(1, m),
-        Raise::SpeedBy(l) => raise(2, l),
-        Raise::NoRaise => raise(0, 0),
-    }
-}
+impl From<AxisRaises> for PolgamirAxisRaises {
+    ghost from_gives = { λ r c. c ≡ entry_in_c r };
 
-fn entry_in_c(r: AxisRaises) -> PolgamirAxisRaises
-    ensures { result ≡ entry_in_c r }
-{
-    let first = r.first;
-    let second = r.second;
-    PolgamirAxisRaises {
-        first: raise_in_c(first),
-        second: raise_in_c(second),
+    fn from(r: AxisRaises) -> PolgamirAxisRaises {
+        PolgamirAxisRaises {
+            first: r.first.into(),
+            second: r.second.into(),
+        }
     }
-}
-
-fn entries_in_c(list: [AxisRaises; AXES]) -> [PolgamirAxisRaises; AXES]
-    ensures { result ≡ map entry_in_c list }
-{
-    let front = list[0];
-    let first = entry_in_c(front);
-    let mut entries = [first; AXES];
-    let mut i: usize = 0;
-    while i < AXES {
-        let entry = list[i];
-        let next = entry_in_c(entry);
-        entries[i] = next;
-        i += 1;
-    }
-    entries
 }
 
 // An answer and its raises in the header's layout.
-pub fn raises_in_c(r: RaisesAnswer) -> PolgamirRaises
-    ensures { result ≡ raises_in_c r }
-{
-    let planned = r.answer;
-    let list = r.axes;
-    let answer = returned(planned);
-    let axes = entries_in_c(list);
-    PolgamirRaises {
-        answer: answer,
-        axes: axes,
+impl From<RaisesAnswer> for PolgamirRaises {
+    ghost from_gives = { λ r c. c ≡ raises_in_c r };
+
+    fn from(r: RaisesAnswer) -> PolgamirRaises {
+        PolgamirRaises {
+            answer: r.answer.into(),
+            axes: r.axes.map(PolgamirAxisRaises::from),
+        }
     }
 }

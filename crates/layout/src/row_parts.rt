@@ -16,15 +16,17 @@ pub struct PolgamirPartAnswer {
 }
 
 // The answer in the header's layout.
-pub fn part_returned(r: PartAnswer) -> PolgamirPartAnswer
-    ensures { part_of result ≡ r }
-{
-    let a = r.answer;
-    PolgamirPartAnswer {
-        number: a.number,
-        mask: a.mask,
-        place: a.place,
-        arrival: a.arrival,
-        rows: r.rows,
+impl From<PartAnswer> for PolgamirPartAnswer {
+    ghost from_gives = { λ r c. part_of c ≡ r };
+
+    fn from(r: PartAnswer) -> PolgamirPartAnswer {
+        let a = r.answer;
+        PolgamirPartAnswer {
+            number: a.number,
+            mask: a.mask,
+            place: a.place,
+            arrival: a.arrival,
+            rows: r.rows,
+        }
     }
 }

@@ -1,6 +1,6 @@
 // The answer of a search.
 ghost use Rattle.std.specs.Prelude.{◌≡◌};
-ghost use Rattle.layout.specs.Searches.{report_number, next_candidate, searched_of};
+ghost use Rattle.layout.specs.Searches.{searched_of};
 
 use model::{Report, SearchAnswer};
 
@@ -18,39 +18,24 @@ pub struct PolgamirSearchAnswer {
     pub tried: u32,
 }
 
-fn report_number(report: Report) -> u32
-    ensures { result ≡ report_number report }
-{
-    match report {
-        Report::Found(_) => 1,
-        Report::Spent(_) => 2,
-        Report::Nothing => 0,
-    }
-}
-
-// The next candidate where the budget is spent, or 0.
-fn next_candidate(report: Report) -> u32
-    ensures { result ≡ next_candidate report }
-{
-    match report {
-        Report::Found(_) => 0,
-        Report::Spent(next) => next,
-        Report::Nothing => 0,
-    }
-}
-
 // The answer in the header's layout.
-pub fn searched(r: SearchAnswer) -> PolgamirSearchAnswer
-    ensures { result ≡ searched_of r }
-{
-    let report = r.report;
-    PolgamirSearchAnswer {
-        number: r.number,
-        mask: r.mask,
-        place: r.place,
-        arrival: r.arrival,
-        report: report_number(report),
-        next: next_candidate(report),
-        tried: r.tried,
+impl From<SearchAnswer> for PolgamirSearchAnswer {
+    ghost from_gives = { λ r c. c ≡ searched_of r };
+
+    fn from(r: SearchAnswer) -> PolgamirSearchAnswer {
+        let (report, next) = match r.report {
+            Report::Nothing => (0, 0),
+            Report::Found(_) => (1, 0),
+            Report::Spent(next) => (2, next),
+        };
+        PolgamirSearchAnswer {
+            number: r.number,
+            mask: r.mask,
+            place: r.place,
+            arrival: r.arrival,
+            report,
+            next,
+            tried: r.tried,
+        }
     }
 }

@@ -1,10 +1,10 @@
 // What a tour has besides its stops. Stops and answer are the model's own,
 // which have the header's layout.
 ghost use Rattle.std.specs.Prelude.{◌≡◌};
-ghost use Rattle.layout.specs.Tours.{limits_of, unset_limits, all_limits_of, settings_of};
+ghost use Rattle.layout.specs.Tours.{limits_of, unset_limits, settings_of};
 
-use crate::{sway_of, weight_of};
-use model::{AXES, AxisLimits, SecondSway, TourSettings, Weight};
+use crate::{named_of, sway_of, weight_of};
+use model::{AXES, AxisLimits, TourSettings, Weight};
 
 // The limits and the blend of an axis, laid out as the header's `polgamir_limits`. The damping and
 // the second sway are as in an axis.
@@ -32,23 +32,23 @@ pub struct PolgamirTour {
     pub limits: [PolgamirLimits; AXES],
 }
 
-fn limits_of(l: PolgamirLimits) -> AxisLimits
-    ensures { result ≡ limits_of l }
-{
-    let weight = weight_of(
-        l.damping_kind,
-        l.second_weight,
-        l.swing_ratio,
-        l.first_peak,
-        l.second_peak,
-    );
-    let sway = sway_of(l.second_sway_given, l.second_half_period);
-    AxisLimits {
-        speed_limit: l.speed_limit,
-        acceleration_limit: l.acceleration_limit,
-        half_period: l.half_period,
-        second_weight: weight,
-        second_sway: sway,
+impl From<PolgamirLimits> for AxisLimits {
+    ghost from_gives = { λ l r. r ≡ limits_of l };
+
+    fn from(l: PolgamirLimits) -> AxisLimits {
+        AxisLimits {
+            speed_limit: l.speed_limit,
+            acceleration_limit: l.acceleration_limit,
+            half_period: l.half_period,
+            second_weight: weight_of(
+                l.damping_kind,
+                l.second_weight,
+                l.swing_ratio,
+                l.first_peak,
+                l.second_peak,
+            ),
+            second_sway: sway_of(l.second_sway_given, l.second_half_period),
+        }
     }
 }
 
@@ -61,39 +61,20 @@ fn unset_limits() -> AxisLimits
         acceleration_limit: 0,
         half_period: 0,
         second_weight: Weight::Given(0),
-        second_sway: SecondSway::Absent,
+        second_sway: None,
     }
 }
 
-// The limits of the axes that the mask names. The others are not read, and unset.
-fn all_limits(mask: u32, list: [PolgamirLimits; AXES]) -> [AxisLimits; AXES]
-    ensures { result ≡ all_limits_of mask list }
-{
-    let unset = unset_limits();
-    let mut limits = [unset; AXES];
-    let mut bits = mask;
-    let mut i: usize = 0;
-    while i < AXES {
-        if bits % 2 == 1 {
-            let entry = list[i];
-            let named = limits_of(entry);
-            limits[i] = named;
+impl From<PolgamirTour> for TourSettings {
+    ghost from_gives = { λ c t. t ≡ settings_of c };
+
+    fn from(t: PolgamirTour) -> TourSettings {
+        let start = t.start;
+        let limits = named_of(t.mask, t.limits, unset_limits());
+        TourSettings {
+            mask: t.mask,
+            start,
+            limits,
         }
-        bits = bits / 2;
-        i += 1;
-    }
-    limits
-}
-
-pub fn settings_of(t: PolgamirTour) -> TourSettings
-    ensures { result ≡ settings_of t }
-{
-    let start = t.start;
-    let list = t.limits;
-    let limits = all_limits(t.mask, list);
-    TourSettings {
-        mask: t.mask,
-        start: start,
-        limits: limits,
     }
 }

@@ -23,7 +23,7 @@ use Rattle.model.specs.planning.Leg.{Leg, upper}
 use Rattle.model.specs.calls.Raises.{highest}
 use Rattle.theorems.proofs.legs.Envelopes.{Joined}
 use Rattle.areas.specs.declared.Parts.{Parts}
-use Rattle.profile.specs.Profiles.{leg_of, Joinable}
+use Rattle.profile.specs.Profiles.{Joinable}
 use Rattle.areas.specs.Areas.{triangle, ramp_area, split_area, upper_parts}
 use Rattle.profile.proofs.FeasibleParts.{joined-ends}
 use Rattle.areas.proofs.UpperSplits.{split-above, split-is, parts_all}
@@ -33,7 +33,7 @@ use Rattle.least_limit.specs.Limits.{enough_with, gain_of, TaskRanged, Allowed, 
 
 module _ (t : Task) where
   abbrev pub leg_with : Limit → ℕ → Leg
-  leg_with q v = leg_of (profile_at t (speed_with q t v) (acceleration_with q t v))
+  leg_with q v = profile_at t (speed_with q t v) (acceleration_with q t v)
 
   abbrev pub upper_sum : Limit → ℕ → ℤ
   upper_sum q v = sum_to (upper (leg_with q v)) (t.ticks - 1)
@@ -117,7 +117,7 @@ module _ (t : Task) where
   near m = leb (need Acceleration t) (unit Acceleration t * m)
 
   abbrev up : ℕ → ℕ → Bool
-  up l m = le_z t.sum (sum_to (upper (leg_of (profile_at t l m))) (t.ticks - 1))
+  up l m = le_z t.sum (sum_to (upper (profile_at t l m)) (t.ticks - 1))
 
   last-no : (a b : Bool) {c : Bool} → c ≡ false → (a && (b && c)) ≡ false
   last-no true true e = e
@@ -195,29 +195,10 @@ module _ (t : Task) where
       → Joinable (profile_at t (speed_with q t v) (acceleration_with q t v))
   profile-joinable q v r a =
       record {
-        ranged =
-            record {
-              speed_limit = speeds;
-              acceleration_limit = le_trans (mul-le-mul r.steps (accelerations q a)) (omega arith);
-              ticks = r.ticks;
-              start = record { within = le_trans r.start (le_trans a.speed speeds) };
-              end = record { within = le_trans r.end (le_trans a.speed speeds) };
-            };
         acceleration = some q v r a;
         some = r.some;
         ends = joined-ends (leg_with q v) (joined q v r a);
       }
-    where
-      highest-speed : (q : Limit) → Allowed q t v → speed_with q t v ≤ 1048576
-      highest-speed Acceleration a = r.speed
-      highest-speed Speed a = a.high
-
-      accelerations : (q : Limit) → Allowed q t v → acceleration_with q t v ≤ 65536
-      accelerations Acceleration a = a.high
-      accelerations Speed a = r.acceleration
-
-      speeds : t.steps * speed_with q t v ≤ 2 ^ 37
-      speeds = le_trans (mul-le-mul r.steps (highest-speed q a)) (omega arith)
 
 pub highest-small : (q : Limit) → highest q ≤ 1048576
 highest-small Acceleration = omega arith

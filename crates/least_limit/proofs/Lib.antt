@@ -1,2 +1,3 @@
+mod Cases
 pub mod FallsShort
 pub mod Decisions

@@ -5,18 +5,17 @@ use Rattle.whole.specs.Integers.{sum_to}
 use Rattle.whole.specs.Ranges.{Within}
 use Rattle.model.specs.declared.Limit.{Limit}
 use Rattle.model.specs.declared.Limit.TheVariants.{Acceleration, Speed}
-use Rattle.model.specs.planning.Leg.{upper}
+use Rattle.model.specs.planning.Leg.{Leg, upper}
 use Rattle.model.specs.calls.Raises.{highest}
 use Rattle.areas.specs.declared.Parts.{Parts}
-use Rattle.profile.specs.declared.Profile.{Profile}
-use Rattle.profile.specs.Profiles.{leg_of, Joinable}
+use Rattle.profile.specs.Profiles.{Joinable}
 use Rattle.areas.specs.Areas.{triangle}
 use Rattle.least_limit.specs.declared.Task.{Task}
 
 -- ---- a task with other limits
 
 -- with the limits l and m, in units
-abbrev pub profile_at : Task → ℕ → ℕ → Profile
+abbrev pub profile_at : Task → ℕ → ℕ → Leg
 profile_at t l m =
     record {
       speed_limit = t.steps * l;
@@ -59,7 +58,7 @@ unfoldable pub enough : Task → ℕ → ℕ → Bool
 enough t l m =
     leb (need Speed t) (unit Speed t * l)
     && (leb (need Acceleration t) (unit Acceleration t * m)
-    && le_z t.sum (sum_to (upper (leg_of (profile_at t l m))) (t.ticks - 1)))
+    && le_z t.sum (sum_to (upper (profile_at t l m)) (t.ticks - 1)))
 
 abbrev pub enough_with : Limit → Task → ℕ → Bool
 enough_with q t v = enough t (speed_with q t v) (acceleration_with q t v)
@@ -94,7 +93,7 @@ pub record PartsRanged (p : Parts) : Type 0 where
 -- ---- results
 
 -- the profile with one limit set, whose ends can be joined
-pub record ProfileFor (q : Limit) (t : Task) (v : ℕ) (r : Profile) : Type 0 where
+pub record ProfileFor (q : Limit) (t : Task) (v : ℕ) (r : Leg) : Type 0 where
   pub is : r ≡ profile_at t (speed_with q t v) (acceleration_with q t v)
   pub joinable : Joinable r
 

@@ -51,7 +51,7 @@ pub fn least_limit(t: Task, limit: Limit, last: u64) -> u64
     least_from(t, limit, first, after)
 }
 
-// ---- what the ends ask of a limit
+// ---- what the ends ask of a limit: of each of the two another thing, so the limit is passed on
 
 fn other(limit: Limit) -> Limit
     ensures { result ≡ other limit }
@@ -77,10 +77,8 @@ fn need(t: Task, limit: Limit) -> u64
     requires { TaskRanged t }
     ensures { result ≡ need limit t }
 {
-    let start = t.start;
-    let end = t.end;
     match limit {
-        Limit::Acceleration => whole::size(end - start),
+        Limit::Acceleration => (t.end - t.start).unsigned_abs(),
         Limit::Speed => t.fastest,
     }
 }
@@ -111,16 +109,9 @@ fn first_allowed(t: Task, limit: Limit, after: u64) -> u64
     requires t_bound { limit_in limit t < after }
     ensures { FirstAllowed limit t after result }
 {
-    let each = unit(t, limit);
-    let least = (need(t, limit) + (each - 1)) / each;
+    let least = need(t, limit).div_ceil(unit(t, limit));
     let next = limit_in(t, limit) + 1;
-    if least <= next {
-        return next;
-    }
-    if after < least {
-        return after;
-    }
-    least
+    least.max(next).min(after)
 }
 
 // ---- one test
@@ -140,16 +131,15 @@ fn profile_with(t: Task, limit: Limit, value: u64) -> Profile
 fn profile_at(t: Task, speed: u64, acceleration: u64) -> Profile
     requires task_ranged { TaskRanged t }
     requires speed_bound { speed ≤ 1048576 }
+    requires fast_enough { t.fastest ≤ t.steps * speed }
     requires acceleration_bound { acceleration ≤ 65536 }
     ensures { result ≡ profile_at t speed acceleration }
 {
-    let start = t.start;
-    let end = t.end;
     Profile {
         speed_limit: t.steps * speed,
         acceleration_limit: t.steps * acceleration,
-        start: start,
-        end: end,
+        start: t.start,
+        end: t.end,
         ticks: t.ticks,
     }
 }
@@ -187,10 +177,7 @@ fn next_lower_bound(value: u64, missing: u64, gain: u64, after: u64) -> u64
         return after;
     }
     let next = value + (missing - 1) / gain + 1;
-    if after < next {
-        return after;
-    }
-    next
+    next.min(after)
 }
 
 // The value itself where it is enough; else a higher one, at most `after`, below which none is.
@@ -208,8 +195,7 @@ fn lead(t: Task, limit: Limit, value: u64, after: u64) -> u64
     if sum <= reached {
         return value;
     }
-    let parts = area.parts;
-    let most = t.steps * gain(parts, limit);
+    let most = t.steps * gain(area.parts, limit);
     next_lower_bound(value, (sum - reached) as u64, most, after)
 }
 
@@ -241,6 +227,7 @@ fn least_from(t: Task, limit: Limit, first: u64, after: u64) -> u64
     let mut low = first;
     let mut high = after;
     let mut tests: u64 = 0;
+    // no range: what is left shrinks by what a test says
     while low < high {
         let value = next_tested(low, high, tests);
         tests += 1;

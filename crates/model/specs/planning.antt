@@ -21,6 +21,8 @@ pub mod Refusals
 -- The first refusal of a job before its arrival is looked for, or the job: what every call
 -- goes on from. Refusals 3 and 13.
 pub mod Admission
+-- How a refusal is told.
+pub mod Told
 -- The answer to a call and its table; refusals 8, 9 and 10.
 pub mod Outcome
 -- Demand 3: what holds of every accepted job's table.

@@ -1,5 +1,6 @@
 -- An axis that the refusals of one axis let pass has the ranges that the code needs.
 use Prim.Native.Nat.{ℕ, ◌^◌, ◌≤◌}
+use mathlib.Core.Path.{◌≡◌, sym, subst}
 use mathlib.Core.Bool.{Bool, ◌&&◌}
 use native.Mathlib.Omega.{arith}
 use lib.Dec.{T, leb, leb→le}
@@ -98,3 +99,8 @@ ranges-of {x} k =
       velocity = start.1;
       target = target-within x x.target (limited k) (right s g values);
     }
+
+-- its target in motion, for an arrival
+pub moving-ranges : {x : Axis} {n : ℕ} {m : State} → Passed x → n ≤ last_tick → m ≡ as_moving x.target n
+    → StateRanges m
+moving-ranges {x} {n} k h e = subst StateRanges (sym e) ((ranges-of k).target n h)

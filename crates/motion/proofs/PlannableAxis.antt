@@ -19,7 +19,7 @@ use Rattle.model.specs.planning.Refusals.{Plannable}
 use Rattle.theorems.proofs.motions.Reaches.{reach-after, reach-lands, reach-arrives, reach-feasible}
 use Rattle.theorems.proofs.motions.Grid.{finer-range, speed-range, acceleration-range}
 use Rattle.profile.specs.Profiles.{Ranged}
-use Rattle.motion.specs.Motions.{Ranges, profile_for}
+use Rattle.motion.specs.Motions.{Ranges}
 use Rattle.motion.proofs.PassedRanges.{ranges-of}
 
 start-within : (s p v : ℤ) → Within (2 ^ 16) s → Within (2 ^ 34) p → Within (2 ^ 20) v
@@ -74,7 +74,7 @@ module _ {x : Axis} {n : ℕ} (r : Plannable x n) where
       (mul_holds (pos fine_steps) (as_moving x.target n).acceleration fine_steps (2 ^ 16)
       (omega arith) h.acceleration.within)
 
-  pub profile-ranged : Ranged (profile_for x n)
+  pub profile-ranged : Ranged (leg x n)
   profile-ranged =
       let h = plannable-ranges in
       record {

@@ -8,12 +8,11 @@ use Rattle.model.specs.declared.Weight.{Weight}
 use Rattle.model.specs.declared.Weight.TheVariants.{Given, Measured}
 use Rattle.model.specs.planning.Quantities.{fine_steps, speed_limit, acceleration_limit, half_period, second_weight}
 use Rattle.model.specs.planning.Quantities.{second_half_period, as_moving, twice_position_at, velocity_at}
-use Rattle.model.specs.planning.Quantities.{on_grid, speed_steps, acceleration_steps}
-use Rattle.model.specs.planning.Motion.{shift, start_velocity, landing_tick, landing_position, landing_velocity}
-use Rattle.model.specs.planning.Motion.{landing_acceleration}
+use Rattle.model.specs.planning.Quantities.{on_grid}
+use Rattle.model.specs.planning.Motion.{shift, landing_position, landing_velocity}
+use Rattle.model.specs.planning.Motion.{landing_acceleration, leg}
+use Rattle.model.specs.planning.Leg.{Leg}
 use Rattle.model.specs.planning.Refusals.{last_tick}
-use Rattle.profile.specs.declared.Profile.{Profile}
-use Rattle.profile.specs.Profiles.{Ranged}
 use Rattle.motion.specs.declared.Landing.{Landing}
 
 -- ---- ranges, in powers of two that hold what the refusals of one axis leave, and for positions
@@ -75,18 +74,7 @@ pub record LandingIs (x : Axis) (n : ℕ) (r : Landing) : Type 0 where
 
 -- ---- rule 4: the profile that stands for the leg of an arrival
 
-abbrev pub profile_for : Axis → ℕ → Profile
-profile_for x n =
-    record {
-      speed_limit = speed_steps x;
-      acceleration_limit = acceleration_steps x;
-      start = start_velocity x;
-      end = landing_velocity x n;
-      ticks = landing_tick x n;
-    }
-
-pub record ProfileIs (x : Axis) (n : ℕ) (r : Profile) : Type 0 where
-  pub is : r ≡ profile_for x n
-  pub ranged : Ranged r
+pub record ProfileIs (x : Axis) (n : ℕ) (r : Leg) : Type 0 where
+  pub is : r ≡ leg x n
   pub acceleration : 0 < r.acceleration_limit
   pub some : 0 < r.ticks

@@ -5,24 +5,20 @@ ghost use Rattle.model.specs.planning.Quantities.{second_weight, sway_delay, sec
 ghost use Rattle.theorems.specs.GivenWeights.{with_weight};
 ghost use Rattle.motion.specs.Motions.{measured, Ranges};
 
-use model::{Axis, SecondSway, Weight};
+use model::{Axis, Weight};
 
 // h₂ of a second sway, 0 where there is none.
-pub fn sway_delay(sway: SecondSway) -> u32
+pub fn sway_delay(sway: Option<u32>) -> u32
     ensures { result ≡ sway_delay sway }
 {
-    match sway {
-        SecondSway::Absent => 0,
-        SecondSway::HalfPeriod(d) => d,
-    }
+    sway.unwrap_or(0)
 }
 
 // h₂.
 pub fn second_half_period(x: Axis) -> u32
     ensures { result ≡ second_half_period x }
 {
-    let sway = x.second_sway;
-    sway_delay(sway)
+    sway_delay(x.second_sway)
 }
 
 // How far the blend looks back: h + h₂.
@@ -37,8 +33,7 @@ pub fn delay_of(x: Axis) -> u32
 pub fn second_weight(x: Axis) -> u32
     ensures { result ≡ second_weight x }
 {
-    let weight = x.second_weight;
-    damping::weight_of(weight)
+    damping::weight_of(x.second_weight)
 }
 
 // B as a signed number.
@@ -46,35 +41,22 @@ pub fn signed_weight(x: Axis) -> i64
     requires { Ranges x }
     ensures { Is 128 result (pos (second_weight x)) }
 {
-    second_weight(x) as i64
+    i64::from(second_weight(x))
 }
 
 // Whether B is to be worked out from damping as measured.
 pub fn measured(x: Axis) -> bool
     ensures { result ≡ measured x }
 {
-    let weight = x.second_weight;
-    match weight {
-        Weight::Given(_) => false,
-        Weight::Measured(_) => true,
-    }
+    matches!(x.second_weight, Weight::Measured(_))
 }
 
 // The same axis with the number B given, so that it is worked out once.
 pub fn with_weight(x: Axis) -> Axis
     ensures { result ≡ with_weight x }
 {
-    let start = x.start;
-    let sway = x.second_sway;
-    let target = x.target;
-    let weight = second_weight(x);
     Axis {
-        start: start,
-        speed_limit: x.speed_limit,
-        acceleration_limit: x.acceleration_limit,
-        half_period: x.half_period,
-        second_weight: Weight::Given(weight),
-        second_sway: sway,
-        target: target,
+        second_weight: Weight::Given(second_weight(x)),
+        ..x
     }
 }

@@ -13,10 +13,7 @@ pub fn accelerates(target: Target) -> bool
 {
     match target {
         Target::Fixed(_) => false,
-        Target::Moving(m) => {
-            let a = m.acceleration;
-            a != 0
-        }
+        Target::Moving(m) => m.acceleration != 0,
     }
 }
 
@@ -29,17 +26,10 @@ pub fn as_moving(target: Target, n: u32) -> State
             position: r.position,
             velocity: r.velocity,
             acceleration: 0,
-            tick: n as i64,
+            tick: i64::from(n),
         },
         Target::Moving(m) => m,
     }
-}
-
-pub fn signed(k: u32) -> i64
-    requires { k ≤ last_tick }
-    ensures { Is 4096 result (pos k) }
-{
-    k as i64
 }
 
 // Ticks from the target's own tick to tick k.
@@ -48,8 +38,7 @@ fn ticks_since(m: State, k: u32) -> i64
     requires k_le_last_tick { k ≤ last_tick }
     ensures { Is (2 ^ 13) result (pos k -ℤ m.tick) }
 {
-    let tick = m.tick;
-    signed(k) - tick
+    i64::from(k) - m.tick
 }
 
 // The target's velocity at tick k.
@@ -58,10 +47,7 @@ pub fn velocity_at(m: State, k: u32) -> i64
     requires k_le_last_tick { k ≤ last_tick }
     ensures { Is (2 ^ 30) result (velocity_at m (pos k)) }
 {
-    let v = m.velocity;
-    let a = m.acceleration;
-    let d = ticks_since(m, k);
-    v + a * d
+    m.velocity + m.acceleration * ticks_since(m, k)
 }
 
 // Twice the target's position at tick k.
@@ -70,9 +56,6 @@ pub fn twice_position_at(m: State, k: u32) -> i64
     requires k_le_last_tick { k ≤ last_tick }
     ensures { Is (2 ^ 42 + 2 ^ 36) result (twice_position_at m (pos k)) }
 {
-    let p = m.position;
-    let v = m.velocity;
-    let a = m.acceleration;
     let d = ticks_since(m, k);
-    2 * p + 2 * (v * d) + a * (d * d)
+    2 * m.position + 2 * (m.velocity * d) + m.acceleration * (d * d)
 }

@@ -20,12 +20,14 @@ use planner::Wanted;
 pub fn plan_job_part(job: Job, first: u32, table: &mut [i64]) -> PartAnswer
     ensures { PartPromise (Input.typed job) first table.old result table.new }
 {
-    planner::plan_job_in(job, Wanted::From(first), table)
+    let planned = planner::plan_job_in(job, Wanted::From(first), table);
+    planner::part_answer(planned)
 }
 
 // The same for a job as words.
 pub fn plan_words_part(words: &[u32], first: u32, table: &mut [i64]) -> PartAnswer
     ensures { PartPromise (Input.words words.now) first table.old result table.new }
 {
-    planner::plan_words_in(words, Wanted::From(first), table)
+    let planned = planner::plan_words_in(words, Wanted::From(first), table);
+    planner::part_answer(planned)
 }

@@ -17,12 +17,10 @@ use Rattle.model.specs.planning.Leg.{Leg, feasible, required}
 use Rattle.model.specs.planning.Motion.{start_position, landing_velocity, landing_acceleration, arrival_velocity, leg}
 use Rattle.model.specs.planning.Motion.{displacement, required_sum}
 use Rattle.model.specs.planning.Refusals.{Plannable}
-use Rattle.profile.specs.declared.Profile.{Profile}
 use Rattle.regions.specs.declared.Regions.{Regions}
-use Rattle.profile.specs.Profiles.{leg_of}
 use Rattle.regions.specs.Regions.{chosen_regions, velocity_in}
 use Rattle.regions.proofs.ChosenRegions.{chosen-within, chosen-ranged}
-use Rattle.motion.specs.Motions.{profile_for, destination}
+use Rattle.motion.specs.Motions.{destination}
 use Rattle.theorems.proofs.motions.Grid.{finer-range}
 use Rattle.theorems.proofs.tables.CellLimits.{between}
 use Rattle.theorems.proofs.jobs.PlannableAxis.{some-acceleration, speed-range, moves}
@@ -132,9 +130,9 @@ module _ {x : Axis} {n : ℕ} (r : Plannable x n) where
 
 -- ---- the plan of one axis, from its parts
 
-module _ (x : Axis) (n : ℕ) (f : Profile) (d : ℤ) (same : f ≡ profile_for x n) (way : d ≡ displacement x n) where
-  pub plan-feasible : Plannable x n → feasible (leg_of f) d ≡ true
-  plan-feasible r = ap₂ (λ (g : Profile) (e : ℤ). feasible (leg_of g) e) same way ∙ plannable-feasible r
+module _ (x : Axis) (n : ℕ) (f : Leg) (d : ℤ) (same : f ≡ leg x n) (way : d ≡ displacement x n) where
+  pub plan-feasible : Plannable x n → feasible f d ≡ true
+  plan-feasible r = ap₂ feasible same way ∙ plannable-feasible r
 
   -- a plan with the blend of the axis: its second weight b, and both weights scaled by k
   abbrev plan_with : ℤ → ℤ → Regions → ℤ → ℕ → ℕ → AxisPlan
@@ -151,10 +149,10 @@ module _ (x : Axis) (n : ℕ) (f : Profile) (d : ℤ) (same : f ≡ profile_for 
       }
 
   pub plan-is : (o e : ℤ) (c : Regions) (a : ℤ) (b k : ℕ) → o ≡ start_position x → e ≡ destination x n
-      → c ≡ chosen_regions (leg_of f) (required (leg_of f) d) → a ≡ landing_acceleration x n
+      → c ≡ chosen_regions f (required f d) → a ≡ landing_acceleration x n
       → b ≡ second_weight x → k ≡ scale x
       → plan_with o e c a b k ≡ plan_of n x
   plan-is o e c a b k p r q s u t = λ i. plan_with (p i) (r i) (velocities i) (s i) (u i) (t i)
     where
       velocities : c ≡ chosen_regions (leg x n) (required_sum x n)
-      velocities = q ∙ ap₂ (λ (g : Profile) (e : ℤ). chosen_regions (leg_of g) (required (leg_of g) e)) same way
+      velocities = q ∙ ap₂ (λ (g : Leg) (e : ℤ). chosen_regions g (required g e)) same way

@@ -8,8 +8,7 @@ use native.Mathlib.Omega.{arith}
 use native.Mathlib.Nat.{mul-le-mul_right}
 use lib.Dec.{ltb}
 use lib.IntN.{ℤ, pos, nat_abs, ◌*ℤ◌}
-use Rattle.model.specs.declared.SecondSway.{SecondSway}
-use Rattle.model.specs.declared.SecondSway.TheVariants.{Absent, HalfPeriod}
+use Rattle.std.specs.Prelude.{Option, None, Some}
 use Rattle.planned.specs.declared.AxisPlan.{AxisPlan}
 use Rattle.planned.specs.Plans.{arrival_of, PlanRanges, planned_at, velocity_back, blends_by, total_weight}
 use Rattle.planned.proofs.Velocities.{planned-start}
@@ -18,9 +17,9 @@ use Rattle.planned.proofs.Velocities.{planned-start}
 pub weighed : (w : ℕ) (v : ℤ) → nat_abs (pos w *ℤ v) ≡ w * nat_abs v
 weighed w v = nat_abs-* (pos w) v
 
-pub blends-some : (s : SecondSway) → 1 ≤ blends_by s
-blends-some Absent = omega arith
-blends-some (HalfPeriod d) = omega arith
+pub blends-some : (s : Option ℕ) → 1 ≤ blends_by s
+blends-some None = omega arith
+blends-some (Some d) = omega arith
 
 module _ (p : AxisPlan) (s : PlanRanges p) where
   -- ---- the planned velocities, weighed

@@ -7,40 +7,39 @@ use native.Mathlib.Nat.{mul-le-mul_left, mul-add, div-le_self, le_trans}
 use lib.IntN.{ℤ, pos, nat_abs, ◌*ℤ◌}
 use Rattle.whole.proofs.Laws.{nat_abs-*}
 use Rattle.model.specs.declared.Axis.{Axis}
-use Rattle.model.specs.declared.SecondSway.{SecondSway}
-use Rattle.model.specs.declared.SecondSway.TheVariants.{Absent, HalfPeriod}
+use Rattle.std.specs.Prelude.{Option, None, Some}
 use Rattle.model.specs.planning.Quantities.{second_weight, finer}
 use Rattle.model.specs.planning.Rows.{weights_by, divisor}
 use Rattle.theorems.proofs.motions.Grid.{Grid, two_sways, still, unblended, undamped, corrected, grid}
 use Rattle.planned.specs.Plans.{scale, plan_of, blends_by, total_weight}
 
 -- what the scale has, with a second sway s and f grid steps in a fine step
-abbrev Scales : SecondSway → ℕ → Type 0
+abbrev Scales : Option ℕ → ℕ → Type 0
 Scales s f = (256 / blends_by s / f * (weights_by s * f) ≡ 65536) × (0 < 256 / blends_by s / f)
 
 -- each blend has weights of 256
-weights-are : (s : SecondSway) → weights_by s ≡ blends_by s * 256
-weights-are Absent = refl
-weights-are (HalfPeriod d) = refl
+weights-are : (s : Option ℕ) → weights_by s ≡ blends_by s * 256
+weights-are None = refl
+weights-are (Some d) = refl
 
 module _ (x : Axis) where
-  abbrev S : SecondSway
+  abbrev S : Option ℕ
   S = x.second_sway
 
   scale-is : Scales S (finer x)
   scale-is = go (grid x)
     where
-      fine : finer x ≡ 1 → S ≡ Absent → Scales S (finer x)
-      fine e t = subst (Scales S) (sym e) (subst (λ (s : SecondSway). Scales s 1) (sym t) (refl, omega arith))
+      fine : finer x ≡ 1 → S ≡ None → Scales S (finer x)
+      fine e t = subst (Scales S) (sym e) (subst (λ (s : Option ℕ). Scales s 1) (sym t) (refl, omega arith))
 
       go : Grid x → Scales S (finer x)
       go (two_sways d e t) =
-          subst (Scales S) (sym e) (subst (λ (s : SecondSway). Scales s 2) (sym t) (refl, omega arith))
+          subst (Scales S) (sym e) (subst (λ (s : Option ℕ). Scales s 2) (sym t) (refl, omega arith))
       go (still e t a) = fine e t
       go (unblended e t a) = fine e t
       go (undamped e t a) = fine e t
       go (corrected e t) =
-          subst (Scales S) (sym e) (subst (λ (s : SecondSway). Scales s 256) (sym t) (refl, omega arith))
+          subst (Scales S) (sym e) (subst (λ (s : Option ℕ). Scales s 256) (sym t) (refl, omega arith))
 
   pub scale-some : 0 < scale x
   scale-some = scale-is.1

@@ -9,15 +9,14 @@ use Rattle.model.specs.planning.Refusals.{last_tick}
 use Rattle.motion.specs.Motions.{destination}
 use Rattle.regions.specs.Regions.{chosen_regions, RegionsRanged, velocity_in}
 use Rattle.planned.specs.declared.AxisPlan.{AxisPlan}
-use Rattle.model.specs.declared.SecondSway.{SecondSway}
-use Rattle.model.specs.declared.SecondSway.TheVariants.{Absent, HalfPeriod}
+use Rattle.std.specs.Prelude.{Option, None, Some}
 
 -- ---- the plan
 
 -- how many blends are added up: a second one for a second sway
-abbrev pub blends_by : SecondSway → ℕ
-blends_by Absent = 1
-blends_by (HalfPeriod d) = 2
+abbrev pub blends_by : Option ℕ → ℕ
+blends_by None = 1
+blends_by (Some d) = 2
 
 -- what both weights are multiplied by: all weights together are then 65,536, by the grid steps in a
 -- fine step

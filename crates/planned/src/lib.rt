@@ -8,13 +8,15 @@ ghost use Rattle.whole.specs.Ranges.{Is};
 ghost use Rattle.model.specs.planning.Refusals.{Plannable};
 ghost use Rattle.planned.specs.Plans.{scale, plan_of, arrival_of, PlanRanges, blends_by, planned_at, velocity_back};
 
-use model::{Axis, SecondSway};
+use model::Axis;
 use regions::Regions;
 
 // The plan of one axis, on its own grid: its planned position at tick 0, in half grid steps; twice
 // its target's position at the arrival, in units; its planned velocities up to the landing, in grid
 // steps; its planned acceleration from the landing on; h; the weights of the blend, scaled so that
 // the cells of every plan are rounded by the same divisors; and the second sway.
+// Its ranges stay a clause, `PlanRanges p`: what a type's invariant cites may not name the type, so
+// that specs/ would say these fields a second time.
 #[derive(Clone, Copy)]
 pub struct AxisPlan {
     pub origin: i64,
@@ -24,18 +26,18 @@ pub struct AxisPlan {
     pub half_period: u32,
     pub first_weight: u32,
     pub second_weight: u32,
-    pub second_sway: SecondSway,
+    pub second_sway: Option<u32>,
 }
 
 // ---- the plan
 
 // How many blends are added up: a second one for a second sway.
-pub fn blends(sway: SecondSway) -> u32
+pub fn blends(sway: Option<u32>) -> u32
     ensures { result ≡ blends_by sway }
 {
     match sway {
-        SecondSway::Absent => 1,
-        SecondSway::HalfPeriod(_) => 2,
+        None => 1,
+        Some(_) => 2,
     }
 }
 
@@ -43,10 +45,7 @@ pub fn blends(sway: SecondSway) -> u32
 fn weight_scale(x: Axis) -> u32
     ensures { result ≡ scale x }
 {
-    let sway = x.second_sway;
-    let count = blends(sway);
-    let steps = motion::finer(x);
-    256 / count / steps
+    256 / blends(x.second_sway) / motion::finer(x)
 }
 
 // The plan of an axis for an arrival that it reaches.
@@ -56,22 +55,17 @@ pub fn axis_plan(x: Axis, n: u32) -> AxisPlan
 {
     let landing = motion::landing_at(x, n);
     let profile = motion::profile_of(x, n, landing);
-    let regions = cruise::chosen(profile, motion::displacement(x, landing));
-    let origin = motion::start_position(x);
-    let destination = motion::destination(x, n);
-    let acceleration = landing.acceleration;
-    let sway = x.second_sway;
     let second_weight = motion::second_weight(x);
     let scale = weight_scale(x);
     AxisPlan {
-        origin: origin,
-        destination: destination,
-        regions: regions,
-        acceleration: acceleration,
+        origin: motion::start_position(x),
+        destination: motion::destination(x, n),
+        regions: cruise::chosen(profile, motion::displacement(x, landing)),
+        acceleration: landing.acceleration,
         half_period: x.half_period,
         first_weight: scale * (256 - second_weight),
         second_weight: scale * second_weight,
-        second_sway: sway,
+        second_sway: x.second_sway,
     }
 }
 
@@ -85,12 +79,11 @@ pub fn planned_velocity(p: AxisPlan, k: u32) -> i64
     ensures { Is (2 ^ 38) result (planned_at p k) }
 {
     let regions = p.regions;
-    let tick = k as u64;
-    let ticks = regions.ticks;
-    if tick < ticks {
+    let tick = u64::from(k);
+    if tick < regions.ticks {
         return regions::velocity_in(regions, tick);
     }
-    regions.end + ((tick - ticks) as i64) * p.acceleration
+    regions.end + (tick - regions.ticks) as i64 * p.acceleration
 }
 
 // The planned velocity d ticks before tick k: before tick 0 the planned motion is uniform.
@@ -100,8 +93,7 @@ pub fn velocity_back(p: AxisPlan, d: u32, k: u32) -> i64
     ensures { Is (2 ^ 38) result (velocity_back p d k) }
 {
     if k < d {
-        let regions = p.regions;
-        return regions.start;
+        return p.regions.start;
     }
     planned_velocity(p, k - d)
 }
@@ -115,13 +107,12 @@ fn planned_sum(p: AxisPlan, k: u32) -> i64
     ensures { Is (2 ^ 51) result (sum_to (planned_at p) k) }
 {
     let regions = p.regions;
-    let tick = k as u64;
-    let ticks = regions.ticks;
-    if tick < ticks {
+    let tick = u64::from(k);
+    if tick < regions.ticks {
         return areas::sum_to(regions, tick);
     }
-    let before = areas::sum_to(regions, ticks - 1);
-    let after = areas::ramp_area(regions.end, p.acceleration, tick - ticks);
+    let before = areas::sum_to(regions, regions.ticks - 1);
+    let after = areas::ramp_area(regions.end, p.acceleration, tick - regions.ticks);
     before + regions.end + after
 }
 
@@ -132,10 +123,9 @@ pub fn sum_back(p: AxisPlan, d: u32, k: u32) -> i64
     requires k_bound { k ≤ suc (arrival_of p) }
     ensures { Is (2 ^ 51) result (sum_to (velocity_back p d) k) }
 {
-    let regions = p.regions;
-    let start = regions.start;
+    let start = p.regions.start;
     if k < d {
-        return (k as i64) * start;
+        return i64::from(k) * start;
     }
-    (d as i64) * start + planned_sum(p, k - d)
+    i64::from(d) * start + planned_sum(p, k - d)
 }

@@ -8,7 +8,10 @@ use mathlib.Core.List.{List, []}
 use lib.Dec.{eqb}
 use lib.IntN.{ℤ}
 use Rattle.model.specs.declared.Answer.{Answer}
-use Rattle.model.specs.declared.Checked.TheVariants.{Passed, Refused}
+use Rattle.model.specs.declared.refusal.Refusal.{Refusal}
+use Rattle.std.specs.declared.result.Result.{Result}
+use Rattle.std.specs.declared.result.Result.TheVariants.{Ok, Err}
+use Rattle.model.specs.planning.Told.{number_of, place_of, answer_to, refusal}
 use Rattle.model.specs.declared.Job as Typed
 use Rattle.model.specs.declared.Order.TheVariants.{Forwards}
 use Rattle.model.specs.declared.PartAnswer.{PartAnswer}
@@ -23,10 +26,9 @@ use Rattle.theorems.specs.Verdict.{accepted, CallVerdict, words1, words2, words1
 use Rattle.model.specs.calls.Parts.{PartOutcome, part_accepted, part_refused, part_with, part_call}
 use Rattle.theorems.proofs.calls.CallVerdict.{call-verdict}
 use Rattle.theorems.proofs.jobs.BeforeTen.{planning-numbered}
-use Rattle.words.specs.declared.DecodedJob.{DecodedJob}
 use Rattle.words.specs.Decoding.{Decodes}
-use Rattle.admission.proofs.Admitted.{Refusal, refusal}
-use Rattle.words.proofs.ReadWords.{words-refused, words-passed}
+use Rattle.admission.proofs.Admitted as admitting
+use Rattle.words.proofs.ReadWords.{words-refused, words-passed, words-answer}
 use Rattle.planner.specs.declared.Wanted.{Wanted}
 use Rattle.planner.specs.declared.Wanted.TheVariants.{Whole, From}
 use Rattle.planner.specs.Promise.{PromiseIn, Answered, part_outcome}
@@ -45,7 +47,7 @@ of-verdict j lent o (refused15 i a b c d f r) = omega (arith, r.arrival)
 of-verdict j lent o (refused6 i a b c d f g r) = omega (arith, r.arrival)
 of-verdict j lent o (refused16 i a b c d f g h r) = omega (arith, r.arrival)
 of-verdict j lent o (refused17 i a b c d f g h k r) = omega (arith, r.arrival)
-of-verdict j lent o (refused13 p a b c d r) = omega (arith, r.arrival)
+of-verdict j lent o (refused13 p a b c r) = omega (arith, r.arrival)
 of-verdict j lent o (refused8 n a b c w d f r) = omega (arith, r.arrival)
 of-verdict j lent o (refused9 n a b w c d r) = omega (arith, r.arrival)
 of-verdict j lent o (refused10 n a w b h r) = omega (arith, r.arrival, b.last)
@@ -95,36 +97,37 @@ answered t k entry r exit e =
 
 -- ---- words: the answer, and the job, are those of the typed values that the words hold
 
-module _ (ws : List ℕ) (d : DecodedJob) (is : Decodes ws d) where
-  pub job-of-words : d.checked ≡ Passed → job_of d.job ≡ input_job (words ws)
-  job-of-words z = sym (ap job_read (is.typed z))
+module _ (ws : List ℕ) (d : Result Typed.Job Refusal) (is : Decodes ws d) where
+  module _ (t : Typed.Job) (z : d ≡ Ok t) where
+    pub job-of-words : job_of t ≡ input_job (words ws)
+    job-of-words = sym (ap job_read (is.typed t z))
 
-  pub answer-of-words : d.checked ≡ Passed → answer_of (typed d.job) ≡ answer_of (words ws)
-  unfolding answer_of
-  answer-of-words z = ap₂ (λ (j : Job). before_ten j.mask) (job-of-words z)
-      (ap (outcome_after []) (words-passed planning_rules ws d is z))
+    pub answer-of-words : answer_of (typed t) ≡ answer_of (words ws)
+    unfolding answer_of
+    answer-of-words = ap₂ (λ (j : Job). before_ten j.mask) job-of-words
+        (ap (outcome_after []) (words-passed planning_rules ws d is t z))
 
-  module _ (n p : ℕ) (e : d.checked ≡ Refused n p) where
-    pub of_words : Refusal planning_rules (words ws) n p
-    of_words = refusal planning_rules planning-numbered (words ws) n p (words-refused planning_rules ws d is n p e)
+    pub words-promise : (w : Wanted) (entry : List ℤ) (r : PartAnswer) (exit : List ℤ)
+        → PromiseIn w (typed t) entry r exit → PromiseIn w (words ws) entry r exit
+    unfolding part_call
+    words-promise (Whole o) entry r exit p =
+        promise o (words ws) entry r.answer exit
+        (record {
+          outcome = p.outcome ∙ ap₂ (λ (j : Job) (r : Outcome). ordered o (axes_of j) entry r) job-of-words
+              (ap (outcome_after entry) (words-passed planning_rules ws d is t z));
+          fitted = p.fitted;
+        })
+    words-promise (From k) entry r exit p =
+        p ∙ ap₂ (λ (a : Answer) (j : Job). part_with a (axes_of j) k entry) answer-of-words job-of-words
 
-    pub refusal-of-words : record { number = n; place = p; mask = 0; arrival = 0 } ≡ answer_of (words ws)
+  module _ (x : Refusal) (e : d ≡ Err x) where
+    pub of_words : admitting.Refusal planning_rules (words ws) (number_of x) (place_of x)
+    of_words = admitting.refusal planning_rules planning-numbered (words ws) (number_of x) (place_of x)
+        (words-refused planning_rules ws d is x e)
+
+    pub refusal-of-words : answer_to x ≡ answer_of (words ws)
     unfolding answer_of
     refusal-of-words =
-        before-ten (input_job (words ws)).mask (record { number = n; place = p; mask = 0; arrival = 0 }) []
-        of_words.not-10
+        words-answer ws d is x e
+        ∙ before-ten (input_job (words ws)).mask (refusal (number_of x) (place_of x)) [] of_words.not-10
         ∙ sym (ap (λ (a : Admission). before_ten (input_job (words ws)).mask (outcome_after [] a)) of_words.is)
-
-  -- what is promised of the typed values is promised of the words
-  pub words-promise : (w : Wanted) (entry : List ℤ) (r : PartAnswer) (exit : List ℤ) → d.checked ≡ Passed
-      → PromiseIn w (typed d.job) entry r exit → PromiseIn w (words ws) entry r exit
-  unfolding part_call
-  words-promise (Whole o) entry r exit z p =
-      promise o (words ws) entry r.answer exit
-      (record {
-        outcome = p.outcome ∙ ap₂ (λ (j : Job) (r : Outcome). ordered o (axes_of j) entry r) (job-of-words z)
-            (ap (outcome_after entry) (words-passed planning_rules ws d is z));
-        fitted = p.fitted;
-      })
-  words-promise (From k) entry r exit z p =
-      p ∙ ap₂ (λ (a : Answer) (j : Job). part_with a (axes_of j) k entry) (answer-of-words z) (job-of-words z)

@@ -3,26 +3,34 @@ use Prim.Native.Nat.{ℕ, zero, suc, ◌*◌, ◌^◌, ◌<◌, ◌≤◌}
 use native.Mathlib.Nat.{mul-le-mul, lt_of_le_of_lt}
 use native.Mathlib.Omega.{arith}
 use mathlib.Core.Path.{◌≡◌, refl, sym, ap, subst, ◌∙◌}
-use mathlib.Core.Bool.{Bool, true, false, cond}
-use mathlib.Core.Option.{Option, none, some}
+use mathlib.Core.Bool.{Bool, true, false, not}
+use Rattle.std.specs.Prelude.{Option, None, Some}
 use mathlib.Core.List.{List}
 use lib.IntN.{ℤ}
 use lib.ListN.{length, length-map}
 use lib.Dec.{eqb, lit<}
-use borrow.Author.Tests.{eq-eqb, ne_eqb}
+use borrow.Author.Tests.{ne_eqb}
 use Rattle.whole.proofs.Tests.{choice-no}
 use Rattle.model.specs.declared.Axis.{Axis}
 use Rattle.model.specs.declared.Answer.{Answer}
 use Rattle.model.specs.declared.Order.TheVariants.{Forwards}
 use Rattle.model.specs.declared.PartAnswer.{PartAnswer}
 use Rattle.model.specs.declared.Windows.{Windows}
-use Rattle.model.specs.planning.Job.{Job, JobAxis, set_bits, axes_of, job_with}
+use Rattle.model.specs.declared.refusal.AxisTest.{AxisTest}
+use Rattle.model.specs.declared.refusal.AxisTest.TheVariants as tests
+use Rattle.model.specs.declared.refusal.Refusal.{Refusal}
+use Rattle.model.specs.declared.refusal.Refusal.TheVariants as refusals
+use Rattle.std.specs.declared.result.Result.{Result}
+use Rattle.std.specs.declared.result.Result.TheVariants.{Ok, Err}
+use Rattle.model.specs.planning.Told.{test_number, number_of, place_of, mask_of, arrival_of, answer_to, told}
+use Rattle.model.specs.planning.Motion.{reachable}
+use Rattle.model.specs.planning.Outcome.{reaches_none}
+use Rattle.model.specs.planning.Job.{Job, JobAxis, set_bits, axes_of, job_with, mask_where}
 use Rattle.theorems.specs.GivenWeights.{job_with_weight}
 use Rattle.model.specs.planning.Refusals.{last_tick}
 use Rattle.model.specs.planning.Outcome.{Outcome, outcome_of, refuse, least_from, arrives, part_over, filled, arrived}
 use Rattle.model.specs.planning.Outcome.{ordered, before_ten}
 use Rattle.model.specs.calls.Parts.{PartOutcome, part_rows, part_accepted, part_refused, part_with}
-use Rattle.arrival.specs.declared.Arrival.{Arrival}
 use Rattle.arrival.specs.Arrivals.{least_or, asked_or, arrival_for}
 use Rattle.model.proofs.SetAxes.{six-bits}
 use Rattle.theorems.proofs.jobs.Ordered.{refusal-stays}
@@ -30,11 +38,35 @@ use Rattle.theorems.proofs.jobs.GivenWeights.{ordered-with-weight, arrived-with-
 use Rattle.admission.specs.Admitting.{named_with_weight}
 use Rattle.planner.specs.declared.Wanted.{Wanted}
 use Rattle.planner.specs.declared.Wanted.TheVariants.{Whole, From}
-use Rattle.planner.specs.Promise.{part_outcome}
+use Rattle.planner.specs.Promise.{part_answer}
 use Rattle.planner.specs.Stages.{GivesAll, Gives, GivesFrom}
 use Rattle.admission.proofs.Weights.{axes-given}
 
 -- ---- where a stage ends a call
+
+-- no refusal has the number 0
+test-numbered : (t : AxisTest) → test_number t ≡ 0 → ⊥
+test-numbered tests.Limits e = omega arith
+test-numbered tests.Damping e = omega arith
+test-numbered tests.Blend e = omega arith
+test-numbered tests.SecondSway e = omega arith
+test-numbered tests.Values e = omega arith
+test-numbered tests.Acceleration e = omega arith
+test-numbered tests.Flying e = omega arith
+
+pub numbered : (x : Refusal) → number_of x ≡ 0 → ⊥
+numbered refusals.Mask e = omega arith
+numbered (refusals.Word at) e = omega arith
+numbered refusals.Asked e = omega arith
+numbered (refusals.Axis t axis) e = test-numbered t e
+numbered (refusals.AskedMissed axes) e = omega arith
+numbered (refusals.NoArrival axes) e = omega arith
+numbered (refusals.TableShort tick) e = omega arith
+numbered (refusals.ListShort needed) e = omega arith
+numbered (refusals.Stop stop) e = omega arith
+numbered (refusals.Window window) e = omega arith
+numbered (refusals.LongPosition at) e = omega arith
+numbered refusals.FirstCandidate e = omega arith
 
 -- an answer that is not 10 is the answer before 10
 pub before-ten : (m : ℕ) (r : Answer) (lent : List ℤ) → (r.number ≡ 10 → ⊥) → r ≡ before_ten m (outcome_of r lent)
@@ -46,22 +78,20 @@ module _ (m : ℕ) (xs : List Axis) (lent : List ℤ) where
       → Gives w m xs lent o r exit → Gives w m xs lent o' r exit
   onward w o o' r exit e g = subst (λ (q : Outcome). Gives w m xs lent q r exit) e g
 
-  -- a refusal before 10, by its numbers
-  pub refuses : (w : Wanted) (r : PartAnswer) (k p n : ℕ) (o : Outcome)
-      → r ≡ record { answer = record { number = k; place = p; mask = n; arrival = 0 }; rows = 0 }
-      → (k ≡ 0 → ⊥) → (k ≡ 10 → ⊥) → refuse k p n 0 lent ≡ o → Gives w m xs lent o r lent
-  refuses (Whole w) r k p n o e h t q =
+  -- a refusal before 10
+  pub refuses : (w : Wanted) (x : Refusal) (o : Outcome) → (number_of x ≡ 10 → ⊥)
+      → refuse (number_of x) (place_of x) (mask_of x) (arrival_of x) lent ≡ o
+      → Gives w m xs lent o (part_answer (Err x)) lent
+  refuses (Whole w) x o t q =
       record {
         outcome =
-            ap (λ (s : PartAnswer). outcome_of s.answer lent) e
-            ∙ refusal-stays xs lent (refuse k p n 0 lent) w h
+            refusal-stays xs lent (outcome_of (answer_to x) lent) w (numbered x)
             ∙ ap (λ (x : Outcome). ordered w xs lent x) q;
-        fitted = λ z. absurd (h (sym (ap (λ (s : PartAnswer). s.answer.number) e) ∙ z));
+        fitted = λ z. absurd (numbered x z);
       }
-  refuses (From f) r k p n o e h t q =
-      let a : Answer = record { number = k; place = p; mask = n; arrival = 0 } in
-      ap (λ (s : PartAnswer). part_outcome s lent) e
-      ∙ choice-no (eqb k 0) (part_accepted a xs f lent) (part_refused a lent) (ne_eqb k 0 h)
+  refuses (From f) x o t q =
+      let a = answer_to x in
+      choice-no (eqb a.number 0) (part_accepted a xs f lent) (part_refused a lent) (ne_eqb a.number 0 (numbered x))
       ∙ ap (λ (x : Answer). part_with x xs f lent) (before-ten m a lent t)
       ∙ ap (λ (x : Outcome). part_with (before_ten m x) xs f lent) q
 
@@ -88,7 +118,8 @@ part-with-with-weight j k lent a =
         ∙ ap (λ (l : List ℤ). record { answer = a; rows = c (length (axes_of j)); cells = l })
         (part-with-weight Forwards j a.arrival k (c (length (axes_of j))) lent)
 
-module _ (m asked : ℕ) (axes given : List Axis) (v : Windows) (is : given ≡ named_with_weight m axes) (lent : List ℤ)
+module _ (m asked : ℕ) (axes given : List Axis) (v : Option Windows) (is : given ≡ named_with_weight m axes)
+    (lent : List ℤ)
     (r : PartAnswer) (exit : List ℤ) where
   Given : Wanted → Job → Type 0
   Given w j = Gives w j.mask (axes_of j) lent (arrived j asked lent) r exit
@@ -118,55 +149,56 @@ module _ (m asked : ℕ) (axes given : List Axis) (v : Windows) (is : given ≡ 
 -- ---- after the arrival
 
 module _ (j : Job) (lent : List ℤ) where
-  abbrev after_arrival : Arrival → Outcome
-  after_arrival f = cond (eqb f.number 0) (filled j f.tick lent) (refuse f.number 0 f.mask 0 lent)
+  abbrev after_arrival : Result ℕ Answer → Outcome
+  after_arrival (Ok n) = filled j n lent
+  after_arrival (Err a) = refuse a.number a.place a.mask a.arrival lent
 
   arrivals-are : (asked : ℕ) → after_arrival (arrival_for j.windows j.axes asked) ≡ arrived j asked lent
   arrivals-are zero = go (least_from (arrives j) 1 last_tick)
     where
       go : (o : Option ℕ) → after_arrival (least_or j.axes o)
-          ≡ (elim o as
-          (λ _. Outcome) [ some n ↦ filled j n lent | none ↦ refuse 9 0 (least_or j.axes none).mask 0 lent ])
-      go (some n) = refl
-      go none = refl
+          ≡ (elim o as (λ _. Outcome) [
+            | Some n ↦ filled j n lent
+            | None ↦ refuse 9 0 (mask_where (λ x. reaches_none x) j.axes) 0 lent
+          ])
+      go (Some n) = refl
+      go None = refl
   arrivals-are (suc n) = go (arrives j (suc n))
     where
       go : (b : Bool) → after_arrival (asked_or j.axes (suc n) b)
           ≡ (elim b as (λ _. Outcome) [
             | true ↦ filled j (suc n) lent
-            | false ↦ refuse 8 0 (asked_or j.axes (suc n) false).mask 0 lent
+            | false ↦ refuse 8 0 (mask_where (λ x. not (reachable x (suc n))) j.axes) 0 lent
           ])
       go true = refl
       go false = refl
 
-  module _ (f : Arrival) (is : f ≡ arrival_for j.windows j.axes j.asked) where
-    by-arrival : (b : Bool) → eqb f.number 0 ≡ b
-        → cond b (filled j f.tick lent) (refuse f.number 0 f.mask 0 lent) ≡ arrived j j.asked lent
-    by-arrival b e =
-        sym (ap (λ (t : Bool). cond t (filled j f.tick lent) (refuse f.number 0 f.mask 0 lent)) e)
-        ∙ ap after_arrival is
-        ∙ arrivals-are j.asked
+  module _ (f : Result ℕ Refusal) (is : told f ≡ arrival_for j.windows j.axes j.asked) where
+    pub none_found : (x : Refusal) → f ≡ Err x
+        → refuse (number_of x) (place_of x) (mask_of x) (arrival_of x) lent ≡ arrived j j.asked lent
+    none_found x e = ap after_arrival (sym (ap told e) ∙ is) ∙ arrivals-are j.asked
 
-    pub none_found : (f.number ≡ 0 → ⊥) → refuse f.number 0 f.mask 0 lent ≡ arrived j j.asked lent
-    none_found h = by-arrival false (ne_eqb f.number 0 h)
+    pub found : (n : ℕ) → f ≡ Ok n → filled j n lent ≡ arrived j j.asked lent
+    found n e = ap after_arrival (sym (ap told e) ∙ is) ∙ arrivals-are j.asked
 
-    pub found : f.number ≡ 0 → filled j f.tick lent ≡ arrived j j.asked lent
-    found h = by-arrival true (eq-eqb f.number 0 h)
+not-ten : {a b : Answer} → ◌≡◌ {A = Result ℕ Answer} (Err a) (Err b) → (a.number ≡ 10 → ⊥) → b.number ≡ 10 → ⊥
+not-ten {a} {b} e h z = let f : a ≡ b = cc in h (ap (λ (d : Answer). d.number) f ∙ z)
 
-arrivals-not-ten : (j : Job) (asked : ℕ) → (arrival_for j.windows j.axes asked).number ≡ 10 → ⊥
-arrivals-not-ten j zero = go (least_from (arrives j) 1 last_tick)
+arrivals-not-ten : (j : Job) (asked : ℕ) (b : Answer) → arrival_for j.windows j.axes asked ≡ Err b → b.number ≡ 10 → ⊥
+arrivals-not-ten j zero b = go (least_from (arrives j) 1 last_tick)
   where
-    go : (o : Option ℕ) → (least_or j.axes o).number ≡ 10 → ⊥
-    go (some n) e = omega arith
-    go none e = omega arith
-arrivals-not-ten j (suc n) = go (arrives j (suc n))
+    go : (o : Option ℕ) → least_or j.axes o ≡ Err b → b.number ≡ 10 → ⊥
+    go (Some n) e = absurd (cc)
+    go None e = not-ten e (λ z. omega arith)
+arrivals-not-ten j (suc n) b = go (arrives j (suc n))
   where
-    go : (b : Bool) → (asked_or j.axes (suc n) b).number ≡ 10 → ⊥
-    go true e = omega arith
-    go false e = omega arith
+    go : (t : Bool) → asked_or j.axes (suc n) t ≡ Err b → b.number ≡ 10 → ⊥
+    go true e = absurd (cc)
+    go false e = not-ten e (λ z. omega arith)
 
-pub found-not-ten : (j : Job) (f : Arrival) → f ≡ arrival_for j.windows j.axes j.asked → f.number ≡ 10 → ⊥
-found-not-ten j f is e = arrivals-not-ten j j.asked (sym (ap (λ (a : Arrival). a.number) is) ∙ e)
+pub found-not-ten : (j : Job) (f : Result ℕ Refusal) → told f ≡ arrival_for j.windows j.axes j.asked
+    → (x : Refusal) → f ≡ Err x → number_of x ≡ 10 → ⊥
+found-not-ten j f is x e = arrivals-not-ten j j.asked (answer_to x) (sym is ∙ ap told e)
 
 -- ---- sizes
 

@@ -12,6 +12,11 @@ use Rattle.model.specs.planning.Outcome.{Input, typed, outcome_of, call_in, inpu
 use Rattle.theorems.specs.Verdict.{CallVerdict}
 use Rattle.model.specs.planning.Demand.{Demand3, CellLimits, ExactStart}
 use Rattle.model.specs.calls.Parts.{PartOutcome, part_call}
+use Rattle.std.specs.declared.result.Result.{Result}
+use Rattle.std.specs.declared.result.Result.TheVariants.{Ok, Err}
+use Rattle.model.specs.declared.refusal.Refusal.{Refusal}
+use Rattle.model.specs.planning.Told.{answer_to}
+use Rattle.planner.specs.declared.Planned.{Planned}
 use Rattle.planner.specs.declared.Wanted.{Wanted}
 use Rattle.planner.specs.declared.Wanted.TheVariants.{Whole, From}
 
@@ -45,6 +50,12 @@ pub record Promise (o : Order) (q : Input) (entry : List ℤ) (r : Answer) (exit
 -- an answer with its number of rows, and the lent table as the call leaves it
 abbrev pub part_outcome : PartAnswer → List ℤ → PartOutcome
 part_outcome r cells = record { answer = r.answer; rows = r.rows; cells = cells }
+
+-- the answer to a job, with its number of rows: of what is planned, or of its refusal
+abbrev pub part_answer : Result Planned Refusal → PartAnswer
+part_answer (Ok p) =
+    record { answer = record { number = 0; place = 0; mask = p.mask; arrival = p.arrival }; rows = p.rows }
+part_answer (Err r) = record { answer = answer_to r; rows = 0 }
 
 -- what `plan_job_in` and `plan_words_in` promise: for all rows the promise above; for those
 -- from row k on the answer, the number of rows and every cell of the definition, from which the

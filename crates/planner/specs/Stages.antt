@@ -1,5 +1,5 @@
 -- What the stages of a call give back to one another, for what the call wants.
-use Rattle.std.specs.Prelude.{ℕ, suc, ◌≡◌, true, List, leb, ℤ}
+use Rattle.std.specs.Prelude.{ℕ, suc, ◌≡◌, true, false, List, ltb, ℤ, Option, None, Some}
 use Rattle.model.specs.declared.Answer.{Answer}
 use Rattle.model.specs.declared.Axis.{Axis}
 use Rattle.model.specs.declared.PartAnswer.{PartAnswer}
@@ -13,15 +13,14 @@ use Rattle.planner.specs.declared.Wanted.TheVariants.{Whole, From}
 use Rattle.planner.specs.Promise.{Fitted, part_outcome}
 
 -- the rows that are wanted of so many axes with arrival n, in so many cells: all of them, in an
--- order; or as many as fit from row k on
-abbrev pub choice_for : Wanted → ℕ → ℕ → ℕ → Choice
-choice_for (Whole o) axes n cells = record {
-  fits = leb (cells_needed axes n) cells;
-  order = o;
-  first = 0;
-  rows = suc n;
-}
-choice_for (From k) axes n cells = record { fits = true; order = Forwards; first = k; rows = part_rows axes n k cells }
+-- order, where the cells are enough; or as many as fit from row k on
+abbrev pub choice_for : Wanted → ℕ → ℕ → ℕ → Option Choice
+choice_for (Whole o) axes n cells =
+    elim (ltb cells (cells_needed axes n)) [
+      | true ↦ None
+      | false ↦ Some (record { order = o; first = 0; rows = suc n })
+    ]
+choice_for (From k) axes n cells = Some (record { order = Forwards; first = k; rows = part_rows axes n k cells })
 
 -- a stage that ends a call for all rows: the answer and the lent table are an outcome of the
 -- definitions

@@ -1,6 +1,6 @@
 -- `feasible` in the three parts that the code tests.
-use Prim.Native.Nat.{◌-◌, ◌*◌}
-use mathlib.Core.Path.{◌≡◌, refl, sym}
+use Prim.Native.Nat.{◌-◌, ◌*◌, ◌<◌}
+use mathlib.Core.Path.{◌≡◌, refl, sym, subst}
 use mathlib.Core.Bool.{Bool, true, false, ◌&&◌}
 use lib.Dec.{T, leb, leb→le}
 use lib.IntN.{ℤ, nat_abs, ◌-ℤ◌}
@@ -50,3 +50,10 @@ ends-joined g e =
 
 pub joined-ends : (g : Leg) → Joined g → ends_allowed g ≡ true
 joined-ends g j = sym (and_yes _ _ (leb_yes j.start) (and_yes _ _ (leb_yes j.end) (sym (leb_yes j.apart))))
+
+-- what is asked of a leg holds of the fields that it is the view of
+pub joined-by : {g h : Leg} → g ≡ h → ends_allowed h ≡ true → Joined g
+joined-by e q = ends-joined _ (subst (λ (l : Leg). ends_allowed l ≡ true) (sym e) q)
+
+pub steep-by : {g h : Leg} → g ≡ h → 0 < h.acceleration_limit → 0 < g.acceleration_limit
+steep-by e q = subst (λ (l : Leg). 0 < l.acceleration_limit) (sym e) q

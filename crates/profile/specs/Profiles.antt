@@ -5,10 +5,10 @@ use Rattle.std.specs.Int.Signed.{le_z}
 use Rattle.whole.specs.Ranges.{Within}
 use Rattle.whole.specs.Integers.{sum_to}
 use Rattle.model.specs.planning.Leg.{Leg, upper, lower}
-use Rattle.profile.specs.declared.Profile.{Profile}
+use Rattle.profile.specs.declared.Profile.TheInside.{Inside}
 
 -- the velocities, in the model's terms
-abbrev pub leg_of : Profile → Leg
+abbrev pub leg_of : Inside → Leg
 leg_of p =
     record {
       ticks = p.ticks;
@@ -18,8 +18,8 @@ leg_of p =
       acceleration_limit = p.acceleration_limit;
     }
 
--- where its code does not overflow; the ends may exceed the speed limit
-pub record Ranged (p : Profile) : Type 0 where
+-- where the code does not overflow, as every profile is; the ends may exceed the speed limit
+pub record Ranged (p : Leg) : Type 0 where
   pub speed_limit : p.speed_limit ≤ 2 ^ 37
   pub acceleration_limit : p.acceleration_limit ≤ 2 ^ 33
   pub ticks : p.ticks ≤ 4096
@@ -34,12 +34,11 @@ ends_allowed g =
     leb (nat_abs g.start) g.speed_limit
     && (leb (nat_abs g.end) g.speed_limit && leb (nat_abs (g.end -ℤ g.start)) (g.acceleration_limit * g.ticks))
 
--- a profile whose ends can be joined, in the ranges in which neither engine overflows
-pub record Joinable (p : Profile) : Type 0 where
-  pub ranged : Ranged p
+-- a leg whose ends can be joined
+pub record Joinable (p : Leg) : Type 0 where
   pub acceleration : 0 < p.acceleration_limit
   pub some : 0 < p.ticks
-  pub ends : ends_allowed (leg_of p) ≡ true
+  pub ends : ends_allowed p ≡ true
 
 -- the sum s is between the sums of the two envelopes
 abbrev pub sum_between : Leg → ℤ → Bool

@@ -1,5 +1,5 @@
 -- The raises of the axes of a mask, one axis after the other.
-use Prim.Native.Nat.{ℕ, ◌+◌, ◌/◌, ◌%◌, ◌<◌, ◌≤◌}
+use Prim.Native.Nat.{ℕ, ◌+◌, ◌/◌, ◌%◌, ◌<◌}
 use mathlib.Core.Path.{◌≡◌, refl, ap, ◌∙◌}
 use mathlib.Core.Bool.{Bool, true, false, cond, not, false≢true}
 use mathlib.Core.List.{List}
@@ -13,7 +13,7 @@ use Rattle.model.specs.planning.Motion.{reachable}
 use Rattle.model.specs.planning.Job.{JobAxis}
 use Rattle.model.specs.calls.Raises.{raises_of, raises_from}
 use Rattle.arrival.specs.Arrivals.{missed_by}
-use Rattle.model.proofs.SetAxes.{pick, from, axis_at, from_more, from-none}
+use Rattle.model.proofs.SetAxes.{pick, from, axis_at, from_more}
 
 -- an axis that is missed by is named and does not reach n
 pub missed-is : (m : ℕ) (x : Axis) (n : ℕ) → missed_by m x n ≡ true → (m % 2 ≡ 1) × (reachable x n ≡ false)
@@ -58,6 +58,3 @@ module _ (n : ℕ) where
     not-missed h e =
         ap (λ (xs : List JobAxis). raises_from n xs l) (from_more i m six h)
         ∙ one-does-not (eqb (m % 2) 1) i (axis_at six i) (from (i + 1) (m / 2) six) l e
-
-    pub no_more : length six ≤ i → raises_from n (from i m six) l ≡ l
-    no_more h = ap (λ (xs : List JobAxis). raises_from n xs l) (from-none i m six h)

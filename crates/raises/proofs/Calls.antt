@@ -8,9 +8,11 @@ use lib.ListN.{get_or}
 use borrow.Author.Tests.{eq-eqb, ne_eqb}
 use Rattle.model.specs.declared.Answer.{Answer}
 use Rattle.model.specs.declared.AxisRaises.{AxisRaises}
-use Rattle.model.specs.declared.Checked.{Checked}
-use Rattle.model.specs.declared.Checked.TheVariants.{Passed, Refused}
 use Rattle.model.specs.declared.Job as Typed
+use Rattle.model.specs.declared.refusal.Refusal.{Refusal}
+use Rattle.std.specs.declared.result.Result.{Result}
+use Rattle.std.specs.declared.result.Result.TheVariants.{Ok, Err}
+use Rattle.model.specs.planning.Told.{number_of, answer_to}
 use Rattle.model.specs.declared.RaisesAnswer.{RaisesAnswer}
 use Rattle.model.specs.planning.Job.{Job, job_of}
 use Rattle.model.specs.planning.Words.{Decoded, no_mask, bad_word, bad_long, job, decode}
@@ -18,8 +20,8 @@ use Rattle.model.specs.planning.Outcome.{Input, words, typed, input_job, answer_
 use Rattle.model.specs.calls.Raises.{no_raises, raises_from, none_raised, raises_with, raises_call}
 use Rattle.theorems.specs.Raises.{Named, RaisesHold}
 use Rattle.theorems.proofs.calls.RaisesHold.{raises-hold, none-raised, raises-verdict}
-use Rattle.words.specs.declared.DecodedJob.{DecodedJob}
 use Rattle.words.specs.Decoding.{decoded_job, Decodes}
+use Rattle.words.proofs.ReadWords.{words-told}
 use Rattle.planner.proofs.Answers.{job-of-words, answer-of-words, refusal-of-words}
 use Rattle.raises.specs.Promise.{RaisesPromise}
 
@@ -53,33 +55,33 @@ promise t r e = promised (typed t) r e (subst (RaisesHold (job_of t)) (sym e) (r
 
 -- ---- words
 
-module _ (ws : List ℕ) (d : DecodedJob) (is : Decodes ws d) where
+module _ (ws : List ℕ) (d : Result Typed.Job Refusal) (is : Decodes ws d) where
   -- the answer to the words is that to their job
-  pub words-promise : (r : RaisesAnswer) → d.checked ≡ Passed → RaisesPromise (typed d.job) r
+  pub words-promise : (t : Typed.Job) → d ≡ Ok t → (r : RaisesAnswer) → RaisesPromise (typed t) r
       → RaisesPromise (words ws) r
   unfolding raises_call
-  words-promise r z p =
-      promised (words ws) r (p.is ∙ ap₂ raises_with (answer-of-words ws d is z) (job-of-words ws d is z))
-      (subst (λ (j : Job). RaisesHold j r) (job-of-words ws d is z) p.holds)
+  words-promise t z r p =
+      promised (words ws) r (p.is ∙ ap₂ raises_with (answer-of-words ws d is t z) (job-of-words ws d is t z))
+      (subst (λ (j : Job). RaisesHold j r) (job-of-words ws d is t z) p.holds)
 
   -- refusals 1, 2 and 14
-  pub refusal-promise : (r : RaisesAnswer) (n p : ℕ) → d.checked ≡ Refused n p
-      → r ≡ record { answer = record { number = n; place = p; mask = 0; arrival = 0 }; axes = none_raised }
+  pub refusal-promise : (x : Refusal) → d ≡ Err x → (r : RaisesAnswer) → r ≡ beside (answer_to x) none_raised
       → RaisesPromise (words ws) r
-  refusal-promise r n p h e =
-      promised (words ws) r (e ∙ without-raises (words ws) _ (refusal-of-words ws d is n p h) no-eight)
+  refusal-promise x h r e =
+      promised (words ws) r (e ∙ without-raises (words ws) (answer_to x) (refusal-of-words ws d is x h) no-eight)
       (record {
-        named = λ x m k. absurd (eight x.number k);
+        named = λ i m k. absurd (eight i.number k);
         others = λ i k. ap (λ (a : RaisesAnswer). get_or a.axes i no_raises) e ∙ none-raised i;
       })
     where
-      number : Checked → ℕ
-      number c = elim c [ Refused n p ↦ n | Passed ↦ 0 ]
+      number : Result Typed.Job Answer → ℕ
+      number (Ok t) = 0
+      number (Err a) = a.number
 
-      no-eight : n ≡ 8 → ⊥
-      no-eight z = go (decode ws) (sym (ap (λ (e : DecodedJob). number e.checked) is.decoded) ∙ ap number h ∙ z)
+      no-eight : number_of x ≡ 8 → ⊥
+      no-eight z = go (decode ws) (sym (ap number (words-told ws d is x h)) ∙ z)
         where
-          go : (w : Decoded) → number (decoded_job w).checked ≡ 8 → ⊥
+          go : (w : Decoded) → number (decoded_job w) ≡ 8 → ⊥
           go no_mask e = omega arith
           go (bad_word q) e = omega arith
           go (bad_long q) e = omega arith

@@ -4,7 +4,7 @@ use Prim.Native.Nat.{ℕ, suc, ◌+◌, ◌-◌, ◌≤◌, ◌<◌}
 use native.Mathlib.Omega.{arith}
 use mathlib.Core.Path.{◌≡◌, sym, ap, ap₂, ◌∙◌}
 use mathlib.Core.Bool.{Bool, false, false≢true}
-use mathlib.Core.Option.{Option, none, some}
+use Rattle.std.specs.Prelude.{Option, None, Some}
 use lib.Dec.{ltb}
 use Rattle.whole.proofs.Tests.{and_no, ltb_no}
 use Rattle.model.specs.declared.Axis.{Axis}
@@ -39,10 +39,10 @@ module _ (q : Limit) (t : Task) (r : ℕ) (n : Next (enough_with q t) (suc (limi
   only : (o : Option ℕ) → Result tried 1 most o → o ≡ least_from tried 1 most
   only o h = one-result tried 1 most o (least_from tried 1 most) h (result tried 1 most)
 
-  pub found : r ≤ highest q → some (r - current) ≡ least_raise q t
+  pub found : r ≤ highest q → Some (r - current) ≡ least_raise q t
   unfolding least_raise
   found h =
-      only (some (r - current))
+      only (Some (r - current))
       (record {
         first = omega (arith, n.low);
         last = omega (arith, n.low);
@@ -50,10 +50,10 @@ module _ (q : Limit) (t : Task) (r : ℕ) (n : Next (enough_with q t) (suc (limi
         least = λ i a b e. false≢true (sym (n.missed (current + i) (omega arith) (omega arith)) ∙ e);
       })
 
-  pub not_found : limit_in q t ≤ highest q → highest q < r → none ≡ least_raise q t
+  pub not_found : limit_in q t ≤ highest q → highest q < r → None ≡ least_raise q t
   unfolding least_raise
   not_found l h =
-      only none (λ i a b e. false≢true (sym (n.missed (current + i) (omega arith) (omega arith)) ∙ e))
+      only None (λ i a b e. false≢true (sym (n.missed (current + i) (omega arith) (omega arith)) ∙ e))
 
 -- ---- an axis
 
@@ -64,8 +64,8 @@ same-least f g k count e = one-result g k count (least_from f k count) (least_fr
     (go (least_from f k count) (result f k count)) (result g k count)
   where
     go : (o : Option ℕ) → Result f k count o → Result g k count o
-    go none h = λ i a b t. h i a b (e i a b ∙ t)
-    go (some n) h =
+    go None h = λ i a b t. h i a b (e i a b ∙ t)
+    go (Some n) h =
         record {
           first = h.first;
           last = h.last;
@@ -75,7 +75,7 @@ same-least f g k count e = one-result g k count (least_from f k count) (least_fr
 
 module _ (q : Limit) (x : Axis) (n : ℕ) (p : Passed x) where
   -- no limit is enough for an arrival that is not after the delay
-  pub too-early : n ≤ delay x → raise_of q x n ≡ none
+  pub too-early : n ≤ delay x → raise_of q x n ≡ None
   too-early h = raise-missing q x n p (early q)
     where
       early : (q : Limit) → reachable (with_limit q (highest q) x) n ≡ false

@@ -1,4 +1,3 @@
 pub mod AllAxes
-pub mod BothRaises
 pub mod LeastRaises
 pub mod Calls

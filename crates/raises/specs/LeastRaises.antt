@@ -1,17 +1,11 @@
 -- The least raise of one limit, as the code gives it and as a search over the limit's range.
 use Rattle.std.specs.Prelude.{ℕ, ◌+◌, ◌-◌}
-use Rattle.std.proofs.Math.Option.{Option, none, some}
+use Rattle.std.specs.Prelude.{Option}
 use Rattle.model.specs.declared.Limit.{Limit}
 use Rattle.model.specs.planning.Outcome.{least_from}
 use Rattle.model.specs.calls.Raises.{highest}
 use Rattle.least_limit.specs.declared.Task.{Task}
 use Rattle.least_limit.specs.Limits.{limit_in, enough_with}
-use Rattle.raises.specs.declared.LeastRaise.{LeastRaise}
-use Rattle.raises.specs.declared.LeastRaise.TheVariants.{By, Missing}
-
-abbrev pub raise_by : LeastRaise → Option ℕ
-raise_by (By k) = some k
-raise_by Missing = none
 
 -- the least that is added to a limit of a task, within the limit's range, for which it is enough
 unfoldable pub least_raise : Limit → Task → Option ℕ

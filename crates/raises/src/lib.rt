@@ -12,7 +12,7 @@
 #![tactic(auto)]
 
 ghost use Rattle.std.specs.Prelude.{◌≡◌, ◌^◌, ◌≤◌, ◌<◌, max, pos, ◌+ℤ◌, ◌*ℤ◌};
-ghost use Rattle.std.proofs.Math.Option.{none, some};
+ghost use Rattle.std.specs.Prelude.{None, Some};
 ghost use Rattle.whole.specs.Ranges.{Within};
 ghost use Rattle.model.specs.planning.Job.{set_axes};
 ghost use Rattle.model.specs.planning.Quantities.{delay};
@@ -22,10 +22,10 @@ ghost use Rattle.model.specs.calls.Raises.{highest, in_order, raises_of, raises_
 ghost use Rattle.least_limit.specs.Limits.{TaskRanged};
 ghost use Rattle.least_limit.specs.Tasks.{task_with, fastest_of, TaskIs};
 ghost use Rattle.raises.specs.Promise.{RaisesPromise};
-ghost use Rattle.raises.specs.LeastRaises.{raise_by, least_raise};
+ghost use Rattle.raises.specs.LeastRaises.{least_raise};
 
 use least_limit::Task;
-use model::{AXES, Answer, Axis, AxisRaises, Checked, Job, Limit, Raise, RaisesAnswer};
+use model::{AXES, Answer, Axis, AxisRaises, Job, Limit, Raise, RaisesAnswer};
 use motion::Landing;
 
 // The answer to a job with no table lent, so that 10 never comes; where its number is 8, with the
@@ -34,30 +34,21 @@ pub fn raises_job(job: Job) -> RaisesAnswer
     ensures { RaisesPromise (Input.typed job) result }
 {
     let planned = planner::answer_of(job);
+    // by its number: `answer_of`, a call of docs/BUYERS.md, gives an Answer
     if planned.number != 8 {
         return answered(planned, no_raises());
     }
-    let axes = job.axes;
-    answered(planned, raises_for(job.mask, job.asked, axes))
+    answered(planned, raises_for(job.mask, job.asked, job.axes))
 }
 
 // The same for a job as words.
 pub fn raises_words(words: &[u32]) -> RaisesAnswer
     ensures { RaisesPromise (Input.words words.now) result }
 {
-    let decoded = words::decode(words);
-    let checked = decoded.checked;
-    if let Checked::Refused(number, place) = checked {
-        let refused = Answer {
-            number: number,
-            place: place,
-            mask: 0,
-            arrival: 0,
-        };
-        return answered(refused, no_raises());
+    match words::decode(words) {
+        Ok(job) => raises_job(job),
+        Err(refusal) => answered(Answer::from(refusal), no_raises()),
     }
-    let job = decoded.job;
-    raises_job(job)
 }
 
 // An answer and the raises beside it.
@@ -66,7 +57,7 @@ fn answered(planned: Answer, axes: [AxisRaises; AXES]) -> RaisesAnswer
 {
     RaisesAnswer {
         answer: planned,
-        axes: axes,
+        axes,
     }
 }
 
@@ -74,7 +65,7 @@ fn answered(planned: Answer, axes: [AxisRaises; AXES]) -> RaisesAnswer
 fn no_raises() -> [AxisRaises; AXES]
     ensures { result ≡ none_raised }
 {
-    [pair(Raise::NoRaise, Raise::NoRaise); AXES]
+    [pair(None, None); AXES]
 }
 
 // The raises of each axis of the mask that does not reach the asked arrival, at its number.
@@ -85,14 +76,13 @@ fn raises_for(mask: u32, asked: u32, axes: [Axis; AXES]) -> [AxisRaises; AXES]
 {
     let mut raises = no_raises();
     let mut bits = mask;
-    let mut number: usize = 0;
-    while number < AXES {
+    // by index: two arrays are walked, and one of them is written
+    for number in 0..AXES {
         let axis = axes[number];
         if arrival::misses(bits, axis, asked) {
             raises[number] = raises_of(axis, asked);
         }
-        bits = bits / 2;
-        number += 1;
+        bits /= 2;
     }
     raises
 }
@@ -107,7 +97,7 @@ fn raises_of(x: Axis, n: u32) -> AxisRaises
 {
     let given = motion::with_weight(x);
     if n <= motion::delay_of(given) {
-        return pair(Raise::NoRaise, Raise::NoRaise);
+        return pair(None, None);
     }
     let task = task_of(given, n);
     let m = least_raise(task, Limit::Acceleration);
@@ -116,76 +106,47 @@ fn raises_of(x: Axis, n: u32) -> AxisRaises
 }
 
 // The raise of M and that of L: the smaller first, M's if they are equal.
-fn in_order(m: LeastRaise, l: LeastRaise) -> AxisRaises
-    ensures { result ≡ in_order (raise_by m) (raise_by l) }
+fn in_order(m: Option<u32>, l: Option<u32>) -> AxisRaises
+    ensures { result ≡ in_order m l }
 {
-    match m {
-        LeastRaise::Missing => speed_alone(l),
-        LeastRaise::By(a) => acceleration_and(a, l),
-    }
-}
-
-// The raise of L where there is none of M.
-fn speed_alone(l: LeastRaise) -> AxisRaises
-    ensures { result ≡ in_order none (raise_by l) }
-{
-    match l {
-        LeastRaise::Missing => pair(Raise::NoRaise, Raise::NoRaise),
-        LeastRaise::By(v) => pair(Raise::SpeedBy(v), Raise::NoRaise),
-    }
-}
-
-// The raise a of M, and that of L.
-fn acceleration_and(a: u32, l: LeastRaise) -> AxisRaises
-    ensures { result ≡ in_order (some a) (raise_by l) }
-{
-    match l {
-        LeastRaise::Missing => pair(Raise::AccelerationBy(a), Raise::NoRaise),
-        LeastRaise::By(v) => both(a, v),
+    match (m, l) {
+        (None, None) => pair(None, None),
+        (Some(a), None) => pair(Some(Raise::AccelerationBy(a)), None),
+        (None, Some(v)) => pair(Some(Raise::SpeedBy(v)), None),
+        (Some(a), Some(v)) => both(a, v),
     }
 }
 
 // The raise a of M and the raise v of L.
 fn both(a: u32, v: u32) -> AxisRaises
-    ensures { result ≡ in_order (some a) (some v) }
+    ensures { result ≡ in_order (Some a) (Some v) }
 {
-    if a <= v {
-        return pair(Raise::AccelerationBy(a), Raise::SpeedBy(v));
-    }
-    pair(Raise::SpeedBy(v), Raise::AccelerationBy(a))
+    let m = Some(Raise::AccelerationBy(a));
+    let l = Some(Raise::SpeedBy(v));
+    if a <= v { pair(m, l) } else { pair(l, m) }
 }
 
-fn pair(first: Raise, second: Raise) -> AxisRaises
+fn pair(first: Option<Raise>, second: Option<Raise>) -> AxisRaises
     ensures { result ≡ record { first = first; second = second } }
 {
-    AxisRaises {
-        first: first,
-        second: second,
-    }
+    AxisRaises { first, second }
 }
 
 // ---- one limit
 
-// The least raise of a limit, or none within its range.
-#[derive(Clone, Copy)]
-enum LeastRaise {
-    By(u32),
-    Missing,
-}
-
-// The least raise of a limit, within its range, that is enough for a task.
-fn least_raise(t: Task, limit: Limit) -> LeastRaise
+// The least raise of a limit, within its range, that is enough for a task, or none.
+fn least_raise(t: Task, limit: Limit) -> Option<u32>
     requires { TaskRanged t }
-    ensures { raise_by result ≡ least_raise limit t }
+    ensures { result ≡ least_raise limit t }
 {
     let current = least_limit::limit_in(t, limit);
     let most = highest(limit);
     let found = least_limit::least_limit(t, limit, most);
     if most < found {
-        return LeastRaise::Missing;
+        return None;
     }
     let by = (found - current) as u32;
-    LeastRaise::By(by)
+    Some(by)
 }
 
 // The highest of a limit's range.
@@ -231,10 +192,10 @@ fn task_with(x: Axis, start: i64, end: i64, travel: i64, ticks: u32, fastest: u6
 {
     let twice = travel - start - end;
     Task {
-        start: start,
-        end: end,
+        start,
+        end,
         ticks: ticks as u64,
-        fastest: fastest,
+        fastest,
         sum: twice >> 1,
         steps: motion::finer(x) as u64 * 256,
         speed: x.speed_limit as u64,
@@ -250,19 +211,7 @@ fn fastest_of(start: i64, landing: Landing, delay: u32) -> u64
     requires delay_bound { delay ≤ 512 }
     ensures { result ≡ fastest_of start landing.velocity (landing.velocity +ℤ pos delay *ℤ landing.acceleration) }
 {
-    let end = landing.velocity;
     let arrived = motion::arrival_velocity(landing, delay);
-    greater(
-        whole::size(start),
-        greater(whole::size(end), whole::size(arrived)),
-    )
-}
-
-fn greater(a: u64, b: u64) -> u64
-    ensures { result ≡ max a b }
-{
-    if a <= b {
-        return b;
-    }
-    a
+    let at_ends = landing.velocity.unsigned_abs().max(arrived.unsigned_abs());
+    start.unsigned_abs().max(at_ends)
 }

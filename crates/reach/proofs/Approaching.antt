@@ -25,8 +25,7 @@ use Rattle.model.specs.planning.Refusals.{last_tick, Passed}
 use Rattle.theorems.specs.Threshold.{Slow}
 use Rattle.theorems.proofs.motions.Threshold.{landing-later, acceleration-same, slow-ahead, reached-slow, reached-later}
 use Rattle.theorems.proofs.legs.WholeSum.{sum-is-whole}
-use Rattle.profile.specs.Profiles.{leg_of}
-use Rattle.envelopes.specs.Skips.{LastingTo}
+use Rattle.whole.specs.Candidates.{LastingTo}
 use Rattle.reach.specs.declared.approach.Approach.{Approach}
 use Rattle.reach.specs.Halving.{TicksWithin, LastPassing}
 use Rattle.reach.specs.Approaches.{end_later, arrived_later, travel_later, profile_later, reaches_later}
@@ -121,7 +120,7 @@ module _ (x : Axis) (passed : Passed x) (moving : accelerates x.target ≡ true)
       swap : (p q d : ℤ) → (p -ℤ q) +ℤ d ≡ (p +ℤ d) -ℤ q
       swap p q d = same (p ∷ q ∷ d ∷ []) (search pol depth 20 fits 9000) tt
 
-  leg-is : (i : ℕ) → leg_of (profile_later A i) ≡ leg x (n + i)
+  leg-is : (i : ℕ) → profile_later A i ≡ leg x (n + i)
   leg-is i =
       let t : n - delay x + i ≡ n + i - delay x = omega arith in
       λ j. record {
@@ -139,7 +138,7 @@ module _ (x : Axis) (passed : Passed x) (moving : accelerates x.target ≡ true)
       (λ j. leb (nat_abs (end_is i j)) (speed_steps x)
       && (leb (nat_abs (arrived-is i j)) (speed_steps x) && feasible (leg-is i j) (travel-is i j)))
 
-  whole-sums : (i : ℕ) → sum_is_whole (leg_of (profile_later A i)) (travel_later A i) ≡ true
+  whole-sums : (i : ℕ) → sum_is_whole (profile_later A i) (travel_later A i) ≡ true
   whole-sums i = (λ j. sum_is_whole (leg-is i j) (travel-is i j)) ∙ sum-is-whole x (n + i)
 
   goes_on : (i j : ℕ) → i ≤ j → nat_abs (arrived_later A j) ≤ speed_steps x
@@ -188,7 +187,7 @@ arrives-slowly : (a : Approach) (i : ℕ) → reaches_later a i ≡ true → nat
 unfolding reaches_later
 arrives-slowly a i e =
     leb→le _ _
-    (left (leb (nat_abs (arrived_later a i)) a.speed_limit) (feasible (leg_of (profile_later a i)) (travel_later a i))
+    (left (leb (nat_abs (arrived_later a i)) a.speed_limit) (feasible (profile_later a i) (travel_later a i))
     (right (leb (nat_abs (end_later a i)) a.speed_limit) _ (true-T e)))
 
 -- none is reached, unless the last at which the target is slow enough is

@@ -36,7 +36,7 @@ use Rattle.theorems.proofs.legs.WholeSum.{sum-is-whole}
 use Rattle.profile.specs.Profiles.{ends_allowed, sum_between}
 use Rattle.whole.specs.Candidates.{Next}
 use Rattle.envelopes.specs.Sums.{with_ticks, between_at}
-use Rattle.envelopes.specs.Skips.{Lasting}
+use Rattle.whole.specs.Candidates.{Lasting}
 use Rattle.profile.proofs.FeasibleParts.{feasible-parts}
 use Rattle.reach.specs.Drift.{speed_of, drift_of, drift}
 

@@ -3,11 +3,9 @@
 use Rattle.std.specs.Prelude.{ℕ, ◌+◌, ◌-◌, ◌^◌, ◌≤◌, ◌<◌, ◌≡◌, Bool, true, ◌&&◌, leb, ℤ, pos, nat_abs, ◌+ℤ◌, ◌*ℤ◌}
 use Rattle.whole.specs.Ranges.{Within}
 use Rattle.model.specs.declared.Axis.{Axis}
-use Rattle.model.specs.planning.Leg.{sum_is_whole, feasible}
+use Rattle.model.specs.planning.Leg.{Leg, sum_is_whole, feasible}
 use Rattle.model.specs.planning.Motion.{reachable}
 use Rattle.model.specs.planning.Refusals.{last_tick}
-use Rattle.profile.specs.declared.Profile.{Profile}
-use Rattle.profile.specs.Profiles.{leg_of}
 use Rattle.reach.specs.declared.approach.Approach.{Approach}
 
 -- ---- i arrivals later than the first
@@ -24,7 +22,7 @@ abbrev pub travel_later : Approach → ℕ → ℤ
 travel_later a i = a.travel +ℤ pos i *ℤ (pos 2 *ℤ a.end +ℤ pos i *ℤ a.change)
 
 -- the leg
-abbrev pub profile_later : Approach → ℕ → Profile
+abbrev pub profile_later : Approach → ℕ → Leg
 profile_later a i =
     record {
       speed_limit = a.speed_limit;
@@ -38,7 +36,7 @@ profile_later a i =
 unfoldable pub reaches_later : Approach → ℕ → Bool
 reaches_later a i =
     leb (nat_abs (end_later a i)) a.speed_limit
-    && (leb (nat_abs (arrived_later a i)) a.speed_limit && feasible (leg_of (profile_later a i)) (travel_later a i))
+    && (leb (nat_abs (arrived_later a i)) a.speed_limit && feasible (profile_later a i) (travel_later a i))
 
 -- ---- what the code needs of an approach
 
@@ -59,7 +57,7 @@ pub record ApproachRanged (a : Approach) : Type 0 where
 pub record Approaches (a : Approach) (last : ℕ) : Type 0 where
   pub ranged : ApproachRanged a
   pub few : a.ticks + last ≤ 4096
-  pub whole : (i : ℕ) → i ≤ last → sum_is_whole (leg_of (profile_later a i)) (travel_later a i) ≡ true
+  pub whole : (i : ℕ) → i ≤ last → sum_is_whole (profile_later a i) (travel_later a i) ≡ true
   -- what is reached is reached later, where the target is slow enough by then
   pub goes : (i j : ℕ) → i ≤ j → j ≤ last → nat_abs (arrived_later a j) ≤ a.speed_limit
       → reaches_later a i ≡ true → reaches_later a j ≡ true

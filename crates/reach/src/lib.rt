@@ -13,7 +13,7 @@ ghost use Rattle.whole.specs.Candidates.{Next};
 ghost use Rattle.reach.specs.Drift.{drift_of, drift, speed_of};
 ghost use Rattle.reach.specs.Halving.{LastPassing, ReachesSome, Loses};
 
-use approach::{approach_of, next_later, ticks_within};
+use approach::{Approach, ticks_within};
 use model::{Axis, FINE_STEPS, Target};
 
 // Whether the axis can arrive at tick n.
@@ -23,19 +23,20 @@ pub fn reaches(x: Axis, n: u32) -> bool
     ensures { result ≡ reachable x n }
 {
     let delay = motion::delay_of(x);
-    if delay < n {
-        let landing = motion::landing_at(x, n);
-        let limit = motion::limit_on_grid(x, x.speed_limit);
-        let landed = landing.velocity;
-        if whole::size_at_most(landed, limit) {
-            let arrived = motion::arrival_velocity(landing, delay);
-            if whole::size_at_most(arrived, limit) {
-                let p = motion::profile_of(x, n, landing);
-                return envelopes::makes(p, motion::displacement(x, landing));
-            }
-        }
+    if n <= delay {
+        return false;
     }
-    false
+    let landing = motion::landing_at(x, n);
+    let limit = motion::limit_on_grid(x, x.speed_limit);
+    if landing.velocity.unsigned_abs() > limit {
+        return false;
+    }
+    let arrived = motion::arrival_velocity(landing, delay);
+    if arrived.unsigned_abs() > limit {
+        return false;
+    }
+    let p = motion::profile_of(x, n, landing);
+    envelopes::makes(p, motion::displacement(x, landing))
 }
 
 // ---- whether it reaches any
@@ -53,8 +54,7 @@ fn last_slow(x: Axis, n: u32, last: u32) -> u32
     let landing = motion::landing_at(x, n);
     let limit = motion::limit_on_grid(x, x.speed_limit);
     let arrived = motion::arrival_velocity(landing, delay);
-    let change = landing.acceleration;
-    n + ticks_within(limit, arrived, change, last - n)
+    n + ticks_within(limit, arrived, landing.acceleration, last - n)
 }
 
 // Whether the axis can arrive at some tick up to the last: at the last of those at
@@ -65,11 +65,7 @@ fn reaches_while_slow(x: Axis, last: u32) -> bool
     ensures { ReachesSome (reachable x) last result }
 {
     let delay = motion::delay_of(x);
-    if delay < last {
-        let high = last_slow(x, delay + 1, last);
-        return reaches(x, high);
-    }
-    false
+    delay < last && reaches(x, last_slow(x, delay + 1, last))
 }
 
 // The same of any axis: at the last tick, where its target does not accelerate.
@@ -79,8 +75,7 @@ pub fn reaches_some(x: Axis, last: u32) -> bool
     requires last_le_last_tick { last ≤ last_tick }
     ensures { ReachesSome (reachable x) last result }
 {
-    let target = x.target;
-    if motion::accelerates(target) {
+    if motion::accelerates(x.target) {
         return reaches_while_slow(x, last);
     }
     next_reached(x, last, last) == last
@@ -93,11 +88,7 @@ pub fn loses(x: Axis, n: u32) -> bool
     requires n_le_last_tick { n ≤ last_tick }
     ensures { Loses (reachable x) n result }
 {
-    let target = x.target;
-    if motion::accelerates(target) {
-        return !reaches(x, n);
-    }
-    false
+    motion::accelerates(x.target) && !reaches(x, n)
 }
 
 // ---- the next arrival
@@ -107,10 +98,7 @@ fn first_after(n: u32, delay: u32) -> u32
     requires { delay ≤ 512 }
     ensures { result ≡ max n (suc delay) }
 {
-    if n <= delay {
-        return delay + 1;
-    }
-    n
+    n.max(delay + 1)
 }
 
 // By how much the required sum changes from one arrival to the next, where the target does
@@ -121,10 +109,7 @@ fn drift_of(target: Target) -> i64
 {
     match target {
         Target::Fixed(_) => 0,
-        Target::Moving(m) => {
-            let v = m.velocity;
-            FINE_STEPS * v
-        }
+        Target::Moving(m) => FINE_STEPS * m.velocity,
     }
 }
 
@@ -133,8 +118,7 @@ fn drift(x: Axis) -> i64
     requires { Within (2 ^ 20) (speed_of x.target) }
     ensures { Is (2 ^ 36) result (drift x) }
 {
-    let target = x.target;
-    motion::grid_steps(x) * drift_of(target)
+    motion::grid_steps(x) * drift_of(x.target)
 }
 
 // The least arrival from n to the last that the axis reaches, or one past the last, where the
@@ -172,7 +156,7 @@ fn next_by_halving(x: Axis, n: u32, last: u32) -> u32
     if last < first {
         return last + 1;
     }
-    first + next_later(approach_of(x, first), last - first)
+    first + Approach::new(x, first).next_later(last - first)
 }
 
 // The least arrival from n to the last that the axis reaches, or one past the last.
@@ -182,8 +166,7 @@ pub fn next_reached(x: Axis, n: u32, last: u32) -> u32
     requires last_le_last_tick { last ≤ last_tick }
     ensures { Next (reachable x) n last result }
 {
-    let target = x.target;
-    if motion::accelerates(target) {
+    if motion::accelerates(x.target) {
         return next_by_halving(x, n, last);
     }
     next_steady(x, n, last)

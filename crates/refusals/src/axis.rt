@@ -6,122 +6,92 @@ ghost use Rattle.model.specs.planning.Refusals.{values_refused, acceleration_ref
 ghost use Rattle.model.specs.planning.Refusals.{sway_allowed, position_allowed, velocity_allowed, rest_allowed};
 ghost use Rattle.model.specs.planning.Refusals.{motion_allowed, target_allowed, acceleration_refused_by, flies};
 ghost use Rattle.model.specs.declared.Target.TheVariants.{Moving};
-ghost use Rattle.refusals.specs.Checks.{tests_for, first_met};
+ghost use Rattle.refusals.specs.Checks.{refuses, order, refused_by, tests_for};
 
 use model::{
-    Axis, HIGHEST_ACCELERATION, HIGHEST_SPEED, HIGHEST_WEIGHT, LONGEST_HALF_PERIOD, RestPoint,
-    SecondSway, State, Target,
+    Axis, AxisTest, HIGHEST_ACCELERATION, HIGHEST_SPEED, HIGHEST_WEIGHT, LONGEST_HALF_PERIOD,
+    RestPoint, State, Target,
 };
 
 fn within(low: u32, high: u32, n: u32) -> bool
     ensures { result ≡ within low high n }
 {
-    if low <= n {
-        return n <= high;
-    }
-    false
+    low <= n && n <= high
 }
 
-// 4: a limit is outside its range.
-fn limits_refused(x: Axis) -> bool
-    ensures { result ≡ limits_refused x }
+fn limits_refused(x: &Axis) -> bool
+    ensures { result ≡ limits_refused x.now }
 {
-    if within(1, HIGHEST_SPEED, x.speed_limit) {
-        return !within(1, HIGHEST_ACCELERATION, x.acceleration_limit);
-    }
-    true
+    !(within(1, HIGHEST_SPEED, x.speed_limit)
+        && within(1, HIGHEST_ACCELERATION, x.acceleration_limit))
 }
 
-// 12: the damping cannot be turned into a weight.
-fn damping_refused(x: Axis) -> bool
-    ensures { result ≡ damping_refused x }
+fn damping_refused(x: &Axis) -> bool
+    ensures { result ≡ damping_refused x.now }
 {
-    let weight = x.second_weight;
-    !damping::weight_allowed(weight)
+    !damping::weight_allowed(x.second_weight)
 }
 
-// 5: the half period or the second weight is outside its range.
-fn blend_refused(x: Axis) -> bool
-    ensures { result ≡ blend_refused x }
+fn blend_refused(x: &Axis) -> bool
+    ensures { result ≡ blend_refused x.now }
 {
-    if within(0, LONGEST_HALF_PERIOD, x.half_period) {
-        return !within(1, HIGHEST_WEIGHT, motion::second_weight(x));
-    }
-    true
+    !(within(0, LONGEST_HALF_PERIOD, x.half_period)
+        && within(1, HIGHEST_WEIGHT, motion::second_weight(*x)))
 }
 
-fn sway_allowed(sway: SecondSway) -> bool
+fn sway_allowed(sway: Option<u32>) -> bool
     ensures { result ≡ sway_allowed sway }
 {
     match sway {
-        SecondSway::Absent => true,
-        SecondSway::HalfPeriod(d) => within(1, LONGEST_HALF_PERIOD, d),
+        None => true,
+        Some(d) => within(1, LONGEST_HALF_PERIOD, d),
     }
 }
 
-// 15: a second half period is outside its range.
-fn sway_refused(x: Axis) -> bool
-    ensures { result ≡ sway_refused x }
+fn sway_refused(x: &Axis) -> bool
+    ensures { result ≡ sway_refused x.now }
 {
-    let sway = x.second_sway;
-    !sway_allowed(sway)
+    !sway_allowed(x.second_sway)
 }
 
 fn position_allowed(p: i64) -> bool
     ensures { result ≡ position_allowed p }
 {
-    if -17179869184 <= p {
-        return p <= 17179869183;
-    }
-    false
+    -17179869184 <= p && p <= 17179869183
 }
 
-fn velocity_allowed(x: Axis, v: i64) -> bool
-    ensures { result ≡ velocity_allowed x v }
+fn velocity_allowed(x: &Axis, v: i64) -> bool
+    ensures { result ≡ velocity_allowed x.now v }
 {
     whole::size_at_most(v, x.speed_limit as u64)
 }
 
-fn rest_allowed(x: Axis, r: RestPoint) -> bool
-    ensures { result ≡ rest_allowed x r }
+fn rest_allowed(x: &Axis, r: RestPoint) -> bool
+    ensures { result ≡ rest_allowed x.now r }
 {
-    let p = r.position;
-    let v = r.velocity;
-    if position_allowed(p) {
-        return velocity_allowed(x, v);
-    }
-    false
+    position_allowed(r.position) && velocity_allowed(x, r.velocity)
 }
 
 // The acceleration and the tick of a moving target.
-fn motion_allowed(x: Axis, m: State) -> bool
-    ensures { result ≡ motion_allowed x m }
+fn motion_allowed(x: &Axis, m: State) -> bool
+    ensures { result ≡ motion_allowed x.now m }
 {
-    let a = m.acceleration;
-    let t = m.tick;
-    if whole::size_at_most(a, x.acceleration_limit as u64) {
-        return whole::size_at_most(t, 4096);
-    }
-    false
+    whole::size_at_most(m.acceleration, x.acceleration_limit as u64)
+        && whole::size_at_most(m.tick, 4096)
 }
 
-fn moving_allowed(x: Axis, m: State) -> bool
-    ensures { result ≡ target_allowed x (Moving m) }
+fn moving_allowed(x: &Axis, m: State) -> bool
+    ensures { result ≡ target_allowed x.now (Moving m) }
 {
-    let p = m.position;
-    let v = m.velocity;
     let r = RestPoint {
-        position: p,
-        velocity: v,
+        position: m.position,
+        velocity: m.velocity,
     };
-    if rest_allowed(x, r) {
-        return motion_allowed(x, m);
-    }
-    false
+    rest_allowed(x, r) && motion_allowed(x, m)
 }
 
-fn target_allowed(x: Axis, target: Target) -> bool
-    ensures { result ≡ target_allowed x target }
+fn target_allowed(x: &Axis, target: Target) -> bool
+    ensures { result ≡ target_allowed x.now target }
 {
     match target {
         Target::Fixed(r) => rest_allowed(x, r),
@@ -129,115 +99,75 @@ fn target_allowed(x: Axis, target: Target) -> bool
     }
 }
 
-// 6: a velocity, the target's acceleration or tick, or a position is out of bounds.
-fn values_refused(x: Axis) -> bool
-    ensures { result ≡ values_refused x }
+fn values_refused(x: &Axis) -> bool
+    ensures { result ≡ values_refused x.now }
 {
-    let start = x.start;
-    let target = x.target;
-    if rest_allowed(x, start) {
-        return !target_allowed(x, target);
-    }
-    true
+    !(rest_allowed(x, x.start) && target_allowed(x, x.target))
 }
 
-fn acceleration_refused_by(sway: SecondSway, target: Target) -> bool
-    ensures { result ≡ acceleration_refused_by sway target }
+fn acceleration_refused(x: &Axis) -> bool
+    ensures { result ≡ acceleration_refused x.now }
 {
-    match sway {
-        SecondSway::Absent => false,
-        SecondSway::HalfPeriod(_) => motion::accelerates(target),
-    }
+    x.second_sway.is_some() && motion::accelerates(x.target)
 }
 
-// 16: the target accelerates, and the pole has a second sway.
-fn acceleration_refused(x: Axis) -> bool
-    ensures { result ≡ acceleration_refused x }
-{
-    let sway = x.second_sway;
-    let target = x.target;
-    acceleration_refused_by(sway, target)
-}
-
-// 17: a fixed target has a velocity that is not 0.
 fn flies(target: Target) -> bool
     ensures { result ≡ flies target }
 {
     match target {
-        Target::Fixed(r) => {
-            let v = r.velocity;
-            v != 0
-        }
+        Target::Fixed(r) => r.velocity != 0,
         Target::Moving(_) => false,
     }
 }
 
-fn flying_refused(x: Axis) -> bool
-    ensures { result ≡ flying_refused x }
+fn flying_refused(x: &Axis) -> bool
+    ensures { result ≡ flying_refused x.now }
 {
-    let target = x.target;
-    flies(target)
+    flies(x.target)
 }
 
-// ---- ranks in checking order. They are compared, so they are numbers and not an enum; the number
-// of tests is the rank of an axis that none refuses.
-
-// Refusal 4.
-const LIMITS_RANK: usize = 0;
-
-// Refusal 12.
-const DAMPING_RANK: usize = 1;
-
-// Refusal 5.
-const BLEND_RANK: usize = 2;
-
-// Refusal 15.
-const SWAY_RANK: usize = 3;
-
-// Refusal 6.
-const VALUES_RANK: usize = 4;
-
-// Refusal 16.
-const ACCELERATION_RANK: usize = 5;
-
-// Refusal 17, the last.
-const FLYING_RANK: usize = 6;
-
-// How many tests there are where fixed targets may fly.
-pub const TESTS_WITHOUT_FLYING: usize = 6;
-
-// How many there are where they must be at rest.
-pub const TESTS: usize = 7;
-
-// The rank in checking order of the first of refusals 4, 12, 5, 15, 6, 16 and 17
-// that meets the axis, from 0 on, or one past the last; 17 is one of them only
-// where fixed targets must be at rest.
-pub fn first_refused(x: Axis, resting: bool) -> usize
-    ensures { result ≡ first_met (tests_for resting) x }
+// Whether one of the tests refuses an axis: their order does not matter.
+pub fn refused(x: &Axis, resting: bool) -> bool
+    ensures { result ≡ refused_by (tests_for resting) x.now }
 {
-    if limits_refused(x) {
-        return LIMITS_RANK;
+    limits_refused(x)
+        || damping_refused(x)
+        || blend_refused(x)
+        || sway_refused(x)
+        || values_refused(x)
+        || acceleration_refused(x)
+        || resting && flying_refused(x)
+}
+
+// Whether a test refuses an axis.
+pub fn refuses(test: AxisTest, x: &Axis) -> bool
+    ensures { result ≡ refuses test x.now }
+{
+    match test {
+        AxisTest::Limits => limits_refused(x),
+        AxisTest::Damping => damping_refused(x),
+        AxisTest::Blend => blend_refused(x),
+        AxisTest::SecondSway => sway_refused(x),
+        AxisTest::Values => values_refused(x),
+        AxisTest::Acceleration => acceleration_refused(x),
+        AxisTest::Flying => flying_refused(x),
     }
-    if damping_refused(x) {
-        return DAMPING_RANK;
-    }
-    if blend_refused(x) {
-        return BLEND_RANK;
-    }
-    if sway_refused(x) {
-        return SWAY_RANK;
-    }
-    if values_refused(x) {
-        return VALUES_RANK;
-    }
-    if acceleration_refused(x) {
-        return ACCELERATION_RANK;
-    }
-    if !resting {
-        return TESTS_WITHOUT_FLYING;
-    }
-    if flying_refused(x) {
-        return FLYING_RANK;
-    }
-    TESTS
+}
+
+// The tests in checking order.
+const ORDER: [AxisTest; 7] = [
+    AxisTest::Limits,
+    AxisTest::Damping,
+    AxisTest::Blend,
+    AxisTest::SecondSway,
+    AxisTest::Values,
+    AxisTest::Acceleration,
+    AxisTest::Flying,
+];
+
+// The same where fixed targets must be at rest, and without the last where they may fly.
+pub fn tests(resting: bool) -> &'static [AxisTest]
+    ensures { result.now ≡ order resting }
+{
+    if resting { &ORDER } else { &ORDER[..6] }
 }

@@ -5,7 +5,7 @@
 
 ghost use Rattle.std.specs.Prelude.{◌^◌, ◌≤◌, ◌<◌, true, ◌≡◌};
 ghost use Rattle.whole.specs.Ranges.{Within, Is};
-ghost use Rattle.profile.specs.Profiles.{leg_of, Ranged, ends_allowed};
+ghost use Rattle.profile.specs.Profiles.{ends_allowed};
 ghost use Rattle.regions.specs.Regions.{ramp_ticks, ramp_change, meeting_tick, with_ramps, regions_of, velocity_in};
 ghost use Rattle.regions.specs.Regions.{RegionsRanged};
 
@@ -14,6 +14,7 @@ use profile::Profile;
 // The chosen velocities in three regions: up to tick `rise` they change by `up` a tick from the
 // start on; from `fall` ticks before the end on they are `down` further from it for each tick that
 // is left; between they are level, the first `raised` of them one above the cruise.
+// No ranges as ghost fields: each definition that builds one (`with_ramps`) would take proofs.
 #[derive(Clone, Copy)]
 pub struct Regions {
     pub start: i64,
@@ -44,11 +45,10 @@ fn ramp_ticks(limit: u64, v: i64, c: i64) -> u64
     ensures { (result ≡ ramp_ticks limit v c) × (result ≤ 2 ^ 38) }
 {
     if v <= c {
-        let way = c - v;
-        return way as u64 / limit;
+        c.abs_diff(v) / limit
+    } else {
+        (v.abs_diff(c) - 1) / limit
     }
-    let way = v - c - 1;
-    way as u64 / limit
 }
 
 // The change of a tick of it.
@@ -57,53 +57,41 @@ fn ramp_change(limit: u64, v: i64, c: i64) -> i64
     ensures { Is (2 ^ 33) result (ramp_change limit v c) }
 {
     let change = limit as i64;
-    if v <= c {
-        return change;
-    }
-    -change
+    if v <= c { change } else { -change }
 }
 
 // How many ticks the ramp from the start has before it meets the one to the
 // end, where both stay short of c.
 fn meeting_tick(p: Profile, c: i64) -> u64
-    requires ranged { Ranged p }
     requires acceleration_limit_nonzero { 0 < p.acceleration_limit }
-    requires p_value { ends_allowed (leg_of p) ≡ true }
-    ensures { (result ≡ meeting_tick (leg_of p) c) × (result ≤ p.ticks) }
+    requires p_value { ends_allowed p ≡ true }
+    ensures { (result ≡ meeting_tick p c) × (result ≤ p.ticks) }
 {
-    let start = p.start;
-    let end = p.end;
     let apart = profile::change_after(p.acceleration_limit, p.ticks);
-    if start <= c {
-        let way = end - start + apart;
-        return way as u64 / (2 * p.acceleration_limit);
+    if p.start <= c {
+        (p.end - p.start + apart) as u64 / (2 * p.acceleration_limit)
+    } else {
+        (p.start - p.end + apart) as u64 / (2 * p.acceleration_limit)
     }
-    let way = start - end + apart;
-    way as u64 / (2 * p.acceleration_limit)
 }
 
 // ---- regions
 
 // The regions of the velocities at a cruise, with ramps of given lengths.
 fn with_ramps(p: Profile, cruise: CruisePlan, rise: u64, fall: u64) -> Regions
-    requires ranged { Ranged p }
     requires within { Within (2 ^ 37) cruise.velocity }
-    ensures { result ≡ with_ramps (leg_of p) cruise.velocity cruise.raised rise fall }
+    ensures { result ≡ with_ramps p cruise.velocity cruise.raised rise fall }
 {
-    let start = p.start;
-    let end = p.end;
     let c = cruise.velocity;
-    let up = ramp_change(p.acceleration_limit, start, c);
-    let down = ramp_change(p.acceleration_limit, end, c);
     Regions {
-        start: start,
-        rise: rise,
-        up: up,
+        start: p.start,
+        rise,
+        up: ramp_change(p.acceleration_limit, p.start, c),
         cruise: c,
         raised: cruise.raised,
-        end: end,
-        fall: fall,
-        down: down,
+        end: p.end,
+        fall,
+        down: ramp_change(p.acceleration_limit, p.end, c),
         ticks: p.ticks,
     }
 }
@@ -111,21 +99,20 @@ fn with_ramps(p: Profile, cruise: CruisePlan, rise: u64, fall: u64) -> Regions
 // The regions of the velocities at a cruise. Two ramps with no tick between them end where they
 // meet.
 pub fn regions_of(p: Profile, cruise: CruisePlan) -> Regions
-    requires ranged { Ranged p }
     requires acceleration_limit_nonzero { 0 < p.acceleration_limit }
-    requires p_value { ends_allowed (leg_of p) ≡ true }
+    requires p_value { ends_allowed p ≡ true }
     requires within { Within (2 ^ 37) cruise.velocity }
-    ensures { result ≡ regions_of (leg_of p) cruise.velocity cruise.raised }
+    ensures { result ≡ regions_of p cruise.velocity cruise.raised }
 {
     let c = cruise.velocity;
     let rise = ramp_ticks(p.acceleration_limit, p.start, c);
     let fall = ramp_ticks(p.acceleration_limit, p.end, c);
-    let ticks = p.ticks;
-    if ticks <= rise + fall {
+    if p.ticks <= rise + fall {
         let meeting = meeting_tick(p, c);
-        return with_ramps(p, cruise, meeting, ticks - meeting);
+        with_ramps(p, cruise, meeting, p.ticks - meeting)
+    } else {
+        with_ramps(p, cruise, rise, fall)
     }
-    with_ramps(p, cruise, rise, fall)
 }
 
 // The velocity of a tick before the end.
@@ -134,16 +121,13 @@ pub fn velocity_in(r: Regions, k: u64) -> i64
     requires k_lt_ticks { k < r.ticks }
     ensures { Is (2 ^ 46) result (velocity_in r k) }
 {
-    let rise = r.rise;
-    let ticks = r.ticks;
-    if k <= rise {
-        return r.start + (k as i64) * r.up;
+    if k <= r.rise {
+        r.start + k as i64 * r.up
+    } else if r.ticks <= k + r.fall {
+        r.end + (r.ticks - k) as i64 * r.down
+    } else if k - r.rise <= r.raised {
+        r.cruise + 1
+    } else {
+        r.cruise
     }
-    if ticks <= k + r.fall {
-        return r.end + ((ticks - k) as i64) * r.down;
-    }
-    if k - rise <= r.raised {
-        return r.cruise + 1;
-    }
-    r.cruise
 }

@@ -11,10 +11,22 @@ use Rattle.blended.specs.BlendedStates.{blended_state_at}
 use Rattle.blended.proofs.BlendedRanges.{velocity-within, position-within}
 use Rattle.segments.specs.declared.Segment.{Segment}
 use Rattle.cells.specs.declared.RowStates.{RowStates}
-use Rattle.cells.specs.Rows.{comes_at, row_states}
+use Rattle.cells.specs.Rows.{comes_at, row_states, changed}
 use Rattle.cells.proofs.OneRow.{Kept, change-within, row_is}
-use Rattle.rows.specs.Table.{states_in, Writable}
-use Rattle.rows.proofs.States.{comes-late}
+use Rattle.rows.proofs.Tracks.{comes-late}
+
+-- the states of an axis in a row, from the one that comes to it and a segment that has its tick
+abbrev pub states_in : Order → BlendedState → Segment → RowStates
+states_in o t q = changed o t q.change
+
+-- whose ranges let them be worked out and written
+pub record Writable (o : Order) (t : BlendedState) (q : Segment) : Type 0 where
+  pub position : Within (2 ^ 61) t.position
+  pub velocity : Within (2 ^ 46) t.velocity
+  pub change : Within (2 ^ 47) q.change
+  pub written : Within (2 ^ 61) (states_in o t q).now.position
+  pub now : Within (2 ^ 46) (states_in o t q).now.velocity
+  pub next : Within (2 ^ 46) (states_in o t q).next.velocity
 
 module _ {p : AxisPlan} {k : ℕ} {q : Segment} (a : Kept p k q) (o : Order) (t : BlendedState)
     (e : t ≡ blended_state_at p (comes_at o k)) where

@@ -1,6 +1,6 @@
 -- The plan of a job: the plans of its axes, one after the other (docs/METHOD.md, section 3).
 use Rattle.std.specs.Prelude.{ℕ, ◌<◌, ◌≤◌, ◌≡◌, List, [], ◌∷◌, map, pos, length, get_or, take}
-use Rattle.model.specs.declared.SecondSway.TheVariants.{Absent}
+use Rattle.std.specs.Prelude.{None}
 use Rattle.model.specs.planning.Job.{JobAxis}
 use Rattle.planned.specs.declared.AxisPlan.{AxisPlan}
 use Rattle.planned.specs.Plans.{plan_of, arrival_of, PlanRanges}
@@ -29,7 +29,7 @@ unset_plan =
       half_period = 0;
       first_weight = 0;
       second_weight = 0;
-      second_sway = Absent;
+      second_sway = None;
     }
 
 -- the plans of a list of axes for arrival n

@@ -6,8 +6,9 @@ use mathlib.Core.List.{List}
 use lib.Dec.{leb, ltb, leb→le, ltb→lt}
 use Rattle.whole.proofs.Tests.{both, true-T, choice-yes, choice-no}
 use Rattle.model.specs.declared.Axis.{Axis}
-use Rattle.model.specs.declared.Checked.{Checked}
-use Rattle.model.specs.declared.Checked.TheVariants.{Passed, Refused}
+use Rattle.std.specs.Prelude.{Result, Ok, Err}
+use Rattle.model.specs.declared.refusal.Refusal.{Refusal}
+use Rattle.model.specs.planning.Told.{number_of, place_of, answer_to, told}
 use Rattle.model.specs.declared.Job as Typed
 use Rattle.model.specs.declared.SearchAnswer.{SearchAnswer}
 use Rattle.model.specs.planning.Windows.{in_windows}
@@ -18,11 +19,10 @@ use Rattle.model.specs.calls.Search.{search_from, refuse_search, search_answer, 
 use Rattle.model.specs.calls.Search.{search_rules, search_after, search_call}
 use Rattle.theorems.proofs.calls.SearchCalls.{search-numbered, search-verdict, call-says}
 use Rattle.arrival.specs.Arrivals.{arrives_in}
-use Rattle.words.specs.declared.DecodedJob.{DecodedJob}
 use Rattle.words.specs.Decoding.{Decodes}
 use Rattle.admission.specs.Admitting.{without_job, named_with_weight}
 use Rattle.admission.proofs.Weights.{given-reaches}
-use Rattle.admission.proofs.Admitted.{Goes, refused, passed}
+use Rattle.admission.proofs.Admitted.{Goes, refused, place-alone, passed}
 use Rattle.words.proofs.ReadWords as Read
 use Rattle.search.specs.Promise.{SearchPromise}
 
@@ -44,20 +44,24 @@ first_range first e =
 
 -- ---- a job that is checked
 
-module _ (t : Typed.Job) (first budget : ℕ) (c : Checked)
-    (is : c ≡ without_job (admission search_rules (typed t))) where
+module _ (t : Typed.Job) (first budget : ℕ) (c : Result Unit Refusal)
+    (is : told c ≡ without_job (admission search_rules (typed t))) where
   -- its asked arrival is read as 0
   abbrev j : Job
   j = asking 0 (job_of t)
 
-  pub job-refused : (n p : ℕ) → c ≡ Refused n p → refuse_search n p ≡ search_call (typed t) first budget
+  pub job-refused : (x : Refusal) → c ≡ Err x
+      → refuse_search (number_of x) (place_of x) ≡ search_call (typed t) first budget
   unfolding search_call
-  job-refused n p e = sym
-      (ap (search_after first budget) (refused search_rules search-numbered (typed t) c is n p e).is)
+  job-refused x e =
+      let alone = place-alone search_rules search-numbered (typed t) (told c) is (answer_to x) (ap told e) in
+      sym (ap (search_after first budget)
+      (refused search_rules search-numbered (typed t) (told c) is (number_of x) (place_of x)
+      (ap told e ∙ ap Err alone)).is)
 
-  module _ (pass : c ≡ Passed) where
+  module _ (pass : c ≡ Ok tt) where
     pub goes : Goes search_rules (typed t)
-    goes = passed search_rules search-numbered (typed t) c is pass
+    goes = passed search_rules search-numbered (typed t) (told c) is (ap told pass)
 
     checks-pass : first_checked j first budget ≡ search_call (typed t) first budget
     unfolding search_call
@@ -82,12 +86,14 @@ module _ (t : Typed.Job) (first budget : ℕ) (c : Checked)
 
 -- ---- words
 
-module _ (ws : List ℕ) (first budget : ℕ) (d : DecodedJob) (is : Decodes ws d) where
-  pub words-refused : (n p : ℕ) → d.checked ≡ Refused n p → refuse_search n p ≡ search_call (words ws) first budget
+module _ (ws : List ℕ) (first budget : ℕ) (d : Result Typed.Job Refusal) (is : Decodes ws d) where
+  pub words-refused : (x : Refusal) → d ≡ Err x
+      → refuse_search (number_of x) (place_of x) ≡ search_call (words ws) first budget
   unfolding search_call
-  words-refused n p h = sym (ap (search_after first budget) (Read.words-refused search_rules ws d is n p h))
+  words-refused x e = sym (ap (search_after first budget) (Read.words-refused search_rules ws d is x e))
 
   -- the call from words is the call of the job that they hold
-  pub words-passed : d.checked ≡ Passed → search_call (typed d.job) first budget ≡ search_call (words ws) first budget
+  pub words-passed : (t : Typed.Job) → d ≡ Ok t
+      → search_call (typed t) first budget ≡ search_call (words ws) first budget
   unfolding search_call
-  words-passed z = ap (search_after first budget) (Read.words-passed search_rules ws d is z)
+  words-passed t z = ap (search_after first budget) (Read.words-passed search_rules ws d is t z)

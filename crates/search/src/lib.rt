@@ -12,20 +12,21 @@
 //                       search_from                 the search
 #![tactic(auto)]
 
-ghost use Rattle.std.specs.Prelude.{◌≡◌, cond, ◌+◌, ◌≤◌, ltb};
-ghost use Rattle.std.proofs.Math.Option.{none};
+ghost use Rattle.std.specs.Prelude.{◌≡◌, ◌+◌, ◌≤◌};
+ghost use Rattle.std.specs.Prelude.{None};
 ghost use Rattle.model.specs.planning.Job.{set_axes};
 ghost use Rattle.model.specs.planning.Refusals.{AllPassed, last_tick};
+ghost use Rattle.model.specs.planning.Told.{number_of, place_of};
 ghost use Rattle.model.specs.planning.Windows.{refused13};
 ghost use Rattle.model.specs.planning.Outcome as Input;
-ghost use Rattle.model.specs.calls.Search.{refuse_search, search_answer, found_tick, first_allowed, search_from};
+ghost use Rattle.model.specs.calls.Search.{refuse_search, search_answer, search_call, found_tick, first_allowed};
+ghost use Rattle.model.specs.calls.Search.{search_from};
 ghost use Rattle.arrival.specs.Arrivals.{arrives_in};
-ghost use Rattle.search.specs.Promise.{SearchPromise};
+ghost use Rattle.search.specs.Promise.{SearchPromise, answer_of};
 
 use admission::Purpose;
-use arrival::Tick;
 use model::{
-    AFTER_LAST_TICK, AXES, Axis, Checked, Job, Report, SearchAnswer, SearchReport, Windows,
+    AFTER_LAST_TICK, AXES, Axis, Job, Refusal, Report, SearchAnswer, SearchReport, Windows,
 };
 
 // Looks for the least tick from the first candidate on, up to 4,096 and within the budget, that
@@ -37,21 +38,10 @@ use model::{
 pub fn search_job(job: Job, first: u32, budget: u32) -> SearchAnswer
     ensures { SearchPromise (Input.typed job) first budget result }
 {
-    let windows = job.windows;
-    let mut given = job.axes;
-    let checked = admission::check(job.mask, job.asked, given, windows, Purpose::Searching);
-    if let Checked::Refused(number, place) = checked {
-        return refused(number, place);
+    match report_of(job, first, budget) {
+        Ok(found) => answered(job.mask, found),
+        Err(refusal) => refused(refusal),
     }
-    if !first_allowed(first) {
-        return refused(18, 0);
-    }
-    if admission::any_measured(job.mask, given) {
-        let weighed = admission::with_weight(job.mask, given);
-        given = weighed;
-    }
-    let found = search_from(job.mask, given, windows, first, budget);
-    answered(job.mask, found)
 }
 
 // The same for a job as words: the refusals of `planner::plan_words` before 8, but for 3, and
@@ -59,23 +49,34 @@ pub fn search_job(job: Job, first: u32, budget: u32) -> SearchAnswer
 pub fn search_words(words: &[u32], first: u32, budget: u32) -> SearchAnswer
     ensures { SearchPromise (Input.words words.now) first budget result }
 {
-    let decoded = words::decode(words);
-    let checked = decoded.checked;
-    if let Checked::Refused(number, word) = checked {
-        return refused(number, word);
+    match words::decode(words) {
+        Ok(job) => search_job(job, first, budget),
+        Err(wrong) => refused(wrong),
     }
-    let job = decoded.job;
-    search_job(job, first, budget)
+}
+
+// The report of a search of a job, or its first refusal.
+fn report_of(job: Job, first: u32, budget: u32) -> Result<SearchReport, Refusal>
+    ensures { answer_of job.mask result ≡ search_call (Input.typed job) first budget }
+{
+    let windows = job.windows;
+    let mut given = job.axes;
+    admission::check(job.mask, job.asked, given, windows, Purpose::Searching)?;
+    if !first_allowed(first) {
+        return Err(Refusal::FirstCandidate);
+    }
+    if admission::any_measured(job.mask, given) {
+        let weighed = admission::with_weight(job.mask, given);
+        given = weighed;
+    }
+    Ok(search_from(job.mask, given, windows, first, budget))
 }
 
 // Whether a first candidate is allowed: from 1 to 4,097, which leaves none to try.
 fn first_allowed(first: u32) -> bool
     ensures { result ≡ first_allowed first }
 {
-    if 0 < first {
-        return first <= AFTER_LAST_TICK;
-    }
-    false
+    (1..=AFTER_LAST_TICK).contains(&first)
 }
 
 // The least tick from `first` on, up to 4,096 and within the budget, that every axis of the mask
@@ -84,55 +85,42 @@ fn first_allowed(first: u32) -> bool
 fn search_from(
     mask: u32,
     axes: [Axis; AXES],
-    windows: Windows,
+    windows: Option<Windows>,
     first: u32,
     budget: u32,
 ) -> SearchReport
     requires all_passed { AllPassed (set_axes 0 mask axes) }
-    requires windows_value { refused13 windows ≡ none }
+    requires windows_value { refused13 windows ≡ None }
     requires le_first { 1 ≤ first }
     requires first_bound { first ≤ last_tick + 1 }
     ensures { result ≡ search_from (arrives_in windows (set_axes 0 mask axes)) first budget }
 {
     let left = AFTER_LAST_TICK - first;
-    let count = within_budget(budget, left);
+    let count = budget.min(left);
     let least = arrival::least_common(mask, axes, windows, first, first + count);
-    if let Tick::At(tick) = least {
-        return report_of(Report::Found(tick), tick - first + 1);
-    }
-    if budget < left {
-        return report_of(Report::Spent(first + budget), budget);
-    }
-    report_of(Report::Nothing, left)
-}
-
-// How many of the candidates that are left a budget covers.
-fn within_budget(budget: u32, left: u32) -> u32
-    ensures { result ≡ cond (ltb budget left) budget left }
-{
-    if left <= budget {
-        return left;
-    }
-    budget
-}
-
-// A report, and the number of candidates tried.
-fn report_of(report: Report, tried: u32) -> SearchReport
-    ensures { result ≡ record { report = report; tried = tried } }
-{
-    SearchReport {
-        report: report,
-        tried: tried,
+    match least {
+        Some(tick) => SearchReport {
+            report: Report::Found(tick),
+            tried: tick - first + 1,
+        },
+        None if budget < left => SearchReport {
+            report: Report::Spent(first + budget),
+            tried: budget,
+        },
+        None => SearchReport {
+            report: Report::Nothing,
+            tried: left,
+        },
     }
 }
 
-// A refusal: nothing was tried.
-fn refused(number: u32, place: usize) -> SearchAnswer
-    ensures { result ≡ refuse_search number place }
+// A refusal, as the answer that C's call and docs/BUYERS.md have: nothing was tried.
+fn refused(refusal: Refusal) -> SearchAnswer
+    ensures { result ≡ refuse_search (number_of refusal) (place_of refusal) }
 {
     SearchAnswer {
-        number: number,
-        place: place,
+        number: refusal.number(),
+        place: refusal.place(),
         mask: 0,
         arrival: 0,
         report: Report::Nothing,
@@ -140,17 +128,16 @@ fn refused(number: u32, place: usize) -> SearchAnswer
     }
 }
 
-// The answer of a search.
+// The answer of a search, with the tick found, or 0.
 fn answered(mask: u32, found: SearchReport) -> SearchAnswer
     ensures { result ≡ search_answer mask found }
 {
-    let report = found.report;
     SearchAnswer {
         number: 0,
         place: 0,
-        mask: mask,
-        arrival: found_tick(report),
-        report: report,
+        mask,
+        arrival: found_tick(found.report),
+        report: found.report,
         tried: found.tried,
     }
 }
@@ -161,7 +148,6 @@ fn found_tick(report: Report) -> u32
 {
     match report {
         Report::Found(tick) => tick,
-        Report::Spent(_) => 0,
-        Report::Nothing => 0,
+        Report::Spent(_) | Report::Nothing => 0,
     }
 }

@@ -9,7 +9,7 @@ use lib.IntN.{ℤ, pos, ◌+ℤ◌, ◌-ℤ◌, ◌*ℤ◌}
 use Rattle.whole.specs.Ranges.{Within}
 use Rattle.whole.proofs.Ring.{pol, same}
 use Rattle.whole.proofs.Tests.{by_bool}
-use Rattle.model.specs.declared.SecondSway.{SecondSway}
+use Rattle.std.specs.Prelude.{Option}
 use Rattle.regions.specs.declared.Regions.{Regions}
 use Rattle.regions.proofs.ChosenRegions.{in_start, in_end, in-raised, in-level}
 use Rattle.planned.specs.declared.AxisPlan.{AxisPlan}
@@ -243,8 +243,8 @@ module _ (p : AxisPlan) (d : ℕ) where
   unfolding blended_back
   segment-blend o u = segment-mix o u p.first_weight p.second_weight
 
-pub segment-added : (p : AxisPlan) {s : SecondSway} {q : Segment} → p.second_sway ≡ s
+pub segment-added : (p : AxisPlan) {s : Option ℕ} {q : Segment} → p.second_sway ≡ s
     → SegmentOf (λ k. added s (λ d. blended_back p d k)) q
     → SegmentOf (blended_velocity p) q
 unfolding blended_velocity
-segment-added p e o = segment-same (λ k. ap (λ (s : SecondSway). added s (λ d. blended_back p d k)) e) o
+segment-added p e o = segment-same (λ k. ap (λ (s : Option ℕ). added s (λ d. blended_back p d k)) e) o

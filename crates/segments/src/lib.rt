@@ -3,14 +3,13 @@
 // blends.
 #![tactic(auto)]
 
-ghost use Rattle.std.specs.Prelude.{suc, ◌+◌, ◌^◌, ◌<◌, ◌≤◌, max, min, ◌≡◌};
+ghost use Rattle.std.specs.Prelude.{suc, ◌+◌, ◌^◌, ◌<◌, ◌≤◌, ◌≡◌};
 ghost use Rattle.whole.specs.Ranges.{Within};
 ghost use Rattle.blended.specs.BlendedStates.{blended_back, blended_velocity};
 ghost use Rattle.planned.specs.Plans.{arrival_of, PlanRanges, planned_at, velocity_back};
 ghost use Rattle.regions.specs.Regions.{RegionsRanged};
 ghost use Rattle.segments.specs.Segments.{SegmentAt, fall_begins, raised_until, shared};
 
-use model::SecondSway;
 use planned::AxisPlan;
 use regions::Regions;
 
@@ -32,7 +31,7 @@ fn one_tick(p: AxisPlan, k: u32) -> Segment
 {
     let now = planned::planned_velocity(p, k);
     let next = planned::planned_velocity(p, k + 1);
-    let tick = k as u64;
+    let tick = u64::from(k);
     Segment {
         change: next - now,
         from: tick,
@@ -46,13 +45,11 @@ fn fall_begins(r: Regions) -> u64
     requires rise_lt_ticks { r.rise < r.ticks }
     ensures { result ≡ fall_begins r }
 {
-    let rise = r.rise;
-    let fall = r.fall;
-    let ticks = r.ticks;
-    if rise + fall < ticks {
-        return ticks - fall;
+    if r.rise + r.fall < r.ticks {
+        r.ticks - r.fall
+    } else {
+        r.rise + 1
     }
-    rise + 1
 }
 
 // The last raised tick of the level part, whose last tick is given.
@@ -60,12 +57,11 @@ fn raised_until(r: Regions, last: u64) -> u64
     requires { r.rise ≤ last }
     ensures { result ≡ raised_until r last }
 {
-    let rise = r.rise;
-    let raised = r.raised;
-    if raised < last - rise {
-        return rise + raised;
+    if r.raised < last - r.rise {
+        r.rise + r.raised
+    } else {
+        last
     }
-    last
 }
 
 // The segment of the planned velocity at a tick of the level part, whose last tick is given.
@@ -76,25 +72,21 @@ fn level_segment(p: AxisPlan, k: u32, last: u64) -> Segment
     requires fall_value { suc (last + p.regions.fall) ≡ p.regions.ticks }
     ensures { SegmentAt (2 ^ 13) (2 ^ 39) (planned_at p) k result }
 {
-    let regions = p.regions;
-    let rise = regions.rise;
-    let tick = k as u64;
-    let end = raised_until(regions, last);
+    let tick = u64::from(k);
+    let end = raised_until(p.regions, last);
     if tick < end {
         return Segment {
             change: 0,
-            from: rise + 1,
+            from: p.regions.rise + 1,
             until: end,
         };
     }
-    if end < tick {
-        if tick < last {
-            return Segment {
-                change: 0,
-                from: end + 1,
-                until: last,
-            };
-        }
+    if end < tick && tick < last {
+        return Segment {
+            change: 0,
+            from: end + 1,
+            until: last,
+        };
     }
     one_tick(p, k)
 }
@@ -107,18 +99,14 @@ fn later_segment(p: AxisPlan, k: u32) -> Segment
     ensures { SegmentAt (2 ^ 13) (2 ^ 39) (planned_at p) k result }
 {
     let regions = p.regions;
-    let fall = regions.fall;
-    let ticks = regions.ticks;
-    let down = regions.down;
-    if ticks <= k as u64 + fall {
-        let from = fall_begins(regions);
+    if regions.ticks <= u64::from(k) + regions.fall {
         return Segment {
-            change: -down,
-            from: from,
-            until: ticks,
+            change: -regions.down,
+            from: fall_begins(regions),
+            until: regions.ticks,
         };
     }
-    level_segment(p, k, ticks - fall - 1)
+    level_segment(p, k, regions.ticks - regions.fall - 1)
 }
 
 // The segment of the planned velocity at tick k.
@@ -130,7 +118,7 @@ fn planned_segment(p: AxisPlan, k: u32) -> Segment
     let regions = p.regions;
     let rise = regions.rise;
     let ticks = regions.ticks;
-    let tick = k as u64;
+    let tick = u64::from(k);
     if ticks <= tick {
         return Segment {
             change: p.acceleration,
@@ -141,14 +129,12 @@ fn planned_segment(p: AxisPlan, k: u32) -> Segment
     if rise < tick {
         return later_segment(p, k);
     }
-    if tick < rise {
-        if rise < ticks {
-            return Segment {
-                change: regions.up,
-                from: 0,
-                until: rise,
-            };
-        }
+    if tick < rise && rise < ticks {
+        return Segment {
+            change: regions.up,
+            from: 0,
+            until: rise,
+        };
     }
     one_tick(p, k)
 }
@@ -160,7 +146,7 @@ fn segment_back(p: AxisPlan, d: u32, k: u32) -> Segment
     requires k_bound { k ≤ arrival_of p }
     ensures { SegmentAt (2 ^ 14) (2 ^ 39) (velocity_back p d) k result }
 {
-    let delay = d as u64;
+    let delay = u64::from(d);
     if k < d {
         return Segment {
             change: 0,
@@ -178,33 +164,15 @@ fn segment_back(p: AxisPlan, d: u32, k: u32) -> Segment
 
 // ---- after the blends
 
-fn later(x: u64, y: u64) -> u64
-    ensures { result ≡ max x y }
-{
-    if x < y {
-        return y;
-    }
-    x
-}
-
-fn earlier(x: u64, y: u64) -> u64
-    ensures { result ≡ min x y }
-{
-    if x < y {
-        return x;
-    }
-    y
-}
-
 // A change in the ticks that two segments have in common.
 fn common(change: i64, s: Segment, t: Segment) -> Segment
     requires { Within (2 ^ 57) change }
     ensures { result ≡ shared change s t }
 {
     Segment {
-        change: change,
-        from: later(s.from, t.from),
-        until: earlier(s.until, t.until),
+        change,
+        from: s.from.max(t.from),
+        until: s.until.min(t.until),
     }
 }
 
@@ -227,11 +195,10 @@ pub fn segment_at(p: AxisPlan, k: u32) -> Segment
     requires k_bound { k ≤ arrival_of p }
     ensures { SegmentAt (2 ^ 14) (2 ^ 57) (blended_velocity p) k result }
 {
-    let sway = p.second_sway;
     let once = blended_segment(p, 0, k);
-    match sway {
-        SecondSway::Absent => once,
-        SecondSway::HalfPeriod(d) => {
+    match p.second_sway {
+        None => once,
+        Some(d) => {
             let again = blended_segment(p, d, k);
             common(once.change + again.change, once, again)
         }

@@ -1,5 +1,5 @@
 pub mod Held
-pub mod Legs
+pub mod LegLists
 pub mod Outcomes
 pub mod Promise
 pub mod Planned

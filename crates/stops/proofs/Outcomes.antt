@@ -1,18 +1,50 @@
 -- The ways out of a tour's call: what the code returns at each is what the definitions say.
 use Prim.Native.Nat.{ℕ, ◌≤◌, ◌<◌}
-use mathlib.Core.Path.{◌≡◌, sym, ap, ◌∙◌}
+use mathlib.Core.Path.{◌≡◌, refl, sym, ap, ◌∙◌}
 use mathlib.Core.Bool.{Bool, true, false}
-use mathlib.Core.Option.{Option, none, some}
+use Rattle.std.specs.Prelude.{Option, None, Some}
 use mathlib.Core.List.{List, [], ◌++◌}
 use lib.ListN.{length, take, drop}
-use lib.Dec.{eqb, ltb}
+use lib.Dec.{eqb}
 use borrow.Author.Tests.{le-leb, lt-leb, lt-ltb, le-ltb, eq-eqb, ne_eqb}
 use Rattle.model.specs.declared.Stop.{Stop}
 use Rattle.model.specs.declared.TourSettings.{TourSettings}
 use Rattle.model.specs.calls.Tour.{Legs, TourOutcome, refuse_tour, arrivals_over, after_legs, legs_from, most_stops}
-use Rattle.model.specs.calls.Tour.{first_long_dwell, dwells_checked, stops_checked, tour_by}
-use Rattle.stops.specs.declared.LegRow.{LegRow}
-use Rattle.stops.specs.Parts.{legs_in}
+use Rattle.model.specs.calls.Tour.{first_long_dwell, dwells_checked, stops_checked, tour_by, tour_outcome_of}
+use Rattle.std.specs.declared.result.Result.{Result}
+use Rattle.std.specs.declared.result.Result.TheVariants.{Ok, Err}
+use Rattle.model.specs.declared.refusal.AxisTest.{AxisTest}
+use Rattle.model.specs.declared.refusal.AxisTest.TheVariants as tests
+use Rattle.model.specs.declared.refusal.Refusal.{Refusal}
+use Rattle.model.specs.declared.refusal.Refusal.TheVariants as refusals
+use Rattle.model.specs.planning.Told.{test_number, number_of}
+use Rattle.stops.specs.declared.Legs as made
+use Rattle.stops.specs.declared.RefusedLeg.{RefusedLeg}
+use Rattle.stops.specs.Parts.{legs_in, refused_tour}
+
+-- no number of a refusal is 0
+named-test : (test : AxisTest) → eqb (test_number test) 0 ≡ false
+named-test tests.Limits = refl
+named-test tests.Damping = refl
+named-test tests.Blend = refl
+named-test tests.SecondSway = refl
+named-test tests.Values = refl
+named-test tests.Acceleration = refl
+named-test tests.Flying = refl
+
+pub named : (r : Refusal) → eqb (number_of r) 0 ≡ false
+named refusals.Mask = refl
+named (refusals.Word at) = refl
+named refusals.Asked = refl
+named (refusals.Axis test axis) = named-test test
+named (refusals.AskedMissed axes) = refl
+named (refusals.NoArrival axes) = refl
+named (refusals.TableShort tick) = refl
+named (refusals.ListShort needed) = refl
+named (refusals.Stop stop) = refl
+named (refusals.Window window) = refl
+named (refusals.LongPosition at) = refl
+named refusals.FirstCandidate = refl
 
 module _ (t : TourSettings) (count : ℕ) (stops : List Stop) (lent : List ℕ) where
   abbrev answered : TourOutcome
@@ -26,7 +58,7 @@ module _ (t : TourSettings) (count : ℕ) (stops : List Stop) (lent : List ℕ) 
 
   by-dwell : Option ℕ → TourOutcome
   by-dwell o =
-      elim o [ some i ↦ refuse_tour 11 i 0 0 lent | none ↦ after_legs count (legs_from t stops 0 t.start []) lent ]
+      elim o [ Some i ↦ refuse_tour 11 i 0 0 lent | None ↦ after_legs count (legs_from t stops 0 t.start []) lent ]
 
   pub no-stops : count ≡ 0 → refuse_tour 0 0 0 0 lent ≡ answered
   unfolding by_count
@@ -45,28 +77,33 @@ module _ (t : TourSettings) (count : ℕ) (stops : List Stop) (lent : List ℕ) 
   few-stops e h = sym (ap by_most (le-leb count most_stops h)) ∙ some-stops e
 
   module _ (e : count ≡ 0 → ⊥) (h : count ≤ most_stops) where
-    pub long-dwell : (i : ℕ) → some i ≡ first_long_dwell 0 stops → refuse_tour 11 i 0 0 lent ≡ answered
+    pub long-dwell : (i : ℕ) → Some i ≡ first_long_dwell 0 stops → refuse_tour 11 i 0 0 lent ≡ answered
     unfolding by-dwell
     long-dwell i f = ap by-dwell f ∙ few-stops e h
 
-    module _ (f : none ≡ first_long_dwell 0 stops) (g : LegRow)
-        (is : legs_in g count ≡ legs_from t stops 0 t.start []) where
-      by_number : Bool → TourOutcome
-      by_number b =
-          elim b [
-            | true ↦ arrivals_over count (legs_in g count) lent
-            | false ↦ refuse_tour g.number g.place g.mask g.arrival lent
-          ]
-
-      legs-are : by_number (eqb g.number 0) ≡ answered
-      unfolding by-dwell by_number
+    module _ (f : None ≡ first_long_dwell 0 stops) (r : Result made.Legs RefusedLeg)
+        (is : legs_in t count r ≡ legs_from t stops 0 t.start []) where
+      legs-are : after_legs count (legs_in t count r) lent ≡ answered
+      unfolding by-dwell
       legs-are = ap (λ (l : Legs). after_legs count l lent) is ∙ ap by-dwell f ∙ few-stops e h
 
-      pub leg-refused : (g.number ≡ 0 → ⊥) → refuse_tour g.number g.place g.mask g.arrival lent ≡ answered
-      unfolding by_number
-      leg-refused n = sym (ap by_number (ne_eqb g.number 0 n)) ∙ legs-are
+    module _ (f : None ≡ first_long_dwell 0 stops) where
+      -- a leg is refused: no number of a refusal is 0
+      pub leg-refused : (leg : RefusedLeg) → legs_in t count (Err leg) ≡ legs_from t stops 0 t.start []
+          → tour_outcome_of (refused_tour leg) lent ≡ answered
+      leg-refused leg is = sym (ap (λ (b : Bool). by-number b) (named leg.why)) ∙ legs-are f (Err leg) is
+        where
+          g : Legs
+          g = legs_in t count (Err leg)
 
-      module _ (z : g.number ≡ 0) where
+          by-number : Bool → TourOutcome
+          by-number b =
+              elim b [
+                | true ↦ arrivals_over count g lent
+                | false ↦ refuse_tour g.number g.place g.mask g.arrival lent
+              ]
+
+      module _ (g : made.Legs) (is : legs_in t count (Ok g) ≡ legs_from t stops 0 t.start []) where
         by-room : Bool → TourOutcome
         by-room b =
             elim b [
@@ -74,43 +111,25 @@ module _ (t : TourSettings) (count : ℕ) (stops : List Stop) (lent : List ℕ) 
               | false ↦ record {
                 number = 0;
                 place = 0;
-                mask = g.mask;
+                mask = t.mask;
                 arrival = 0;
                 total = g.total;
-                arrivals = (legs_in g count).arrivals ++ drop count lent;
+                arrivals = take count g.arrivals ++ drop count lent;
               }
             ]
 
-        legs-made : by-room (ltb (length lent) count) ≡ answered
-        unfolding by_number by-room
-        legs-made = sym (ap by_number (eq-eqb g.number 0 z)) ∙ legs-are
-
         pub list-short : length lent < count → refuse_tour 10 count 0 0 lent ≡ answered
         unfolding by-room
-        list-short n = sym (ap by-room (lt-ltb (length lent) count n)) ∙ legs-made
-
-        by_zero : Bool → List ℕ
-        by_zero b = elim b [ true ↦ take count g.arrivals | false ↦ [] ]
+        list-short n = sym (ap by-room (lt-ltb (length lent) count n)) ∙ legs-are f (Ok g) is
 
         pub list_written : count ≤ length lent
             → record {
               number = 0;
               place = 0;
-              mask = g.mask;
+              mask = t.mask;
               arrival = 0;
               total = g.total;
               arrivals = take count g.arrivals ++ drop count lent;
             } ≡ answered
-        unfolding by-room by_zero
-        list_written n =
-            sym (ap (λ (b : Bool). record {
-              number = 0;
-              place = 0;
-              mask = g.mask;
-              arrival = 0;
-              total = g.total;
-              arrivals = by_zero b ++ drop count lent;
-            })
-            (eq-eqb g.number 0 z))
-            ∙ sym (ap by-room (le-ltb (length lent) count n))
-            ∙ legs-made
+        unfolding by-room
+        list_written n = sym (ap by-room (le-ltb (length lent) count n)) ∙ legs-are f (Ok g) is

@@ -3,7 +3,7 @@ use Prim.Native.Nat.{ℕ, zero, suc, ◌+◌, ◌<◌}
 use native.Mathlib.Omega.{arith}
 use mathlib.Core.Path.{◌≡◌, refl, sym, ap, subst, ◌∙◌}
 use mathlib.Core.Bool.{Bool, true, false}
-use mathlib.Core.Option.{Option, none, some}
+use Rattle.std.specs.Prelude.{Option, None, Some}
 use mathlib.Core.List.{List, [], ◌∷◌, ◌++◌}
 use lib.IntN.{ℤ}
 use lib.Dec.{eqb, leb, ltb}
@@ -166,12 +166,12 @@ module _ (t : TourSettings) (lent : List ℕ) where
 
       by-dwell : (o : Option ℕ)
           → (elim o as (λ _. TourOutcome) [
-            | some i ↦ refuse_tour 11 i 0 0 lent
-            | none ↦ after_legs (length stops) g lent
+            | Some i ↦ refuse_tour 11 i 0 0 lent
+            | None ↦ after_legs (length stops) g lent
           ]).number ≡ 0
-          → Accepted stops (elim o [ some i ↦ refuse_tour 11 i 0 0 lent | none ↦ after_legs (length stops) g lent ])
-      by-dwell (some i) z = absurd (omega arith)
-      by-dwell none z = by-legs (eqb g.number 0) refl z
+          → Accepted stops (elim o [ Some i ↦ refuse_tour 11 i 0 0 lent | None ↦ after_legs (length stops) g lent ])
+      by-dwell (Some i) z = absurd (omega arith)
+      by-dwell None z = by-legs (eqb g.number 0) refl z
 
       by_most : (b : Bool)
           → (elim b as (λ _. TourOutcome) [

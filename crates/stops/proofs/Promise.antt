@@ -15,7 +15,6 @@ use Rattle.model.specs.calls.Tour.{TourOutcome, tour_by, tour_outcome, tour_outc
 use Rattle.stops.specs.declared.StopRow.{StopRow}
 use Rattle.stops.specs.Rows.{no_stop, held_of, row_to, row_of, row_stops}
 use Rattle.stops.specs.Promise.{departs_at, LegPlanned, TourPromise}
-use Rattle.stops.proofs.Held.{held-64, held_all, held-few}
 use Rattle.stops.proofs.Outcomes.{many-stops}
 use Rattle.stops.proofs.Planned.{legs-planned, total-planned}
 
@@ -42,7 +41,7 @@ row_is l (suc k) h g =
     }
 
 row-of : (l : List Stop) → Row l (held_of (length l)) (row_of l)
-row-of l = row_is l (held_of (length l)) (held-64 (length l)) (held_all (length l))
+row-of l = row_is l (held_of (length l)) (omega arith) (omega arith)
 
 -- ---- the promise from the outcome
 
@@ -105,7 +104,8 @@ module _ (t : TourSettings) (entry : List ℕ) (r : TourAnswer) (exit : List ℕ
       go : (b : Bool) → leb (length l) 64 ≡ b
           → tour_by t (length l) (take (length l) (row_of l).stops) entry ≡ tour_outcome t l entry
       go true e =
-          let held = held-few (length l) (leb-true (length l) 64 e) in
+          let few = leb-true (length l) 64 e in
+          let held : held_of (length l) ≡ length l = omega arith in
           ap (λ (f : List Stop). tour_by t (length l) f entry)
           (subst (λ (k : ℕ). take k (row_of l).stops ≡ take k l) held (row-of l).front ∙ take-length l)
       go false e = many (length l) (take (length l) (row_of l).stops) l (leb-false (length l) 64 e)

@@ -1,5 +1,5 @@
 -- The stops of a tour by value: how many are lent, and a row of 64 with the first of them.
-use Rattle.std.specs.Prelude.{ℕ, zero, suc, ◌-◌, true, false, List, ◌++◌, pos, ltb, length, replicate, set, get_or}
+use Rattle.std.specs.Prelude.{ℕ, zero, suc, ◌-◌, List, ◌++◌, min, pos, length, replicate, set, get_or}
 use Rattle.std.specs.Prelude.{take}
 use Rattle.model.specs.declared.Stop.{Stop}
 use Rattle.stops.specs.declared.StopRow.{StopRow}
@@ -21,8 +21,8 @@ row_stops r = take r.lent r.stops ++ replicate (r.lent - 64) no_stop
 -- ---- the row of a list
 
 -- how many of the lent stops it holds
-unfoldable pub held_of : ℕ → ℕ
-held_of lent = elim (ltb lent 64) [ true ↦ lent | false ↦ 64 ]
+abbrev pub held_of : ℕ → ℕ
+held_of lent = min lent 64
 
 -- the row with the first k stops of a list
 unfoldable pub row_to : List Stop → ℕ → StopRow

@@ -1,21 +1,21 @@
 // The stops of a tour by value, the job of each leg, and what a tour promises
-// (docs/METHOD.md, 8.1): all of a tour that asks for no answer of the planner. `stop_row` is the
-// only function here over a slice of structs.
+// (docs/METHOD.md, 8.1): all of a tour that asks for no answer of the planner.
 #![tactic(auto)]
 
-ghost use Rattle.std.specs.Prelude.{◌≡◌, ◌++◌, ◌<◌, ◌≤◌, length, take, drop};
+ghost use Rattle.std.specs.Prelude.{◌≡◌, ◌++◌, ◌<◌, ◌≤◌, length, drop};
 ghost use Rattle.model.specs.calls.Tour.{leg_axes, leg_job, first_long_dwell};
-ghost use Rattle.stops.specs.Rows.{empty_row, with_stop, held_of, row_of};
-ghost use Rattle.stops.specs.Parts.{leg_axis_at, found_stop};
+ghost use Rattle.stops.specs.Rows.{empty_row, with_stop, row_of};
+ghost use Rattle.stops.specs.Parts.{leg_axis_at, refused_tour};
 
 use model::{
-    AXES, Axis, AxisLimits, Job, LONGEST_DWELL, MAX_STOPS, RestPoint, Stop, Target, TourSettings,
+    AXES, Axis, AxisLimits, Job, LONGEST_DWELL, MAX_STOPS, Refusal, RestPoint, Stop, Target,
+    TourAnswer, TourSettings,
 };
 
 // ---- the lent row by value
 
 // The stops of a tour by value: how many are lent, and the first 64 of them. Places that no stop is
-// stored in have the stop of zeros.
+// stored in have the stop of zeros. The array has its length beside it: there is no heap.
 #[derive(Clone, Copy)]
 pub struct StopRow {
     pub stops: [Stop; MAX_STOPS],
@@ -32,70 +32,43 @@ pub fn empty_row(lent: usize) -> StopRow
     };
     StopRow {
         stops: [none; MAX_STOPS],
-        lent: lent,
+        lent,
     }
 }
 
 // The row with a stop at an index; past the 64th there is no place, and the row stays as it is.
-pub fn with_stop(row: StopRow, index: usize, stop: Stop) -> StopRow
+pub fn with_stop(mut row: StopRow, index: usize, stop: Stop) -> StopRow
     ensures { result ≡ with_stop row index stop }
 {
-    if MAX_STOPS <= index {
-        return row;
+    if index < MAX_STOPS {
+        row.stops[index] = stop;
     }
-    let mut next = row;
-    next.stops[index] = stop;
-    next
+    row
 }
 
-// How many stops of a lent row are held: all, or 64.
-fn stops_held(lent: usize) -> usize
-    ensures { result ≡ held_of lent }
-{
-    if lent < MAX_STOPS {
-        return lent;
-    }
-    MAX_STOPS
-}
-
-// The stops of a lent row by value.
+// The stops of a lent row by value: all, or the first 64.
 pub fn stop_row(stops: &[Stop]) -> StopRow
     ensures { result ≡ row_of stops.now }
 {
     let mut row = empty_row(stops.len());
-    let held = stops_held(row.lent);
-    let mut i: usize = 0;
-    while i < held {
-        let next = with_stop(row, i, stops[i]);
-        row = next;
-        i += 1;
-    }
+    let held = stops.len().min(MAX_STOPS);
+    write_front(&stops[..held], &mut row.stops);
     row
 }
 
 // ---- refusal 11
 
-// A stop by its index, or none.
-#[derive(Clone, Copy)]
-pub enum FirstStop {
-    At(usize),
-    Nowhere,
-}
-
-// The first of `count` stops whose dwell is too long.
-pub fn first_long_dwell(stops: [Stop; MAX_STOPS], count: usize) -> FirstStop
-    requires { count ≤ 64 }
-    ensures { found_stop result ≡ first_long_dwell 0 (take count stops) }
+// The first stop whose dwell is too long.
+pub fn first_long_dwell(stops: &[Stop]) -> Option<usize>
+    ensures { result ≡ first_long_dwell 0 stops.now }
 {
-    let mut i: usize = 0;
-    while i < count {
-        let stop = stops[i];
+    // a loop: what `position` gives is not known to be the definition's
+    for (i, stop) in stops.iter().enumerate() {
         if LONGEST_DWELL < stop.dwell {
-            return FirstStop::At(i);
+            return Some(i);
         }
-        i += 1;
     }
-    FirstStop::Nowhere
+    None
 }
 
 // ---- a leg
@@ -104,110 +77,88 @@ pub fn first_long_dwell(stops: [Stop; MAX_STOPS], count: usize) -> FirstStop
 pub fn leg_job(settings: TourSettings, here: [i64; AXES], there: [i64; AXES]) -> Job
     ensures { result ≡ leg_job settings here there }
 {
-    let axes = leg_axes(settings, here, there);
-    let windows = model::no_windows();
+    let axes = leg_axes(settings.limits, here, there);
     Job {
         mask: settings.mask,
         asked: 0,
-        axes: axes,
-        windows: windows,
+        axes,
+        windows: None,
     }
 }
 
 // The axes of a leg.
-fn leg_axes(settings: TourSettings, here: [i64; AXES], there: [i64; AXES]) -> [Axis; AXES]
-    ensures { result ≡ leg_axes settings.limits here there }
+fn leg_axes(limits: [AxisLimits; AXES], here: [i64; AXES], there: [i64; AXES]) -> [Axis; AXES]
+    ensures { result ≡ leg_axes limits here there }
 {
-    let first = leg_axis(settings, here, there, 0);
-    let mut axes = [first; AXES];
-    let mut i: usize = 0;
-    while i < AXES {
-        let axis = leg_axis(settings, here, there, i);
-        axes[i] = axis;
-        i += 1;
+    let mut axes = [model::unset_axis(); AXES];
+    // by index: `array::from_fn` does not tell the proof what its closure holds
+    for i in 0..AXES {
+        axes[i] = leg_axis(limits, here, there, i);
     }
     axes
 }
 
-// Axis i of a leg.
-fn leg_axis(settings: TourSettings, here: [i64; AXES], there: [i64; AXES], i: usize) -> Axis
+// Axis i of a leg, from rest to rest.
+fn leg_axis(limits: [AxisLimits; AXES], here: [i64; AXES], there: [i64; AXES], i: usize) -> Axis
     requires { i < 6 }
-    ensures { result ≡ leg_axis_at settings here there i }
+    ensures { result ≡ leg_axis_at limits here there i }
 {
-    let limits: [AxisLimits; AXES] = settings.limits;
     let limit = limits[i];
-    let start = RestPoint {
-        position: here[i],
-        velocity: 0,
-    };
-    let end = RestPoint {
-        position: there[i],
-        velocity: 0,
-    };
-    let target = Target::Fixed(end);
-    let weight = limit.second_weight;
-    let sway = limit.second_sway;
     Axis {
-        start: start,
+        start: RestPoint {
+            position: here[i],
+            velocity: 0,
+        },
         speed_limit: limit.speed_limit,
         acceleration_limit: limit.acceleration_limit,
         half_period: limit.half_period,
-        second_weight: weight,
-        second_sway: sway,
-        target: target,
+        second_weight: limit.second_weight,
+        second_sway: limit.second_sway,
+        target: Target::Fixed(RestPoint {
+            position: there[i],
+            velocity: 0,
+        }),
     }
 }
 
 // ---- the legs
 
-// Number 0 with the mask, the total and the arrivals in front; or the first refused leg's number,
-// mask and arrival, with the stop as place.
+// The legs of a tour, where all are made: the tick at which the last stop is left, and the tick at
+// which each is reached, counted from the tour's start.
 #[derive(Clone, Copy)]
-pub struct LegRow {
-    pub number: u32,
-    pub place: usize,
-    pub mask: u32,
-    pub arrival: u32,
+pub struct Legs {
     pub total: u32,
     pub arrivals: [u32; MAX_STOPS],
 }
 
-pub fn leg_row(
-    number: u32,
-    place: usize,
-    mask: u32,
-    arrival: u32,
-    total: u32,
-    arrivals: [u32; MAX_STOPS],
-) -> LegRow
-    ensures { result ≡ record {
-      number = number;
-      place = place;
-      mask = mask;
-      arrival = arrival;
-      total = total;
-      arrivals = arrivals;
-    } }
-{
-    LegRow {
-        number: number,
-        place: place,
-        mask: mask,
-        arrival: arrival,
-        total: total,
-        arrivals: arrivals,
+// The first leg that is refused: the stop that it leads to, and why.
+#[derive(Clone, Copy)]
+pub struct RefusedLeg {
+    pub stop: usize,
+    pub why: Refusal,
+}
+
+// The answer to a tour with a refused leg, whose place is the stop.
+impl From<RefusedLeg> for TourAnswer {
+    ghost from_gives = { λ leg r. r ≡ refused_tour leg };
+
+    fn from(leg: RefusedLeg) -> TourAnswer {
+        TourAnswer {
+            number: leg.why.number(),
+            place: leg.stop,
+            mask: leg.why.mask(),
+            arrival: leg.why.arrival(),
+            total: 0,
+        }
     }
 }
 
-// The first `count` of some ticks over the front of the lent list.
-pub fn write_arrivals(ticks: [u32; MAX_STOPS], count: usize, arrivals: &mut [u32])
-    requires count_bound { count ≤ 64 }
-    requires count_in_bounds { count ≤ length arrivals.old }
-    ensures { arrivals.new ≡ take count ticks ++ drop count arrivals.old }
+// ---- lists
+
+// The items over the front of a list.
+pub fn write_front<T: Copy>(items: &[T], list: &mut [T])
+    requires { length items.now ≤ length list.old }
+    ensures { list.new ≡ items.now ++ drop (length items.now) list.old }
 {
-    let mut i: usize = 0;
-    while i < count {
-        arrivals[i] = ticks[i];
-        i += 1;
-    }
+    list[..items.len()].copy_from_slice(items);
 }

@@ -33,17 +33,20 @@ pub fn answer_text(answer: Answer, table: &[i64], out: &mut [u8]) -> usize
         (text_within (outcome_of answer table.now) (length out.old))
         out.new result }
 {
-    let number = answer.number;
-    let place = answer.place;
-    let mask = answer.mask;
-    let arrival = answer.arrival;
-    if number == 0 {
-        return put_table(out, mask, arrival, table);
+    if answer.number == 0 {
+        return put_table(out, answer.mask, answer.arrival, table);
     }
     if out.len() < REFUSAL_BYTES {
         return 0;
     }
-    put_refusal(out, 0, number, place, mask, arrival)
+    put_refusal(
+        out,
+        0,
+        answer.number,
+        answer.place,
+        answer.mask,
+        answer.arrival,
+    )
 }
 
 // Whether rows 0 to n of the axes of a mask are within a table of `cells` cells, and `bytes`

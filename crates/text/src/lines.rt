@@ -1,5 +1,6 @@
 // The lines of the text, and their parts. Each function writes its text into `out` from the index
-// `at` on, and returns the index after it.
+// `at` on, and returns the index after it: with no heap a text has a lent buffer and an index, and
+// a struct of both would be lent and given back where the index is.
 ghost use Rattle.std.specs.Prelude.{suc, ◌+◌, ◌*◌, ◌≤◌, length};
 ghost use Rattle.whole.specs.Lists.{Room, Written, WrittenWithin};
 ghost use Rattle.model.specs.planning.Refusals.{last_tick};
@@ -12,7 +13,7 @@ fn put_cell(out: &mut [u8], at: usize, x: i64) -> usize
     requires { Room out.old at (cell_text x) }
     ensures { Written out.old at (cell_text x) out.new result }
 {
-    let n = whole::size(x);
+    let n = x.unsigned_abs();
     out[at] = b' ';
     if x < 0 {
         out[at + 1] = b'-';
@@ -27,11 +28,10 @@ fn put_cells(out: &mut [u8], at: usize, cells: &[i64]) -> usize
         out.old at (cells_text cells.now) out.new result }
 {
     let mut next = at;
-    let mut i: usize = 0;
-    while i < cells.len() {
+    // by index: of a cell that a walk lends the proof has no range
+    for i in 0..cells.len() {
         let x = cells[i];
         next = put_cell(out, next, x);
-        i += 1;
     }
     next
 }
@@ -58,12 +58,10 @@ pub(crate) fn put_rows(out: &mut [u8], at: usize, n: u32, width: usize, table: &
 {
     let mut next = at;
     let mut first: usize = 0;
-    let mut k: u32 = 0;
-    while k <= n {
+    for k in 0..n + 1 {
         let end = first + width;
         next = put_row(out, next, k, &table[first..end]);
         first = end;
-        k += 1;
     }
     next
 }

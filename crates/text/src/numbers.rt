@@ -22,10 +22,7 @@ pub(crate) fn put_labelled(out: &mut [u8], at: usize, label: &[u8], x: u64) -> u
     requires { Room out.old at (labelled label.now x) }
     ensures { Written out.old at (labelled label.now x) out.new result }
 {
-    let mut i: usize = 0;
-    while i < label.len() {
-        out[at + i] = label[i];
-        i += 1;
-    }
-    put_number(out, at + i, x)
+    let next = at + label.len();
+    out[at..next].copy_from_slice(label);
+    put_number(out, next, x)
 }

@@ -1,17 +1,8 @@
 // The job words of input bytes (docs/METHOD.md, section 6).
-ghost use Rattle.std.specs.Prelude.{◌≡◌, ◌+◌, ◌*◌, ◌<◌, ◌≤◌, length, take, drop};
+ghost use Rattle.std.specs.Prelude.{◌≡◌, ◌*◌, ◌<◌, length, take, drop};
 ghost use Rattle.whole.specs.Lists.{WrittenAtStart};
 ghost use Rattle.model.specs.calls.Bytes.{words_of};
-ghost use Rattle.text.specs.Words.{pair_at, first_word};
-
-// The number of the two bytes at an index, the lower first.
-fn pair(bytes: &[u8], at: usize) -> u32
-    requires { at + 2 ≤ length bytes.now }
-    ensures value { result ≡ pair_at bytes.now at }
-    ensures upper_bound { result < 65536 }
-{
-    bytes[at] as u32 + 256 * (bytes[at + 1] as u32)
-}
+ghost use Rattle.text.specs.Words.{first_word};
 
 // The word at an index, or a word of kind 0 where bytes are lacking.
 fn word(bytes: &[u8], at: usize) -> u32
@@ -19,7 +10,7 @@ fn word(bytes: &[u8], at: usize) -> u32
     ensures { result ≡ first_word (drop at bytes.now) }
 {
     if at + 4 <= bytes.len() {
-        return pair(bytes, at) + 65536 * pair(bytes, at + 2);
+        return u32::from_le_bytes([bytes[at], bytes[at + 1], bytes[at + 2], bytes[at + 3]]);
     }
     0
 }
@@ -31,14 +22,9 @@ pub fn words_of(bytes: &[u8], words: &mut [u32]) -> usize
         (words_of (take (4 * length words.old) bytes.now))
         words.new result }
 {
-    let count = (bytes.len() + 3) / 4;
-    let mut i: usize = 0;
-    while i < count {
-        if words.len() <= i {
-            return i;
-        }
+    let count = bytes.len().div_ceil(4).min(words.len());
+    for i in 0..count {
         words[i] = word(bytes, 4 * i);
-        i += 1;
     }
-    i
+    count
 }

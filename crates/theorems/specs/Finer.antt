@@ -2,7 +2,7 @@
 -- unchanged (docs/METHOD.md, 5.4). The theorem `finer-gains-nothing` says that the same
 -- arrivals can be reached on it.
 use Rattle.std.specs.Prelude.{ℕ, ◌*◌, ◌≤◌, ◌<◌, ◌≡◌, true, List, ◌↔◌, pos, nat_abs, ◌*ℤ◌}
-use Rattle.std.proofs.Math.Option.{none, some}
+use Rattle.std.specs.Prelude.{None, Some, IfSome}
 use Rattle.model.specs.declared.Axis.{Axis}
 use Rattle.model.specs.planning.Quantities.{delay, speed_steps}
 use Rattle.model.specs.planning.Leg.{Leg, Feasible}
@@ -39,7 +39,7 @@ AllReachableOn f xs n = (x : JobAxis) → Among xs x → ReachableOn f x.axis n
 
 -- every axis reaches tick n on its finer grid, and it fits a window where the job brings some
 pub record ArrivesOn (f : ℕ) (j : Job) (n : ℕ) : Type 0 where
-  pub fits : j.windows.given ≡ true → FitsOne n j.windows.dwell (brought j.windows)
+  pub fits : IfSome j.windows (λ w. FitsOne n w.dwell (brought w))
   pub reached : AllReachableOn f j.axes n
 
 -- ---- the claim
@@ -62,8 +62,8 @@ pub record GainsNothing (f : ℕ) (j : Job) : Type 0 where
   pub each : (x : JobAxis) → Among j.axes x → SameArrivals (ReachableOn f x.axis) (Reachable x.axis)
   pub together : SameArrivals (AllReachableOn f j.axes) (AllReachable j.axes)
   pub in_windows : SameArrivals (ArrivesOn f j) (Arrives j)
-  pub found : (n : ℕ) → least_from (arrives j) 1 last_tick ≡ some n → IsLeast (ArrivesOn f j) n
-  pub missed : least_from (arrives j) 1 last_tick ≡ none → (n : ℕ) → 1 ≤ n → n ≤ 4096 → ArrivesOn f j n → ⊥
+  pub found : (n : ℕ) → least_from (arrives j) 1 last_tick ≡ Some n → IsLeast (ArrivesOn f j) n
+  pub missed : least_from (arrives j) 1 last_tick ≡ None → (n : ℕ) → 1 ≤ n → n ≤ 4096 → ArrivesOn f j n → ⊥
 
 -- for every f from 1 up, and every job whose axes pass the refusals of one axis
 abbrev pub FinerGainsNothing : Type 0

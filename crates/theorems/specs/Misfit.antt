@@ -1,11 +1,9 @@
 -- What is left of a sway that the pole's numbers fit only nearly (docs/METHOD.md, 5.5). Demand 3 is
 -- of swing lists that fit them exactly.
 use Rattle.std.specs.Prelude.{ℕ, zero, suc, ◌+◌, ◌-◌, ◌*◌, ◌≤◌, ◌≡◌, List, ℤ, pos, nat_abs, ◌+ℤ◌, ◌-ℤ◌, ◌*ℤ◌}
-use Rattle.std.proofs.Math.Option.{some}
-use Rattle.std.proofs.Math.ListN.{get_elem?}
+use Rattle.std.specs.Prelude.{slice_get}
 use Rattle.model.specs.declared.Axis.{Axis}
-use Rattle.model.specs.declared.SecondSway.{SecondSway}
-use Rattle.model.specs.declared.SecondSway.TheVariants.{Absent, HalfPeriod}
+use Rattle.std.specs.Prelude.{Option, None, Some}
 use Rattle.model.specs.declared.Order.{Order}
 use Rattle.model.specs.planning.Quantities.{half_period, second_weight, delay}
 use Rattle.model.specs.planning.Motion.{landing_tick}
@@ -20,9 +18,9 @@ use Rattle.model.specs.planning.Demand.{sway}
 abbrev pub misfit_once : Axis → (ℕ → ℤ) → ℕ → ℤ
 misfit_once x w i = pos (256 - second_weight x) *ℤ w (i + half_period x) +ℤ pos (second_weight x) *ℤ w i
 
-abbrev pub misfit_by : SecondSway → Axis → (ℕ → ℤ) → ℕ → ℤ
-misfit_by Absent x w i = misfit_once x w i
-misfit_by (HalfPeriod d) x w i = misfit_once x w (i + d) +ℤ misfit_once x w i
+abbrev pub misfit_by : Option ℕ → Axis → (ℕ → ℤ) → ℕ → ℤ
+misfit_by None x w i = misfit_once x w i
+misfit_by (Some d) x w i = misfit_once x w (i + d) +ℤ misfit_once x w i
 
 abbrev pub misfit : Axis → (ℕ → ℤ) → ℕ → ℤ
 misfit x w i = misfit_by x.second_sway x w i
@@ -81,9 +79,9 @@ measured_misfit A B h t G D =
     2 * (apart ((A + B) * t.after) (weights t * B) * G) + weights t * (A * (apart t.turn (t.entries * h) * D))
 
 -- a pole in place of the first rate, and twice that with a second sway
-abbrev pub first_misfit_by : SecondSway → ℕ → ℕ
-first_misfit_by Absent e = e
-first_misfit_by (HalfPeriod d) e = 2 * e
+abbrev pub first_misfit_by : Option ℕ → ℕ → ℕ
+first_misfit_by None e = e
+first_misfit_by (Some d) e = 2 * e
 
 abbrev pub first_misfit : Axis → TruePole → ℕ → ℕ → ℕ
 first_misfit x t G D =
@@ -96,7 +94,7 @@ second_misfit d t G D = 256 * measured_misfit 1 1 d t G D
 pub record MeasuredMisfits (x : Axis) : Type 0 where
   pub first : (t : TruePole) (n m G D : ℕ) (u : ℕ → ℤ) → SwayOf t m G D u
       → Misfits x n m (first_misfit x t G D) (weighted t u)
-  pub second : (d : ℕ) (t : TruePole) (n m G D : ℕ) (u : ℕ → ℤ) → x.second_sway ≡ HalfPeriod d → SwayOf t m G D u
+  pub second : (d : ℕ) (t : TruePole) (n m G D : ℕ) (u : ℕ → ℤ) → x.second_sway ≡ Some d → SwayOf t m G D u
       → Misfits x n m (second_misfit d t G D) (weighted t u)
   -- whatever the list fits
   pub any : (n m G : ℕ) (w : ℕ → ℤ) → Entries n m G w → Misfits x n m (first_misfit_by x.second_sway (256 * G)) w
@@ -140,7 +138,7 @@ pub record MeasuredLeft (most : Axis → ℕ → ℕ) (x : Axis) (i n : ℕ) (g 
   pub first : (t : TruePole) (m G D : ℕ) (u : ℕ → ℤ) → n ≤ m → SwayOf t m G D u
       → PoleLeft x i n g t m G (most x n * first_misfit x t G D) u
   pub second : (d : ℕ) (t : TruePole) (m G D : ℕ) (u : ℕ → ℤ) → n ≤ m
-      → x.second_sway ≡ HalfPeriod d → SwayOf t m G D u
+      → x.second_sway ≡ Some d → SwayOf t m G D u
       → PoleLeft x i n g t m G (most x n * second_misfit d t G D) u
 
 -- ---- both claims, of every axis of every call that returns number 0, from words or
@@ -149,7 +147,7 @@ pub record MeasuredLeft (most : Axis → ℕ → ℕ) (x : Axis) (i n : ℕ) (g 
 abbrev pub OfCalls : (Axis → ℕ → ℕ → CellTable → Type 0) → Type 0
 OfCalls Claim =
     (o : Order) (q : Input) (lent : List ℤ) → (call_in o q lent).number ≡ 0 → (i : ℕ) (x : Axis)
-    → get_elem? (input_axes q) i ≡ some x
+    → slice_get (input_axes q) i ≡ Some x
     → Claim x i (call_in o q lent).arrival
     (table_in o (input_axes q) (call_in o q lent).arrival (call_in o q lent).cells)
 

@@ -1,13 +1,13 @@
 -- What the raises of an answer say, by the existence of a list (docs/METHOD.md, 8.2). The theorem
 -- `raises-hold` says it of every call.
 use Rattle.std.specs.Prelude.{ℕ, ◌+◌, ◌≤◌, ◌<◌, ◌≡◌, true, [], get_or}
-use Rattle.std.proofs.Math.Option.{Option, none, some}
+use Rattle.std.specs.Prelude.{Option, None, Some}
 use Rattle.model.specs.declared.Answer.{Answer}
 use Rattle.model.specs.declared.Axis.{Axis}
 use Rattle.model.specs.declared.Limit.{Limit}
 use Rattle.model.specs.declared.Limit.TheVariants.{Acceleration, Speed}
 use Rattle.model.specs.declared.Raise.{Raise}
-use Rattle.model.specs.declared.Raise.TheVariants.{AccelerationBy, SpeedBy, NoRaise}
+use Rattle.model.specs.declared.Raise.TheVariants.{AccelerationBy, SpeedBy}
 use Rattle.model.specs.declared.AxisRaises.{AxisRaises}
 use Rattle.model.specs.declared.RaisesAnswer.{RaisesAnswer}
 use Rattle.model.specs.planning.Motion.{Reachable}
@@ -22,28 +22,29 @@ use Rattle.model.specs.calls.Raises.{limit_of, highest, with_limit, no_raises, n
 -- Of a limit that is now l and may be at most `most`, Q k being that the limit k is enough: the
 -- raise is enough and no smaller one is; or no limit of the range is enough.
 pub data RaiseIs (Q : ℕ → Type 0) (l most : ℕ) : Option ℕ → Type 0 where
-  raise : (r : ℕ) → 1 ≤ r → l + r ≤ most → Q (l + r) → ((i : ℕ) → i < r → Q (l + i) → ⊥) → RaiseIs Q l most (some r)
-  no_raise : ((i : ℕ) → l + i ≤ most → Q (l + i) → ⊥) → RaiseIs Q l most none
+  raise : (r : ℕ) → 1 ≤ r → l + r ≤ most → Q (l + r) → ((i : ℕ) → i < r → Q (l + i) → ⊥) → RaiseIs Q l most (Some r)
+  no_raise : ((i : ℕ) → l + i ≤ most → Q (l + i) → ⊥) → RaiseIs Q l most None
 
 -- the raise of a limit that an axis's raises report, first or second
-abbrev pub raise_in : Limit → Raise → Option ℕ → Option ℕ
-raise_in Acceleration (AccelerationBy m) o = some m
-raise_in Acceleration (SpeedBy l) o = o
-raise_in Acceleration NoRaise o = o
-raise_in Speed (AccelerationBy m) o = o
-raise_in Speed (SpeedBy l) o = some l
-raise_in Speed NoRaise o = o
+abbrev pub raise_in : Limit → Option Raise → Option ℕ → Option ℕ
+raise_in Acceleration (Some (AccelerationBy m)) o = Some m
+raise_in Acceleration (Some (SpeedBy l)) o = o
+raise_in Acceleration None o = o
+raise_in Speed (Some (AccelerationBy m)) o = o
+raise_in Speed (Some (SpeedBy l)) o = Some l
+raise_in Speed None o = o
 
 abbrev pub reported : Limit → AxisRaises → Option ℕ
-reported q r = raise_in q r.first (raise_in q r.second none)
+reported q r = raise_in q r.first (raise_in q r.second None)
 
 -- what may stand first and second
 pub data Ordered : AxisRaises → Type 0 where
   neither : Ordered no_raises
-  acceleration : (m : ℕ) → Ordered (record { first = AccelerationBy m; second = NoRaise })
-  speed : (l : ℕ) → Ordered (record { first = SpeedBy l; second = NoRaise })
-  acceleration-first : (m l : ℕ) → m ≤ l → Ordered (record { first = AccelerationBy m; second = SpeedBy l })
-  speed-first : (m l : ℕ) → l < m → Ordered (record { first = SpeedBy l; second = AccelerationBy m })
+  acceleration : (m : ℕ) → Ordered (record { first = Some (AccelerationBy m); second = None })
+  speed : (l : ℕ) → Ordered (record { first = Some (SpeedBy l); second = None })
+  acceleration-first : (m l : ℕ) → m ≤ l
+      → Ordered (record { first = Some (AccelerationBy m); second = Some (SpeedBy l) })
+  speed-first : (m l : ℕ) → l < m → Ordered (record { first = Some (SpeedBy l); second = Some (AccelerationBy m) })
 
 -- the raises of an axis that does not reach n
 pub record RaisesSay (x : Axis) (n : ℕ) (r : AxisRaises) : Type 0 where

@@ -1,12 +1,12 @@
 -- Rows in either order, and position sums taken from the landing end (docs/METHOD.md, 4.7).
+use Rattle.std.specs.Prelude.{Some}
 use Rattle.std.specs.Prelude.{ℕ, zero, suc, ◌-◌, ◌*◌, ◌≤◌, ◌<◌, List, ℤ, pos, ◌-ℤ◌, ◌*ℤ◌, ◌≡◌, length}
 use Rattle.model.specs.declared.Axis.{Axis}
 use Rattle.model.specs.declared.Order.{Order}
 use Rattle.model.specs.declared.Order.TheVariants.{Forwards, Backwards}
 use Rattle.whole.specs.Integers.{nearest_quotient}
 use Rattle.model.specs.planning.Quantities.{as_moving, twice_position_at}
-use Rattle.std.proofs.Math.Option.{some}
-use Rattle.std.proofs.Math.ListN.{get_elem?}
+use Rattle.std.specs.Prelude.{slice_get}
 use Rattle.model.specs.planning.Rows.{planned_axis, blend, divisor}
 use Rattle.model.specs.planning.Refusals.{Plannable}
 use Rattle.model.specs.planning.Outcome.{Input, call, call_in, input_axes}
@@ -45,6 +45,6 @@ SumsFromLanding = (x : Axis) (n : ℕ) → Plannable x n → (i : ℕ) → i ≤
 abbrev pub CellsFromLanding : Type 0
 CellsFromLanding =
     (o : Order) (q : Input) (lent : List ℤ) → (call_in o q lent).number ≡ 0
-    → (i k : ℕ) (x : Axis) → get_elem? (input_axes q) i ≡ some x → k ≤ (call_in o q lent).arrival
+    → (i k : ℕ) (x : Axis) → slice_get (input_axes q) i ≡ Some x → k ≤ (call_in o q lent).arrival
     → position_cell (table_in o (input_axes q) (call_in o q lent).arrival (call_in o q lent).cells) i k
     ≡ nearest_quotient (from_landing x (call_in o q lent).arrival ((call_in o q lent).arrival - k)) (2 * divisor x)

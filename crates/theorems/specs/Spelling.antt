@@ -2,10 +2,8 @@
 -- jobs keep their meaning" (docs/METHOD.md, 6.3).
 use Rattle.std.specs.Prelude.{ℕ, suc, ◌-◌, ◌/◌, ◌%◌, ◌^◌, ◌≤◌, ◌<◌, ◌≡◌, true, false, ◌&&◌, ◌⊎◌, ◌↔◌, List, [], ◌∷◌}
 use Rattle.std.specs.Prelude.{◌++◌, eqb, ℤ, pos, negsuc, length}
-use Rattle.std.proofs.Math.Option.{none}
 use Rattle.model.specs.declared.Axis.{Axis}
-use Rattle.model.specs.declared.SecondSway.{SecondSway}
-use Rattle.model.specs.declared.SecondSway.TheVariants.{Absent, HalfPeriod}
+use Rattle.std.specs.Prelude.{Option, None, Some}
 use Rattle.model.specs.declared.Target.{Target}
 use Rattle.model.specs.declared.Target.TheVariants.{Fixed, Moving}
 use Rattle.model.specs.declared.Weight.TheVariants.{Given}
@@ -41,7 +39,7 @@ position_words k p =
 -- words that are read as a position of kind k, whole, and that refusal 14 lets pass
 pub record SpellsPosition (k : ℕ) (p : ℤ) (ws : List ℕ) : Type 0 where
   pub read : position k 0 ws ≡ got p (length ws) []
-  pub allowed : first_bad_long 0 ws ≡ none
+  pub allowed : first_bad_long 0 ws ≡ None
 
 -- each position of the range has a spelling, no other words spell it, and no
 -- position outside the range has one
@@ -61,9 +59,9 @@ target_words (Moving m) =
     position_words 9 m.position
     ++ (word 10 (bits m.velocity) ∷ word 11 (bits m.acceleration) ∷ word 12 (bits m.tick) ∷ [])
 
-abbrev pub sway_words : SecondSway → List ℕ
-sway_words Absent = []
-sway_words (HalfPeriod d) = word 13 d ∷ []
+abbrev pub sway_words : Option ℕ → List ℕ
+sway_words None = []
+sway_words (Some d) = word 13 d ∷ []
 
 abbrev pub axis_words : Axis → List ℕ
 axis_words x =
@@ -86,9 +84,9 @@ job_words j = word 1 j.mask ∷ word 2 j.asked ∷ (axes_words j.axes ++ (word 1
 
 -- each number of a job has room in its payload: 28 bits unsigned, 28 bits of two's
 -- complement, and a position in two words
-abbrev pub SwayInWords : SecondSway → Type 0
-SwayInWords Absent = Unit
-SwayInWords (HalfPeriod d) = d < 2 ^ 28
+abbrev pub SwayInWords : Option ℕ → Type 0
+SwayInWords None = Unit
+SwayInWords (Some d) = d < 2 ^ 28
 
 pub record StateInWords (p v a t : ℤ) : Type 0 where
   pub position : position_allowed p ≡ true
@@ -144,7 +142,7 @@ abbrev pub old_decode : List ℕ → Decoded
 old_decode [] = no_mask
 old_decode (w ∷ ws) =
     elim (eqb (kind w) 1 && good_mask (payload w)) [
-      | true ↦ elim (after_mask_by signed (give Absent)
+      | true ↦ elim (after_mask_by signed (give None)
           (payload w) 1 ws) [ got j i rest ↦ job j | wrong p ↦ bad_word p ]
       | false ↦ no_mask
     ]

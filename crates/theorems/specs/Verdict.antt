@@ -2,10 +2,10 @@
 -- docs/METHOD.md, section 7: its named case, the first in checking order, by the existence of a
 -- list (rule 4) and not by the decision. The theorem `verdict` says it of every job from refusal 3
 -- on, `call-verdict` of every call, `verdict-in` of both orders.
+use Rattle.std.specs.Prelude.{Some, IfSome, IsSomeAnd}
 use Rattle.std.specs.Prelude.{ℕ, suc, ◌≤◌, ◌<◌, ◌≡◌, Bool, true, false, List, [], ◌∷◌, ◌++◌, ◌↔◌, ◌⊎◌, ℤ, pos, negsuc}
 use Rattle.std.specs.Prelude.{length, drop}
-use Rattle.std.proofs.Math.Option.{some}
-use Rattle.std.proofs.Math.ListN.{get_elem?}
+use Rattle.std.specs.Prelude.{slice_get}
 use Rattle.model.specs.declared.Axis.{Axis}
 use Rattle.model.specs.declared.Job as Typed
 use Rattle.model.specs.declared.Order.{Order}
@@ -45,7 +45,7 @@ pub record Accepts (w : Order) (o : Outcome) (j : Job) (n : ℕ) (lent : List �
 
 -- x is one of the axes
 abbrev pub Among : List JobAxis → JobAxis → Type 0
-Among xs x = (k : ℕ) × (get_elem? xs k ≡ some x)
+Among xs x = (k : ℕ) × (slice_get xs k ≡ Some x)
 
 -- a test refuses none of the axes
 abbrev pub NoneRefused : (Axis → Bool) → List JobAxis → Type 0
@@ -55,10 +55,10 @@ NoneRefused test xs = (x : JobAxis) → Among xs x → test x.axis ≡ false
 pub record FirstRefused (test : Axis → Bool) (xs : List JobAxis) (i : ℕ) : Type 0 where
   pub index : ℕ
   pub axis : JobAxis
-  pub here : get_elem? xs index ≡ some axis
+  pub here : slice_get xs index ≡ Some axis
   pub number : axis.number ≡ i
   pub refused : test axis.axis ≡ true
-  pub before : (k : ℕ) (y : JobAxis) → k < index → get_elem? xs k ≡ some y → test y.axis ≡ false
+  pub before : (k : ℕ) (y : JobAxis) → k < index → slice_get xs k ≡ Some y → test y.axis ≡ false
 
 -- the mask m names exactly those of the axes of which Q holds
 pub record Names (Q : Axis → Type 0) (xs : List JobAxis) (m : ℕ) : Type 0 where
@@ -76,7 +76,7 @@ ReachesNone x = (n : ℕ) → 1 ≤ n → n ≤ 4096 → Reachable x n → ⊥
 
 -- every axis reaches tick n, and it fits a window where the job brings some
 pub record Arrives (j : Job) (n : ℕ) : Type 0 where
-  pub fits : j.windows.given ≡ true → FitsOne n j.windows.dwell (brought j.windows)
+  pub fits : IfSome j.windows (λ w. FitsOne n w.dwell (brought w))
   pub reached : AllReachable j.axes n
 
 -- the arrival of a job: the asked one, or where none is asked the least from 1 to 4,096
@@ -88,7 +88,7 @@ pub record IsArrival (j : Job) (n : ℕ) : Type 0 where
 
 -- the windows that a job brings are right
 abbrev pub WindowsPass : Job → Type 0
-WindowsPass j = j.windows.given ≡ true → WindowsRight j.windows
+WindowsPass j = IfSome j.windows WindowsRight
 
 -- ---- from refusal 3 on: a job whose mask and words passed
 
@@ -114,7 +114,7 @@ pub data Verdict (w : Order) (j : Job) (lent : List ℤ) (o : Outcome) : Type 0 
       → NoneRefused acceleration_refused j.axes → FirstRefused flying_refused j.axes i
       → Refuses o 17 i 0 0 lent → Verdict w j lent o
   -- windows are brought, and they are not right
-  refused13 : (p : ℕ) → j.asked ≤ 4096 → AllPassed j.axes → j.windows.given ≡ true → WindowsWrong j.windows p
+  refused13 : (p : ℕ) → j.asked ≤ 4096 → AllPassed j.axes → IsSomeAnd j.windows (λ w. WindowsWrong w p)
       → Refuses o 13 p 0 0 lent → Verdict w j lent o
   -- an arrival is asked for that an axis does not reach or that fits no window, and the mask names
   -- exactly the axes that do not reach it
@@ -143,8 +143,7 @@ pub record Passing (j : Job) : Type 0 where
 -- every axis reaches tick n, and windows are brought of which none holds it
 pub record OutsideWindows (j : Job) (n : ℕ) : Type 0 where
   pub reached : AllReachable j.axes n
-  pub given : j.windows.given ≡ true
-  pub outside : FitsOne n j.windows.dwell (brought j.windows) → ⊥
+  pub outside : IsSomeAnd j.windows (λ w. FitsOne n w.dwell (brought w) → ⊥)
 
 -- 8 with mask 0 comes exactly where the asked arrival is such a tick
 abbrev pub EightOutside : Type 0
@@ -185,14 +184,14 @@ pub record LongWrong (w u : ℕ) : Type 0 where
 pub record FirstLongWrong (ws : List ℕ) (p : ℕ) : Type 0 where
   pub high : ℕ
   pub low : ℕ
-  pub here : get_elem? ws p ≡ some high
-  pub next : get_elem? ws (suc p) ≡ some low
+  pub here : slice_get ws p ≡ Some high
+  pub next : slice_get ws (suc p) ≡ Some low
   pub wrong : LongWrong high low
-  pub before : (k w u : ℕ) → k < p → get_elem? ws k ≡ some w → get_elem? ws (suc k) ≡ some u → LongWrong w u → ⊥
+  pub before : (k w u : ℕ) → k < p → slice_get ws k ≡ Some w → slice_get ws (suc k) ≡ Some u → LongWrong w u → ⊥
 
 -- no word is such
 abbrev pub NoneLongWrong : List ℕ → Type 0
-NoneLongWrong ws = (k w u : ℕ) → get_elem? ws k ≡ some w → get_elem? ws (suc k) ≡ some u → LongWrong w u → ⊥
+NoneLongWrong ws = (k w u : ℕ) → slice_get ws k ≡ Some w → slice_get ws (suc k) ≡ Some u → LongWrong w u → ⊥
 
 -- ---- what words are, said without a reader of words: four cases that exclude one another
 

@@ -1,7 +1,7 @@
 -- Which arrivals fit windows, and refusal 13, in the words of the method (docs/METHOD.md, 3.8).
+use Rattle.std.specs.Prelude.{Some}
 use Rattle.std.specs.Prelude.{ℕ, ◌+◌, ◌≤◌, ◌<◌, ◌≡◌, List, ◌∷◌, map, ◌⊎◌, get_or}
-use Rattle.std.proofs.Math.Option.{some}
-use Rattle.std.proofs.Math.ListN.{get_elem?}
+use Rattle.std.specs.Prelude.{slice_get}
 use Rattle.model.specs.declared.Window.{Window}
 use Rattle.model.specs.declared.Windows.{Windows}
 use Rattle.model.specs.planning.Windows.{brought}
@@ -10,7 +10,7 @@ use Rattle.model.specs.planning.Windows.{brought}
 pub record FitsOne (n dwell : ℕ) (l : List Window) : Type 0 where
   pub index : ℕ
   pub window : Window
-  pub here : get_elem? l index ≡ some window
+  pub here : slice_get l index ≡ Some window
   pub opened : window.opening ≤ n
   pub below : n < window.closing
   pub stays : n + dwell ≤ window.closing
@@ -30,9 +30,9 @@ pub record InOrder (c : ℕ) (l : List Window) (k : ℕ) (v : Window) : Type 0 w
 -- before the previous one closes
 pub record FirstWrongWindow (c : ℕ) (l : List Window) (i : ℕ) : Type 0 where
   pub window : Window
-  pub here : get_elem? l i ≡ some window
+  pub here : slice_get l i ≡ Some window
   pub wrong : (window.closing ≤ window.opening) ⊎ (window.opening < closed_before c l i)
-  pub before : (k : ℕ) (v : Window) → k < i → get_elem? l k ≡ some v → InOrder c l k v
+  pub before : (k : ℕ) (v : Window) → k < i → slice_get l k ≡ Some v → InOrder c l k v
 
 -- what 13 refuses, with its place; before the first window nothing closes, so it opens at tick 0 or
 -- later
@@ -48,4 +48,4 @@ pub record WindowsRight (w : Windows) : Type 0 where
   pub not_empty : 1 ≤ w.count
   pub few : w.count ≤ 32
   pub dwell : w.dwell ≤ 4096
-  pub each : (k : ℕ) (v : Window) → get_elem? (brought w) k ≡ some v → InOrder 0 (brought w) k v
+  pub each : (k : ℕ) (v : Window) → slice_get (brought w) k ≡ Some v → InOrder 0 (brought w) k v

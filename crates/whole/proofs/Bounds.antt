@@ -19,10 +19,12 @@ use lib.Dec.{T, leb, ltb, eqb, ltb→lt, leb→le}
 use mir.Syntax.{w8, w32, w64}
 use mir.Val.{Fits, SFits, to_z, of_z, hbits}
 use mir.ValLaws.{to_z-of_z, to_z_pos}
+use Rattle.std.specs.Int.{int_min, int_max}
 use Rattle.whole.specs.Integers.{least, greatest}
 use Rattle.whole.specs.Ranges.{Within, Is}
 use Rattle.whole.proofs.Tests.{left, right, true-T, false-T, eqb_no}
 use Rattle.whole.proofs.Differences.{le-fails}
+use Rattle.whole.proofs.MinMax.{min-is-least, max-is-greatest}
 use Rattle.whole.proofs.Laws.{nat_abs-negpos, nat_abs-neg, nat_abs-+, nat_abs-*}
 
 -- ---- how far from 0
@@ -70,10 +72,6 @@ fits-of z n h t = record { sfits = lt_of_le_of_lt (mag-le z) (lt_of_le_of_lt h (
 -- a number that fits, read back from its bits
 pub back-id : {z : ℤ} → SFits w64 z → to_z w64 (of_z w64 z) ≡ z
 back-id {z} f = to_z-of_z w64 z f
-
--- the same of a callee's result, whose `.ok` this is
-pub back-ok : (z : ℤ) → mag z < 2 ^ hbits w64 → to_z w64 (of_z w64 z) ≡ z
-back-ok z h = back-id (record { sfits = h })
 
 -- ---- what code computes: the number, a bound on it, and whether each step on the way fits
 
@@ -213,6 +211,27 @@ x-greatest x y p q =
       holds = cond-holds (le_z p.num q.num) q.num p.num q.bound p.bound q.holds p.holds;
     }
 
+-- the library's `min` and `max`, as the definitions have them
+abbrev pub x-int_min : (x y : ℤ) → Exact x → Exact y → Exact (int_min x y)
+x-int_min x y p q =
+    record {
+      num = least p.num q.num;
+      bound = max p.bound q.bound;
+      ok = p.ok && q.ok;
+      same = λ t. min-is-least x y ∙ both-same (λ a b. least a b) x y p q t;
+      holds = cond-holds (le_z p.num q.num) p.num q.num p.bound q.bound p.holds q.holds;
+    }
+
+abbrev pub x-int_max : (x y : ℤ) → Exact x → Exact y → Exact (int_max x y)
+x-int_max x y p q =
+    record {
+      num = greatest p.num q.num;
+      bound = max q.bound p.bound;
+      ok = p.ok && q.ok;
+      same = λ t. max-is-greatest x y ∙ both-same (λ a b. greatest a b) x y p q t;
+      holds = cond-holds (le_z p.num q.num) q.num p.num q.bound p.bound q.holds p.holds;
+    }
+
 -- what is read back from the bits of a number that fits
 pub back-of : (z : ℤ) (p : Exact z) → T (p.ok && ltb p.bound (2 ^ 63)) → to_z w64 (of_z w64 z) ≡ p.num
 back-of z p t =
@@ -274,6 +293,8 @@ pub ruleset exact = (
   x-rem,
   x-least,
   x-greatest,
+  x-int_min,
+  x-int_max,
   x-back,
   x_lt,
   x-le,

@@ -31,7 +31,7 @@ PN-eq (pos a) (negsuc b) e = absurd (omega arith)
 PN-eq (negsuc a) (pos b) e = absurd (omega arith)
 PN-eq (negsuc a) (negsuc b) e = ap negsuc (omega arith)
 
-cond_ind : (c : Bool) (x y : ℤ) (Q : ℤ → Type 0) → (T c → Q x) → (T (not c) → Q y) → Q (cond c x y)
+pub cond_ind : (c : Bool) (x y : ℤ) (Q : ℤ → Type 0) → (T c → Q x) → (T (not c) → Q y) → Q (cond c x y)
 cond_ind true x y Q f g = f tt
 cond_ind false x y Q f g = g tt
 

@@ -6,6 +6,7 @@ pub mod Mapped
 pub mod Differences
 pub mod Laws
 pub mod Ring
+pub mod MinMax
 pub mod Bounds
 pub mod Order
 pub mod Rounding

@@ -1,6 +1,6 @@
 -- Sums of a range.
 use mathlib.Core.Path.{◌≡◌, refl, sym, ap, ap₂, ◌∙◌}
-use Prim.Native.Nat.{ℕ, zero, suc, ◌+◌, ◌≤◌}
+use Prim.Native.Nat.{ℕ, zero, suc, ◌+◌, ◌-◌, ◌≤◌}
 use native.Mathlib.Omega.{arith}
 use native.Mathlib.Numerals.{add-one}
 use lib.IntN.{ℤ, pos, ◌+ℤ◌, ◌*ℤ◌, +ℤ_comm, +ℤ_assoc, *ℤ-zero}
@@ -8,9 +8,12 @@ use lib.Signed.{◌≤ℤ◌, ≤ℤ_refl}
 use Rattle.whole.specs.Integers.{sum_to}
 use Rattle.whole.proofs.Laws.{+ℤ-mono, *ℤ-+ℤ}
 
--- the code's k + 1 is the definition's suc k
-pub sum-next : (f : ℕ → ℤ) (k : ℕ) → sum_to f k +ℤ f (k + 1) ≡ sum_to f (k + 1)
-sum-next f k = rw add-one
+-- a loop from 1 on that has added the terms before k adds that of k
+pub sum-through : (f : ℕ → ℤ) (k : ℕ) → 1 ≤ k → sum_to f (k - 1) +ℤ f k ≡ sum_to f (k + 1 - 1)
+sum-through f zero h = absurd (omega arith)
+sum-through f (suc j) h =
+    ap (λ (i : ℕ). sum_to f i +ℤ f (suc j)) {x = suc j - 1} {y = j} (omega arith)
+    ∙ ap (sum_to f) {x = suc j} {y = suc j + 1 - 1} (omega arith)
 
 pub sum_first : (f : ℕ → ℤ) (n : ℕ) → sum_to f (suc n) ≡ f 1 +ℤ sum_to (λ k. f (suc k)) n
 sum_first f zero = +ℤ_comm (pos 0) (f 1)

@@ -2,7 +2,7 @@
 use mathlib.Core.Path.{◌≡◌, refl, sym, ap, ◌∙◌, subst}
 use mathlib.Core.Bool.{Bool, true, false, not, ◌&&◌}
 use mathlib.Core.Logic.{◌↔◌, ◌⊎◌, inl, inr}
-use mathlib.Core.Option.{Option, none, some}
+use Rattle.std.specs.Prelude.{Option, None, Some}
 use Prim.Native.Nat.{ℕ, ◌<◌, ◌≤◌}
 use lib.Dec.{T, leb, ltb, eqb, ltb→lt, nltb→le}
 use borrow.Author.Tests.{lt-ltb, le-ltb, le-leb, lt-leb, ne_eqb, not-false}
@@ -55,9 +55,9 @@ by_bool Q true x y f g = f tt
 by_bool Q false x y f g = g tt
 
 pub by-option {ℓ κ} : {A : Type 0} {X : Type ℓ} (Q : X → Type κ) (o : Option A) (f : A → X) (y : X)
-    → ((a : A) → o ≡ some a → Q (f a)) → (o ≡ none → Q y) → Q (elim o [ some a ↦ f a | none ↦ y ])
-by-option Q none f y g h = h refl
-by-option Q (some a) f y g h = g a refl
+    → ((a : A) → o ≡ Some a → Q (f a)) → (o ≡ None → Q y) → Q (elim o [ Some a ↦ f a | None ↦ y ])
+by-option Q None f y g h = h refl
+by-option Q (Some a) f y g h = g a refl
 
 -- ---- tests of natural numbers
 

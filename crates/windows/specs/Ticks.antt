@@ -1,15 +1,12 @@
 -- The ticks from a first one on and before another that fit one window, as a first one and the one
 -- after the last (`ticks-fit` in proofs/Ticks.antt).
-use Rattle.std.specs.Prelude.{ℕ, ◌-◌, ◌+◌, cond, eqb, ltb}
+use Rattle.std.specs.Prelude.{ℕ, ◌-◌, ◌+◌, min, max, cond, eqb, ltb}
 use Rattle.model.specs.declared.Window.{Window}
 
 abbrev pub first_tick : ℕ → Window → ℕ
-first_tick first w = cond (ltb w.opening first) first w.opening
-
-abbrev pub up_to : ℕ → ℕ → ℕ
-up_to after n = cond (ltb after n) after n
+first_tick first w = max first w.opening
 
 -- an arrival ends at the closing at the latest, and also with dwell 0 it is before it
 abbrev pub after_last : ℕ → ℕ → Window → ℕ
 after_last dwell after w =
-    cond (eqb dwell 0) (up_to after w.closing) (cond (ltb w.closing dwell) 0 (up_to after (w.closing - dwell + 1)))
+    cond (eqb dwell 0) (min w.closing after) (cond (ltb w.closing dwell) 0 (min (w.closing - dwell + 1) after))

@@ -1,12 +1,12 @@
 // The windows of a job (docs/METHOD.md, 3.8): whether an arrival fits one, and refusal 13.
 #![tactic(auto)]
 
-ghost use Rattle.std.specs.Prelude.{◌≡◌, ◌≤◌, take, true};
-ghost use Rattle.std.proofs.Math.Option.{none};
+ghost use Rattle.std.specs.Prelude.{◌≡◌, ◌≤◌, length, take, true};
+ghost use Rattle.std.specs.Prelude.{None};
+ghost use Rattle.std.specs.List.{list_any};
 ghost use Rattle.model.specs.planning.Windows.{fits_window, fits_one, in_windows, in_order_after};
 ghost use Rattle.model.specs.planning.Windows.{first_wrong_window, windows_refused, refused13};
-ghost use Rattle.windows.specs.Places.{place_of};
-ghost use Rattle.windows.specs.Ticks.{first_tick, up_to, after_last};
+ghost use Rattle.windows.specs.Ticks.{first_tick, after_last};
 
 use model::{LONGEST_DWELL, MAX_WINDOWS, Window, Windows};
 
@@ -17,51 +17,30 @@ fn fits(tick: u32, dwell: u32, window: Window) -> bool
     requires dwell_bound { dwell ≤ 4096 }
     ensures { result ≡ fits_window tick dwell window }
 {
-    if window.opening <= tick {
-        if tick < window.closing {
-            return tick + dwell <= window.closing;
-        }
-    }
-    false
+    window.opening <= tick && tick < window.closing && tick + dwell <= window.closing
 }
 
 // Whether an arrival is allowed by the windows of a job: any where it brings
 // none, else one that fits a window.
-pub fn allows(windows: Windows, tick: u32) -> bool
-    requires windows_value { refused13 windows ≡ none }
+#[tactic(auto, using(crate::proofs::Listed::any_fits))]
+pub fn allows(windows: Option<Windows>, tick: u32) -> bool
+    requires windows_value { refused13 windows ≡ None }
     requires tick_bound { tick ≤ 4096 }
     ensures { result ≡ in_windows windows tick }
 {
-    if windows.given {
-        let list = windows.list;
-        return fits_one(tick, windows.dwell, list, windows.count);
+    match windows {
+        None => true,
+        Some(w) => fits_one(tick, w.dwell, &w.list[..w.count]),
     }
-    true
 }
 
-// Whether an arrival fits one of the first `count` windows of a list.
-fn fits_one(tick: u32, dwell: u32, list: [Window; MAX_WINDOWS], count: usize) -> bool
+// Whether an arrival fits one of some windows.
+fn fits_one(tick: u32, dwell: u32, windows: &[Window]) -> bool
     requires tick_bound { tick ≤ 4096 }
     requires dwell_bound { dwell ≤ 4096 }
-    requires count_bound { count ≤ 32 }
-    ensures { result ≡ fits_one tick dwell (take count list) }
+    ensures { result ≡ list_any (fits_window tick dwell) windows.now }
 {
-    let mut i: usize = 0;
-    while i < count {
-        let window = list[i];
-        if fits(tick, dwell, window) {
-            return true;
-        }
-        i += 1;
-    }
-    false
-}
-
-// The place of a refusal, or none.
-#[derive(Clone, Copy)]
-pub enum Place {
-    At(usize),
-    Nowhere,
+    windows.iter().any(|window| fits(tick, dwell, *window))
 }
 
 // Whether a window closes after it opens, and opens at the tick at which the
@@ -69,55 +48,35 @@ pub enum Place {
 fn in_order_after(closed: u32, window: Window) -> bool
     ensures { result ≡ in_order_after closed window }
 {
-    if window.opening < window.closing {
-        return closed <= window.opening;
-    }
-    false
+    window.opening < window.closing && closed <= window.opening
 }
 
 // The first window that does not close after it opens, or that opens before the one before it
 // closes.
-fn first_wrong(list: [Window; MAX_WINDOWS], count: usize) -> Place
-    requires { count ≤ 32 }
-    ensures { place_of result ≡ first_wrong_window 0 0 (take count list) }
+fn first_wrong(windows: &[Window]) -> Option<usize>
+    ensures { result ≡ first_wrong_window 0 0 windows.now }
 {
     let mut closed: u32 = 0;
-    let mut i: usize = 0;
-    while i < count {
-        let window = list[i];
-        if !in_order_after(closed, window) {
-            return Place::At(i);
+    for (i, window) in windows.iter().enumerate() {
+        if !in_order_after(closed, *window) {
+            return Some(i);
         }
         closed = window.closing;
-        i += 1;
     }
-    Place::Nowhere
+    None
 }
 
 // The place of refusal 13, or none.
-pub fn refused(windows: Windows) -> Place
-    ensures { place_of result ≡ refused13 windows }
+pub fn refused(windows: Windows) -> Option<usize>
+    ensures { result ≡ windows_refused windows }
 {
-    if windows.given {
-        let list = windows.list;
-        return wrong_place(list, windows.count, windows.dwell);
+    if windows.count == 0 {
+        return Some(0);
     }
-    Place::Nowhere
-}
-
-// The same of windows that are given.
-fn wrong_place(list: [Window; MAX_WINDOWS], count: usize, dwell: u32) -> Place
-    ensures { place_of result ≡ windows_refused (record { given = true; dwell = dwell; count = count; list = list }) }
-{
-    if count == 0 {
-        return Place::At(0);
+    if windows.count <= MAX_WINDOWS && windows.dwell <= LONGEST_DWELL {
+        return first_wrong(&windows.list[..windows.count]);
     }
-    if count <= MAX_WINDOWS {
-        if dwell <= LONGEST_DWELL {
-            return first_wrong(list, count);
-        }
-    }
-    Place::At(MAX_WINDOWS)
+    Some(MAX_WINDOWS)
 }
 
 // ---- the ticks of a window
@@ -126,10 +85,7 @@ fn wrong_place(list: [Window; MAX_WINDOWS], count: usize, dwell: u32) -> Place
 pub fn first_tick(window: Window, first: u32) -> u32
     ensures { result ≡ first_tick first window }
 {
-    if window.opening < first {
-        return first;
-    }
-    window.opening
+    first.max(window.opening)
 }
 
 // The tick after the last one, before `after`, that fits the window; where none does, a tick that
@@ -138,22 +94,11 @@ pub fn after_last(window: Window, dwell: u32, after: u32) -> u32
     requires { dwell ≤ 4096 }
     ensures { result ≡ after_last dwell after window }
 {
-    let closing = window.closing;
     if dwell == 0 {
-        return up_to(closing, after);
+        return window.closing.min(after);
     }
-    if closing < dwell {
+    if window.closing < dwell {
         return 0;
     }
-    up_to(closing - dwell + 1, after)
-}
-
-// A tick, or `after` where it is later.
-fn up_to(tick: u32, after: u32) -> u32
-    ensures { result ≡ up_to after tick }
-{
-    if after < tick {
-        return after;
-    }
-    tick
+    (window.closing - dwell + 1).min(after)
 }

@@ -1,5 +1,5 @@
 -- The words of one axis: what the definitions read at an index, by the runs of its words.
-use Prim.Native.Nat.{ℕ, ◌+◌, ◌<◌, ◌≤◌}
+use Prim.Native.Nat.{ℕ, ◌+◌, ◌≤◌}
 use Rattle.whole.proofs.Tests.{either}
 use native.Mathlib.Omega.{arith}
 use mathlib.Core.Path.{◌≡◌, refl, sym, ap, subst, ◌∙◌}
@@ -8,16 +8,19 @@ use mathlib.Core.Logic.{⊎_elim}
 use mathlib.Core.List.{List}
 use lib.IntN.{ℤ}
 use lib.ListN.{length, drop}
+use Rattle.std.specs.Prelude.{None}
+use Rattle.std.specs.declared.result.Result.{Result}
+use Rattle.std.specs.declared.result.Result.TheVariants.{Ok, Err}
+use Rattle.model.specs.declared.refusal.Refusal.{Refusal}
 use Rattle.model.specs.declared.Axis.{Axis}
 use Rattle.model.specs.declared.Target.{Target}
 use Rattle.model.specs.declared.Target.TheVariants.{Fixed, Moving}
 use Rattle.model.specs.planning.Words.{Reading, got, wrong, Reader, ◌>>=◌, give, signed, next, position, target, axis}
 use Rattle.theorems.proofs.words.Spelling.{assoc₂}
-use Rattle.words.specs.declared.axis.AxisReading.TheVariants.{Got, Wrong}
 use Rattle.words.specs.ByIndex.{is_kind, skip_optional, first_wrong, signed_at, position_at, rest_at, state_at, axis_at}
-use Rattle.words.specs.ByIndex.{axis_reading}
+use Rattle.words.specs.ByIndex.{axis_reading, run_end}
 use Rattle.words.proofs.Reader.{on, next-is, step_field, step-signed, step-position, step-sway, skip-within}
-use Rattle.words.proofs.Reader.{after, after_none, after-short, after-full, after_both, run-within, full-there}
+use Rattle.words.proofs.Reader.{after, after_none, after-full, after_both, run-full, run-short, full-there}
 
 module _ (ws : List ℕ) (i : ℕ) where
   -- the indices of the words of kinds 3 and 9, and where those of the target begin
@@ -102,91 +105,95 @@ module _ (ws : List ℕ) (i : ℕ) where
       ∙ step-signed ws 11 1 (ninth + 2) (ninth + 3) _ _ (omega arith)
       (step-signed ws 12 0 (ninth + 3) (ninth + 4) _ _ (omega arith) (after_none ws _ 13 _))
 
-  -- ---- what the code returns, by the runs of its words: n of kinds 3 to 8, m of 9 and 10, l of 11
-  -- and 12
+  -- ---- what the code returns, at the indices that it comes to: s and e after the words of kinds 3
+  -- to 8, g, t and f before and after those of kinds 9 and 10, l after those of kinds 11 and 12
 
-  module _ (s : ℕ) (es : s ≡ first) (n : ℕ) (is : n ≡ first_wrong ws s 3 6) where
-    run₁ : n ≡ first_wrong ws first 3 6
-    run₁ = is ∙ ap (λ (k : ℕ). first_wrong ws k 3 6) es
+  abbrev read : Result (Axis × ℕ) Refusal
+  read = axis_reading (axis i (drop i ws))
 
-    full₁ : s + 6 ≤ n → first_wrong ws first 3 6 ≡ first + 6
-    full₁ h = omega (arith, es, run₁, run-within ws first 3 6)
+  module _ (s : ℕ) (es : s ≡ first) where
+    pub axis-short : (x : Refusal) → Err x ≡ run_end ws s 3 6 → Err x ≡ read
+    axis-short x h =
+        run-short ws first 3 6 x _ (h ∙ ap (λ (k : ℕ). run_end ws k 3 6) es) ∙ sym (ap axis_reading axis-is)
 
-    pub start-there : s + 6 ≤ n → first + 6 ≤ length ws
-    start-there h = full-there ws first 3 5 (full₁ h)
+    module _ (e : ℕ) (he : Ok e ≡ run_end ws s 3 6) where
+      full₁ : (first_wrong ws first 3 6 ≡ None) × (e ≡ first + 6)
+      full₁ = run-full ws first 3 6 e (he ∙ ap (λ (k : ℕ). run_end ws k 3 6) es)
 
-    pub axis-short : n < s + 6 → Wrong n ≡ axis_reading (axis i (drop i ws))
-    axis-short h = ap (λ (p : ℕ). Wrong p) run₁
-        ∙ sym (ap axis_reading (axis-is ∙ after-short ws first 3 6 _ (omega (arith, es, run₁))))
+      pub start-there : first + 6 ≤ length ws
+      start-there = full-there ws first 3 5 full₁.0
 
-    module _ (h : s + 6 ≤ n) (g : ℕ) (eg : g ≡ skip_optional ws (s + 6) 13) (t : ℕ) (et : t ≡ skip_optional ws g 14)
-        (m : ℕ) (im : m ≡ first_wrong ws t 9 2) where
-      is-goal : g ≡ goal
-      is-goal = eg ∙ ap (λ (k : ℕ). skip_optional ws (k + 6) 13) es
+      module _ (g : ℕ) (eg : g ≡ skip_optional ws e 13) (t : ℕ) (et : t ≡ skip_optional ws g 14) where
+        is-goal : g ≡ goal
+        is-goal = eg ∙ ap (λ (k : ℕ). skip_optional ws k 13) full₁.1
 
-      is-ninth : t ≡ ninth
-      is-ninth = et ∙ ap (λ (k : ℕ). skip_optional ws k 14) is-goal
+        is-ninth : t ≡ ninth
+        is-ninth = et ∙ ap (λ (k : ℕ). skip_optional ws k 14) is-goal
 
-      run₂ : m ≡ first_wrong ws ninth 9 2
-      run₂ = im ∙ ap (λ (k : ℕ). first_wrong ws k 9 2) is-ninth
+        -- the words of kinds 9 and 10 begin at most nine after i
+        pub target-near : t ≤ i + 9
+        target-near =
+            omega (arith, is-ninth, skip-within ws i 14, skip-within ws (first + 6) 13, skip-within ws goal 14)
 
-      full₂ : t + 2 ≤ m → first_wrong ws ninth 9 2 ≡ ninth + 2
-      full₂ k = omega (arith, is-ninth, run₂, run-within ws ninth 9 2)
+        axis-tail : axis i (drop i ws) ≡ after ws ninth 9 2 (rest (ninth + 2) (drop (ninth + 2) ws))
+        axis-tail = axis-is ∙ after-full ws first 3 6 _ full₁.0 ∙ tail-is
 
-      pub target-there : t + 2 ≤ m → skip_optional ws g 14 + 2 ≤ length ws
-      target-there k = omega (arith, et, is-ninth, full-there ws ninth 9 1 (full₂ k))
+        pub axis-half : (x : Refusal) → Err x ≡ run_end ws t 9 2 → Err x ≡ read
+        axis-half x h =
+            run-short ws ninth 9 2 x _ (h ∙ ap (λ (k : ℕ). run_end ws k 9 2) is-ninth)
+            ∙ sym (ap axis_reading axis-tail)
 
-      axis-tail : axis i (drop i ws) ≡ after ws ninth 9 2 (rest (ninth + 2) (drop (ninth + 2) ws))
-      axis-tail = axis-is ∙ after-full ws first 3 6 _ (full₁ h) ∙ tail-is
+        module _ (f : ℕ) (hf : Ok f ≡ run_end ws t 9 2) where
+          full₂ : (first_wrong ws ninth 9 2 ≡ None) × (f ≡ ninth + 2)
+          full₂ = run-full ws ninth 9 2 f (hf ∙ ap (λ (k : ℕ). run_end ws k 9 2) is-ninth)
 
-      pub axis-half : m < t + 2 → Wrong m ≡ axis_reading (axis i (drop i ws))
-      axis-half k = ap (λ (p : ℕ). Wrong p) run₂
-          ∙ sym (ap axis_reading (axis-tail ∙ after-short ws ninth 9 2 _ (omega (arith, is-ninth, run₂))))
+          pub target-there : skip_optional ws g 14 + 2 ≤ length ws
+          target-there = omega (arith, et, is-ninth, full-there ws ninth 9 1 full₂.0)
 
-      module _ (full : t + 2 ≤ m) where
-        axis-rest : axis i (drop i ws) ≡ rest (ninth + 2) (drop (ninth + 2) ws)
-        axis-rest = axis-tail ∙ after-full ws ninth 9 2 _ (full₂ full)
+          pub fixed-near : f ≤ i + 11
+          fixed-near = omega (arith, target-near, is-ninth, full₂.1)
 
-        kind-there : (b : Bool) → is_kind ws (t + 2) 11 ≡ b → is_kind ws (ninth + 2) 11 ≡ b
-        kind-there b e = sym (ap (λ (k : ℕ). is_kind ws (k + 2) 11) is-ninth) ∙ e
+          axis-rest : axis i (drop i ws) ≡ rest (ninth + 2) (drop (ninth + 2) ws)
+          axis-rest = axis-tail ∙ after-full ws ninth 9 2 _ full₂.0
 
-        pub axis-fixed : is_kind ws (t + 2) 11 ≡ false
-            → Got (axis_at ws i (Fixed (rest_at ws g))) (t + 2) ≡ axis_reading (axis i (drop i ws))
-        unfolding fixed
-        axis-fixed e =
-            (λ j. Got (axis_at ws i (Fixed (rest_at ws (is-goal j)))) (is-ninth j + 2))
-            ∙ sym (ap axis_reading (axis-rest ∙ rest-fixed (kind-there false e)))
+          kind-there : (b : Bool) → is_kind ws f 11 ≡ b → is_kind ws (ninth + 2) 11 ≡ b
+          kind-there b e = sym (ap (λ (k : ℕ). is_kind ws k 11) full₂.1) ∙ e
 
-        module _ (e : is_kind ws (t + 2) 11 ≡ true) (l : ℕ) (il : l ≡ first_wrong ws (t + 2) 11 2) where
-          run₃ : l ≡ first_wrong ws (ninth + 2) 11 2
-          run₃ = il ∙ ap (λ (k : ℕ). first_wrong ws (k + 2) 11 2) is-ninth
+          pub axis-fixed : is_kind ws f 11 ≡ false → Ok (axis_at ws i (Fixed (rest_at ws g)), f) ≡ read
+          unfolding fixed
+          axis-fixed k =
+              (λ j. Ok (axis_at ws i (Fixed (rest_at ws (is-goal j))), full₂.1 j))
+              ∙ sym (ap axis_reading (axis-rest ∙ rest-fixed (kind-there false k)))
 
-          full₃ : t + 4 ≤ l → first_wrong ws (ninth + 2) 11 2 ≡ ninth + 2 + 2
-          full₃ k = omega (arith, is-ninth, run₃, run-within ws (ninth + 2) 11 2)
+          module _ (k : is_kind ws f 11 ≡ true) where
+            axis-motion : axis i (drop i ws)
+                ≡ after ws (ninth + 2) 11 2 (got moving (ninth + 4) (drop (ninth + 4) ws))
+            axis-motion = axis-rest ∙ rest-moving (kind-there true k)
 
-          pub motion-there : t + 4 ≤ l → skip_optional ws g 14 + 4 ≤ length ws
-          motion-there k = omega (arith, et, is-ninth, full-there ws (ninth + 2) 11 1 (full₃ k))
+            pub axis-unfinished : (x : Refusal) → Err x ≡ run_end ws f 11 2 → Err x ≡ read
+            axis-unfinished x h =
+                run-short ws (ninth + 2) 11 2 x _ (h ∙ ap (λ (k : ℕ). run_end ws k 11 2) full₂.1)
+                ∙ sym (ap axis_reading axis-motion)
 
-          axis-motion : axis i (drop i ws) ≡ after ws (ninth + 2) 11 2 (got moving (ninth + 4) (drop (ninth + 4) ws))
-          axis-motion = axis-rest ∙ rest-moving (kind-there true e)
+            module _ (l : ℕ) (hl : Ok l ≡ run_end ws f 11 2) where
+              full₃ : (first_wrong ws (ninth + 2) 11 2 ≡ None) × (l ≡ ninth + 2 + 2)
+              full₃ = run-full ws (ninth + 2) 11 2 l (hl ∙ ap (λ (k : ℕ). run_end ws k 11 2) full₂.1)
 
-          pub axis-unfinished : l < t + 4 → Wrong l ≡ axis_reading (axis i (drop i ws))
-          axis-unfinished k =
-              ap (λ (p : ℕ). Wrong p) run₃
-              ∙ sym (ap axis_reading (axis-motion ∙ after-short ws (ninth + 2) 11 2 _ (omega (arith, is-ninth, run₃))))
+              pub motion-there : skip_optional ws g 14 + 4 ≤ length ws
+              motion-there = omega (arith, et, is-ninth, full-there ws (ninth + 2) 11 1 full₃.0)
 
-          pub axis-moving : t + 4 ≤ l
-              → Got (axis_at ws i (Moving (state_at ws g))) (t + 4) ≡ axis_reading (axis i (drop i ws))
-          unfolding moving
-          axis-moving k =
-              (λ j. Got (axis_at ws i (Moving (state_at ws (is-goal j)))) (is-ninth j + 4))
-              ∙ sym (ap axis_reading (axis-motion ∙ after-full ws (ninth + 2) 11 2 _ (full₃ k)))
+              pub axis-moving : Ok (axis_at ws i (Moving (state_at ws g)), l) ≡ read
+              unfolding moving
+              axis-moving =
+                  let end : l ≡ ninth + 4 = omega (arith, full₃.1) in
+                  (λ j. Ok (axis_at ws i (Moving (state_at ws (is-goal j))), end j))
+                  ∙ sym (ap axis_reading (axis-motion ∙ after-full ws (ninth + 2) 11 2 _ full₃.0))
 
   -- ---- what comes after an axis: the words from the next index on, at most thirteen after i
 
   abbrev pub Follows : Reading Axis → Type 0
   Follows (got x j vs) = (vs ≡ drop j ws) × (j ≤ i + 13)
-  Follows (wrong p) = p ≤ i + 13
+  Follows (wrong p) = Unit {0}
 
   near : ninth ≤ i + 9
   near = omega (arith, skip-within ws i 14, skip-within ws (first + 6) 13, skip-within ws goal 14)
@@ -194,16 +201,22 @@ module _ (ws : List ℕ) (i : ℕ) where
   rest-follows : Follows (rest (ninth + 2) (drop (ninth + 2) ws))
   rest-follows = ⊎_elim
       (λ e. subst Follows (sym (rest-moving e))
-      (after_both ws (ninth + 2) 11 2 _ Follows (refl, omega (arith, near))
-      (omega (arith, near, run-within ws (ninth + 2) 11 2))))
+      (after_both ws (ninth + 2) 11 2 _ Follows (refl, omega (arith, near)) (λ p. tt)))
       (λ e. subst Follows (sym (rest-fixed e)) (refl, omega (arith, near)))
       (either (is_kind ws (ninth + 2) 11))
 
   tail-follows : Follows (tail goal (drop goal ws))
-  tail-follows = subst Follows (sym tail-is)
-      (after_both ws ninth 9 2 _ Follows rest-follows (omega (arith, near, run-within ws ninth 9 2)))
+  tail-follows = subst Follows (sym tail-is) (after_both ws ninth 9 2 _ Follows rest-follows (λ p. tt))
 
   pub axis-follows : Follows (axis i (drop i ws))
-  axis-follows =
-      subst Follows (sym axis-is)
-      (after_both ws first 3 6 _ Follows tail-follows (omega (arith, skip-within ws i 14, run-within ws first 3 6)))
+  axis-follows = subst Follows (sym axis-is) (after_both ws first 3 6 _ Follows tail-follows (λ p. tt))
+
+  -- the index after the words of an axis that is read
+  pub axis-end : (x : Axis) (j : ℕ) → Ok (x, j) ≡ read → j ≤ i + 13
+  axis-end x j e = go (axis i (drop i ws)) axis-follows e
+    where
+      go : (r : Reading Axis) → Follows r → Ok (x, j) ≡ axis_reading r → j ≤ i + 13
+      go (got y k vs) (f, h) e =
+          let same : ◌≡◌ {A = Axis × ℕ} (x, j) (y, k) = cc in
+          omega (arith, ap (λ (q : Axis × ℕ). q.1) same)
+      go (wrong p) h e = absurd (cc)

@@ -1,5 +1,5 @@
 -- The end word: what the definitions read at an index, and what the code's check of it says.
-use Prim.Native.Nat.{ℕ, suc, ◌+◌, ◌<◌, ◌≤◌}
+use Prim.Native.Nat.{ℕ, suc, ◌+◌, ◌<◌}
 use Rattle.whole.proofs.Tests.{either}
 use Rattle.whole.proofs.Counting.{next_one}
 use native.Mathlib.Omega.{arith}
@@ -10,11 +10,9 @@ use mathlib.Core.List.{List, [], ◌∷◌}
 use lib.ListN.{get_or, length, drop, drop_of_length-le}
 use lib.Seq.{drop-cons}
 use lib.Dec.{eqb, ltb}
-use borrow.Author.Tests.{ltb-true, ltb-false, lt-ltb, le-ltb}
-use Rattle.model.specs.declared.Checked.{Checked}
-use Rattle.model.specs.declared.Checked.TheVariants.{Passed, Refused}
+use borrow.Author.Tests.{ltb-true, ltb-false}
 use Rattle.model.specs.planning.Words.{kind, payload, Reading, got, wrong, ending}
-use Rattle.words.specs.ByIndex.{is_kind, is_end, payload_at, bad_long_in, long_checked, end_checked}
+use Rattle.words.specs.ByIndex.{is_kind, is_end, payload_at}
 use Rattle.words.proofs.Reader.{inside, outside, there}
 
 abbrev end_word : ℕ → Bool
@@ -29,8 +27,8 @@ end-inside ws i h =
     both true d = refl
     both false d = refl
 
-pub end-there : (ws : List ℕ) (i : ℕ) → is_end ws i ≡ true → i < length ws
-end-there ws i e = there ws i 15 (first (is_kind ws i 15) (eqb (payload_at ws i) 0) e)
+pub end_there : (ws : List ℕ) (i : ℕ) → is_end ws i ≡ true → i < length ws
+end_there ws i e = there ws i 15 (first (is_kind ws i 15) (eqb (payload_at ws i) 0) e)
   where
     first : (b d : Bool) → cond b d false ≡ true → b ≡ true
     first true d e = refl
@@ -77,35 +75,3 @@ module _ {A : Type 0} (a : A) (ws : List ℕ) (i : ℕ) where
       ∙ sym (ap (λ (b : Bool). ends a i (cond b (eqb (payload_at ws i) 0) false) (ltb (i + 1) (length ws)))
       (outside ws i 15 t)))
       (either (ltb i (length ws)))
-
--- ---- the four ways out of the check
-
-module _ (ws : List ℕ) (i : ℕ) where
-  by_last : Bool → Checked
-  by_last l = cond l (Refused 2 (i + 1)) (long_checked (bad_long_in ws i 0) i)
-
-  by_end : Bool → Checked
-  by_end b = cond b (by_last (ltb (i + 1) (length ws))) (Refused 2 i)
-
-  pub end-missing : is_end ws i ≡ false → Refused 2 i ≡ end_checked ws i
-  unfolding end_checked by_end by_last
-  end-missing e = sym (ap by_end e)
-
-  ended : is_end ws i ≡ true → end_checked ws i ≡ by_last (ltb (i + 1) (length ws))
-  unfolding end_checked by_end by_last
-  ended e = ap by_end e
-
-  pub end-followed : is_end ws i ≡ true → i + 1 < length ws → Refused 2 (i + 1) ≡ end_checked ws i
-  unfolding by_last
-  end-followed e h = sym (ended e ∙ ap by_last (lt-ltb _ _ h))
-
-  module _ (e : is_end ws i ≡ true) (h : length ws ≤ i + 1) (f : ℕ) (is : f ≡ bad_long_in ws i 0) where
-    last : long_checked f i ≡ end_checked ws i
-    unfolding by_last
-    last = ap (λ (k : ℕ). long_checked k i) is ∙ sym (ended e ∙ ap by_last (le-ltb _ _ h))
-
-    pub end-long : f < i → Refused 14 f ≡ end_checked ws i
-    end-long k = sym (ap (λ (b : Bool). cond b (Refused 14 f) Passed) (lt-ltb f i k)) ∙ last
-
-    pub end-passed : i ≤ f → Passed ≡ end_checked ws i
-    end-passed k = sym (ap (λ (b : Bool). cond b (Refused 14 f) Passed) (le-ltb f i k)) ∙ last

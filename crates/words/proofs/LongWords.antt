@@ -2,9 +2,9 @@
 use Prim.Native.Nat.{ℕ, zero, suc, ◌+◌, ◌-◌, ◌<◌, ◌≤◌}
 use Rattle.whole.proofs.Counting.{one_less, none_left, next_one}
 use native.Mathlib.Omega.{arith}
-use mathlib.Core.Path.{◌≡◌, refl, sym, ap, subst, ◌∙◌}
+use mathlib.Core.Path.{◌≡◌, refl, sym, ap, ◌∙◌}
 use mathlib.Core.Bool.{Bool, true, false, not, cond, ◌&&◌}
-use mathlib.Core.Option.{Option, none, some}
+use Rattle.std.specs.Prelude.{Option, None, Some}
 use mathlib.Core.List.{List, [], ◌∷◌}
 use lib.ListN.{get_or, length, drop, drop_of_length-le}
 use lib.Seq.{drop-cons}
@@ -30,70 +30,39 @@ bad-long-is ws i h =
 
 -- ---- the words from i on, e being the index of the last one
 
--- the code's index p, against what the definitions find
-abbrev Says : ℕ → ℕ → Option ℕ → Type 0
-Says e p (some q) = (p ≡ q) × (q < e)
-Says e p none = p ≡ e
-
-finds : (ws : List ℕ) (n i : ℕ) → length ws ≡ i + suc n
-    → Says (i + n) (bad_long_in ws n i) (first_bad_long i (drop i ws))
+finds : (ws : List ℕ) (n i : ℕ) → length ws ≡ i + suc n → bad_long_in ws n i ≡ first_bad_long i (drop i ws)
 unfolding bad_long_in
 finds ws zero i l =
     let one : drop i ws ≡ get_or ws i 0 ∷ [] =
     drop-cons ws i 0 (omega arith)
     ∙ ap (λ (vs : List ℕ). get_or ws i 0 ∷ vs) (drop_of_length-le ws {i = suc i} (omega arith)) in
-    subst (λ (vs : List ℕ). Says (i + 0) i (first_bad_long i vs)) (sym one) (omega arith)
+    sym (ap (first_bad_long i) one)
 finds ws (suc n) i l =
     let more : drop (suc i) ws ≡ get_or ws (suc i) 0 ∷ drop (suc (suc i)) ws = drop-cons ws (suc i) 0 (omega arith) in
     let two : drop i ws ≡ get_or ws i 0 ∷ get_or ws (suc i) 0 ∷ drop (suc (suc i)) ws =
     drop-cons ws i 0 (omega arith) ∙ ap (λ (vs : List ℕ). get_or ws i 0 ∷ vs) more in
-    let later = subst (λ (vs : List ℕ). Says (suc i + n) (bad_long_in ws n (suc i)) (first_bad_long (suc i) vs)) more
-    (finds ws n (suc i) (omega arith)) in
-    subst (λ (vs : List ℕ). Says (i + suc n) (cond (is_bad_long ws i) i (bad_long_in ws n (suc i)))
-    (first_bad_long i vs))
-    (sym two)
-    (subst (λ (b : Bool). Says (i + suc n) (cond (is_bad_long ws i) i (bad_long_in ws n (suc i))) (by b))
-    (bad-long-is ws i (omega arith))
-    (go (is_bad_long ws i) (first_bad_long (suc i) (get_or ws (suc i) 0 ∷ drop (suc (suc i)) ws)) later))
+    let later = finds ws n (suc i) (omega arith) ∙ ap (first_bad_long (suc i)) more in
+    ap (λ (o : Option ℕ). cond (is_bad_long ws i) (Some i) o) later
+    ∙ go (is_bad_long ws i) (first_bad_long (suc i) (get_or ws (suc i) 0 ∷ drop (suc (suc i)) ws))
+    ∙ ap by (bad-long-is ws i (omega arith))
+    ∙ sym (ap (first_bad_long i) two)
   where
     by : Bool → Option ℕ
-    by b = elim b [ true ↦ some i | false ↦ first_bad_long (suc i) (get_or ws (suc i) 0 ∷ drop (suc (suc i)) ws) ]
+    by b = elim b [ true ↦ Some i | false ↦ first_bad_long (suc i) (get_or ws (suc i) 0 ∷ drop (suc (suc i)) ws) ]
 
-    go : (b : Bool) (o : Option ℕ) → Says (suc i + n) (bad_long_in ws n (suc i)) o
-        → Says (i + suc n) (cond b i (bad_long_in ws n (suc i))) (elim b [ true ↦ some i | false ↦ o ])
-    go true o h = (refl, omega arith)
-    go false (some q) h = (h.0, omega (arith, h.1))
-    go false none h = omega (arith, h)
+    go : (b : Bool) (o : Option ℕ) → cond b (Some i) o ≡ elim b [ true ↦ Some i | false ↦ o ]
+    go true o = refl
+    go false o = refl
 
-module _ (ws : List ℕ) (e p : ℕ) (l : length ws ≡ suc e) (is : p ≡ bad_long_in ws e 0) where
-  said : Says e p (first_bad_long 0 ws)
-  said =
-      let zero_more : 0 + e ≡ e = omega arith in
-      let long : length ws ≡ 0 + suc e = omega arith in
-      moved (subst (λ (k : ℕ). Says k (bad_long_in ws e 0) (first_bad_long 0 ws)) zero_more (finds ws e 0 long))
-    where
-      moved : Says e (bad_long_in ws e 0) (first_bad_long 0 ws) → Says e p (first_bad_long 0 ws)
-      moved = subst (λ (q : ℕ). Says e q (first_bad_long 0 ws)) (sym is)
-
-  pub long-found : p < e → first_bad_long 0 ws ≡ some p
-  long-found h = go (first_bad_long 0 ws) said
-    where
-      go : (o : Option ℕ) → Says e p o → o ≡ some p
-      go (some q) s = ap (λ (k : ℕ). some k) (sym s.0)
-      go none s = absurd (omega (arith, s))
-
-  pub no-long : e ≤ p → first_bad_long 0 ws ≡ none
-  no-long h = go (first_bad_long 0 ws) said
-    where
-      go : (o : Option ℕ) → Says e p o → o ≡ none
-      go (some q) s = absurd (omega (arith, s.0, s.1))
-      go none s = refl
+-- the index of the last word being e
+pub long-is : (ws : List ℕ) (e : ℕ) → length ws ≡ suc e → first_bad_long 0 ws ≡ bad_long_in ws e 0
+long-is ws e l = sym (finds ws e 0 (omega arith))
 
 -- ---- the loop
 
 module _ (ws : List ℕ) (e i : ℕ) where
-  by_word : Bool → ℕ
-  by_word b = cond b i (bad_long_in ws (e - (i + 1)) (suc i))
+  by_word : Bool → Option ℕ
+  by_word b = cond b (Some i) (bad_long_in ws (e - (i + 1)) (suc i))
 
   opened : i < e → bad_long_in ws (e - i) i ≡ by_word (is_bad_long ws i)
   unfolding bad_long_in by_word
@@ -103,11 +72,11 @@ module _ (ws : List ℕ) (e i : ℕ) where
   unfolding by_word
   long-on h t = opened h ∙ ap by_word t ∙ ap (bad_long_in ws (e - (i + 1))) (next_one i)
 
-  pub long-stop : i < e → is_bad_long ws i ≡ true → bad_long_in ws (e - i) i ≡ i
+  pub long-stop : i < e → is_bad_long ws i ≡ true → bad_long_in ws (e - i) i ≡ Some i
   unfolding by_word
   long-stop h t = opened h ∙ ap by_word t
 
-  pub long-ended : e ≤ i → bad_long_in ws (e - i) i ≡ i
+  pub long-ended : e ≤ i → bad_long_in ws (e - i) i ≡ None
   unfolding bad_long_in
   long-ended h = ap (λ (n : ℕ). bad_long_in ws n i) (none_left e i h)
 

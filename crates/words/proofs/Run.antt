@@ -6,15 +6,16 @@ use native.Mathlib.Omega.{arith}
 use mathlib.Core.Path.{◌≡◌, ap, ◌∙◌}
 use mathlib.Core.Bool.{Bool, true, false, cond}
 use mathlib.Core.List.{List}
+use Rattle.std.specs.Prelude.{Option, None, Some}
 use Rattle.words.specs.ByIndex.{is_kind, first_wrong}
 
 module _ (ws : List ℕ) (at first n : ℕ) where
   -- from the word j on
-  pub from : ℕ → ℕ
+  pub from : ℕ → Option ℕ
   from j = first_wrong ws (at + j) (first + j) (n - j)
 
-  by : ℕ → Bool → ℕ
-  by j b = cond b (first_wrong ws (suc (at + j)) (suc (first + j)) (n - (j + 1))) (at + j)
+  by : ℕ → Bool → Option ℕ
+  by j b = cond b (first_wrong ws (suc (at + j)) (suc (first + j)) (n - (j + 1))) (Some (at + j))
 
   opened : (j : ℕ) → j < n → from j ≡ by j (is_kind ws (at + j) (first + j))
   unfolding from by first_wrong
@@ -31,11 +32,11 @@ module _ (ws : List ℕ) (at first n : ℕ) where
           let q : suc (first + j) ≡ first + (j + 1) = omega arith in
           λ i. first_wrong ws (p i) (q i) (n - (j + 1))
 
-  pub stop : (j : ℕ) → j < n → is_kind ws (at + j) (first + j) ≡ false → from j ≡ at + j
+  pub stop : (j : ℕ) → j < n → is_kind ws (at + j) (first + j) ≡ false → from j ≡ Some (at + j)
   unfolding by
   stop j h e = opened j h ∙ ap (by j) e
 
-  pub ended : (j : ℕ) → n ≤ j → from j ≡ at + j
+  pub ended : (j : ℕ) → n ≤ j → from j ≡ None
   unfolding from first_wrong
   ended j h = ap (first_wrong ws (at + j) (first + j)) (none_left n j h)
 

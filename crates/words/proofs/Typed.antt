@@ -3,13 +3,17 @@ use Prim.Native.Nat.{ℕ, zero, suc, ◌+◌, ◌/◌, ◌%◌, ◌<◌, ◌≤�
 use native.Mathlib.Omega.{arith}
 use mathlib.Core.Path.{◌≡◌, refl, sym, ap, ap₂, ◌∙◌}
 use mathlib.Core.Bool.{Bool, true, false, ◌&&◌}
-use mathlib.Core.Option.{Option, none, some}
+use Rattle.std.specs.Prelude.{Option, None, Some}
 use mathlib.Core.List.{List, [], ◌∷◌, map}
 use lib.ListN.{get_or, length, drop, set, length-set, drop_of_length-le}
 use lib.Seq.{drop-cons, get_or-set_same, get_or-set_other}
 use lib.Dec.{eqb}
 use Rattle.model.specs.declared.Axis.{Axis}
-use Rattle.model.specs.declared.Checked.TheVariants.{Passed, Refused}
+use Rattle.std.specs.declared.result.Result.{Result}
+use Rattle.std.specs.declared.result.Result.TheVariants.{Ok}
+use Rattle.model.specs.declared.refusal.Refusal.{Refusal}
+use Rattle.model.specs.declared.Job as Typed
+use Rattle.model.specs.planning.Told.{told}
 use Rattle.model.specs.declared.Windows.{Windows}
 use Rattle.model.specs.planning.Windows.{no_windows}
 use Rattle.model.specs.planning.Job.{Job, JobAxis, set_from, set_bits, set_axes, job_of, unset_axis}
@@ -17,8 +21,7 @@ use Rattle.model.specs.planning.Words.{Reading, got, wrong, ◌>>=◌, give, kin
 use Rattle.model.specs.planning.Words.{first_bad_long, read_job, after_mask, good_mask, Decoded, no_mask, bad_word}
 use Rattle.model.specs.planning.Words.{bad_long}
 use Rattle.model.specs.planning.Words.{job, spelled, decided, decode}
-use Rattle.words.specs.declared.DecodedJob.{DecodedJob}
-use Rattle.words.specs.Decoding.{unset_axes, placed, decoded_job, Decodes}
+use Rattle.words.specs.Decoding.{unset_axes, placed, word_job, decoded_job, Decodes}
 use Rattle.words.proofs.Reader.{on}
 
 abbrev numbers : List JobAxis → List ℕ
@@ -166,8 +169,8 @@ sound [] = tt
 sound (w ∷ ws) = go (eqb (kind w) 1) (good_mask (payload w)) refl
   where
     by-long : (o : Option ℕ) (j : Job) → Sound (job j) → Sound (spelled o j)
-    by-long (some p) j h = tt
-    by-long none j h = h
+    by-long (Some p) j h = tt
+    by-long None j h = h
 
     by-reading : good_mask (payload w) ≡ true → (r : Reading Job) → JobOf (payload w) r → Sound (decided (w ∷ ws) r)
     by-reading e (got j i rest) (p, q, r) =
@@ -185,33 +188,29 @@ sound (w ∷ ws) = go (eqb (kind w) 1) (good_mask (payload w)) refl
     go true false e = tt
     go false b e = tt
 
-apart : {n p : ℕ} → Refused n p ≡ Passed → ⊥
-apart e = let z : ◌≡◌ {A = ℕ} 0 1 = cc in omega arith
-
-pub decodes : (ws : List ℕ) (r : DecodedJob) → r ≡ decoded_job (decode ws) → Decodes ws r
+pub decodes : (ws : List ℕ) (r : Result Typed.Job Refusal) → told r ≡ decoded_job (decode ws) → Decodes ws r
 decodes ws r e =
     record {
       decoded = e;
-      typed = λ z.
-          typed-of (decode ws) (sound ws) (passed-of z) ∙ ap (λ (s : DecodedJob). job (job_of s.job)) (sym e);
-      allowed = λ z.
-          ap (λ (s : DecodedJob). good_mask s.job.mask) e ∙ allowed_of (decode ws) (sound ws) (passed-of z);
+      typed = λ t z. typed-of (decode ws) (sound ws) t (sym (ap told z) ∙ e);
+      allowed = λ t z. allowed_of (decode ws) (sound ws) t (sym (ap told z) ∙ e);
     }
   where
-    passed-of : r.checked ≡ Passed → (decoded_job (decode ws)).checked ≡ Passed
-    passed-of z = sym (ap (λ (s : DecodedJob). s.checked) e) ∙ z
-
-    typed-of : (d : Decoded) → Sound d → (decoded_job d).checked ≡ Passed → d ≡ job (job_of (decoded_job d).job)
-    typed-of no_mask h z = absurd (apart z)
-    typed-of (bad_word p) h z = absurd (apart z)
-    typed-of (bad_long p) h z = absurd (apart z)
-    typed-of (job j) (g, ns, w) z =
-        ap₂ (λ (xs : List JobAxis) (v : Windows). job
+    typed-of : (d : Decoded) → Sound d → (t : Typed.Job) → Ok t ≡ decoded_job d → d ≡ job (job_of t)
+    typed-of no_mask h t z = absurd (cc)
+    typed-of (bad_word p) h t z = absurd (cc)
+    typed-of (bad_long p) h t z = absurd (cc)
+    typed-of (job j) (g, ns, w) t z =
+        let is : t ≡ word_job j.mask j.asked (placed j.axes unset_axes) = cc in
+        ap₂ (λ (xs : List JobAxis) (v : Option Windows). job
         (record { mask = j.mask; asked = j.asked; axes = xs; windows = v }))
         (sym (axes-again 6 0 j.mask j.axes unset_axes refl ns)) w
+        ∙ ap (λ (s : Typed.Job). job (job_of s)) (sym is)
 
-    allowed_of : (d : Decoded) → Sound d → (decoded_job d).checked ≡ Passed → good_mask (decoded_job d).job.mask ≡ true
-    allowed_of no_mask h z = absurd (apart z)
-    allowed_of (bad_word p) h z = absurd (apart z)
-    allowed_of (bad_long p) h z = absurd (apart z)
-    allowed_of (job j) h z = h.0
+    allowed_of : (d : Decoded) → Sound d → (t : Typed.Job) → Ok t ≡ decoded_job d → good_mask t.mask ≡ true
+    allowed_of no_mask h t z = absurd (cc)
+    allowed_of (bad_word p) h t z = absurd (cc)
+    allowed_of (bad_long p) h t z = absurd (cc)
+    allowed_of (job j) h t z =
+        let is : t ≡ word_job j.mask j.asked (placed j.axes unset_axes) = cc in
+        ap (λ (s : Typed.Job). good_mask s.mask) is ∙ h.0

@@ -4,55 +4,35 @@ ghost use Rattle.model.specs.planning.Words as Words;
 ghost use Rattle.words.specs.ByIndex.{skip_optional, rest_at, state_at, sway_at, axis_at, axis_reading};
 
 use crate::position::position_at;
-use crate::word::{first_wrong, is_kind, payload, signed_payload, skip_optional};
+use crate::word::{is_kind, payload, run_end, signed_payload, skip_optional};
 use model::{
-    Axis, LONG_WORD, MOVING_WORD, RestPoint, SECOND_SWAY_WORD, START_WORD, SecondSway, State,
+    Axis, LONG_WORD, MOVING_WORD, Refusal, RestPoint, SECOND_SWAY_WORD, START_WORD, State,
     TARGET_WORD, Target, Weight,
 };
 
-// An axis with the index after its words, or the index of the first wrong word.
-#[derive(Clone, Copy)]
-pub enum AxisReading {
-    Got(Axis, usize),
-    Wrong(usize),
-}
-
-// The axis whose words begin at an index: eight of kinds 3 to 10, and for a moving target two
-// more, of kinds 11 and 12. A word of kind 14 may stand before those of kinds 3 and 9, and one
-// of kind 13 after that of kind 8.
-pub fn read_axis(words: &[u32], at: usize) -> AxisReading
+// The axis whose words begin at an index, and the index after them, or refusal 2. They are eight of
+// kinds 3 to 10, and for a moving target two more, of kinds 11 and 12. A word of kind 14 may stand
+// before those of kinds 3 and 9, and one of kind 13 after that of kind 8.
+pub fn read_axis(words: &[u32], at: usize) -> Result<(Axis, usize), Refusal>
     requires { at < 1000 }
     ensures { result ≡ axis_reading (Words.axis at (drop at words.now)) }
 {
     let start = skip_optional(words, at, LONG_WORD);
-    let first = first_wrong(words, start, START_WORD, 6);
-    let sway_at = start + 6;
-    if first < sway_at {
-        return AxisReading::Wrong(first);
-    }
+    let sway_at = run_end(words, start, START_WORD, 6)?;
     let target_at = skip_optional(words, sway_at, SECOND_SWAY_WORD);
     let target = skip_optional(words, target_at, LONG_WORD);
-    let second = first_wrong(words, target, TARGET_WORD, 2);
-    let fixed_end = target + 2;
-    if second < fixed_end {
-        return AxisReading::Wrong(second);
-    }
+    let fixed_end = run_end(words, target, TARGET_WORD, 2)?;
     if !is_kind(words, fixed_end, MOVING_WORD) {
         let point = rest_point(words, target_at);
-        let axis = axis_to(words, at, Target::Fixed(point));
-        return AxisReading::Got(axis, fixed_end);
+        return Ok((axis_to(words, at, Target::Fixed(point)), fixed_end));
     }
-    let third = first_wrong(words, fixed_end, MOVING_WORD, 2);
-    let moving_end = target + 4;
-    if third < moving_end {
-        return AxisReading::Wrong(third);
-    }
+    let moving_end = run_end(words, fixed_end, MOVING_WORD, 2)?;
     let state = state_at(words, target_at);
-    let axis = axis_to(words, at, Target::Moving(state));
-    AxisReading::Got(axis, moving_end)
+    Ok((axis_to(words, at, Target::Moving(state)), moving_end))
 }
 
 // The axis whose words begin at an index, with a target.
+#[tactic(auto, unfolding(crate::specs::ByIndex::axis_at))]
 fn axis_to(words: &[u32], at: usize, target: Target) -> Axis
     requires { skip_optional words.now at 14 + 6 ≤ length words.now }
     ensures { result ≡ axis_at words.now at target }
@@ -63,29 +43,32 @@ fn axis_to(words: &[u32], at: usize, target: Target) -> Axis
     let acceleration_limit = payload(words, first + 3);
     let half_period = payload(words, first + 4);
     let second_weight = payload(words, first + 5);
-    let sway = second_sway(words, first + 6);
+    let second_sway = second_sway(words, first + 6);
     Axis {
-        start: start,
-        speed_limit: speed_limit,
-        acceleration_limit: acceleration_limit,
-        half_period: half_period,
+        start,
+        speed_limit,
+        acceleration_limit,
+        half_period,
         second_weight: Weight::Given(second_weight),
-        second_sway: sway,
-        target: target,
+        second_sway,
+        target,
     }
 }
 
 // The second sway whose word may stand at an index.
-fn second_sway(words: &[u32], at: usize) -> SecondSway
+#[tactic(auto, using(crate::proofs::Reader::there), unfolding(crate::specs::ByIndex::sway_at))]
+fn second_sway(words: &[u32], at: usize) -> Option<u32>
     ensures { result ≡ sway_at words.now at }
 {
     if is_kind(words, at, SECOND_SWAY_WORD) {
-        return SecondSway::HalfPeriod(payload(words, at));
+        Some(payload(words, at))
+    } else {
+        None
     }
-    SecondSway::Absent
 }
 
 // The position and velocity whose words begin at an index.
+#[tactic(auto, using(crate::proofs::Twos::back), unfolding(crate::specs::ByIndex::rest_at))]
 fn rest_point(words: &[u32], at: usize) -> RestPoint
     requires { skip_optional words.now at 14 + 2 ≤ length words.now }
     ensures { result ≡ rest_at words.now at }
@@ -93,13 +76,11 @@ fn rest_point(words: &[u32], at: usize) -> RestPoint
     let first = skip_optional(words, at, LONG_WORD);
     let position = position_at(words, at);
     let velocity = signed_payload(words, first + 1);
-    RestPoint {
-        position: position,
-        velocity: velocity,
-    }
+    RestPoint { position, velocity }
 }
 
 // The position, velocity, acceleration and tick whose words begin at an index.
+#[tactic(auto, using(crate::proofs::Twos::back), unfolding(crate::specs::ByIndex::state_at))]
 fn state_at(words: &[u32], at: usize) -> State
     requires { skip_optional words.now at 14 + 4 ≤ length words.now }
     ensures { result ≡ state_at words.now at }
@@ -110,9 +91,9 @@ fn state_at(words: &[u32], at: usize) -> State
     let acceleration = signed_payload(words, first + 2);
     let tick = signed_payload(words, first + 3);
     State {
-        position: position,
-        velocity: velocity,
-        acceleration: acceleration,
-        tick: tick,
+        position,
+        velocity,
+        acceleration,
+        tick,
     }
 }

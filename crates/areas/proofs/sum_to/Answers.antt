@@ -36,7 +36,7 @@ overflow_add-result c =
     let l = level-is c.args.r c.args.k p c.parts_to-parts.ensures c.requires.k_lt_ticks
     c.requires.regions_ranged.ticks in
     let m = raised_is c.args.r c.args.k p c.parts_to-parts.ensures c.requires.k_lt_ticks c.requires.regions_ranged.ticks
-    c.at_most-raised.result c.at_most-raised.ensures in
+    c.min-raised.result c.min-raised.ensures in
     sfits (search exact depth 20) tt
 
 pub overflow_add-result-2 : goal.overflow_add-result-2
@@ -45,7 +45,7 @@ overflow_add-result-2 c =
     let l = level-is c.args.r c.args.k p c.parts_to-parts.ensures c.requires.k_lt_ticks
     c.requires.regions_ranged.ticks in
     let m = raised_is c.args.r c.args.k p c.parts_to-parts.ensures c.requires.k_lt_ticks c.requires.regions_ranged.ticks
-    c.at_most-raised.result c.at_most-raised.ensures in
+    c.min-raised.result c.min-raised.ensures in
     sfits (search exact depth 20) tt
 
 pub overflow_add-result-3 : goal.overflow_add-result-3
@@ -54,7 +54,7 @@ overflow_add-result-3 c =
     let l = level-is c.args.r c.args.k p c.parts_to-parts.ensures c.requires.k_lt_ticks
     c.requires.regions_ranged.ticks in
     let m = raised_is c.args.r c.args.k p c.parts_to-parts.ensures c.requires.k_lt_ticks c.requires.regions_ranged.ticks
-    c.at_most-raised.result c.at_most-raised.ensures in
+    c.min-raised.result c.min-raised.ensures in
     sfits (search exact depth 20) tt
 
 pub returns : goal.returns
@@ -66,7 +66,7 @@ returns c =
     let p = c.parts_to-parts.ensures in
     let l = level-is r k q p c.requires.k_lt_ticks c.requires.regions_ranged.ticks in
     let m = raised_is r k q p c.requires.k_lt_ticks c.requires.regions_ranged.ticks
-    c.at_most-raised.result c.at_most-raised.ensures in
+    c.min-raised.result c.min-raised.ensures in
     let s : to_z w64 (of_z w64 r.start) ≡ r.start = exactly (search exact depth 9) tt in
     let u : to_z w64 (of_z w64 r.up) ≡ r.up = exactly (search exact depth 9) tt in
     then_is (is-of (search exact depth 30 fits 9000) tt)

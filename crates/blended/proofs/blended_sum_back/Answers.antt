@@ -6,7 +6,8 @@ use mir.Syntax.{w64}
 use mir.Val.{to_z, of_z}
 use Rattle.whole.specs.Integers.{sum_to}
 use Rattle.whole.specs.Ranges.{Is}
-use Rattle.whole.proofs.Bounds.{exact, sfits, exactly, cast-small}
+use Rattle.whole.proofs.Bounds.{exact, sfits, exactly}
+use Rattle.motion.proofs.Converted.{from-small}
 use Rattle.planned.specs.Plans.{velocity_back}
 use Rattle.blended.proofs.BlendedRanges.{weights-small}
 use Rattle.blended.proofs.BlendedSums.{weighed-within, weights-light, blend-sum-is}
@@ -16,8 +17,8 @@ pub overflow_mul-result : goal.overflow_mul-result
 overflow_mul-result c =
     let p = c.args.p in
     let r = c.requires.plan_ranges in
-    let w = cast-small (2 ^ 16) p.first_weight (omega (arith, weights-small p r)) tt in
-    let x : Is (2 ^ 58) (to_z w64 p.first_weight *ℤ to_z w64 (of_z w64 c.sum_back-ahead.result))
+    let w = from-small (2 ^ 16) p.first_weight c.from.result c.from.ensures (omega (arith, weights-small p r)) in
+    let x : Is (2 ^ 58) (to_z w64 (of_z w64 c.from.result) *ℤ to_z w64 (of_z w64 c.sum_back-ahead.result))
     (pos p.first_weight *ℤ sum_to (velocity_back p c.args.d) c.args.k) =
     record {
       is = exactly (search exact depth 20) tt;
@@ -31,8 +32,8 @@ pub overflow_mul-result-2 : goal.overflow_mul-result-2
 overflow_mul-result-2 c =
     let p = c.args.p in
     let r = c.requires.plan_ranges in
-    let w = cast-small (2 ^ 16) p.second_weight (omega (arith, weights-small p r)) tt in
-    let y : Is (2 ^ 58) (to_z w64 p.second_weight *ℤ to_z w64 (of_z w64 c.sum_back-behind.result))
+    let w = from-small (2 ^ 16) p.second_weight c.from-2.result c.from-2.ensures (omega (arith, weights-small p r)) in
+    let y : Is (2 ^ 58) (to_z w64 (of_z w64 c.from-2.result) *ℤ to_z w64 (of_z w64 c.sum_back-behind.result))
     (pos p.second_weight *ℤ sum_to (velocity_back p (c.args.d + p.half_period)) c.args.k) =
     record {
       is = exactly (search exact depth 20) tt;
@@ -46,9 +47,9 @@ pub overflow_add-result : goal.overflow_add-result
 overflow_add-result c =
     let p = c.args.p in
     let r = c.requires.plan_ranges in
-    let v = cast-small (2 ^ 16) p.first_weight (omega (arith, weights-small p r)) tt in
-    let w = cast-small (2 ^ 16) p.second_weight (omega (arith, weights-small p r)) tt in
-    let x : Is (2 ^ 58) (to_z w64 p.first_weight *ℤ to_z w64 (of_z w64 c.sum_back-ahead.result))
+    let v = from-small (2 ^ 16) p.first_weight c.from.result c.from.ensures (omega (arith, weights-small p r)) in
+    let w = from-small (2 ^ 16) p.second_weight c.from-2.result c.from-2.ensures (omega (arith, weights-small p r)) in
+    let x : Is (2 ^ 58) (to_z w64 (of_z w64 c.from.result) *ℤ to_z w64 (of_z w64 c.sum_back-ahead.result))
     (pos p.first_weight *ℤ sum_to (velocity_back p c.args.d) c.args.k) =
     record {
       is = exactly (search exact depth 20) tt;
@@ -56,7 +57,7 @@ overflow_add-result c =
           weighed-within p r c.args.k c.requires.k_bound p.first_weight c.args.d
           (weights-light p r c.args.k c.requires.k_bound).0;
     } in
-    let y : Is (2 ^ 58) (to_z w64 p.second_weight *ℤ to_z w64 (of_z w64 c.sum_back-behind.result))
+    let y : Is (2 ^ 58) (to_z w64 (of_z w64 c.from-2.result) *ℤ to_z w64 (of_z w64 c.sum_back-behind.result))
     (pos p.second_weight *ℤ sum_to (velocity_back p (c.args.d + p.half_period)) c.args.k) =
     record {
       is = exactly (search exact depth 20) tt;
@@ -70,9 +71,9 @@ pub returns : goal.returns
 returns c =
     let p = c.args.p in
     let r = c.requires.plan_ranges in
-    let v = cast-small (2 ^ 16) p.first_weight (omega (arith, weights-small p r)) tt in
-    let w = cast-small (2 ^ 16) p.second_weight (omega (arith, weights-small p r)) tt in
-    let x : Is (2 ^ 58) (to_z w64 p.first_weight *ℤ to_z w64 (of_z w64 c.sum_back-ahead.result))
+    let v = from-small (2 ^ 16) p.first_weight c.from.result c.from.ensures (omega (arith, weights-small p r)) in
+    let w = from-small (2 ^ 16) p.second_weight c.from-2.result c.from-2.ensures (omega (arith, weights-small p r)) in
+    let x : Is (2 ^ 58) (to_z w64 (of_z w64 c.from.result) *ℤ to_z w64 (of_z w64 c.sum_back-ahead.result))
     (pos p.first_weight *ℤ sum_to (velocity_back p c.args.d) c.args.k) =
     record {
       is = exactly (search exact depth 20) tt;
@@ -80,7 +81,7 @@ returns c =
           weighed-within p r c.args.k c.requires.k_bound p.first_weight c.args.d
           (weights-light p r c.args.k c.requires.k_bound).0;
     } in
-    let y : Is (2 ^ 58) (to_z w64 p.second_weight *ℤ to_z w64 (of_z w64 c.sum_back-behind.result))
+    let y : Is (2 ^ 58) (to_z w64 (of_z w64 c.from-2.result) *ℤ to_z w64 (of_z w64 c.sum_back-behind.result))
     (pos p.second_weight *ℤ sum_to (velocity_back p (c.args.d + p.half_period)) c.args.k) =
     record {
       is = exactly (search exact depth 20) tt;

@@ -3,28 +3,28 @@ use mathlib.Core.Path.{◌≡◌, sym, ap, ◌∙◌}
 use mir.Syntax.{w64}
 use mir.Val.{to_z, of_z}
 use Rattle.whole.proofs.Bounds.{exact, exactly}
-use Rattle.model.specs.declared.SecondSway.{SecondSway}
+use Rattle.std.specs.Prelude.{Option}
 use Rattle.planned.specs.declared.AxisPlan.{AxisPlan}
 use Rattle.blended.specs.BlendedStates.{blended_back, added}
 use Rattle.blended.proofs.BlendedRanges.{blends-are}
 use Rattle.blended.proofs.blended_velocity.Goals as goal
 
 -- the blends of a second sway
-all : (p : AxisPlan) (k : ℕ) {s : SecondSway} → p.second_sway ≡ s
+all : (p : AxisPlan) (k : ℕ) {s : Option ℕ} → p.second_sway ≡ s
     → added p.second_sway (λ d. blended_back p d k) ≡ added s (λ d. blended_back p d k)
-all p k e = ap (λ (s : SecondSway). added s (λ d. blended_back p d k)) e
+all p k e = ap (λ (s : Option ℕ). added s (λ d. blended_back p d k)) e
 
-pub returns-in-Absent : goal.returns-in-Absent
-returns-in-Absent c =
+pub returns-in-None : goal.returns-in-None
+returns-in-None c =
     let p = c.args.p in
     let k = c.args.k in
     let once : to_z w64 (of_z w64 c.blended_back-once.result) ≡ blended_back p 0 k =
     exactly (search exact depth 9) tt in
-    blends-are p c.requires.plan_ranges k _ c.requires.k_bound (once ∙ sym (all p k c.in-Absent.is))
+    blends-are p c.requires.plan_ranges k _ c.requires.k_bound (once ∙ sym (all p k c.in-None.is))
 
-pub returns-in-HalfPeriod : goal.returns-in-HalfPeriod
-returns-in-HalfPeriod c =
+pub returns-in-Some : goal.returns-in-Some
+returns-in-Some c =
     let p = c.args.p in
     let k = c.args.k in
     blends-are p c.requires.plan_ranges k _ c.requires.k_bound
-    (exactly (search exact depth 20) tt ∙ sym (all p k c.in-HalfPeriod.is))
+    (exactly (search exact depth 20) tt ∙ sym (all p k c.in-Some.is))

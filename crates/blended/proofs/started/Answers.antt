@@ -1,11 +1,11 @@
 use Prim.Native.Nat.{◌^◌}
-use mathlib.Core.Path.{ap}
-use native.Mathlib.Omega.{arith}
+use mathlib.Core.Path.{ap, ◌∙◌}
 use lib.IntN.{pos, ◌*ℤ◌}
 use mir.Syntax.{w64}
 use mir.Val.{to_z, of_z}
 use Rattle.whole.specs.Ranges.{Is}
-use Rattle.whole.proofs.Bounds.{exact, sfits, exactly, cast-small, then_is}
+use Rattle.whole.proofs.Bounds.{exact, sfits, exactly}
+use Rattle.motion.proofs.Converted.{from-small}
 use Rattle.planned.specs.Plans.{total_weight}
 use Rattle.blended.specs.BlendedStates.{lag_of}
 use Rattle.blended.proofs.BlendedSteps.{state-0}
@@ -14,10 +14,9 @@ use Rattle.blended.proofs.started.Goals as goal
 
 pub overflow_mul-result-2 : goal.overflow_mul-result-2
 overflow_mul-result-2 c =
-    let e = c.lag_of-lag.ensures in
-    let l = then_is (cast-small (2 ^ 25) c.lag_of-lag.result (omega (arith, e, lag-small c.args.p c.requires)) tt)
-    (ap pos e) in
-    let b : Is (2 ^ 54) (to_z w64 c.lag_of-lag.result *ℤ to_z w64 (of_z w64 c.args.p.regions.start))
+    let e = c.from-lag.ensures ∙ ap pos c.lag_of.ensures in
+    let l = from-small (2 ^ 25) (lag_of c.args.p) c.from-lag.result e (lag-small c.args.p c.requires) in
+    let b : Is (2 ^ 54) (to_z w64 (of_z w64 c.from-lag.result) *ℤ to_z w64 (of_z w64 c.args.p.regions.start))
     (pos (lag_of c.args.p) *ℤ c.args.p.regions.start) = record {
       is = exactly (search exact depth 20) tt;
       within = lagging c.args.p c.requires;
@@ -26,10 +25,9 @@ overflow_mul-result-2 c =
 
 pub overflow_mul-result-3 : goal.overflow_mul-result-3
 overflow_mul-result-3 c =
-    let e = c.lag_of-lag.ensures in
-    let l = then_is (cast-small (2 ^ 25) c.lag_of-lag.result (omega (arith, e, lag-small c.args.p c.requires)) tt)
-    (ap pos e) in
-    let b : Is (2 ^ 54) (to_z w64 c.lag_of-lag.result *ℤ to_z w64 (of_z w64 c.args.p.regions.start))
+    let e = c.from-lag.ensures ∙ ap pos c.lag_of.ensures in
+    let l = from-small (2 ^ 25) (lag_of c.args.p) c.from-lag.result e (lag-small c.args.p c.requires) in
+    let b : Is (2 ^ 54) (to_z w64 (of_z w64 c.from-lag.result) *ℤ to_z w64 (of_z w64 c.args.p.regions.start))
     (pos (lag_of c.args.p) *ℤ c.args.p.regions.start) = record {
       is = exactly (search exact depth 20) tt;
       within = lagging c.args.p c.requires;
@@ -38,19 +36,17 @@ overflow_mul-result-3 c =
 
 pub overflow_sub-result : goal.overflow_sub-result
 overflow_sub-result c =
-    let e = c.lag_of-lag.ensures in
-    let l = then_is (cast-small (2 ^ 25) c.lag_of-lag.result (omega (arith, e, lag-small c.args.p c.requires)) tt)
-    (ap pos e) in
-    let b : Is (2 ^ 54) (to_z w64 c.lag_of-lag.result *ℤ to_z w64 (of_z w64 c.args.p.regions.start))
+    let e = c.from-lag.ensures ∙ ap pos c.lag_of.ensures in
+    let l = from-small (2 ^ 25) (lag_of c.args.p) c.from-lag.result e (lag-small c.args.p c.requires) in
+    let b : Is (2 ^ 54) (to_z w64 (of_z w64 c.from-lag.result) *ℤ to_z w64 (of_z w64 c.args.p.regions.start))
     (pos (lag_of c.args.p) *ℤ c.args.p.regions.start) = record {
       is = exactly (search exact depth 20) tt;
       within = lagging c.args.p c.requires;
     } in
-    let f = c.total_weight-weight.ensures in
-    let w = then_is (cast-small (2 ^ 16) c.total_weight-weight.result (omega (arith, f, c.requires.light)) tt)
-    (ap pos f) in
+    let f = c.from-weight.ensures ∙ ap pos c.total_weight.ensures in
+    let w = from-small (2 ^ 16) (total_weight c.args.p) c.from-weight.result f c.requires.light in
     let q = origin-within c.args.p c.requires in
-    let o : Is (2 ^ 60) (to_z w64 c.total_weight-weight.result *ℤ to_z w64 (of_z w64 c.args.p.origin))
+    let o : Is (2 ^ 60) (to_z w64 (of_z w64 c.from-weight.result) *ℤ to_z w64 (of_z w64 c.args.p.origin))
     (pos (total_weight c.args.p) *ℤ c.args.p.origin) = record {
       is = exactly (search exact depth 20) tt;
       within = c.requires.origin.within;
@@ -59,26 +55,23 @@ overflow_sub-result c =
 
 pub overflow_mul-result-4 : goal.overflow_mul-result-4
 overflow_mul-result-4 c =
-    let f = c.total_weight-weight.ensures in
-    let w = then_is (cast-small (2 ^ 16) c.total_weight-weight.result (omega (arith, f, c.requires.light)) tt)
-    (ap pos f) in
+    let f = c.from-weight.ensures ∙ ap pos c.total_weight.ensures in
+    let w = from-small (2 ^ 16) (total_weight c.args.p) c.from-weight.result f c.requires.light in
     sfits (search exact depth 20) tt
 
 pub returns : goal.returns
 returns c =
-    let e = c.lag_of-lag.ensures in
-    let l = then_is (cast-small (2 ^ 25) c.lag_of-lag.result (omega (arith, e, lag-small c.args.p c.requires)) tt)
-    (ap pos e) in
-    let b : Is (2 ^ 54) (to_z w64 c.lag_of-lag.result *ℤ to_z w64 (of_z w64 c.args.p.regions.start))
+    let e = c.from-lag.ensures ∙ ap pos c.lag_of.ensures in
+    let l = from-small (2 ^ 25) (lag_of c.args.p) c.from-lag.result e (lag-small c.args.p c.requires) in
+    let b : Is (2 ^ 54) (to_z w64 (of_z w64 c.from-lag.result) *ℤ to_z w64 (of_z w64 c.args.p.regions.start))
     (pos (lag_of c.args.p) *ℤ c.args.p.regions.start) = record {
       is = exactly (search exact depth 20) tt;
       within = lagging c.args.p c.requires;
     } in
-    let f = c.total_weight-weight.ensures in
-    let w = then_is (cast-small (2 ^ 16) c.total_weight-weight.result (omega (arith, f, c.requires.light)) tt)
-    (ap pos f) in
+    let f = c.from-weight.ensures ∙ ap pos c.total_weight.ensures in
+    let w = from-small (2 ^ 16) (total_weight c.args.p) c.from-weight.result f c.requires.light in
     let q = origin-within c.args.p c.requires in
-    let o : Is (2 ^ 60) (to_z w64 c.total_weight-weight.result *ℤ to_z w64 (of_z w64 c.args.p.origin))
+    let o : Is (2 ^ 60) (to_z w64 (of_z w64 c.from-weight.result) *ℤ to_z w64 (of_z w64 c.args.p.origin))
     (pos (total_weight c.args.p) *ℤ c.args.p.origin) = record {
       is = exactly (search exact depth 20) tt;
       within = c.requires.origin.within;

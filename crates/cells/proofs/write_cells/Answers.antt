@@ -14,9 +14,9 @@ pub returns : goal.returns
 returns c =
     let t = c.args.t in
     let u = c.args.u in
-    let p = c.nearest_131072 in
-    let v = c.nearest_65536 in
-    let w = c.nearest_65536-2 in
+    let p = c.nearest in
+    let v = c.nearest-2 in
+    let w = c.nearest-3 in
     let position : to_z w64 (of_z w64 t.position) ≡ t.position = exactly (search exact depth 20) tt in
     let velocity : to_z w64 (of_z w64 t.velocity) ≡ t.velocity = exactly (search exact depth 20) tt in
     let difference : ℤ = to_z w64 (of_z w64 u.velocity) -ℤ to_z w64 (of_z w64 t.velocity) in

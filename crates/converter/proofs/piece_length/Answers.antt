@@ -7,7 +7,7 @@ returns-then-is_flying-clause-value c =
     let a = c.args in
     piece-flying a.words.now a.i (sym c.if-is_flying.true ∙ c.is_flying.ensures)
 
-pub returns-clause-value : goal.returns-clause-value
-returns-clause-value c =
+pub returns-else-is_flying-clause-value : goal.returns-else-is_flying-clause-value
+returns-else-is_flying-clause-value c =
     let a = c.args in
     piece-copied a.words.now a.i (sym c.if-is_flying.false ∙ c.is_flying.ensures)

@@ -1,4 +1,3 @@
-use native.Mathlib.Omega.{arith}
 use mathlib.Core.Path.{refl, ◌∙◌}
 use Rattle.converter.proofs.Pieces.{parts_none, parts_more, piece-room, piece-written, nothing_written, all-written}
 use Rattle.converter.proofs.put_words.Goals as goal
@@ -7,7 +6,6 @@ pub loop-i-init : goal.loop-i-init
 loop-i-init c =
     let a = c.args in
     record {
-      low = omega arith;
       long = refl;
       parts = parts_none a.asked a.words.now;
       text = nothing_written a.asked a.words.now a.lent.now;
@@ -25,7 +23,6 @@ loop-i-preserved c =
     let l = c.loop-i in
     let a = c.args in
     record {
-      low = omega arith;
       long = w.auto.lent ∙ l.invariant.long;
       parts = parts_more a.asked a.words.now l.i c.loop-i-test.true l.invariant.parts;
       text = piece-written a.asked a.words.now c.loop-i-test.true l.invariant.parts

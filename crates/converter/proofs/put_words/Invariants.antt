@@ -1,4 +1,3 @@
-use Prim.Native.Nat.{◌-◌, ◌≤◌}
 use mathlib.Core.Path.{◌≡◌}
 use lib.ListN.{length}
 use Rattle.whole.specs.Lists.{Written}
@@ -8,11 +7,7 @@ use Rattle.converter.proofs.put_words.Given as goal
 abbrev pub invariant-loop-i : goal.invariant-loop-i
 invariant-loop-i l =
     record {
-      low : l.i ≤ length l.fn.words;
       long : length l.lent ≡ length l.fn.lent;
       parts : Parts l.fn.asked l.fn.words l.i;
       text : Written l.fn.lent 0 (pieces l.fn.asked l.fn.words l.i) l.lent l.at;
     }
-
-abbrev pub decreases-loop-i : goal.decreases-loop-i
-decreases-loop-i l = length l.fn.words - l.i

@@ -8,7 +8,6 @@ loop-i-preserved c =
     let l = c.loop-i in
     let a = c.args in
     record {
-      low = omega arith;
       few = omega (arith, l.invariant.few, p.ensures.upper_bound);
       counted =
           count-more a.words.now l.i l.needed p.result (omega arith) p.ensures.value l.invariant.counted;

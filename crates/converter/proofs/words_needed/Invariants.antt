@@ -1,4 +1,4 @@
-use Prim.Native.Nat.{◌+◌, ◌-◌, ◌*◌, ◌≤◌}
+use Prim.Native.Nat.{◌+◌, ◌*◌, ◌≤◌}
 use mathlib.Core.Path.{◌≡◌}
 use lib.ListN.{length, drop}
 use Rattle.model.specs.calls.Converter.{converted}
@@ -8,10 +8,6 @@ use Rattle.converter.proofs.words_needed.Given as goal
 abbrev pub invariant-loop-i : goal.invariant-loop-i
 invariant-loop-i l =
     record {
-      low : l.i ≤ length l.fn.words;
       few : l.needed ≤ 3 * l.i;
       counted : l.needed + length (converted 0 (drop l.i l.fn.words)) ≡ needed_for l.fn.words;
     }
-
-abbrev pub decreases-loop-i : goal.decreases-loop-i
-decreases-loop-i l = length l.fn.words - l.i

@@ -11,7 +11,6 @@ returns-then-lent-needed c =
     let n = c.words_needed-needed in
     let count = n.ensures ∙ pieces.same_length 0 a.asked a.words.now in
     too_few (converted a.asked a.words.now) a.lent.now n.result count c.if-lent-needed.true
-    c.answer.result c.answer.ensures
 
 pub put_words-requires-clause-words_in_bounds : goal.put_words-requires-clause-words_in_bounds
 put_words-requires-clause-words_in_bounds c =
@@ -28,5 +27,4 @@ returns c =
     let room = c.if-lent-needed.false in
     let w = c.put_words in
     enough (converted a.asked a.words.now) a.lent.now n.result count room w.new.lent
-    w.ensures c.answer-2.result
-    c.answer-2.ensures
+    w.ensures

@@ -8,20 +8,16 @@ pub returns-then-meets : goal.returns-then-meets
 returns-then-meets c =
     let l = c.loop-weight in
     let met = sym c.meets.ensures ∙ c.if-meets.true in
-    sym (largest-here _ l.weight c.loop-weight-test.true met) ∙ l.invariant.largest
+    sym (largest-here _ l.weight c.loop-weight-test.true met) ∙ l.invariant
 
 pub loop-weight-preserved : goal.loop-weight-preserved
 loop-weight-preserved c =
     let l = c.loop-weight in
     let missed = sym c.meets.ensures ∙ c.if-meets.false in
-    record {
-      largest = sym (largest-lower _ l.weight c.loop-weight-test.true missed) ∙ l.invariant.largest;
-      high = omega (arith, l.invariant.high);
-    }
+    sym (largest-lower _ l.weight c.loop-weight-test.true missed) ∙ l.invariant
 
 pub returns : goal.returns
 returns c =
     let l = c.loop-weight in
-    let r = c.args.ratio in
     let done : l.weight ≡ 0 = omega arith in
-    sym (ap (largest_to r) done ∙ largest-none r) ∙ l.invariant.largest
+    sym (ap (largest_to c.args.ratio) done ∙ largest-none c.args.ratio) ∙ l.invariant

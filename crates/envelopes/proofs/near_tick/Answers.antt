@@ -5,20 +5,24 @@ use lib.IntN.{nat_abs, ◌-ℤ◌}
 use mir.Syntax.{w64}
 use mir.Val.{to_z, of_z}
 use Rattle.whole.proofs.Bounds.{exactly, computed}
+use Rattle.profile.proofs.FeasibleParts.{steep-by}
 use Rattle.envelopes.proofs.RoundedUp.{enough, too_few}
 use Rattle.envelopes.proofs.near_tick.Goals as goal
 
 pub returns : goal.returns
 returns c =
-    let a = c.args in
-    let q = c.requires in
-    let d : to_z w64 (of_z w64 (to_z w64 (of_z w64 a.p.end) -ℤ to_z w64 (of_z w64 a.p.start))) ≡ a.p.end -ℤ a.p.start =
+    let p = c.p.inside in
+    let steep = steep-by c.p.view_is c.requires.acceleration_limit_nonzero in
+    let d : to_z w64 (of_z w64 (to_z w64 (of_z w64 p.end) -ℤ to_z w64 (of_z w64 p.start))) ≡ p.end -ℤ p.start =
     exactly (search computed depth 20) tt in
-    let w : (c.size.result + (a.p.acceleration_limit - 1)) / a.p.acceleration_limit
-    ≡ (nat_abs (a.p.end -ℤ a.p.start) + (a.p.acceleration_limit - 1)) / a.p.acceleration_limit =
-    ap (λ (n : ℕ). (n + (a.p.acceleration_limit - 1)) / a.p.acceleration_limit) (c.size.ensures ∙ ap nat_abs d) in
-    record {
-      low = c.if-first-ticks.false;
-      near = enough (nat_abs (a.p.end -ℤ a.p.start)) _ _ q.acceleration_limit_nonzero (omega (arith, w));
-      far = λ k h l. too_few (nat_abs (a.p.end -ℤ a.p.start)) _ k q.acceleration_limit_nonzero (omega (arith, w, l));
-    }
+    let w : (c.unsigned_abs-way.result + (p.acceleration_limit - 1)) / p.acceleration_limit
+    ≡ (nat_abs (p.end -ℤ p.start) + (p.acceleration_limit - 1)) / p.acceleration_limit =
+    ap (λ (n : ℕ). (n + (p.acceleration_limit - 1)) / p.acceleration_limit)
+    (c.unsigned_abs-way.ensures.value ∙ ap nat_abs d) in
+    rw (← c.p.view_is) (record {
+      low = omega (arith, c.max.ensures);
+      near = enough (nat_abs (p.end -ℤ p.start)) _ _ steep (omega (arith, w, c.max.ensures));
+      far =
+          λ k h l.
+          too_few (nat_abs (p.end -ℤ p.start)) _ k steep (omega (arith, w, l, h, c.max.ensures));
+    })

@@ -8,9 +8,7 @@ use mir.Val.{to_z, of_z}
 use Rattle.whole.specs.Integers.{sum_to}
 use Rattle.whole.proofs.Laws.{add-sub, sub-nonneg, <ℤ-weaken}
 use Rattle.whole.proofs.Bounds.{sfits, exactly, computed, le_is, le_left}
-use Rattle.model.specs.planning.Leg.{upper}
-use Rattle.profile.specs.declared.Profile.{Profile}
-use Rattle.profile.specs.Profiles.{leg_of}
+use Rattle.model.specs.planning.Leg.{Leg, upper}
 use Rattle.areas.specs.Areas.{upper_parts}
 use Rattle.model.specs.declared.Limit.{Limit}
 use Rattle.least_limit.specs.declared.Task.{Task}
@@ -19,9 +17,9 @@ use Rattle.least_limit.proofs.FallsShort.{leg_with, upper_sum, falls-short, come
 use Rattle.least_limit.proofs.lead.Goals as goal
 
 -- the area, as it is computed of the profile r
-sum_is : (t : Task) (q : Limit) (v : ℕ) (r : Profile) → ProfileFor q t v r
-    → sum_to (upper (leg_of r)) (r.ticks - 1) ≡ upper_sum t q v
-sum_is t q v r h = ap (λ (p : Profile). sum_to (upper (leg_of p)) (p.ticks - 1)) h.is
+sum_is : (t : Task) (q : Limit) (v : ℕ) (r : Leg) → ProfileFor q t v r
+    → sum_to (upper r) (r.ticks - 1) ≡ upper_sum t q v
+sum_is t q v r h = ap (λ (p : Leg). sum_to (upper p) (p.ticks - 1)) h.is
 
 -- the sum is the area and what is missing
 sum-above : (s u : ℤ) → u <ℤ s → s ≡ u +ℤ pos (nat_abs (s -ℤ u))
@@ -63,7 +61,7 @@ returns c =
     let missing-is = ap nat_abs left_is in
     let r = c.next_lower_bound.ensures in
     let parts : c.upper_area-area.result.parts ≡ upper_parts (leg_with a.t a.limit a.value) =
-    c.upper_area-area.ensures.parts ∙ ap (λ (p : Profile). upper_parts (leg_of p)) c.profile_with-p.ensures.is in
+    c.upper_area-area.ensures.parts ∙ ap (λ (p : Leg). upper_parts p) c.profile_with-p.ensures.is in
     let gained = c.gain.ensures.0 ∙ ap (gain_of a.limit) parts in
     let steps : ℕ → ℕ = λ n. a.t.steps * n in
     record {

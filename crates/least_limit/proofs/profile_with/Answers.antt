@@ -2,7 +2,7 @@ use Prim.Native.Nat.{ℕ}
 use mathlib.Core.Path.{◌≡◌, sym, ap, subst, ◌∙◌}
 use Rattle.model.specs.declared.Limit.{Limit}
 use Rattle.model.specs.declared.Limit.TheVariants.{Acceleration, Speed}
-use Rattle.profile.specs.declared.Profile.{Profile}
+use Rattle.model.specs.planning.Leg.{Leg}
 use Rattle.profile.specs.Profiles.{Joinable}
 use Rattle.least_limit.specs.declared.Task.{Task}
 use Rattle.least_limit.specs.Limits.{profile_at, speed_with, acceleration_with, TaskRanged, Allowed, ProfileFor}
@@ -10,7 +10,7 @@ use Rattle.least_limit.proofs.FallsShort.{profile-joinable}
 use Rattle.least_limit.proofs.profile_with.Goals as goal
 
 -- the profile that the code makes for the limit q
-made : (p q : Limit) (t : Task) (v : ℕ) (r : Profile) → TaskRanged t → Allowed p t v → p ≡ q
+made : (p q : Limit) (t : Task) (v : ℕ) (r : Leg) → TaskRanged t → Allowed p t v → p ≡ q
     → r ≡ profile_at t (speed_with q t v) (acceleration_with q t v)
     → ProfileFor p t v r
 made p q t v r ranged a e is =

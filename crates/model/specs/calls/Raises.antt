@@ -2,12 +2,12 @@
 -- within its range, for which an axis reaches an arrival; both raises of an axis in order; and the
 -- call. The theorem `raises-hold` says what an answer claims, by the existence of a list.
 use Rattle.std.specs.Prelude.{ℕ, ◌+◌, ◌-◌, true, false, List, [], ◌∷◌, eqb, leb, set, replicate}
-use Rattle.std.proofs.Math.Option.{Option, none, some}
+use Rattle.std.specs.Prelude.{Option, None, Some}
 use Rattle.model.specs.declared.Answer.{Answer}
 use Rattle.model.specs.declared.Axis.{Axis}
 use Rattle.model.specs.declared.Limit.{Limit}
 use Rattle.model.specs.declared.Limit.TheVariants.{Acceleration, Speed}
-use Rattle.model.specs.declared.Raise.TheVariants.{AccelerationBy, SpeedBy, NoRaise}
+use Rattle.model.specs.declared.Raise.TheVariants.{AccelerationBy, SpeedBy}
 use Rattle.model.specs.declared.AxisRaises.{AxisRaises}
 use Rattle.model.specs.declared.RaisesAnswer.{RaisesAnswer}
 use Rattle.model.specs.planning.Quantities.{speed_limit, acceleration_limit}
@@ -52,18 +52,18 @@ raise_of q x n = least_from (λ r. reachable (with_limit q (limit_of q x + r) x)
 -- ---- both limits of an axis
 
 abbrev pub no_raises : AxisRaises
-no_raises = record { first = NoRaise; second = NoRaise }
+no_raises = record { first = None; second = None }
 
 -- the raise of M and that of L: the smaller first, M's if equal; one that does not exist is left
 -- out
 abbrev pub in_order : Option ℕ → Option ℕ → AxisRaises
-in_order none none = no_raises
-in_order (some m) none = record { first = AccelerationBy m; second = NoRaise }
-in_order none (some l) = record { first = SpeedBy l; second = NoRaise }
-in_order (some m) (some l) =
+in_order None None = no_raises
+in_order (Some m) None = record { first = Some (AccelerationBy m); second = None }
+in_order None (Some l) = record { first = Some (SpeedBy l); second = None }
+in_order (Some m) (Some l) =
     elim (leb m l) [
-      | true ↦ record { first = AccelerationBy m; second = SpeedBy l }
-      | false ↦ record { first = SpeedBy l; second = AccelerationBy m }
+      | true ↦ record { first = Some (AccelerationBy m); second = Some (SpeedBy l) }
+      | false ↦ record { first = Some (SpeedBy l); second = Some (AccelerationBy m) }
     ]
 
 abbrev pub raises_of : Axis → ℕ → AxisRaises

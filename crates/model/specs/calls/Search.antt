@@ -2,7 +2,7 @@
 -- first candidate on, with a budget of candidates, and its call. What a report says, and what
 -- calls that go on from spent come to.
 use Rattle.std.specs.Prelude.{ℕ, suc, ◌+◌, ◌-◌, Bool, true, false, ◌&&◌, ltb, leb}
-use Rattle.std.proofs.Math.Option.{Option, none, some}
+use Rattle.std.specs.Prelude.{Option, None, Some}
 use Rattle.model.specs.declared.Report.{Report}
 use Rattle.model.specs.declared.Report.TheVariants.{Found, Spent, Nothing}
 use Rattle.model.specs.declared.SearchReport.{SearchReport}
@@ -30,8 +30,8 @@ not_found first budget false = record { report = Nothing; tried = candidates fir
 
 -- the tick found less the first plus one were tried
 abbrev pub report_of : ℕ → ℕ → Option ℕ → SearchReport
-report_of first budget (some n) = record { report = Found n; tried = n - first + 1 }
-report_of first budget none = not_found first budget (ltb budget (candidates first))
+report_of first budget (Some n) = record { report = Found n; tried = n - first + 1 }
+report_of first budget None = not_found first budget (ltb budget (candidates first))
 
 -- the least from the first on, up to 4,096 and within the budget
 unfoldable pub search_from : (ℕ → Bool) → ℕ → ℕ → SearchReport

@@ -1,7 +1,7 @@
 -- A tour of stops (docs/METHOD.md, 8.1): the leg to each stop is a typed job, from rest to
 -- rest, that seeks its least arrival.
 use Rattle.std.specs.Prelude.{ℕ, suc, ◌+◌, true, false, List, [], ◌∷◌, ◌++◌, ℤ, pos, eqb, leb, ltb, length, drop}
-use Rattle.std.proofs.Math.Option.{Option, none, some}
+use Rattle.std.specs.Prelude.{Option, None, Some}
 use Rattle.model.specs.declared.Answer.{Answer}
 use Rattle.model.specs.declared.Axis.{Axis}
 use Rattle.model.specs.declared.Target.TheVariants.{Fixed}
@@ -129,15 +129,15 @@ most_stops = 64
 
 -- the first stop, the next being stop i, whose dwell is too long
 abbrev pub first_long_dwell : ℕ → List Stop → Option ℕ
-first_long_dwell i [] = none
-first_long_dwell i (s ∷ ss) = elim (leb s.dwell longest_dwell) [ true ↦ first_long_dwell (suc i) ss | false ↦ some i ]
+first_long_dwell i [] = None
+first_long_dwell i (s ∷ ss) = elim (leb s.dwell longest_dwell) [ true ↦ first_long_dwell (suc i) ss | false ↦ Some i ]
 
 -- the second part of 11, and then the legs
 abbrev pub dwells_checked : TourSettings → ℕ → List Stop → List ℕ → TourOutcome
 dwells_checked t count stops lent =
     elim (first_long_dwell 0 stops) [
-      | some i ↦ refuse_tour 11 i 0 0 lent
-      | none ↦ after_legs count (legs_from t stops 0 t.start []) lent
+      | Some i ↦ refuse_tour 11 i 0 0 lent
+      | None ↦ after_legs count (legs_from t stops 0 t.start []) lent
     ]
 
 -- a tour of one stop or more: 11 comes before the legs, too many stops before a dwell that is too

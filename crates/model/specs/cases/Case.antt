@@ -2,7 +2,7 @@
 -- outcome; and the axes and words that cases share.
 use Rattle.std.specs.Prelude.{ℕ, ◌≡◌, true, List, [], ◌∷◌, ◌++◌, map, ℤ, pos, length, replicate}
 use Rattle.model.specs.declared.Axis.{Axis}
-use Rattle.model.specs.declared.SecondSway.TheVariants.{Absent}
+use Rattle.std.specs.Prelude.{None, Some}
 use Rattle.model.specs.declared.Target.{Target}
 use Rattle.model.specs.declared.Target.TheVariants.{Fixed}
 use Rattle.model.specs.declared.Weight.TheVariants.{Given}
@@ -75,7 +75,7 @@ axis p v l h g =
       acceleration_limit = 1;
       half_period = h;
       second_weight = Given 128;
-      second_sway = Absent;
+      second_sway = None;
       target = g;
     }
 
@@ -128,7 +128,7 @@ inside asked dwell l =
       mask = 1;
       asked = asked;
       axes = rest_to 4 ∷ [];
-      windows = record { given = true; dwell = dwell; count = length l; list = l };
+      windows = Some (record { dwell = dwell; count = length l; list = l });
     })
 
 abbrev pub window : ℕ → ℕ → Window

@@ -1,4 +1,5 @@
 -- Cases of raises.
+use Rattle.std.specs.Prelude.{Some}
 use Rattle.std.specs.Prelude.{ℕ, ◌≡◌, true, List, [], ◌∷◌, map, pos, replicate}
 use Rattle.model.specs.declared.Axis.{Axis}
 use Rattle.model.specs.declared.AxisRaises.{AxisRaises}
@@ -20,7 +21,7 @@ abbrev pub slow : Axis
 slow = axis (pos 0) (pos 0) 2 0 (fixed 9 0)
 
 abbrev pub equal_raises : AxisRaises
-equal_raises = record { first = AccelerationBy 1; second = SpeedBy 1 }
+equal_raises = record { first = Some (AccelerationBy 1); second = Some (SpeedBy 1) }
 
 -- refusal 8 with its mask, and the entries of axes 0 and 1
 abbrev pub eight : ℕ → AxisRaises → AxisRaises → RaisesAnswer
@@ -34,7 +35,7 @@ within asked x w =
       mask = 1;
       asked = asked;
       axes = x ∷ [];
-      windows = record { given = true; dwell = 0; count = 1; list = w ∷ [] };
+      windows = Some (record { dwell = 0; count = 1; list = w ∷ [] });
     })
 
 abbrev pub raises_cases : List RaisesCase
@@ -44,7 +45,7 @@ raises_cases =
     -- from velocity 2 to 22, L = 3, asked 8: the smaller first
     ∷ record {
       input = one_axis 8 (axis (pos 0) (pos 2) 3 0 (fixed 22 0));
-      says = eight 1 (record { first = SpeedBy 1; second = AccelerationBy 2 }) no_raises;
+      says = eight 1 (record { first = Some (SpeedBy 1); second = Some (AccelerationBy 2) }) no_raises;
     }
     -- each axis that the mask names, at its number
     ∷ record { input = two_axes 6 slow slow; says = eight 3 equal_raises equal_raises }

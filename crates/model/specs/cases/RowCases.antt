@@ -4,7 +4,7 @@ use Rattle.std.specs.Prelude.{ℕ, ◌*◌, ◌-◌, ◌^◌, ◌≡◌, List, [
 use Rattle.model.specs.declared.Axis.{Axis}
 use Rattle.model.specs.declared.Order.{Order}
 use Rattle.model.specs.declared.Order.TheVariants.{Forwards, Backwards}
-use Rattle.model.specs.declared.SecondSway.TheVariants.{Absent}
+use Rattle.std.specs.Prelude.{None}
 use Rattle.model.specs.declared.Target.{Target}
 use Rattle.model.specs.declared.Target.TheVariants.{Moving}
 use Rattle.model.specs.declared.Weight.TheVariants.{Given}
@@ -55,7 +55,7 @@ departing_damped =
       acceleration_limit = 2;
       half_period = 3;
       second_weight = Given 100;
-      second_sway = Absent;
+      second_sway = None;
       target = moving (pos 0) (pos 0) (pos 1);
     }
 

@@ -2,7 +2,7 @@
 -- arrival is looked for, or the job. Which job a call is given, the tests of its axes in checking
 -- order, refusals 1, 2 and 14 of words, 3 and 13.
 use Rattle.std.specs.Prelude.{ℕ, Bool, true, false, List, [], ◌∷◌, leb}
-use Rattle.std.proofs.Math.Option.{Option, none, some}
+use Rattle.std.specs.Prelude.{Option, None, Some}
 use Rattle.model.specs.declared.Axis.{Axis}
 use Rattle.model.specs.declared.Job as Typed
 use Rattle.model.specs.planning.Windows.{no_windows, refused13}
@@ -40,8 +40,8 @@ input_axes q = axes_of (input_job q)
 
 -- the number of the first axis for which a test holds
 abbrev pub first_axis : (Axis → Bool) → List JobAxis → Option ℕ
-first_axis f [] = none
-first_axis f (x ∷ xs) = elim (f x.axis) [ true ↦ some x.number | false ↦ first_axis f xs ]
+first_axis f [] = None
+first_axis f (x ∷ xs) = elim (f x.axis) [ true ↦ Some x.number | false ↦ first_axis f xs ]
 
 -- numbered tests of an axis, in checking order
 abbrev pub Tests : Type 0
@@ -76,12 +76,12 @@ planning_rules = record { reads = λ j. j; tests = λ asked. axis_refusals }
 
 -- 13, directly after 17
 abbrev pub windowed : Job → Admission
-windowed j = elim (refused13 j.windows) [ some p ↦ refused_at 13 p | none ↦ admitted j ]
+windowed j = elim (refused13 j.windows) [ Some p ↦ refused_at 13 p | None ↦ admitted j ]
 
 -- each number over all axes, lowest first, before the next number
 abbrev pub tested : Tests → Job → Admission
 tested [] j = windowed j
-tested (t ∷ ts) j = elim (first_axis t.1 j.axes) [ some i ↦ refused_at t.0 i | none ↦ tested ts j ]
+tested (t ∷ ts) j = elim (first_axis t.1 j.axes) [ Some i ↦ refused_at t.0 i | None ↦ tested ts j ]
 
 -- from 3 on
 abbrev pub asked_admission : (ℕ → Tests) → Job → Admission

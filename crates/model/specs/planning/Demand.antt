@@ -2,10 +2,9 @@
 -- swing lists.
 use Rattle.std.specs.Prelude.{ℕ, zero, suc, ◌+◌, ◌-◌, ◌*◌, ◌≤◌, ◌<◌, ◌≡◌, List, ℤ, pos, nat_abs, ◌+ℤ◌, ◌-ℤ◌, ◌*ℤ◌}
 use Rattle.std.specs.Prelude.{length, get_or, take}
-use Rattle.std.proofs.Math.Option.{some}
-use Rattle.std.proofs.Math.ListN.{get_elem?}
+use Rattle.std.specs.Prelude.{slice_get}
 use Rattle.model.specs.declared.Axis.{Axis}
-use Rattle.model.specs.declared.SecondSway.TheVariants.{HalfPeriod}
+use Rattle.std.specs.Prelude.{Some}
 use Rattle.model.specs.declared.Order.{Order}
 use Rattle.model.specs.planning.Quantities.{speed_limit, acceleration_limit, half_period, second_weight, as_moving}
 use Rattle.model.specs.planning.Quantities.{twice_position_at, velocity_at}
@@ -49,7 +48,7 @@ Swings a b h m w = (i : ℕ) → i + h ≤ m → a *ℤ w (i + h) +ℤ b *ℤ w 
 pub data Swing (x : Axis) (m : ℕ) (w : ℕ → ℤ) : Type 0 where
   first : zero < half_period x
       → Swings (pos (256 - second_weight x)) (pos (second_weight x)) (half_period x) m w → Swing x m w
-  second : (d : ℕ) → x.second_sway ≡ HalfPeriod d → Swings (pos 1) (pos 1) d m w → Swing x m w
+  second : (d : ℕ) → x.second_sway ≡ Some d → Swings (pos 1) (pos 1) d m w → Swing x m w
 
 -- no entry exceeds G in size
 abbrev pub Bounded : ℕ → ℕ → (ℕ → ℤ) → Type 0
@@ -99,24 +98,24 @@ pub record SwayCancelled (x : Axis) (i n : ℕ) (g : CellTable) : Type 0 where
 pub record Demand3 (o : Order) (xs : List Axis) (n : ℕ) (lent : List ℤ) : Type 0 where
   -- the table is the first 3 × axes × (N + 1) cells, which are there
   pub whole : cells_needed (length xs) n ≤ length lent
-  pub lands : (i : ℕ) (x : Axis) → get_elem? xs i ≡ some x → Lands x i n (table_in o xs n lent)
+  pub lands : (i : ℕ) (x : Axis) → slice_get xs i ≡ Some x → Lands x i n (table_in o xs n lent)
   pub carries : (i k : ℕ) → i < length xs → k < n → Carries i k (table_in o xs n lent)
-  pub sway : (i : ℕ) (x : Axis) → get_elem? xs i ≡ some x → SwayCancelled x i n (table_in o xs n lent)
+  pub sway : (i : ℕ) (x : Axis) → slice_get xs i ≡ Some x → SwayCancelled x i n (table_in o xs n lent)
 
 -- ---- the limits: no velocity cell exceeds 256L in size and no acceleration cell 256M
 
 pub record CellLimits (o : Order) (xs : List Axis) (n : ℕ) (lent : List ℤ) : Type 0 where
-  pub velocities : (i k : ℕ) (x : Axis) → get_elem? xs i ≡ some x → k ≤ n
+  pub velocities : (i k : ℕ) (x : Axis) → slice_get xs i ≡ Some x → k ≤ n
       → nat_abs (velocity_cell (table_in o xs n lent) i k) ≤ 256 * speed_limit x
-  pub accelerations : (i k : ℕ) (x : Axis) → get_elem? xs i ≡ some x → k ≤ n
+  pub accelerations : (i k : ℕ) (x : Axis) → slice_get xs i ≡ Some x → k ≤ n
       → nat_abs (acceleration_cell (table_in o xs n lent) i k) ≤ 256 * acceleration_limit x
 
 -- ---- the start: row 0 is on it exactly, so that the head starts with no jump
 
 pub record ExactStart (o : Order) (xs : List Axis) (n : ℕ) (lent : List ℤ) : Type 0 where
-  pub positions : (i : ℕ) (x : Axis) → get_elem? xs i ≡ some x
+  pub positions : (i : ℕ) (x : Axis) → slice_get xs i ≡ Some x
       → position_cell (table_in o xs n lent) i 0 ≡ pos 256 *ℤ x.start.position
-  pub velocities : (i : ℕ) (x : Axis) → get_elem? xs i ≡ some x
+  pub velocities : (i : ℕ) (x : Axis) → slice_get xs i ≡ Some x
       → velocity_cell (table_in o xs n lent) i 0 ≡ pos 256 *ℤ x.start.velocity
 
 -- ---- all three hold of every call that returns number 0, from words or from typed values, in

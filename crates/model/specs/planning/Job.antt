@@ -2,7 +2,7 @@
 -- with its number, lowest first; and its windows, where it brings some (docs/METHOD.md, 3.8).
 use Rattle.std.specs.Prelude.{ℕ, zero, suc, ◌+◌, ◌/◌, ◌%◌, ◌^◌, Bool, true, false, List, [], ◌∷◌, map, eqb, pos}
 use Rattle.model.specs.declared.Axis.{Axis}
-use Rattle.model.specs.declared.SecondSway.TheVariants.{Absent}
+use Rattle.std.specs.Prelude.{Option, None}
 use Rattle.model.specs.declared.Target.TheVariants.{Fixed}
 use Rattle.model.specs.declared.Weight.TheVariants.{Given}
 use Rattle.model.specs.declared.Windows.{Windows}
@@ -17,7 +17,7 @@ pub record Job : Type 0 where
   pub mask : ℕ
   pub asked : ℕ
   pub axes : List JobAxis
-  pub windows : Windows
+  pub windows : Option Windows
 
 -- the numbers of the set bits of a mask, lowest first: of n bits, the lowest being number i
 abbrev pub set_from : ℕ → ℕ → ℕ → List ℕ
@@ -51,7 +51,7 @@ abbrev pub axes_of : Job → List Axis
 axes_of j = map (λ x. x.axis) j.axes
 
 -- the job of a mask, an asked arrival, six axes and windows: of the axes, those that the mask names
-abbrev pub job_with : ℕ → ℕ → List Axis → Windows → Job
+abbrev pub job_with : ℕ → ℕ → List Axis → Option Windows → Job
 job_with m asked six w = record { mask = m; asked = asked; axes = set_axes 0 m six; windows = w }
 
 -- the job of typed values
@@ -71,6 +71,6 @@ unset_axis =
       acceleration_limit = 0;
       half_period = 0;
       second_weight = Given 0;
-      second_sway = Absent;
+      second_sway = None;
       target = Fixed (record { position = pos 0; velocity = pos 0 });
     }

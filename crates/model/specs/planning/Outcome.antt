@@ -3,7 +3,7 @@
 -- either order (4.7); and the answer to a call before refusal 10, which no table is needed for.
 use Rattle.std.specs.Prelude.{ℕ, zero, suc, ◌*◌, Bool, true, false, not, ◌&&◌, List, [], ◌∷◌, ◌++◌, ℤ, eqb, ltb}
 use Rattle.std.specs.Prelude.{length, drop}
-use Rattle.std.proofs.Math.Option.{Option, none, some}
+use Rattle.std.specs.Prelude.{Option, None, Some}
 use Rattle.model.specs.declared.Answer.{Answer}
 use Rattle.model.specs.declared.Axis.{Axis}
 use Rattle.model.specs.declared.Order.{Order}
@@ -42,8 +42,8 @@ refuse n p m a lent = record { number = n; place = p; mask = m; arrival = a; cel
 
 -- the least of n, n + 1, .. that passes a test, of count candidates
 abbrev pub least_from : (ℕ → Bool) → ℕ → ℕ → Option ℕ
-least_from test n zero = none
-least_from test n (suc count) = elim (test n) [ true ↦ some n | false ↦ least_from test (suc n) count ]
+least_from test n zero = None
+least_from test n (suc count) = elim (test n) [ true ↦ Some n | false ↦ least_from test (suc n) count ]
 
 abbrev pub all_reach : List JobAxis → ℕ → Bool
 all_reach [] n = true
@@ -55,7 +55,7 @@ least_arrival xs = least_from (all_reach xs) 1 last_tick
 
 -- an axis that alone reaches no arrival
 abbrev pub reaches_none : Axis → Bool
-reaches_none x = elim (least_arrival (record { number = 0; axis = x } ∷ [])) [ some n ↦ false | none ↦ true ]
+reaches_none x = elim (least_arrival (record { number = 0; axis = x } ∷ [])) [ Some n ↦ false | None ↦ true ]
 
 -- ---- refusal 10, or the table
 
@@ -91,8 +91,8 @@ arrives j n = in_windows j.windows n && all_reach j.axes n
 abbrev pub arrived : Job → ℕ → List ℤ → Outcome
 arrived j zero lent =
     elim (least_from (arrives j) 1 last_tick) [
-      | some n ↦ filled j n lent
-      | none ↦ refuse 9 0 (mask_where (λ x. reaches_none x) j.axes) 0 lent
+      | Some n ↦ filled j n lent
+      | None ↦ refuse 9 0 (mask_where (λ x. reaches_none x) j.axes) 0 lent
     ]
 arrived j (suc n) lent =
     elim (arrives j (suc n)) [

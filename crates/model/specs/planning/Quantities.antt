@@ -1,8 +1,7 @@
 -- The quantities of a job and its targets (docs/METHOD.md, section 2).
 use Rattle.std.specs.Prelude.{ℕ, ◌+◌, ◌*◌, Bool, true, false, not, ◌&&◌, ℤ, pos, nat_abs, ◌+ℤ◌, ◌-ℤ◌, ◌*ℤ◌, eqb}
 use Rattle.model.specs.declared.Axis.{Axis}
-use Rattle.model.specs.declared.SecondSway.{SecondSway}
-use Rattle.model.specs.declared.SecondSway.TheVariants.{Absent, HalfPeriod}
+use Rattle.std.specs.Prelude.{Option, None, Some}
 use Rattle.model.specs.declared.State.{State}
 use Rattle.model.specs.declared.Target.{Target}
 use Rattle.model.specs.declared.Target.TheVariants.{Fixed, Moving}
@@ -26,9 +25,9 @@ abbrev pub second_weight : Axis → ℕ
 second_weight x = weight_of x.second_weight
 
 -- h₂, 0 where there is no second sway
-abbrev pub sway_delay : SecondSway → ℕ
-sway_delay Absent = 0
-sway_delay (HalfPeriod d) = d
+abbrev pub sway_delay : Option ℕ → ℕ
+sway_delay None = 0
+sway_delay (Some d) = d
 
 abbrev pub second_half_period : Axis → ℕ
 second_half_period x = sway_delay x.second_sway
@@ -71,10 +70,10 @@ finest_steps = 256
 
 -- grid steps in a fine step: the grid is 1/512 unit where the pole has a second sway, 1/65,536 unit
 -- where the target accelerates and the pole is damped, and else 1/256 unit
-abbrev pub finer_by : SecondSway → Bool → ℕ
-finer_by (HalfPeriod d) b = sway_steps
-finer_by Absent true = finest_steps
-finer_by Absent false = 1
+abbrev pub finer_by : Option ℕ → Bool → ℕ
+finer_by (Some d) b = sway_steps
+finer_by None true = finest_steps
+finer_by None false = 1
 
 unfoldable pub finer : Axis → ℕ
 finer x = finer_by x.second_sway (accelerates x.target && damped x)

@@ -5,8 +5,7 @@ use Rattle.std.specs.Prelude.{leb}
 use Rattle.std.specs.Int.Signed.{le_z}
 use Rattle.model.specs.declared.Axis.{Axis}
 use Rattle.model.specs.declared.RestPoint.{RestPoint}
-use Rattle.model.specs.declared.SecondSway.{SecondSway}
-use Rattle.model.specs.declared.SecondSway.TheVariants.{Absent, HalfPeriod}
+use Rattle.std.specs.Prelude.{Option, None, Some}
 use Rattle.model.specs.declared.State.{State}
 use Rattle.model.specs.declared.Target.{Target}
 use Rattle.model.specs.declared.Target.TheVariants.{Fixed, Moving}
@@ -41,9 +40,9 @@ blend_refused x = not (within 0 256 (half_period x) && within 1 128 (second_weig
 
 -- ---- 15: a second half period is outside its range
 
-abbrev pub sway_allowed : SecondSway → Bool
-sway_allowed Absent = true
-sway_allowed (HalfPeriod d) = within 1 256 d
+abbrev pub sway_allowed : Option ℕ → Bool
+sway_allowed None = true
+sway_allowed (Some d) = within 1 256 d
 
 abbrev pub sway_refused : Axis → Bool
 sway_refused x = not (sway_allowed x.second_sway)
@@ -75,9 +74,9 @@ values_refused x = not (rest_allowed x x.start && target_allowed x x.target)
 
 -- ---- 16: the target of an axis with a second sway accelerates
 
-abbrev pub acceleration_refused_by : SecondSway → Target → Bool
-acceleration_refused_by Absent g = false
-acceleration_refused_by (HalfPeriod d) g = accelerates g
+abbrev pub acceleration_refused_by : Option ℕ → Target → Bool
+acceleration_refused_by None g = false
+acceleration_refused_by (Some d) g = accelerates g
 
 abbrev pub acceleration_refused : Axis → Bool
 acceleration_refused x = acceleration_refused_by x.second_sway x.target

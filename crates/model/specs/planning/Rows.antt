@@ -2,8 +2,7 @@
 use Rattle.std.specs.Prelude.{ℕ, zero, suc, ◌+◌, ◌-◌, ◌*◌, true, false, ℤ, pos, ◌+ℤ◌, ◌*ℤ◌, ltb, get_or}
 use mathlib.Core.List.{List, [], ◌∷◌, map, flatten}
 use Rattle.model.specs.declared.Axis.{Axis}
-use Rattle.model.specs.declared.SecondSway.{SecondSway}
-use Rattle.model.specs.declared.SecondSway.TheVariants.{Absent, HalfPeriod}
+use Rattle.std.specs.Prelude.{Option, None, Some}
 use Rattle.model.specs.declared.Order.{Order}
 use Rattle.model.specs.declared.Order.TheVariants.{Forwards, Backwards}
 use Rattle.whole.specs.Integers.{nearest_quotient}
@@ -33,13 +32,13 @@ blend_once t k d f =
 
 -- the blend, applied once more with equal weights and the delay h₂ where the pole has a second
 -- sway; and what its weights add up to
-abbrev pub blend_by : SecondSway → PlannedAxis → ℕ → (Tick → ℤ) → ℤ
-blend_by Absent t k f = blend_once t k 0 f
-blend_by (HalfPeriod d) t k f = blend_once t k 0 f +ℤ blend_once t k d f
+abbrev pub blend_by : Option ℕ → PlannedAxis → ℕ → (Tick → ℤ) → ℤ
+blend_by None t k f = blend_once t k 0 f
+blend_by (Some d) t k f = blend_once t k 0 f +ℤ blend_once t k d f
 
-abbrev pub weights_by : SecondSway → ℕ
-weights_by Absent = 256
-weights_by (HalfPeriod d) = 512
+abbrev pub weights_by : Option ℕ → ℕ
+weights_by None = 256
+weights_by (Some d) = 512
 
 abbrev pub blend : PlannedAxis → ℕ → (Tick → ℤ) → ℤ
 blend t k f = blend_by t.axis.second_sway t k f

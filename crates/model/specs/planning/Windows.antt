@@ -1,7 +1,7 @@
 -- The windows of a job (docs/METHOD.md, 3.8): which arrivals fit them, and which windows are
 -- refused.
-use Rattle.std.specs.Prelude.{ℕ, suc, ◌+◌, Bool, true, false, ◌&&◌, List, [], ◌∷◌, eqb, leb, ltb, take, replicate}
-use Rattle.std.proofs.Math.Option.{Option, none, some}
+use Rattle.std.specs.Prelude.{ℕ, suc, ◌+◌, Bool, true, false, ◌&&◌, List, [], ◌∷◌, eqb, leb, ltb, take}
+use Rattle.std.specs.Prelude.{Option, None, Some}
 use Rattle.model.specs.declared.Window.{Window}
 use Rattle.model.specs.declared.Windows.{Windows}
 
@@ -17,9 +17,8 @@ abbrev pub brought : Windows → List Window
 brought w = take w.count w.list
 
 -- a job without windows
-abbrev pub no_windows : Windows
-no_windows =
-    record { given = false; dwell = 0; count = 0; list = replicate most_windows (record { opening = 0; closing = 0 }) }
+abbrev pub no_windows : Option Windows
+no_windows = None
 
 -- arrival n fits a window: at its opening or later, below its closing, and n + dwell not above its
 -- closing
@@ -31,8 +30,9 @@ fits_one n dwell [] = false
 fits_one n dwell (w ∷ ws) = elim (fits_window n dwell w) [ true ↦ true | false ↦ fits_one n dwell ws ]
 
 -- a job without windows may arrive at any tick
-abbrev pub in_windows : Windows → ℕ → Bool
-in_windows w n = elim w.given [ true ↦ fits_one n w.dwell (brought w) | false ↦ true ]
+abbrev pub in_windows : Option Windows → ℕ → Bool
+in_windows None n = true
+in_windows (Some w) n = fits_one n w.dwell (brought w)
 
 -- ---- 13: an empty list (place 0); more than 32 windows, or then a dwell above 4,096 (place 32);
 -- then the first window, from index i on, whose closing is not above its opening or that opens
@@ -42,20 +42,21 @@ abbrev pub in_order_after : ℕ → Window → Bool
 in_order_after c w = ltb w.opening w.closing && leb c w.opening
 
 abbrev pub first_wrong_window : ℕ → ℕ → List Window → Option ℕ
-first_wrong_window i c [] = none
+first_wrong_window i c [] = None
 first_wrong_window i c (w ∷ ws) =
-    elim (in_order_after c w) [ true ↦ first_wrong_window (suc i) w.closing ws | false ↦ some i ]
+    elim (in_order_after c w) [ true ↦ first_wrong_window (suc i) w.closing ws | false ↦ Some i ]
 
 abbrev pub windows_refused : Windows → Option ℕ
 windows_refused w =
     elim (eqb w.count 0) [
-      | true ↦ some 0
+      | true ↦ Some 0
       | false ↦ elim (leb w.count most_windows && leb w.dwell longest_dwell) [
         | true ↦ first_wrong_window 0 0 (brought w)
-        | false ↦ some most_windows
+        | false ↦ Some most_windows
       ]
     ]
 
 -- the place that 13 names, of a job that brings windows
-abbrev pub refused13 : Windows → Option ℕ
-refused13 w = elim w.given [ true ↦ windows_refused w | false ↦ none ]
+abbrev pub refused13 : Option Windows → Option ℕ
+refused13 None = None
+refused13 (Some w) = windows_refused w

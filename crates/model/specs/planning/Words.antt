@@ -1,11 +1,9 @@
 -- The job words (docs/METHOD.md, section 6, and refusals 1 and 2; 6.3 and 2.5, with refusal 14).
 use Rattle.std.specs.Prelude.{ℕ, suc, ◌-◌, ◌/◌, ◌%◌, ◌^◌, ◌+◌, ◌*◌, Bool, true, false, not, ◌&&◌, List, [], ◌∷◌, ℤ}
 use Rattle.std.specs.Prelude.{pos, negsuc, neg_ℤ, ◌+ℤ◌, ◌*ℤ◌, eqb, leb, ltb}
-use Rattle.std.proofs.Math.Option.{Option, none, some}
 use Rattle.std.specs.Int.Signed.{le_z}
 use Rattle.model.specs.declared.Axis.{Axis}
-use Rattle.model.specs.declared.SecondSway.{SecondSway}
-use Rattle.model.specs.declared.SecondSway.TheVariants.{Absent, HalfPeriod}
+use Rattle.std.specs.Prelude.{Option, None, Some}
 use Rattle.model.specs.declared.Target.{Target}
 use Rattle.model.specs.declared.Target.TheVariants.{Fixed, Moving}
 use Rattle.model.specs.declared.Weight.TheVariants.{Given}
@@ -45,11 +43,11 @@ long_allowed high low = between (negsuc 63) (pos 63) (twos high) && not (fits_wo
 -- Of words from index i on, the index of the first of kind 14 that is not allowed with the word
 -- after it. Where no word is of a wrong kind, that is a word of kind 3 or 9.
 abbrev pub first_bad_long : ℕ → List ℕ → Option ℕ
-first_bad_long i [] = none
-first_bad_long i (w ∷ []) = none
+first_bad_long i [] = None
+first_bad_long i (w ∷ []) = None
 first_bad_long i (w ∷ u ∷ ws) =
     elim (eqb (kind w) 14 && not (long_allowed (payload w) (payload u))) [
-      | true ↦ some i
+      | true ↦ Some i
       | false ↦ first_bad_long (suc i) (u ∷ ws)
     ]
 
@@ -106,19 +104,19 @@ target true p v = do
 target false p v = give (Fixed (record { position = p; velocity = v }))
 
 -- a second half period: a word of kind 13, or none
-abbrev pub sway_by : Bool → Reader SecondSway
+abbrev pub sway_by : Bool → Reader (Option ℕ)
 sway_by true = do
   d ← field 13
-  give (HalfPeriod d)
-sway_by false = give Absent
+  give (Some d)
+sway_by false = give None
 
-abbrev pub second_sway : Reader SecondSway
+abbrev pub second_sway : Reader (Option ℕ)
 second_sway = do
   named ← next 13
   sway_by named
 
 -- an axis, by a reader of positions and one of a second sway
-abbrev pub axis_by : (ℕ → Reader ℤ) → Reader SecondSway → Reader Axis
+abbrev pub axis_by : (ℕ → Reader ℤ) → Reader (Option ℕ) → Reader Axis
 axis_by positions sway = do
   p₀ ← positions 3
   v₀ ← signed 4
@@ -142,7 +140,7 @@ axis_by positions sway = do
         target = g;
       })
 
-abbrev pub axes_by : (ℕ → Reader ℤ) → Reader SecondSway → List ℕ → Reader (List JobAxis)
+abbrev pub axes_by : (ℕ → Reader ℤ) → Reader (Option ℕ) → List ℕ → Reader (List JobAxis)
 axes_by positions sway [] = give []
 axes_by positions sway (n ∷ ns) = do
   x ← axis_by positions sway
@@ -159,7 +157,7 @@ ending a i (w ∷ u ∷ ws) = elim (eqb (kind w) 15 && eqb (payload w) 0) [ true
 abbrev pub read_job : ℕ → ℕ → List JobAxis → Job
 read_job m asked xs = record { mask = m; asked = asked; axes = xs; windows = no_windows }
 
-abbrev pub after_mask_by : (ℕ → Reader ℤ) → Reader SecondSway → ℕ → Reader Job
+abbrev pub after_mask_by : (ℕ → Reader ℤ) → Reader (Option ℕ) → ℕ → Reader Job
 after_mask_by positions sway m = do
   asked ← field 2
   xs ← axes_by positions sway (set_bits m)
@@ -188,8 +186,8 @@ good_mask m = ltb 0 m && leb m 63
 -- refusal 14 comes directly after all of refusal 2: once every word is of a kind allowed at its
 -- place
 abbrev pub spelled : Option ℕ → Job → Decoded
-spelled (some p) j = bad_long p
-spelled none j = job j
+spelled (Some p) j = bad_long p
+spelled None j = job j
 
 -- what the words ws are, from the reading of those after the mask word
 abbrev pub decided : List ℕ → Reading Job → Decoded

@@ -2,8 +2,8 @@ use Rattle.whole.proofs.Bounds.{sfits, computed, is-of}
 use Rattle.motion.proofs.PassedRanges.{ranges-of}
 use Rattle.motion.proofs.start_position.Goals as goal
 
-pub shift-s-requires : goal.shift-s-requires
-shift-s-requires c = ranges-of c.requires
+pub shift-requires : goal.shift-requires
+shift-requires c = ranges-of c.requires
 
 pub overflow_mul-result-2 : goal.overflow_mul-result-2
 overflow_mul-result-2 c = let h = ranges-of c.requires in

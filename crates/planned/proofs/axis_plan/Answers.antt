@@ -15,8 +15,8 @@ use Rattle.planned.proofs.axis_plan.Goals as goal
 pub profile_of-profile-requires-clause-n_bound : goal.profile_of-profile-requires-clause-n_bound
 profile_of-profile-requires-clause-n_bound c = plannable-landed c.requires
 
-pub chosen-regions-requires-clause-displacement_value : goal.chosen-regions-requires-clause-displacement_value
-chosen-regions-requires-clause-displacement_value c =
+pub chosen-requires-clause-displacement_value : goal.chosen-requires-clause-displacement_value
+chosen-requires-clause-displacement_value c =
     let x = c.args.x in
     let l = c.landing_at-landing in
     -- the displacement, as the number that it is
@@ -47,5 +47,5 @@ returns c =
     e ∙ ap (λ (z : ℤ). z -ℤ start_position x) l.ensures.position.is in
     plan-is x c.args.n c.profile_of-profile.result _ c.profile_of-profile.ensures.is way _ _ _ _ _ _
     (exactly (search exact depth 9) tt) (exactly (search exact depth 9) tt)
-    c.chosen-regions.ensures (exactly (search exact depth 9) tt)
+    c.chosen.ensures (exactly (search exact depth 9) tt)
     c.second_weight-second_weight.ensures c.weight_scale-scale.ensures

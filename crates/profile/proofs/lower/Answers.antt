@@ -2,4 +2,4 @@ use Rattle.whole.proofs.Bounds.{computed, is-of}
 use Rattle.profile.proofs.lower.Goals as goal
 
 pub returns : goal.returns
-returns c = is-of (search computed depth 30 fits 9000) tt
+returns c = rw (← c.p.view_is) (is-of (search computed depth 30 fits 9000) tt)

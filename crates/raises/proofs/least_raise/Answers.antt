@@ -1,6 +1,6 @@
 use Prim.Native.Nat.{ℕ, suc, ◌-◌}
 use mathlib.Core.Path.{ap, subst, ◌∙◌}
-use mathlib.Core.Option.{some}
+use Rattle.std.specs.Prelude.{Some}
 use native.Mathlib.Omega.{arith}
 use Rattle.whole.specs.Candidates.{Next}
 use Rattle.least_limit.specs.Limits.{limit_in, enough_with}
@@ -24,5 +24,5 @@ returns c =
     let least = subst (λ (m : ℕ). Next (enough_with a.limit a.t)
     (suc (limit_in a.limit a.t)) m c.least_limit-found.result)
     c.highest-most.ensures c.least_limit-found.ensures in
-    ap (λ (n : ℕ). some (c.least_limit-found.result - n)) c.limit_in-current.ensures
+    ap (λ (n : ℕ). Some (c.least_limit-found.result - n)) c.limit_in-current.ensures
     ∙ found a.limit a.t c.least_limit-found.result least (omega (arith, c.highest-most.ensures, c.if-most-found.false))

@@ -51,7 +51,6 @@ loop-number-preserved c =
           }
     ] in
     record {
-      low = omega arith;
       six = l.invariant.six;
       long = t.long ∙ l.invariant.long;
       passed = (passed-from l.number l.bits a.axes (omega arith) l.invariant.passed).later;

@@ -1,4 +1,3 @@
-use Prim.Native.Nat.{◌-◌, ◌≤◌}
 use mathlib.Core.Path.{◌≡◌}
 use lib.ListN.{length}
 use Rattle.model.specs.planning.Job.{set_axes}
@@ -10,13 +9,9 @@ use Rattle.raises.proofs.raises_for.Given as goal
 abbrev pub invariant-loop-number : goal.invariant-loop-number
 invariant-loop-number l =
     record {
-      low : l.number ≤ 6;
       six : length l.fn.axes ≡ 6;
       long : length l.raises ≡ 6;
       passed : AllPassed (from l.number l.bits l.fn.axes);
       is : raises_from l.fn.asked (from l.number l.bits l.fn.axes) l.raises
           ≡ raises_from l.fn.asked (set_axes 0 l.fn.mask l.fn.axes) none_raised;
     }
-
-abbrev pub decreases-loop-number : goal.decreases-loop-number
-decreases-loop-number l = 6 - l.number

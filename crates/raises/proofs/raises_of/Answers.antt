@@ -1,7 +1,7 @@
 use Prim.Native.Nat.{ℕ, ◌≤◌}
 use mathlib.Core.Path.{◌≡◌, sym, ap, subst, ◌∙◌}
 use mathlib.Core.List.{[], ◌∷◌}
-use mathlib.Core.Option.{none}
+use Rattle.std.specs.Prelude.{None}
 use native.Mathlib.Omega.{arith}
 use Rattle.model.specs.declared.Axis.{Axis}
 use Rattle.model.specs.declared.Limit.{Limit}
@@ -36,7 +36,7 @@ returns-then-n-delay_of c =
     let g = c.with_weight-given.result in
     let e = c.with_weight-given.ensures in
     let early : n ≤ delay g = omega (arith, c.delay_of.ensures, c.if-n-delay_of.true) in
-    let missing : (q : Limit) → none ≡ raise_of q x n =
+    let missing : (q : Limit) → None ≡ raise_of q x n =
     λ q. sym (too-early q g n (given-passed x g e c.requires.passed) early) ∙ given-raise x g n e q in
     c.pair.ensures ∙ (λ i. in_order (missing Acceleration i) (missing Speed i))
 

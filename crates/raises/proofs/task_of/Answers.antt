@@ -66,10 +66,6 @@ far x n g r l h = subst (λ (z : ℤ). nat_abs z ≤ 2 ^ 60) (travel-is x n g l)
 pub delay_of-requires : goal.delay_of-requires
 delay_of-requires c = ranges-of c.requires.passed
 
-pub fastest_of-fastest-requires-clause-delay_bound : goal.fastest_of-fastest-requires-clause-delay_bound
-fastest_of-fastest-requires-clause-delay_bound c =
-    omega (arith, c.delay_of.ensures, short c.args.x c.requires.passed)
-
 pub overflow_mul-line : goal.overflow_mul-line
 overflow_mul-line c =
     let t = ticks-is c.args.x c.args.n c.landing_tick-ticks.result c.requires.n_le_last_tick

@@ -23,8 +23,8 @@ returns-then-last-first c =
     c.first_after-first.ensures ∙ ap (λ (d : ℕ). max c.args.n (suc d)) c.delay_of-delay.ensures in
     none_after c.args.x c.args.n c.args.last c.requires.n_bound (omega (arith, first-is, c.if-last-first.true))
 
-pub approach_of-requires : goal.approach_of-requires
-approach_of-requires c =
+pub new-requires : goal.new-requires
+new-requires c =
     let first-is : c.first_after-first.result ≡ max c.args.n (suc (delay c.args.x)) =
     c.first_after-first.ensures ∙ ap (λ (d : ℕ). max c.args.n (suc d)) c.delay_of-delay.ensures in
     record {
@@ -37,8 +37,8 @@ approach_of-requires c =
 pub next_later-requires : goal.next_later-requires
 next_later-requires c =
     let n = c.first_after-first.result in
-    nearer c.approach_of.result (last_tick - n) (c.args.last - n) (omega (arith, c.requires.last_le_last_tick))
-    c.approach_of.ensures.approaches
+    nearer c.new.result (last_tick - n) (c.args.last - n) (omega (arith, c.requires.last_le_last_tick))
+    c.new.ensures.approaches
 
 pub overflow_add-result-2 : goal.overflow_add-result-2
 overflow_add-result-2 c =
@@ -49,4 +49,4 @@ returns c =
     let first-is : c.first_after-first.result ≡ max c.args.n (suc (delay c.args.x)) =
     c.first_after-first.ensures ∙ ap (λ (d : ℕ). max c.args.n (suc d)) c.delay_of-delay.ensures in
     next-from c.args.x c.args.n c.args.last c.first_after-first.result _ c.next_later.result first-is
-    c.if-last-first.false c.approach_of.ensures.same c.next_later.ensures
+    c.if-last-first.false c.new.ensures.same c.next_later.ensures

@@ -6,14 +6,12 @@ use lib.IntN.{ℤ, nat_abs, ◌-ℤ◌}
 use mir.Syntax.{w64}
 use mir.Val.{to_z, of_z}
 use Rattle.whole.proofs.Bounds.{within, exactly, computed}
-use Rattle.model.specs.planning.Leg.{required}
+use Rattle.model.specs.planning.Leg.{Leg, required}
 use Rattle.model.specs.planning.Motion.{start_position, leg, required_sum, reachable}
 use Rattle.model.specs.planning.Quantities.{delay}
-use Rattle.profile.specs.declared.Profile.{Profile}
-use Rattle.profile.specs.Profiles.{leg_of}
 use Rattle.whole.specs.Candidates.{Next}
 use Rattle.envelopes.specs.Sums.{between_at}
-use Rattle.envelopes.specs.Skips.{Lasting}
+use Rattle.whole.specs.Candidates.{Lasting}
 use Rattle.reach.specs.Drift.{drift}
 use Rattle.motion.proofs.PassedRanges.{ranges-of}
 use Rattle.reach.proofs.Steady.{start-slow, landing-slow, speed-slow, lasts, none_after, next-arrival}
@@ -57,7 +55,7 @@ displacement-requires c =
 
 pub required-sum-requires : goal.required-sum-requires
 required-sum-requires c =
-    record { ranged = c.profile_of-p.ensures.ranged; within = within (search computed depth 9) tt }
+    record { within = within (search computed depth 9) tt }
 
 pub drift-requires : goal.drift-requires
 drift-requires c =
@@ -75,14 +73,13 @@ next_feasible-ticks-requires c =
     let far : to_z w64 (of_z w64 c.displacement.result) ≡ l.result.position -ℤ start_position x =
     exactly (search computed depth 9) tt in
     let way = far ∙ ap (λ (z : ℤ). z -ℤ start_position x) l.ensures.position.is in
-    exactly (search computed depth 9) tt ∙ (λ i. required (leg_of (f.ensures.is i)) (way i))) in
+    exactly (search computed depth 9) tt ∙ (λ i. required (f.ensures.is i) (way i))) in
     let change-is : to_z w64 (of_z w64 c.drift.result) ≡ drift x = exactly (search computed depth 9) tt in
-    let slow = subst (λ (p : Profile). (nat_abs p.start ≤ p.speed_limit) × (nat_abs p.end ≤ p.speed_limit))
+    let slow = subst (λ (p : Leg). (nat_abs p.start ≤ p.speed_limit) × (nat_abs p.end ≤ p.speed_limit))
     (sym f.ensures.is)
     (start-slow x c.requires.passed, landing-slow x c.requires.passed c.requires.target_value n) in
-    let ticks : f.result.ticks ≡ n - delay x = ap (λ (p : Profile). p.ticks) f.ensures.is in
+    let ticks : f.result.ticks ≡ n - delay x = ap (λ (p : Leg). p.ticks) f.ensures.is in
     record {
-      ranged = f.ensures.ranged;
       acceleration_limit_nonzero = f.ensures.acceleration;
       ticks_nonzero = f.ensures.some;
       start_bound = slow.0;
@@ -93,9 +90,9 @@ next_feasible-ticks-requires c =
       last_bound = omega (arith, c.requires.last_le_last_tick);
       lasting =
           subst
-          (λ (p : Profile).
+          (λ (p : Leg).
           Lasting
-          (between_at (leg_of p) (to_z w64 (of_z w64 c.required-sum.result)) (to_z w64 (of_z w64 c.drift.result)))
+          (between_at p (to_z w64 (of_z w64 c.required-sum.result)) (to_z w64 (of_z w64 c.drift.result)))
           p.ticks)
           (sym f.ensures.is)
           (subst₂ (λ (s d : ℤ). Lasting (between_at (leg x n) s d) (n - delay x)) (sym sum-is) (sym change-is)
@@ -123,7 +120,7 @@ returns c =
     let far : to_z w64 (of_z w64 c.displacement.result) ≡ l.result.position -ℤ start_position x =
     exactly (search computed depth 9) tt in
     let way = far ∙ ap (λ (z : ℤ). z -ℤ start_position x) l.ensures.position.is in
-    exactly (search computed depth 9) tt ∙ (λ i. required (leg_of (f.ensures.is i)) (way i))) in
+    exactly (search computed depth 9) tt ∙ (λ i. required (f.ensures.is i) (way i))) in
     let change-is : to_z w64 (of_z w64 c.drift.result) ≡ drift x = exactly (search computed depth 9) tt in
     let late = c.delay_of-delay in
     let from = c.first_after-first.ensures ∙ ap (λ (d : ℕ). max c.args.n (suc d)) late.ensures in
@@ -131,10 +128,10 @@ returns c =
     let last = c.args.last in
     subst (λ (d : ℕ). Next (reachable x) c.args.n last (t + d)) (sym late.ensures)
     (next-arrival x c.requires.passed c.requires.target_value c.args.n last n t from c.if-last-first.false
-    (subst (λ (p : Profile). Next (between_at (leg_of p) (required_sum x n) (drift x)) p.ticks (last - delay x) t)
+    (subst (λ (p : Leg). Next (between_at p (required_sum x n) (drift x)) p.ticks (last - delay x) t)
     f.ensures.is
-    (subst (λ (d : ℕ). Next (between_at (leg_of f.result) (required_sum x n) (drift x)) f.result.ticks (last - d) t)
+    (subst (λ (d : ℕ). Next (between_at f.result (required_sum x n) (drift x)) f.result.ticks (last - d) t)
     late.ensures
     (subst (λ (g : ℕ → Bool). Next g f.result.ticks (last - late.result) t)
-    (λ i. between_at (leg_of f.result) (sum-is i) (change-is i))
+    (λ i. between_at f.result (sum-is i) (change-is i))
     c.next_feasible-ticks.ensures))))

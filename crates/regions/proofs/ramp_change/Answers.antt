@@ -19,8 +19,8 @@ returns-then-v-c c =
     then_is (change c.before)
     (change-up a.limit a.v a.c (le-taken c.if-v-c.true (search loose depth 9) tt))
 
-pub returns : goal.returns
-returns c =
+pub returns-else-v-c : goal.returns-else-v-c
+returns-else-v-c c =
     let a = c.args in
     let l = change c.before in
     let above = le_left c.if-v-c.false (search loose depth 9) tt in

@@ -22,29 +22,29 @@ record Turned (n i rest : ℕ) (axes : List Axis) (plans₀ : List AxisPlan) (co
   pub unset : (j : ℕ) → count ≤ j → j < 6 → get_or plans j unset_plan ≡ unset_plan
   pub done : take count plans ++ plans_from n (i + 1) (rest / 2) axes ≡ take count₀ plans₀ ++ plans_from n i rest axes
 
-pub loop-i-init : goal.loop-i-init
-loop-i-init c =
+pub loop-x-init : goal.loop-x-init
+loop-x-init c =
     record {
       low = omega arith;
       few = omega arith;
       six = omega arith;
       long = refl;
-      unset = λ j h l. get_or-replicate 6 j _ unset_plan l ∙ c.unset_plan-unset.ensures;
+      unset = λ j h l. get_or-replicate 6 j _ unset_plan l ∙ c.unset_plan-plans.ensures;
       plannable = all-plannable c.args.n (set_axes 0 c.args.mask c.args.axes) c.requires.all_passed
           c.requires.n_le_last_tick c.requires.n_value;
       done = refl;
     }
 
-pub loop-i-preserved : goal.loop-i-preserved
-loop-i-preserved c =
+pub loop-x-preserved : goal.loop-x-preserved
+loop-x-preserved c =
     let a = c.args in
-    let h = c.loop-i in
-    let here : h.i < length a.axes = omega (arith, h.invariant.six) in
-    let after = plans_from a.n (h.i + 1) (h.rest / 2) a.axes in
-    let t : Turned a.n h.i h.rest a.axes h.plans h.count c.if-rest-eq1.plans c.if-rest-eq1.count =
+    let h = c.loop-x in
+    let here : h.x-index < length a.axes = omega (arith, h.invariant.six) in
+    let after = plans_from a.n (h.x-index + 1) (h.rest / 2) a.axes in
+    let t : Turned a.n h.x-index h.rest a.axes h.plans h.count c.if-rest-eq1.plans c.if-rest-eq1.count =
     elim c.if-rest-eq1.branch [
       | then-rest-eq1 w ↦
-          let is = w.plans-is ∙ ap (set h.plans h.count) w.axis_plan-p.ensures in
+          let is = w.plans-is ∙ ap (set h.plans h.count) w.axis_plan.ensures in
           record {
             few = omega (arith, w.count-is);
             long = ap (λ (ps : List AxisPlan). length ps) is ∙ length-set h.plans h.count _;
@@ -53,7 +53,7 @@ loop-i-preserved c =
                 ∙ h.invariant.unset j (omega (arith, w.count-is)) l;
             done =
                 ap₂ (λ (k : ℕ) (ps : List AxisPlan). take k ps ++ after) w.count-is is
-                ∙ plan-put a.n h.i h.rest a.axes here h.plans h.count (omega (arith, h.invariant.long))
+                ∙ plan-put a.n h.x-index h.rest a.axes here h.plans h.count (omega (arith, h.invariant.long))
                 (eq-eqb (h.rest % 2) 1 w.if-rest-eq1.true);
           }
       | else-rest-eq1 w ↦
@@ -64,7 +64,7 @@ loop-i-preserved c =
                 ∙ h.invariant.unset j (omega (arith, w.count-is)) l;
             done =
                 ap₂ (λ (k : ℕ) (ps : List AxisPlan). take k ps ++ after) w.count-is w.plans-is
-                ∙ plan-left-out a.n h.i h.rest a.axes here (take h.count h.plans)
+                ∙ plan-left-out a.n h.x-index h.rest a.axes here (take h.count h.plans)
                 (ne_eqb (h.rest % 2) 1 w.if-rest-eq1.false);
           }
     ] in
@@ -74,6 +74,6 @@ loop-i-preserved c =
       six = h.invariant.six;
       long = t.long ∙ h.invariant.long;
       unset = t.unset;
-      plannable = plannable-next a.n h.i h.rest a.axes here h.invariant.plannable;
+      plannable = plannable-next a.n h.x-index h.rest a.axes here h.invariant.plannable;
       done = t.done ∙ h.invariant.done;
     }

@@ -1,42 +1,28 @@
-use native.Mathlib.Omega.{arith}
-use mathlib.Core.Path.{◌∙◌}
 use Rattle.model.specs.planning.Job.{set_axes}
 use Rattle.arrival.specs.Arrivals.{arrives_in}
 use Rattle.search.proofs.Reports.{found-late, found-out, spent-out, nothing-out}
 use Rattle.search.proofs.search_from.Goals as goal
 
-pub overflow_sub-tick : goal.overflow_sub-tick
-overflow_sub-tick c =
+pub overflow_sub-result : goal.overflow_sub-result
+overflow_sub-result c =
     let a = c.args in
-    let n = c.least_common-least in
-    let k = c.within_budget-count in
-    let test = arrives_in a.windows (set_axes 0 a.mask a.axes) in
-    let late = found-late test a.first a.budget k.result n.result k.ensures n.ensures c.in-At.tick c.in-At.is in
-    omega arith
+    found-late (arrives_in a.windows (set_axes 0 a.mask a.axes)) a.first a.budget c.min-count.result
+    c.min-count.ensures c.in-Some.tick c.in-Some.ensures
 
-pub returns-in-At : goal.returns-in-At
-returns-in-At c =
+pub returns-in-Some : goal.returns-in-Some
+returns-in-Some c =
     let a = c.args in
-    let n = c.least_common-least in
-    let k = c.within_budget-count in
-    let test = arrives_in a.windows (set_axes 0 a.mask a.axes) in
-    c.report_of.ensures
-    ∙ found-out test a.first a.budget k.result n.result k.ensures n.ensures c.in-At.tick c.in-At.is
+    found-out (arrives_in a.windows (set_axes 0 a.mask a.axes)) a.first a.budget c.min-count.result
+    c.min-count.ensures c.in-Some.tick c.in-Some.ensures
 
-pub returns-then-budget-left : goal.returns-then-budget-left
-returns-then-budget-left c =
+pub returns-in-None : goal.returns-in-None
+returns-in-None c =
     let a = c.args in
-    let n = c.least_common-least in
-    let k = c.within_budget-count in
-    let test = arrives_in a.windows (set_axes 0 a.mask a.axes) in
-    c.report_of-then-budget-left.ensures
-    ∙ spent-out test a.first a.budget k.result n.result k.ensures n.ensures c.in_default.is c.if-budget-left.true
+    spent-out (arrives_in a.windows (set_axes 0 a.mask a.axes)) a.first a.budget c.min-count.result
+    c.min-count.ensures c.in-None.ensures c.if-budget-left.true
 
-pub returns : goal.returns
-returns c =
+pub returns-in-None-2 : goal.returns-in-None-2
+returns-in-None-2 c =
     let a = c.args in
-    let n = c.least_common-least in
-    let k = c.within_budget-count in
-    let test = arrives_in a.windows (set_axes 0 a.mask a.axes) in
-    c.report_of-2.ensures
-    ∙ nothing-out test a.first a.budget k.result n.result k.ensures n.ensures c.in_default.is c.if-budget-left.false
+    nothing-out (arrives_in a.windows (set_axes 0 a.mask a.axes)) a.first a.budget c.min-count.result
+    c.min-count.ensures c.in-None.ensures c.if-budget-left.false

@@ -8,12 +8,12 @@ use Rattle.segments.specs.Segments.{SegmentOf}
 use Rattle.segments.proofs.PlannedSegments.{over, segment-at, segment-falling, fall-first}
 use Rattle.segments.proofs.later_segment.Goals as goal
 
-pub returns-then-ticks-k : goal.returns-then-ticks-k
-returns-then-ticks-k c =
+pub returns-then-regions-from : goal.returns-then-regions-from
+returns-then-regions-from c =
     let p = c.args.p in
     let g = c.requires.plan_ranges.regions in
-    let is = c.fall_begins-from.ensures in
-    let falls : p.regions.ticks ≤ c.args.k + p.regions.fall = omega arith in
+    let is = c.fall_begins.ensures in
+    let falls : p.regions.ticks ≤ c.args.k + p.regions.fall = omega (arith, c.from.ensures) in
     segment-at
     (subst (λ (b : ℕ). SegmentOf (planned_at p) (over (pos 0 -ℤ p.regions.down) b p.regions.ticks))
     (sym is) (segment-falling p))

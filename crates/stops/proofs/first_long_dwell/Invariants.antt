@@ -1,17 +1,7 @@
-use Prim.Native.Nat.{◌-◌, ◌≤◌}
-use mathlib.Core.Path.{◌≡◌}
-use lib.ListN.{length, take, drop}
+-- `first_long_dwell`: no stop before index i is too long.
+use Rattle.std.proofs.Common.{◌≡◌, drop}
 use Rattle.model.specs.calls.Tour.{first_long_dwell}
 use Rattle.stops.proofs.first_long_dwell.Given as goal
 
 abbrev pub invariant-loop-i : goal.invariant-loop-i
-invariant-loop-i l =
-    record {
-      first : first_long_dwell l.i (drop l.i (take l.fn.count l.fn.stops))
-          ≡ first_long_dwell 0 (take l.fn.count l.fn.stops);
-      low : l.i ≤ l.fn.count;
-      long : length l.fn.stops ≡ 64;
-    }
-
-abbrev pub decreases-loop-i : goal.decreases-loop-i
-decreases-loop-i l = l.fn.count - l.i
+invariant-loop-i l = first_long_dwell l.i (drop l.i l.stops) ≡ first_long_dwell 0 l.stops

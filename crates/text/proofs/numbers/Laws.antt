@@ -9,14 +9,13 @@ use mathlib.Core.List.{List, ◌++◌}
 use lib.Dec.{ltb}
 use lib.IntN.{ℤ, pos, negsuc, nat_abs}
 use lib.Signed.{lt_z}
-use lib.ListN.{length, get_or, take, set, length-append}
-use lib.Seq.{take_all}
+use lib.ListN.{length, set, length-append}
 use borrow.Author.Tests.{lt-ltb, le-ltb, ltb-true, ltb-false}
 use mir.Syntax.{w64}
 use mir.Val.{SFits, to_z, of_z}
 use mir.ValLaws.{to_z-of_z}
 use Rattle.whole.specs.Lists.{Room, Written}
-use Rattle.whole.proofs.Lists.{written-nil, written_one, written_then, written-copy, room-front, room-then}
+use Rattle.whole.proofs.Lists.{written_one, written_then, room-front, room-then}
 use Rattle.text.specs.Printed.{ascii, digit, decimal_digits, decimal, printed_number, labelled}
 
 by_size : ℕ → ℕ → Bool → List ℕ
@@ -108,33 +107,22 @@ module _ {t : List ℕ} {i x : ℕ} (h : Room t i (decimal x)) where
       subst (λ (l : List ℕ). Written t i l (set u j (48 + x % 10)) (j + 1)) (sym (decimal-more x q))
       (written_then (room-last q) w (written_one (room-digit q w)))
 
--- ---- writing a label, byte by byte, and a number after it
+-- ---- writing a label, and a number after it
 
 module _ (label : List ℕ) (x : ℕ) {t : List ℕ} {i : ℕ} (h : Room t i (labelled label x)) where
   label-room : Room t i label
   unfolding labelled
   label-room = room-front label (decimal x) h
 
-  pub label-index : {k : ℕ} → k < length label → i + k < length t
-  label-index q = omega (arith, label-room.room)
+  pub label-fits : i + length label ≤ length t
+  label-fits = label-room.room
 
-  pub label-none : Written t i (take 0 label) t (i + 0)
-  label-none = record { list = (written-nil {t = t} {i = i} (omega (arith, label-room.room))).list; next = refl }
-
-  pub label-turn : {u : List ℕ} {k : ℕ} → k < length label → Written t i (take k label) u (i + k)
-      → Written t i (take (k + 1) label) (set u (i + k) (get_or label k 0)) (i + (k + 1))
-  label-turn {u} {k} q w =
-      let copied = written-copy label k 0 label-room q w in
-      record { list = copied.list; next = omega (arith, copied.next) }
-
-  module _ {u : List ℕ} {k : ℕ} (q : length label ≤ k) (w : Written t i (take k label) u (i + k)) where
-    label-whole : Written t i label u (i + k)
-    label-whole = subst (λ (l : List ℕ). Written t i l u (i + k)) (take_all k label q) w
-
-    pub number-room : Room u (i + k) (decimal x)
+  module _ {u : List ℕ} (w : Written t i label u (i + length label)) where
+    pub number-room : Room u (i + length label) (decimal x)
     unfolding labelled
-    number-room = room-then h label-whole
+    number-room = room-then h w
 
-    pub number-done : {v : List ℕ} {r : ℕ} → Written u (i + k) (decimal x) v r → Written t i (labelled label x) v r
+    pub number-done : {v : List ℕ} {r : ℕ} → Written u (i + length label) (decimal x) v r
+        → Written t i (labelled label x) v r
     unfolding labelled
-    number-done y = written_then h label-whole y
+    number-done y = written_then h w y

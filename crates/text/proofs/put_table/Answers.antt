@@ -1,8 +1,5 @@
 use mathlib.Core.Path.{sym, ◌∙◌}
-use native.Mathlib.Omega.{arith}
-use lib.ListN.{length}
-use Rattle.text.proofs.Enough.{fits-parts, count_most, put-nothing, arrival-room, rows-room, table_done}
-use borrow.Author.Rules.{rules}
+use Rattle.text.proofs.Enough.{put-nothing, arrival-room, rows-room, table_done}
 use Rattle.text.proofs.put_table.Goals as goal
 
 pub put_arrival-next-requires : goal.put_arrival-next-requires

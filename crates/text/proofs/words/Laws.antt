@@ -8,7 +8,7 @@ use lib.Seq.{drop-cons, drop-drop, take_all, take-nil, get_or-take}
 use Rattle.whole.specs.Lists.{Room, Written, WrittenAtStart}
 use Rattle.whole.proofs.Lists.{written-nil, written-copy}
 use Rattle.model.specs.calls.Bytes.{little_endian, words_of}
-use Rattle.text.specs.Words.{pair_at, first_word}
+use Rattle.text.specs.Words.{first_word}
 
 -- ---- the first word
 
@@ -28,19 +28,6 @@ word-four bytes i h =
     ∙ ap (λ (l : List ℕ). get_or bytes (i + 1) 0 ∷ l)
     (next bytes (i + 2) (i + 3) (omega arith) (omega arith)
     ∙ ap (λ (l : List ℕ). get_or bytes (i + 2) 0 ∷ l) (next bytes (i + 3) (i + 4) (omega arith) (omega arith))))))
-
-pub word-pairs : (bytes : List ℕ) (i : ℕ) {p q : ℕ} → i + 4 ≤ length bytes
-    → p ≡ pair_at bytes i → q ≡ pair_at bytes (i + 2)
-    → p + 65536 * q ≡ first_word (drop i bytes)
-word-pairs bytes i {p} {q} h e f =
-    let third : i + 2 + 1 ≡ i + 3 = omega arith in
-    let last = ap (λ (k : ℕ). get_or bytes k 0) third in
-    joined (get_or bytes i 0) (get_or bytes (i + 1) 0) (get_or bytes (i + 2) 0) (get_or bytes (i + 2 + 1) 0)
-    (get_or bytes (i + 3) 0) e f last
-    ∙ word-four bytes i h
-  where
-    joined : (a b c d d' : ℕ) → p ≡ a + 256 * b → q ≡ c + 256 * d → d ≡ d' → p + 65536 * q ≡ little_endian a b c d'
-    joined a b c d d' e f g = omega arith
 
 short : (l : List ℕ) → length l < 4 → first_word l ≡ 0
 unfolding first_word

@@ -5,7 +5,7 @@ use native.Mathlib.Omega.{arith}
 use mathlib.Core.Path.{◌≡◌, refl, sym, ap, ◌∙◌}
 use mathlib.Core.Bool.{Bool, true, false}
 use mathlib.Core.Logic.{◌⊎◌, inl, inr}
-use mathlib.Core.Option.{Option, none, some}
+use Rattle.std.specs.Prelude.{Option, None, Some}
 use borrow.Author.Tests.{lt-ltb, le-ltb}
 use Rattle.whole.proofs.Tests.{lt-or-le, lt-choice, le-choice}
 use Rattle.model.specs.declared.Report.TheVariants.{Found, Spent, Nothing}
@@ -17,8 +17,8 @@ use Rattle.theorems.proofs.jobs.LeastTick.{least-is}
 -- ---- some candidates, and then those after them
 
 or_else : Option ℕ → Option ℕ → Option ℕ
-or_else (some n) o = some n
-or_else none o = o
+or_else (Some n) o = Some n
+or_else None o = o
 
 split : (test : ℕ → Bool) (n b k : ℕ)
     → least_from test n (b + k) ≡ or_else (least_from test n b) (least_from test (n + b) k)
@@ -33,8 +33,8 @@ split test n (suc b) k =
   where
     go : (t : Bool) → least_from test (suc n) (b + k)
         ≡ or_else (least_from test (suc n) b) (least_from test (suc n + b) k)
-        → ◌≡◌ {A = Option ℕ} (elim t [ true ↦ some n | false ↦ least_from test (suc n) (b + k) ])
-        (or_else (elim t [ true ↦ some n | false ↦ least_from test (suc n) b ]) (least_from test (n + suc b) k))
+        → ◌≡◌ {A = Option ℕ} (elim t [ true ↦ Some n | false ↦ least_from test (suc n) (b + k) ])
+        (or_else (elim t [ true ↦ Some n | false ↦ least_from test (suc n) b ]) (least_from test (n + suc b) k))
     go true h = refl
     go false h =
         let e : suc n + b ≡ n + suc b = omega arith in
@@ -44,8 +44,8 @@ split test n (suc b) k =
 
 -- what an undivided search makes of the least candidate
 abbrev pub wholly : ℕ → Option ℕ → SearchReport
-wholly first (some n) = record { report = Found n; tried = n - first + 1 }
-wholly first none = record { report = Nothing; tried = candidates first }
+wholly first (Some n) = record { report = Found n; tried = n - first + 1 }
+wholly first None = record { report = Nothing; tried = candidates first }
 
 abbrev pub whole : (ℕ → Bool) → ℕ → SearchReport
 whole test first = wholly first (least_from test first (candidates first))
@@ -79,8 +79,8 @@ module _ (test : ℕ → Bool) (first budget : ℕ) where
       ∙ go (least_from test first (candidates first))
     where
       go : (o : Option ℕ) → report_of first budget o ≡ wholly first o
-      go (some n) = refl
-      go none = ap (not_found first budget) (le-ltb budget (candidates first) h)
+      go (Some n) = refl
+      go None = ap (not_found first budget) (le-ltb budget (candidates first) h)
 
   -- it does not: the search found its tick, or it is spent
   divided : budget < candidates first → (search_from test first budget ≡ whole test first) ⊎ GoesOn test first budget
@@ -101,20 +101,20 @@ module _ (test : ℕ → Bool) (first budget : ℕ) where
 
       from_next : (o : Option ℕ) → least_from test (first + budget) more ≡ o
           → wholly first o ≡ later budget (wholly (first + budget) o)
-      from_next (some n) p =
+      from_next (Some n) p =
           let low = (least-is test (first + budget) more n p).first in
           let e : n - first + 1 ≡ budget + (n - (first + budget) + 1) = omega arith in
           λ j. record { report = Found n; tried = e j }
-      from_next none p =
+      from_next None p =
           let e : candidates first ≡ budget + candidates (first + budget) = omega arith in
           λ j. record { report = Nothing; tried = e j }
 
       go : (o : Option ℕ) → least_from test first budget ≡ o
           → (search_from test first budget ≡ whole test first) ⊎ GoesOn test first budget
-      go (some n) e =
+      go (Some n) e =
           inl (here ∙ ap (report_of first budget) e
           ∙ sym (parts ∙ ap (λ (o : Option ℕ). wholly first (or_else o (least_from test (first + budget) more))) e))
-      go none e =
+      go None e =
           inr
           (record {
             left = omega arith;

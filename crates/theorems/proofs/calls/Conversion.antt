@@ -4,7 +4,7 @@ use Prim.Native.Nat.{ℕ, zero, suc}
 use native.Mathlib.Omega.{arith}
 use mathlib.Core.Path.{◌≡◌, refl, sym, ap, ◌∙◌}
 use mathlib.Core.Bool.{Bool, true, false}
-use mathlib.Core.Option.{Option, none, some}
+use Rattle.std.specs.Prelude.{Option, None, Some}
 use mathlib.Core.List.{List, [], ◌∷◌, ◌++◌}
 use lib.IntN.{ℤ}
 use lib.Dec.{leb, ltb}
@@ -44,14 +44,14 @@ axis-still n x e = ap (with_target x) (by-target x.target e)
         ]) e
     by-target (Moving m) e = refl
 
-axes-still : (n : ℕ) (xs : List JobAxis) → first_axis flying_refused xs ≡ none → converted_axes n xs ≡ xs
+axes-still : (n : ℕ) (xs : List JobAxis) → first_axis flying_refused xs ≡ None → converted_axes n xs ≡ xs
 axes-still n [] e = refl
 axes-still n (x ∷ xs) e = go (flying_refused x.axis) refl e (axes-still n xs)
   where
     go : (b : Bool) → flying_refused x.axis ≡ b
         → ◌≡◌ {A = Option ℕ}
-        (elim b as (λ _. Option ℕ) [ true ↦ some x.number | false ↦ first_axis flying_refused xs ]) none
-        → (first_axis flying_refused xs ≡ none → converted_axes n xs ≡ xs) → converted_axes n (x ∷ xs) ≡ x ∷ xs
+        (elim b as (λ _. Option ℕ) [ true ↦ Some x.number | false ↦ first_axis flying_refused xs ]) None
+        → (first_axis flying_refused xs ≡ None → converted_axes n xs ≡ xs) → converted_axes n (x ∷ xs) ≡ x ∷ xs
     go true t e h = absurd (let z : ◌≡◌ {A = ℕ} 0 1 = cc in omega arith)
     go false t e h = (λ i. record { number = x.number; axis = axis-still n x.axis t i } ∷ h e i)
 
@@ -69,23 +69,23 @@ target-rests n (Fixed r) = go (flies (Fixed r)) refl
     go false e = e
 target-rests n (Moving m) = refl
 
-none-flies : (n : ℕ) (xs : List JobAxis) → first_axis flying_refused (converted_axes n xs) ≡ none
+none-flies : (n : ℕ) (xs : List JobAxis) → first_axis flying_refused (converted_axes n xs) ≡ None
 none-flies n [] = refl
 none-flies n (x ∷ xs) =
     (λ i. elim (target-rests n x.axis.target i) as
-    (λ _. Option ℕ) [ true ↦ some x.number | false ↦ none-flies n xs i ])
+    (λ _. Option ℕ) [ true ↦ Some x.number | false ↦ none-flies n xs i ])
 
 -- planning's tests and the old ones, where 17 names no axis
-tests_same : (j : Job) → first_axis flying_refused j.axes ≡ none → tested axis_refusals j ≡ tested old_refusals j
+tests_same : (j : Job) → first_axis flying_refused j.axes ≡ None → tested axis_refusals j ≡ tested old_refusals j
 tests_same j e = more old_refusals
   where
     more : (ts : Tests) → tested (ts ++ ((17, flying_refused) ∷ [])) j ≡ tested ts j
-    more [] = ap (λ (o : Option ℕ). elim o as (λ _. Admission) [ some a ↦ refused_at 17 a | none ↦ windowed j ]) e
+    more [] = ap (λ (o : Option ℕ). elim o as (λ _. Admission) [ Some a ↦ refused_at 17 a | None ↦ windowed j ]) e
     more (t ∷ ts) =
         ap (λ (z : Admission). elim (first_axis t.1 j.axes) as
-        (λ _. Admission) [ some a ↦ refused_at t.0 a | none ↦ z ]) (more ts)
+        (λ _. Admission) [ Some a ↦ refused_at t.0 a | None ↦ z ]) (more ts)
 
-outcome-same : (j : Job) (cells : List ℤ) → first_axis flying_refused j.axes ≡ none
+outcome-same : (j : Job) (cells : List ℤ) → first_axis flying_refused j.axes ≡ None
     → job_outcome j cells ≡ job_outcome_by old_rules j cells
 outcome-same j cells e =
     ap (λ (z : Admission). outcome_after cells
@@ -106,7 +106,7 @@ conversion-numbered = record { not-0 = λ n. zeros n; not-10 = λ n. tens n }
     tens (suc n) = lacks 10 old_refusals refl
 
 last-clear : (t : ℕ × (Axis → Bool)) (ts : Tests) (xs : List JobAxis)
-    → Clear (ts ++ (t ∷ [])) xs → first_axis t.1 xs ≡ none
+    → Clear (ts ++ (t ∷ [])) xs → first_axis t.1 xs ≡ None
 last-clear t [] xs c = c.0
 last-clear t (u ∷ ts) xs c = last-clear t ts xs c.1
 
@@ -143,7 +143,7 @@ outcome-by r cells d =
 
 -- by the rules r, which say of a job without a flying target what the old rules say
 module _ (r : Rules) (ws lent : List ℕ) (cells : List ℤ)
-    (of-job : (j : Job) → first_axis flying_refused j.axes ≡ none
+    (of-job : (j : Job) → first_axis flying_refused j.axes ≡ None
     → job_outcome_by r j cells ≡ job_outcome_by old_rules j cells) where
   abbrev Kept : Conversion → Type 0
   Kept c = call_by r (words (take c.place c.words)) cells ≡ old_outcome ws cells

@@ -11,8 +11,7 @@ use borrow.Author.Tests.{le-leb, leb-true}
 use Rattle.whole.proofs.Tests.{by_bool}
 use Rattle.model.specs.declared.Axis.{Axis}
 use Rattle.model.specs.declared.RestPoint.{RestPoint}
-use Rattle.model.specs.declared.SecondSway.{SecondSway}
-use Rattle.model.specs.declared.SecondSway.TheVariants.{Absent, HalfPeriod}
+use Rattle.std.specs.Prelude.{Option, None, Some}
 use Rattle.model.specs.declared.Target.{Target}
 use Rattle.model.specs.declared.Target.TheVariants.{Fixed, Moving}
 use Rattle.model.specs.planning.Job.{Job}
@@ -59,10 +58,10 @@ module _ (n : ℕ) where
   unfolding moved_to
   acceleration-kept = kept acceleration_refused (λ x r. still x.second_sway r)
     where
-      still : (s : SecondSway) (r : RestPoint)
+      still : (s : Option ℕ) (r : RestPoint)
           → acceleration_refused_by s (moved_to r) ≡ acceleration_refused_by s (Fixed r)
-      still Absent r = refl
-      still (HalfPeriod d) r = refl
+      still None r = refl
+      still (Some d) r = refl
 
   old-blind : n ≤ last_tick → AllBlind (converted_axis n) old_refusals
   old-blind h = (
@@ -82,11 +81,11 @@ module _ (n : ℕ) where
   cells-kept k = kept (λ x. cells k (planned_axis n x))
       (λ x r. cells-alike n k (with_target x (moved_to r)) (with_target x (Fixed r)) (blends x r) refl)
     where
-      by-sway : (x : Axis) (r : RestPoint) (f : Tick → ℤ) (s : SecondSway)
+      by-sway : (x : Axis) (r : RestPoint) (f : Tick → ℤ) (s : Option ℕ)
           → blend_by s (planned_axis n (with_target x (moved_to r))) k f
           ≡ blend_by s (planned_axis n (with_target x (Fixed r))) k f
-      by-sway x r f Absent = refl
-      by-sway x r f (HalfPeriod d) = refl
+      by-sway x r f None = refl
+      by-sway x r f (Some d) = refl
 
       blends : (x : Axis) (r : RestPoint) (f : Tick → ℤ)
           → blend (planned_axis n (with_target x (moved_to r))) k f

@@ -3,14 +3,14 @@ use Prim.Native.Nat.{ℕ, zero, suc, ◌-◌, ◌^◌, ◌<◌, ◌≤◌}
 use native.Mathlib.Omega.{arith}
 use mathlib.Core.Path.{◌≡◌, refl, sym, ap, subst, ◌∙◌}
 use mathlib.Core.Bool.{Bool, true, false, not, ◌&&◌, false≢true}
-use mathlib.Core.Option.{Option, none, some}
+use Rattle.std.specs.Prelude.{Option}
 use mathlib.Core.List.{List, [], ◌∷◌}
 use lib.IntN.{ℤ, pos, neg_ℤ, nat_abs}
 use lib.Dec.{T, eqb, ltb, nltb→le}
 use borrow.Author.Tests.{eq-eqb, ne_eqb, eqb-true, lt-ltb}
 use Rattle.model.specs.declared.Axis.{Axis}
 use Rattle.model.specs.declared.RestPoint.{RestPoint}
-use Rattle.model.specs.declared.SecondSway.TheVariants.{Absent, HalfPeriod}
+use Rattle.std.specs.Prelude.{None, Some}
 use Rattle.model.specs.declared.Target.{Target}
 use Rattle.model.specs.declared.Target.TheVariants.{Fixed, Moving}
 use Rattle.model.specs.declared.Weight.TheVariants.{Given}
@@ -156,8 +156,8 @@ module _ (n : ℕ) (soon : n ≤ 4096) where
     where
       by_name : (b : Bool) → Turns (sway_by b) (sway_by b) id
       by_name true = then (field 13) (field 13) id _ _ id
-          (field-turns 13 (λ e. omega arith)) (λ d. last (HalfPeriod d) id)
-      by_name false = last Absent id
+          (field-turns 13 (λ e. omega arith)) (λ d. last (Some d) id)
+      by_name false = last None id
 
   -- ---- the velocity of a target and what follows it
 
@@ -440,20 +440,20 @@ module _ (n : ℕ) (soon : n ≤ 4096) where
           (clean-cons (word 12 n) (conv ws) (not-14 (word 12 n) (conv ws) (λ e. omega (arith, soon))) h)))
       go false t h = subst Clean (sym (copied w ws t)) (clean-cons w (conv ws) (before-conv w ws (clean-head w ws c)) h)
 
-  none_named : (i : ℕ) (ws : List ℕ) → Clean ws → first_bad_long i ws ≡ none
+  none_named : (i : ℕ) (ws : List ℕ) → Clean ws → first_bad_long i ws ≡ None
   none_named i [] c = refl
   none_named i (w ∷ []) c = refl
   none_named i (w ∷ u ∷ ws) c =
-      ap (λ (b : Bool). elim b as (λ _. Option ℕ) [ true ↦ some i | false ↦ first_bad_long (suc i) (u ∷ ws) ]) c.0
+      ap (λ (b : Bool). elim b as (λ _. Option ℕ) [ true ↦ Some i | false ↦ first_bad_long (suc i) (u ∷ ws) ]) c.0
       ∙ none_named (suc i) (u ∷ ws) c.1
 
   decoded : (ws : List ℕ) (j : Job) → decode ws ≡ job j → decode (conv ws) ≡ job (turned j)
   decoded [] j e = absurd (let z : ◌≡◌ {A = ℕ} 0 1 = cc in omega arith)
   decoded (w ∷ ws) j e = go (eqb (kind w) 1) (good_mask (payload w)) refl refl e
     where
-      by-long : (o : Option ℕ) (i : Job) → spelled o i ≡ job j → (o ≡ none) × (i ≡ j)
-      by-long (some p) i e = absurd (let z : ◌≡◌ {A = ℕ} 0 1 = cc in omega arith)
-      by-long none i e = (refl, cc)
+      by-long : (o : Option ℕ) (i : Job) → spelled o i ≡ job j → (o ≡ None) × (i ≡ j)
+      by-long (Some p) i e = absurd (let z : ◌≡◌ {A = ℕ} 0 1 = cc in omega arith)
+      by-long None i e = (refl, cc)
 
       by-reading : kind w ≡ 1 → good_mask (payload w) ≡ true → (r : Reading Job)
           → after_mask (payload w) 1 ws ≡ r → decided (w ∷ ws) r ≡ job j
@@ -462,7 +462,7 @@ module _ (n : ℕ) (soon : n ≤ 4096) where
           let s = by-long (first_bad_long 0 (w ∷ ws)) o e in
           let same : conv (w ∷ ws) ≡ w ∷ conv ws = copied w ws (other-kind w ws (λ z. omega arith)) in
           let read = job-turns (payload w) 1 1 ws o i vs q in
-          let passes : first_bad_long 0 (w ∷ conv ws) ≡ none =
+          let passes : first_bad_long 0 (w ∷ conv ws) ≡ None =
           none_named 0 (w ∷ conv ws) (subst Clean same (clean-conv (w ∷ ws) (clean 0 (w ∷ ws) s.0))) in
           ap decode same
           ∙ (λ l. elim (eq-eqb (kind w) 1 t l && m l) as

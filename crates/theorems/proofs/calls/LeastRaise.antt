@@ -3,7 +3,7 @@
 use Prim.Native.Nat.{ℕ, zero, suc, ◌+◌, ◌-◌, ◌≤◌, ◌<◌}
 use mathlib.Core.Path.{◌≡◌, refl, sym, subst, ◌∙◌}
 use mathlib.Core.Bool.{Bool, true, false, false≢true}
-use mathlib.Core.Option.{Option, none, some}
+use Rattle.std.specs.Prelude.{Option, None, Some}
 use mathlib.Core.Logic.{◌↔◌}
 use native.Mathlib.Omega.{arith}
 use lib.Dec.{T}
@@ -64,10 +64,10 @@ module _ (q : Limit) (x : Axis) (n : ℕ) (p : Passed x) where
   most = highest q - limit_of q x
 
   -- the highest of the range is not enough
-  pub raise-missing : reachable (with_limit q (highest q) x) n ≡ false → raise_of q x n ≡ none
+  pub raise-missing : reachable (with_limit q (highest q) x) n ≡ false → raise_of q x n ≡ None
   unfolding raise_of
   raise-missing short =
-      one-result tried 1 most (least_from tried 1 most) none (result tried 1 most)
+      one-result tried 1 most (least_from tried 1 most) None (result tried 1 most)
       (λ i h k e. false≢true
       (sym short ∙ rises (limit_of q x + i) (highest q) (omega arith) (omega (arith, range)) (omega arith) e))
     where
@@ -102,12 +102,12 @@ module _ (q : Limit) (x : Axis) (n : ℕ) (p : Passed x) where
 
       go : (o : Option ℕ) → Result tried 1 most o
           → RaiseIs (λ k. Reachable (with_limit q k x) n) (limit_of q x) (highest q) o
-      go none f = no_raise nowhere
+      go None f = no_raise nowhere
         where
           nowhere : (i : ℕ) → limit_of q x + i ≤ highest q → Enough (limit_of q x + i) → ⊥
           nowhere zero h = short 0 refl
           nowhere (suc i) h = no_test (suc i) h (f (suc i) (omega arith) (omega arith))
-      go (some r) f =
+      go (Some r) f =
           let within : limit_of q x + r ≤ highest q = omega (arith, range, f.last) in
           raise r f.first within
           ((decided (limit_of q x + r) (omega arith) within).1 (true-T f.passes)) (below within)

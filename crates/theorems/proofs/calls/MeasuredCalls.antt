@@ -3,7 +3,7 @@
 use Prim.Native.Nat.{ℕ, suc, ◌+◌}
 use mathlib.Core.Path.{◌≡◌, refl, ap, ◌∙◌}
 use mathlib.Core.Bool.{Bool, true, false}
-use mathlib.Core.Option.{Option, none, some}
+use Rattle.std.specs.Prelude.{Option, None, Some}
 use mathlib.Core.List.{List, [], ◌∷◌, ◌++◌, map}
 use lib.IntN.{ℤ}
 use lib.Dec.{eqb, leb}
@@ -247,7 +247,7 @@ module _ (t : TourSettings) where
 
   module _ (lent : List ℕ) (count : ℕ) where
     by-dwell : Option ℕ → Legs → TourOutcome
-    by-dwell o g = elim o [ some i ↦ refuse_tour 11 i 0 0 lent | none ↦ after_legs count g lent ]
+    by-dwell o g = elim o [ Some i ↦ refuse_tour 11 i 0 0 lent | None ↦ after_legs count g lent ]
 
     by_count : Bool → Option ℕ → Legs → TourOutcome
     by_count b o g = elim b [ true ↦ by-dwell o g | false ↦ refuse_tour 11 most_stops 0 0 lent ]
@@ -270,8 +270,8 @@ module _ (t : TourSettings) where
     unfolding by-dwell by_count by-stops
     same-tour true b o g f s h = refl
     same-tour false false o g f s h = refl
-    same-tour false true (some i) g f s h = refl
-    same-tour false true none g f s h = ap (λ (k : Legs). after_legs count k lent) (s (λ e. h (after g e)))
+    same-tour false true (Some i) g f s h = refl
+    same-tour false true None g f s h = ap (λ (k : Legs). after_legs count k lent) (s (λ e. h (after g e)))
 
   tours : (stops : List Stop) (lent : List ℕ) → ((tour_outcome t stops lent).number ≡ 12 → ⊥)
       → tour_outcome (settings_with_weight t) stops lent ≡ tour_outcome t stops lent

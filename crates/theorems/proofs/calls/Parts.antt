@@ -107,7 +107,7 @@ by-verdict j lent o (refused15 i a b c d f e) z = absurd (let n = e.number in om
 by-verdict j lent o (refused6 i a b c d f g e) z = absurd (let n = e.number in omega arith)
 by-verdict j lent o (refused16 i a b c d f g k e) z = absurd (let n = e.number in omega arith)
 by-verdict j lent o (refused17 i a b c d f g k l e) z = absurd (let n = e.number in omega arith)
-by-verdict j lent o (refused13 p a b c d e) z = absurd (let n = e.number in omega arith)
+by-verdict j lent o (refused13 p a b c e) z = absurd (let n = e.number in omega arith)
 by-verdict j lent o (refused8 m a b c w d f e) z = absurd (let n = e.number in omega arith)
 by-verdict j lent o (refused9 m a b w c d e) z = absurd (let n = e.number in omega arith)
 by-verdict j lent o (refused10 n a w b c e) z = absurd (let n = e.number in omega arith)

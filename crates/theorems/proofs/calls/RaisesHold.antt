@@ -2,7 +2,7 @@
 use Prim.Native.Nat.{ℕ, zero, suc, ◌+◌, ◌/◌, ◌%◌, ◌^◌, ◌≤◌, ◌<◌}
 use mathlib.Core.Path.{◌≡◌, refl, sym, ap, subst, ◌∙◌}
 use mathlib.Core.Bool.{Bool, true, false, not, false≢true}
-use mathlib.Core.Option.{Option, none, some}
+use Rattle.std.specs.Prelude.{Option, None, Some}
 use mathlib.Core.List.{List, [], ◌∷◌}
 use mathlib.Core.Logic.{◌↔◌}
 use native.Mathlib.Omega.{arith}
@@ -47,15 +47,15 @@ use Rattle.theorems.proofs.calls.LeastRaise.{raise-is}
 abbrev both-raises : ℕ → ℕ → Bool → AxisRaises
 both-raises m l b =
     elim b [
-      | true ↦ record { first = AccelerationBy m; second = SpeedBy l }
-      | false ↦ record { first = SpeedBy l; second = AccelerationBy m }
+      | true ↦ record { first = Some (AccelerationBy m); second = Some (SpeedBy l) }
+      | false ↦ record { first = Some (SpeedBy l); second = Some (AccelerationBy m) }
     ]
 
 ordered-is : (a b : Option ℕ) → Ordered (in_order a b)
-ordered-is none none = neither
-ordered-is (some m) none = acceleration m
-ordered-is none (some l) = speed l
-ordered-is (some m) (some l) = go (leb m l) (leb→le m l) (nleb→lt m l)
+ordered-is None None = neither
+ordered-is (Some m) None = acceleration m
+ordered-is None (Some l) = speed l
+ordered-is (Some m) (Some l) = go (leb m l) (leb→le m l) (nleb→lt m l)
   where
     go : (t : Bool) → (T t → m ≤ l) → (T (not t) → l < m) → Ordered (both-raises m l t)
     go true f g = acceleration-first m l (f tt)
@@ -67,15 +67,15 @@ of-limit Acceleration a b = a
 of-limit Speed a b = b
 
 reported-is : (q : Limit) (a b : Option ℕ) → reported q (in_order a b) ≡ of-limit q a b
-reported-is Acceleration none none = refl
-reported-is Acceleration (some m) none = refl
-reported-is Acceleration none (some l) = refl
-reported-is Speed none none = refl
-reported-is Speed (some m) none = refl
-reported-is Speed none (some l) = refl
-reported-is q (some m) (some l) = go q (leb m l)
+reported-is Acceleration None None = refl
+reported-is Acceleration (Some m) None = refl
+reported-is Acceleration None (Some l) = refl
+reported-is Speed None None = refl
+reported-is Speed (Some m) None = refl
+reported-is Speed None (Some l) = refl
+reported-is q (Some m) (Some l) = go q (leb m l)
   where
-    go : (q : Limit) (t : Bool) → reported q (both-raises m l t) ≡ of-limit q (some m) (some l)
+    go : (q : Limit) (t : Bool) → reported q (both-raises m l t) ≡ of-limit q (Some m) (Some l)
     go Acceleration true = refl
     go Acceleration false = refl
     go Speed true = refl
@@ -211,7 +211,7 @@ module _ (j : Job) (o : Outcome) (e : o.number ≡ 8) where
   by-verdict (refused6 i a b c d f g r) = let z = r.number in absurd (omega arith)
   by-verdict (refused16 i a b c d f g h r) = let z = r.number in absurd (omega arith)
   by-verdict (refused17 i a b c d f g h k r) = let z = r.number in absurd (omega arith)
-  by-verdict (refused13 p a b c d r) = let z = r.number in absurd (omega arith)
+  by-verdict (refused13 p a b c r) = let z = r.number in absurd (omega arith)
   by-verdict (refused9 n a b w c d r) = let z = r.number in absurd (omega arith)
   by-verdict (refused10 n a w b h r) = let z = r.number in absurd (omega arith)
   by-verdict (accepted n a w b c r) = let z = r.number in absurd (omega arith)

@@ -6,7 +6,7 @@ use native.Mathlib.Omega.{arith}
 use mathlib.Core.Path.{◌≡◌, refl, sym, ap, subst, ◌∙◌}
 use mathlib.Core.Bool.{Bool, true, false, not, ◌&&◌}
 use mathlib.Core.Logic.{◌⊎◌, inl, inr}
-use mathlib.Core.Option.{Option, none, some}
+use Rattle.std.specs.Prelude.{Option, None, Some}
 use mathlib.Core.List.{List, [], ◌∷◌}
 use lib.Dec.{T, ltb, leb, ltb→lt, leb→le, nltb→le, nleb→lt}
 use lib.ListN.{length}
@@ -136,8 +136,8 @@ module _ (q : Input) (is : (f b : ℕ) → Allowed f → search_call q f b ≡ a
     where
       go : (o : Option ℕ) → turn bs (search_answer (input_job q).mask (wholly first o))
           ≡ search_answer (input_job q).mask (wholly first o)
-      go (some n) = refl
-      go none = refl
+      go (Some n) = refl
+      go None = refl
 
   -- a call ends as the undivided one does; or it is spent, and the undivided one
   -- goes on from its next candidate
@@ -232,8 +232,8 @@ module _ (q : Input) (is : (f b : ℕ) → Allowed f → search_call q f b ≡ a
   made (b ∷ bs) first h (l, ls) = go (call-goes first b h) (λ g. made bs (first + b) (next-allowed first b h g) ls)
     where
       one : (o : Option ℕ) → count bs (wholly first o).report ≡ 1
-      one (some n) = refl
-      one none = refl
+      one (Some n) = refl
+      one None = refl
 
       go : (search_call q first b ≡ all first) ⊎ GoesOn test first b
           → (GoesOn test first b → calls_made q bs (first + b) ≤ suc (candidates (first + b) - 1))

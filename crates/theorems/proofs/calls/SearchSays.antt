@@ -5,7 +5,7 @@ use native.Mathlib.Omega.{arith}
 use mathlib.Core.Path.{◌≡◌, refl, sym, subst, ◌∙◌}
 use mathlib.Core.Bool.{Bool, not}
 use mathlib.Core.Logic.{◌⊎◌, inl, inr}
-use mathlib.Core.Option.{Option, none, some}
+use Rattle.std.specs.Prelude.{Option, None, Some}
 use mathlib.Core.List.{List}
 use lib.IntN.{ℤ}
 use lib.ListN.{length, length-map, drop}
@@ -35,12 +35,12 @@ module _ (j : Job) (first budget : ℕ) (passed : AllPassed j.axes) (low : first
   Says s = SearchSays j first budget s.report s.tried
 
   -- none of count candidates arrives
-  missed : (count : ℕ) → least_from (arrives j) first count ≡ none → (k : ℕ) → first ≤ k
+  missed : (count : ℕ) → least_from (arrives j) first count ≡ None → (k : ℕ) → first ≤ k
       → k < first + count → Arrives j k → ⊥
   missed count e k a b r = none_is (arrives j) first count e k a b (T_true (arrives j k) (is-arrives j k passed r))
 
-  says-found : (count n : ℕ) → least_from (arrives j) first count ≡ some n → count ≤ budget → count ≤ candidates first
-      → Says (report_of first budget (some n))
+  says-found : (count n : ℕ) → least_from (arrives j) first count ≡ Some n → count ≤ budget → count ≤ candidates first
+      → Says (report_of first budget (Some n))
   says-found count n e b c =
       let l = least-is (arrives j) first count n e in
       found n l.first (omega (arith, l.last, l.first)) (omega (arith, l.last))
@@ -49,14 +49,14 @@ module _ (j : Job) (first budget : ℕ) (passed : AllPassed j.axes) (low : first
 
   says-few : budget < candidates first → (o : Option ℕ) → least_from (arrives j) first budget ≡ o
       → Says (report_of first budget o)
-  says-few h (some n) e = says-found budget n e (omega arith) (omega arith)
-  says-few h none e = subst (λ (b : Bool). Says (not_found first budget b)) (sym (lt-ltb budget (candidates first) h))
+  says-few h (Some n) e = says-found budget n e (omega arith) (omega arith)
+  says-few h None e = subst (λ (b : Bool). Says (not_found first budget b)) (sym (lt-ltb budget (candidates first) h))
       (spent (omega arith) (missed budget e))
 
   says_all : candidates first ≤ budget → (o : Option ℕ) → least_from (arrives j) first (candidates first) ≡ o
       → Says (report_of first budget o)
-  says_all h (some n) e = says-found (candidates first) n e h (omega arith)
-  says_all h none e =
+  says_all h (Some n) e = says-found (candidates first) n e h (omega arith)
+  says_all h None e =
       subst (λ (b : Bool). Says (not_found first budget b)) (sym (le-ltb budget (candidates first) h))
       (nothing (omega arith) (λ k a b r. missed (candidates first) e k a (omega arith) r))
 

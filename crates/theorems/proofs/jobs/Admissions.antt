@@ -5,7 +5,7 @@ use Prim.Native.Nat.{ℕ, ◌≤◌}
 use native.Mathlib.Omega.{arith}
 use mathlib.Core.Path.{◌≡◌, refl, sym, ◌∙◌}
 use mathlib.Core.Bool.{Bool, true, false}
-use mathlib.Core.Option.{Option, none, some}
+use Rattle.std.specs.Prelude.{Option, None, Some}
 use mathlib.Core.List.{[], ◌∷◌}
 use mathlib.Core.Logic.{inl, inr}
 use lib.Dec.{leb}
@@ -27,25 +27,25 @@ use Rattle.theorems.proofs.jobs.CheckingOrder.{Lacks}
 -- one of them refuses, or none does
 pub data Way (ts : Tests) (j : Job) : Admission → Type 0 where
   stops : (n p : ℕ) → OneOf (numbers_of ts) n → Way ts j (refused_at n p)
-  passes : Clear ts j.axes → refused13 j.windows ≡ none → Way ts j (admitted j)
+  passes : Clear ts j.axes → refused13 j.windows ≡ None → Way ts j (admitted j)
 
 pub ways : (ts : Tests) (j : Job) → Way ts j (tested ts j)
 ways [] j = go (refused13 j.windows) refl
   where
     go : (o : Option ℕ) → refused13 j.windows ≡ o
-        → Way [] j (elim o as (λ _. Admission) [ some p ↦ refused_at 13 p | none ↦ admitted j ])
-    go (some p) e = stops 13 p (inl refl)
-    go none e = passes tt e
+        → Way [] j (elim o as (λ _. Admission) [ Some p ↦ refused_at 13 p | None ↦ admitted j ])
+    go (Some p) e = stops 13 p (inl refl)
+    go None e = passes tt e
 ways (t ∷ ts) j = go (first_axis t.1 j.axes) refl (ways ts j)
   where
-    more : (a : Admission) → first_axis t.1 j.axes ≡ none → Way ts j a → Way (t ∷ ts) j a
+    more : (a : Admission) → first_axis t.1 j.axes ≡ None → Way ts j a → Way (t ∷ ts) j a
     more a e (stops n p o) = stops n p (inr o)
     more a e (passes c w) = passes (e, c) w
 
     go : (o : Option ℕ) → first_axis t.1 j.axes ≡ o → Way ts j (tested ts j)
-        → Way (t ∷ ts) j (elim o as (λ _. Admission) [ some i ↦ refused_at t.0 i | none ↦ tested ts j ])
-    go (some i) e w = stops t.0 i (inl refl)
-    go none e w = more (tested ts j) e w
+        → Way (t ∷ ts) j (elim o as (λ _. Admission) [ Some i ↦ refused_at t.0 i | None ↦ tested ts j ])
+    go (Some i) e w = stops t.0 i (inl refl)
+    go None e w = more (tested ts j) e w
 
 -- a number that is not among the tests' is none of theirs
 pub not-among : (k : ℕ) (ts : Tests) (n : ℕ) → (13 ≡ k → ⊥) → Lacks k ts → OneOf (numbers_of ts) n → n ≡ k → ⊥
@@ -65,7 +65,7 @@ pub record Numbered (r : Rules) : Type 0 where
 pub data Comes (r : Rules) (j : Job) : Admission → Type 0 where
   refuses : (n p : ℕ) → (n ≡ 0 → ⊥) → (n ≡ 10 → ⊥) → Comes r j (refused_at n p)
   goes : (r.reads j).asked ≤ last_tick → Clear (r.tests (r.reads j).asked) (r.reads j).axes
-      → refused13 (r.reads j).windows ≡ none
+      → refused13 (r.reads j).windows ≡ None
       → Comes r j (admitted (r.reads j))
 
 module _ (r : Rules) (s : Numbered r) where

@@ -4,7 +4,7 @@ use Prim.Native.Nat.{ℕ, zero, suc, ◌≤◌, ◌<◌}
 use native.Mathlib.Omega.{arith}
 use mathlib.Core.Path.{◌≡◌, refl, sym, ap, subst, ◌∙◌}
 use mathlib.Core.Bool.{Bool, true, false, not}
-use mathlib.Core.Option.{Option, none, some}
+use Rattle.std.specs.Prelude.{Option, None, Some}
 use mathlib.Core.Logic.{◌⊎◌, inl, inr}
 use mathlib.Core.List.{List, []}
 use lib.IntN.{ℤ}
@@ -64,11 +64,11 @@ module _ (j : Job) (l l' : List ℤ) where
   arrived-same zero = go (least_from (arrives j) 1 last_tick)
     where
       go : (o : Option ℕ) → before_ten j.mask
-          (elim o as (λ _. Outcome) [ some n ↦ filled j n l | none ↦ refuse 9 0 (none-mask j) 0 l ])
+          (elim o as (λ _. Outcome) [ Some n ↦ filled j n l | None ↦ refuse 9 0 (none-mask j) 0 l ])
           ≡ before_ten j.mask
-          (elim o as (λ _. Outcome) [ some n ↦ filled j n l' | none ↦ refuse 9 0 (none-mask j) 0 l' ])
-      go (some n) = filled-same n
-      go none = refl
+          (elim o as (λ _. Outcome) [ Some n ↦ filled j n l' | None ↦ refuse 9 0 (none-mask j) 0 l' ])
+      go (Some n) = filled-same n
+      go None = refl
   arrived-same (suc n) = go (arrives j (suc n))
     where
       go : (b : Bool) → before_ten j.mask
@@ -147,7 +147,7 @@ module _ (lent : List ℤ) (o : Outcome) (e : o.number ≡ 10) where
   of-job j (refused6 i a b c d f g r) = let z = r.number in absurd (omega arith)
   of-job j (refused16 i a b c d f g h r) = let z = r.number in absurd (omega arith)
   of-job j (refused17 i a b c d f g h k r) = let z = r.number in absurd (omega arith)
-  of-job j (refused13 p a b c d r) = let z = r.number in absurd (omega arith)
+  of-job j (refused13 p a b c r) = let z = r.number in absurd (omega arith)
   of-job j (refused8 n a b c w d f r) = let z = r.number in absurd (omega arith)
   of-job j (refused9 n a b w c d r) = let z = r.number in absurd (omega arith)
   of-job j (refused10 n a w b h r) =

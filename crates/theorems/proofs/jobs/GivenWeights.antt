@@ -5,15 +5,13 @@ use Prim.Native.Nat.{ℕ, zero, suc, ◌/◌, ◌%◌}
 use native.Mathlib.Omega.{arith}
 use mathlib.Core.Path.{◌≡◌, refl, ap, ◌∙◌}
 use mathlib.Core.Bool.{Bool, true, false, not, ◌&&◌}
-use mathlib.Core.Option.{Option, none, some}
 use mathlib.Core.List.{List, [], ◌∷◌, map}
 use lib.IntN.{ℤ}
 use lib.Dec.{eqb}
 use Rattle.model.specs.declared.Axis.{Axis}
 use Rattle.model.specs.declared.Target.{Target}
 use Rattle.model.specs.declared.Target.TheVariants.{Fixed, Moving}
-use Rattle.model.specs.declared.SecondSway.{SecondSway}
-use Rattle.model.specs.declared.SecondSway.TheVariants.{Absent, HalfPeriod}
+use Rattle.std.specs.Prelude.{Option, None, Some}
 use Rattle.model.specs.declared.Order.{Order}
 use Rattle.model.specs.declared.Order.TheVariants.{Forwards, Backwards}
 use Rattle.model.specs.planning.Windows.{no_windows}
@@ -93,7 +91,7 @@ least-with-weight j = ap (λ (t : ℕ → Bool). least_from t 1 last_tick) (λ i
 
 none-with-weight : Blind with_weight (λ x. reaches_none x)
 none-with-weight x =
-    ap (λ (o : Option ℕ). elim o as (λ _. Bool) [ some n ↦ false | none ↦ true ])
+    ap (λ (o : Option ℕ). elim o as (λ _. Bool) [ Some n ↦ false | None ↦ true ])
     (least-with-weight
     (record { mask = 0; asked = 0; axes = record { number = 0; axis = x } ∷ []; windows = no_windows }))
 
@@ -104,9 +102,9 @@ blend-with-weight : (n k : ℕ) (x : Axis) (f : Tick → ℤ)
 unfolding finer
 blend-with-weight n k x f = go x.second_sway
   where
-    go : (s : SecondSway) → blend_by s (planned_axis n (with_weight x)) k f ≡ blend_by s (planned_axis n x) k f
-    go Absent = refl
-    go (HalfPeriod d) = refl
+    go : (s : Option ℕ) → blend_by s (planned_axis n (with_weight x)) k f ≡ blend_by s (planned_axis n x) k f
+    go None = refl
+    go (Some d) = refl
 
 cells-with-weight : (n k : ℕ) (x : Axis) → cells k (planned_axis n (with_weight x)) ≡ cells k (planned_axis n x)
 unfolding finer
@@ -154,15 +152,15 @@ unfolding finer
 arrived-with-weight j zero lent =
     λ i.
     elim (least-with-weight j i) as (λ _. Outcome) [
-      | some n ↦ filled-with-weight j n lent i
-      | none ↦ refuse 9 0 (mask-mapped with_weight (λ x. reaches_none x) none-with-weight j.axes i) 0 lent
+      | Some n ↦ filled-with-weight j n lent i
+      | None ↦ refuse 9 0 (mask-mapped with_weight (λ x. reaches_none x) none-with-weight j.axes i) 0 lent
     ]
 arrived-with-weight j (suc n) lent =
     asked-mapped with_weight (suc n) (omega arith) (λ x. refl) (cells-with-weight (suc n)) j lent
 
 -- ---- the tests of the axes, of any call: it goes on by f, and a refusal by 12 has the number 12
 
-none-refused : (l : List JobAxis) → first_axis damping_refused (axes_with_weight l) ≡ none
+none-refused : (l : List JobAxis) → first_axis damping_refused (axes_with_weight l) ≡ None
 none-refused [] = refl
 none-refused (x ∷ l) = none-refused l
 
@@ -170,24 +168,24 @@ module _ {X : Type 0} (f : Admission → X) (number : X → ℕ)
     (numbered : (p : ℕ) → number (f (refused_at 12 p)) ≡ 12) (j : Job)
     (same : f (admitted (job_with_weight j)) ≡ f (admitted j)) where
   by-damping : Job → Option ℕ → Admission
-  by-damping i o = elim o [ some k ↦ refused_at 12 k | none ↦ tested after_damping i ]
+  by-damping i o = elim o [ Some k ↦ refused_at 12 k | None ↦ tested after_damping i ]
 
   damping : (o : Option ℕ) → (number (f (by-damping j o)) ≡ 12 → ⊥)
       → f (tested from_damping (job_with_weight j)) ≡ f (by-damping j o)
   unfolding by-damping
-  damping (some k) h = absurd (h (numbered k))
-  damping none h =
+  damping (Some k) h = absurd (h (numbered k))
+  damping None h =
       ap (λ (o : Option ℕ). f (by-damping (job_with_weight j) o)) (none-refused j.axes)
       ∙ tested-mapped with_weight f j same after_damping after_damping-blind
 
   by-limits : Job → Option ℕ → Admission
-  by-limits i o = elim o [ some k ↦ refused_at 4 k | none ↦ tested from_damping i ]
+  by-limits i o = elim o [ Some k ↦ refused_at 4 k | None ↦ tested from_damping i ]
 
   limits : (o : Option ℕ) → (number (f (by-limits j o)) ≡ 12 → ⊥)
       → f (by-limits (job_with_weight j) o) ≡ f (by-limits j o)
   unfolding by-damping by-limits
-  limits (some k) h = refl
-  limits none h = damping (first_axis damping_refused j.axes) h
+  limits (Some k) h = refl
+  limits None h = damping (first_axis damping_refused j.axes) h
 
   pub tests-with-weight : (number (f (tested axis_refusals j)) ≡ 12 → ⊥)
       → f (tested axis_refusals (job_with_weight j)) ≡ f (tested axis_refusals j)

@@ -5,7 +5,7 @@ use native.Mathlib.Omega.{arith}
 use mathlib.Core.Path.{◌≡◌, refl, sym, ap, subst, ◌∙◌}
 use mathlib.Core.Bool.{Bool, true, false, false≢true}
 use mathlib.Core.Logic.{⊎_elim}
-use mathlib.Core.Option.{Option, none, some}
+use Rattle.std.specs.Prelude.{Option, None, Some}
 use Rattle.whole.proofs.Tests.{lt-or-le}
 use Rattle.model.specs.planning.Outcome.{least_from}
 
@@ -17,8 +17,8 @@ pub record Least (test : ℕ → Bool) (k count n : ℕ) : Type 0 where
   pub least : (i : ℕ) → k ≤ i → i < n → test i ≡ true → ⊥
 
 abbrev pub Result : (ℕ → Bool) → ℕ → ℕ → Option ℕ → Type 0
-Result test k count none = (i : ℕ) → k ≤ i → i < k + count → test i ≡ true → ⊥
-Result test k count (some n) = Least test k count n
+Result test k count None = (i : ℕ) → k ≤ i → i < k + count → test i ≡ true → ⊥
+Result test k count (Some n) = Least test k count n
 
 pub result : (test : ℕ → Bool) (k count : ℕ) → Result test k count (least_from test k count)
 result test k zero = λ i a b e. omega arith
@@ -32,10 +32,10 @@ result test k (suc count) = go (test k) refl (least_from test (suc k) count) (re
         here l = let s : k ≡ i = omega arith in false≢true (sym e ∙ ap test s ∙ t)
 
     go : (b : Bool) → test k ≡ b → (o : Option ℕ) → Result test (suc k) count o
-        → Result test k (suc count) (elim b as (λ _. Option ℕ) [ true ↦ some k | false ↦ o ])
+        → Result test k (suc count) (elim b as (λ _. Option ℕ) [ true ↦ Some k | false ↦ o ])
     go true e o h = record { first = omega arith; last = omega arith; passes = e; least = λ i a b t. omega arith }
-    go false e none h = λ i a b t. h i (later e i a t) (omega arith) t
-    go false e (some n) h =
+    go false e None h = λ i a b t. h i (later e i a t) (omega arith) t
+    go false e (Some n) h =
         record {
           first = omega (arith, h.first);
           last = omega (arith, h.last);
@@ -44,19 +44,19 @@ result test k (suc count) = go (test k) refl (least_from test (suc k) count) (re
         }
 
 -- the same of a search that found n, and of one that found none
-pub least-is : (test : ℕ → Bool) (k count n : ℕ) → least_from test k count ≡ some n → Least test k count n
+pub least-is : (test : ℕ → Bool) (k count n : ℕ) → least_from test k count ≡ Some n → Least test k count n
 least-is test k count n e = subst (Result test k count) e (result test k count)
 
-pub none_is : (test : ℕ → Bool) (k count : ℕ) → least_from test k count ≡ none → Result test k count none
+pub none_is : (test : ℕ → Bool) (k count : ℕ) → least_from test k count ≡ None → Result test k count None
 none_is test k count e = subst (Result test k count) e (result test k count)
 
 pub one-result : (test : ℕ → Bool) (k count : ℕ) (o p : Option ℕ) → Result test k count o
     → Result test k count p → o ≡ p
-one-result test k count none none h g = refl
-one-result test k count none (some n) h g = absurd (h n g.first g.last g.passes)
-one-result test k count (some m) none h g = absurd (g m h.first h.last h.passes)
-one-result test k count (some m) (some n) h g =
-    ap some
+one-result test k count None None h g = refl
+one-result test k count None (Some n) h g = absurd (h n g.first g.last g.passes)
+one-result test k count (Some m) None h g = absurd (g m h.first h.last h.passes)
+one-result test k count (Some m) (Some n) h g =
+    ap Some
     (⊎_elim (λ l. absurd (g.least m h.first l h.passes))
     (λ l. ⊎_elim (λ q. absurd (h.least n g.first q g.passes)) (same l) (lt-or-le n m)) (lt-or-le m n))
   where

@@ -4,7 +4,7 @@ use Prim.Native.Nat.{ℕ, zero, suc, ◌+◌, ◌*◌, ◌^◌, ◌≤◌}
 use native.Mathlib.Omega.{arith}
 use mathlib.Core.Path.{◌≡◌, refl, ap, ap₂, ◌∙◌}
 use mathlib.Core.Bool.{Bool, true, false, not, ◌&&◌}
-use mathlib.Core.Option.{Option, none, some}
+use Rattle.std.specs.Prelude.{Option, None, Some}
 use mathlib.Core.List.{List, [], ◌∷◌, ◌++◌, map, flatten}
 use lib.IntN.{ℤ}
 use lib.Dec.{ltb}
@@ -51,7 +51,7 @@ module _ (F : Axis → Axis) where
   pub first-mapped : (f : Axis → Bool) → Blind f → (l : List JobAxis) → first_axis f (mapped l) ≡ first_axis f l
   first-mapped f h [] = refl
   first-mapped f h (x ∷ l) =
-      ap₂ (λ (b : Bool) (o : Option ℕ). elim b as (λ _. Option ℕ) [ true ↦ some x.number | false ↦ o ])
+      ap₂ (λ (b : Bool) (o : Option ℕ). elim b as (λ _. Option ℕ) [ true ↦ Some x.number | false ↦ o ])
       (h x.axis) (first-mapped f h l)
 
   pub mask-mapped : (f : Axis → Bool) → Blind f → (l : List JobAxis) → mask_where f (mapped l) ≡ mask_where f l
@@ -124,18 +124,18 @@ module _ (F : Axis → Axis) where
     tested-mapped [] b = go (refused13 j.windows)
       where
         by : Job → Option ℕ → Admission
-        by i o = elim o [ some p ↦ refused_at 13 p | none ↦ admitted i ]
+        by i o = elim o [ Some p ↦ refused_at 13 p | None ↦ admitted i ]
 
         go : (o : Option ℕ) → f (by (mapped_job j) o) ≡ f (by j o)
-        go (some p) = refl
-        go none = same
+        go (Some p) = refl
+        go None = same
     tested-mapped (t ∷ ts) (b, bs) =
         ap (λ (o : Option ℕ). f (by (mapped_job j) o)) (first-mapped t.1 b j.axes)
         ∙ go (first_axis t.1 j.axes) (tested-mapped ts bs)
       where
         by : Job → Option ℕ → Admission
-        by i o = elim o [ some k ↦ refused_at t.0 k | none ↦ tested ts i ]
+        by i o = elim o [ Some k ↦ refused_at t.0 k | None ↦ tested ts i ]
 
         go : (o : Option ℕ) → f (tested ts (mapped_job j)) ≡ f (tested ts j) → f (by (mapped_job j) o) ≡ f (by j o)
-        go (some k) h = refl
-        go none h = h
+        go (Some k) h = refl
+        go None h = h

@@ -1,15 +1,15 @@
 -- Masks: the bits of a number by halving, and that the mask of the axes for which a
 -- test holds names exactly these.
+use Rattle.std.specs.Prelude.{Some}
 use Prim.Native.Nat.{ℕ, zero, suc, ◌+◌, ◌-◌, ◌*◌, ◌/◌, ◌%◌, ◌^◌, ◌≤◌, ◌<◌}
 use mathlib.Core.Path.{◌≡◌, refl, sym, ap, ap₂, ◌∙◌, subst}
 use mathlib.Core.Bool.{Bool, true, false, not, false≢true}
 use mathlib.Core.List.{List, [], ◌∷◌}
-use mathlib.Core.Option.{some}
 use mathlib.Core.Logic.{◌↔◌}
 use native.Mathlib.Omega.{arith}
 use native.Mathlib.Nat as N
 use lib.Dec.{T, eqb, eqb→eq, ltb, ltb→lt, nltb→le}
-use lib.ListN.{get_elem?}
+use Rattle.std.specs.Prelude.{slice_get}
 use borrow.Author.Tests.{eq-eqb}
 use Rattle.whole.proofs.Elements.{none-some}
 use Rattle.model.specs.declared.Axis.{Axis}
@@ -152,7 +152,7 @@ module _ (f : Axis → Bool) where
       past_first x.number y xs (λ q. omega (arith, above (suc y.number) xs k a.1 e))
       ∙ holds_at (suc y.number) xs x a.1 (k, e)
     where
-      above : (j : ℕ) (l : List JobAxis) (k : ℕ) → Ascends j l → get_elem? l k ≡ some x → j ≤ x.number
+      above : (j : ℕ) (l : List JobAxis) (k : ℕ) → Ascends j l → slice_get l k ≡ Some x → j ≤ x.number
       above j [] k a e = absurd (let z : ◌≡◌ {A = ℕ} 0 1 = cc in omega arith)
       above j (z ∷ l) zero a e = let s : z ≡ x = cc in subst (λ (w : JobAxis). j ≤ w.number) s a.0
       above j (z ∷ l) (suc k) a e = omega (arith, a.0, above (suc z.number) l k a.1 e)

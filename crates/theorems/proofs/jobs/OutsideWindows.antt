@@ -3,7 +3,7 @@ use Prim.Native.Nat.{ℕ, zero, suc, ◌+◌, ◌^◌, ◌≤◌, ◌<◌}
 use mathlib.Core.Path.{◌≡◌, refl, sym, ap, subst, ◌∙◌}
 use mathlib.Core.Bool.{Bool, true, false, not, false≢true}
 use mathlib.Core.List.{List, [], ◌∷◌}
-use mathlib.Core.Option.{Option, none, some}
+use Rattle.std.specs.Prelude.{Option, None, Some, IfSome, IsSomeAnd}
 use mathlib.Core.Logic.{◌↔◌, ◌⊎◌, inl, inr}
 use native.Mathlib.Omega.{arith}
 use native.Mathlib.Nat as N
@@ -14,8 +14,8 @@ use Rattle.whole.proofs.Tests.{leb_yes, left, and, T_true, T_false, true-T}
 use Rattle.model.specs.declared.Axis.{Axis}
 use Rattle.model.specs.declared.Windows.{Windows}
 use Rattle.model.specs.planning.Motion.{reachable}
-use Rattle.model.specs.planning.Windows.{in_windows, refused13}
-use Rattle.theorems.specs.Windows.{WindowsWrong, empty, too_many, long_dwell, wrong_window, WindowsRight}
+use Rattle.model.specs.planning.Windows.{in_windows, refused13, brought}
+use Rattle.theorems.specs.Windows.{FitsOne, WindowsWrong, empty, too_many, long_dwell, wrong_window, WindowsRight}
 use Rattle.model.specs.planning.Job.{Job, JobAxis, mask_where}
 use Rattle.model.specs.planning.Refusals.{last_tick, limits_refused, damping_refused, blend_refused, sway_refused}
 use Rattle.model.specs.planning.Refusals.{values_refused, acceleration_refused, flying_refused, Passed, AllPassed}
@@ -34,12 +34,12 @@ not-below h k = omega arith
 -- ---- what every earlier refusal lets pass goes on to 8 and 9
 
 first-none : (f : Axis → Bool) → ((x : Axis) → Passed x → f x ≡ false) → (l : List JobAxis)
-    → AllPassed l → first_axis f l ≡ none
+    → AllPassed l → first_axis f l ≡ None
 first-none f h [] p = refl
 first-none f h (y ∷ l) p = go (f y.axis) (h y.axis p.0) (first-none f h l p.1)
   where
-    go : (b : Bool) → b ≡ false → first_axis f l ≡ none
-        → ◌≡◌ {A = Option ℕ} (elim b as (λ _. Option ℕ) [ true ↦ some y.number | false ↦ first_axis f l ]) none
+    go : (b : Bool) → b ≡ false → first_axis f l ≡ None
+        → ◌≡◌ {A = Option ℕ} (elim b as (λ _. Option ℕ) [ true ↦ Some y.number | false ↦ first_axis f l ]) None
     go true e r = absurd (false≢true (sym e))
     go false e r = r
 
@@ -55,20 +55,24 @@ wrong-or-right w p (wrong_window i a b c f) r =
     go (inl h) k l = not-below k h
     go (inr h) k l = not-below h l
 
+not-both : (w : Option Windows) (p : ℕ) → IsSomeAnd w (λ v. WindowsWrong v p) → IfSome w WindowsRight → ⊥
+not-both None p x r = x
+not-both (Some w) p x r = wrong-or-right w p x r
+
 -- no test of a list holds of an axis
 abbrev pub Clear : Tests → List JobAxis → Type 0
 Clear [] xs = Unit
-Clear (t ∷ ts) xs = (first_axis t.1 xs ≡ none) × Clear ts xs
+Clear (t ∷ ts) xs = (first_axis t.1 xs ≡ None) × Clear ts xs
 
 module _ (j : Job) (lent : List ℤ) (p : Passing j) where
   tests-clear : (ts : Tests) → Clear ts j.axes → tested ts j ≡ windowed j
   tests-clear [] c = refl
   tests-clear (t ∷ ts) (e, c) =
-      ap (λ (o : Option ℕ). elim o as (λ _. Admission) [ some i ↦ refused_at t.0 i | none ↦ tested ts j ]) e
+      ap (λ (o : Option ℕ). elim o as (λ _. Admission) [ Some i ↦ refused_at t.0 i | None ↦ tested ts j ]) e
       ∙ tests-clear ts c
 
   -- of each test that no axis that passed meets
-  clear : (f : Axis → Bool) → ((x : Axis) → Passed x → f x ≡ false) → first_axis f j.axes ≡ none
+  clear : (f : Axis → Bool) → ((x : Axis) → Passed x → f x ≡ false) → first_axis f j.axes ≡ None
   clear f h = first-none f h j.axes p.axes
 
   all-clear : Clear axis_refusals j.axes
@@ -83,13 +87,12 @@ module _ (j : Job) (lent : List ℤ) (p : Passing j) where
       ) in
       (clear limits_refused (λ x q. q.limits), (clear damping_refused (λ x q. q.damping), blends))
 
-  no-thirteen : refused13 j.windows ≡ none
+  no-thirteen : refused13 j.windows ≡ None
   no-thirteen = go (refused13 j.windows) refl
     where
-      go : (o : Option ℕ) → refused13 j.windows ≡ o → o ≡ none
-      go none e = refl
-      go (some k) e = let x = windows-wrong j.windows k e in
-          absurd (wrong-or-right j.windows k x.1 (p.windows x.0))
+      go : (o : Option ℕ) → refused13 j.windows ≡ o → o ≡ None
+      go None e = refl
+      go (Some k) e = absurd (not-both j.windows k (windows-wrong j.windows k e) p.windows)
 
   pub goes_on : job_outcome j lent ≡ arrived j j.asked lent
   goes_on =
@@ -97,7 +100,7 @@ module _ (j : Job) (lent : List ℤ) (p : Passing j) where
       (ap (λ (b : Bool). elim b as (λ _. Admission) [ true ↦ tested axis_refusals j | false ↦ refused_at 3 1 ])
       (leb_yes p.asked)
       ∙ tests-clear axis_refusals all-clear
-      ∙ ap (λ (o : Option ℕ). elim o as (λ _. Admission) [ some k ↦ refused_at 13 k | none ↦ admitted j ]) no-thirteen)
+      ∙ ap (λ (o : Option ℕ). elim o as (λ _. Admission) [ Some k ↦ refused_at 13 k | None ↦ admitted j ]) no-thirteen)
 
   -- where there is an arrival the number is 10 or 0
   not-filled : (n k : ℕ) → (k ≡ 10 → ⊥) → (k ≡ 0 → ⊥) → (filled j n lent).number ≡ k → ⊥
@@ -157,20 +160,23 @@ module _ (j : Job) (lent : List ℤ) (p : Passing j) where
     to-outside t e =
         record {
           reached = all-reach j.axes n p.axes t;
-          given = go j.windows.given refl;
-          outside = λ f. clash (in_windows j.windows n) e (windows-in j.windows n (λ g. f));
+          outside = go j.windows e;
         }
       where
-        go : (b : Bool) → j.windows.given ≡ b → j.windows.given ≡ true
-        go true g = g
-        go false g = absurd
-            (clash (in_windows j.windows n) e (windows-in j.windows n (λ h. absurd (false≢true (sym g ∙ h)))))
+        go : (w : Option Windows) → in_windows w n ≡ false → IsSomeAnd w (λ v. FitsOne n v.dwell (brought v) → ⊥)
+        go None e = absurd (false≢true (sym e))
+        go (Some w) e = λ f. clash (in_windows (Some w) n) e (windows-in (Some w) n f)
 
     of-outside : OutsideWindows j n → arrives j n ≡ false
     of-outside o =
         T_false (arrives j n)
-        (λ t. o.outside
-        (in-windows j.windows n (left (in_windows j.windows n) (all_reach j.axes n) t) o.given))
+        (λ t. go j.windows o.outside
+        (in-windows j.windows n (left (in_windows j.windows n) (all_reach j.axes n) t)))
+      where
+        go : (w : Option Windows) → IsSomeAnd w (λ v. FitsOne n v.dwell (brought v) → ⊥)
+            → IfSome w (λ v. FitsOne n v.dwell (brought v)) → ⊥
+        go None x f = x
+        go (Some w) x f = x f
 
     eight-ends : (b : Bool) → arrives j n ≡ b
         → Eight (elim b as (λ _. Outcome) [ true ↦ filled j n lent | false ↦ refuse 8 0 (missed j.axes n) 0 lent ])
@@ -193,15 +199,15 @@ module _ (j : Job) (lent : List ℤ) (p : Passing j) where
 
   nine-ends : (o : Option ℕ) → least_from (arrives j) 1 last_tick ≡ o
       → ((elim o as (λ _. Outcome) [
-        | some n ↦ filled j n lent
-        | none ↦ refuse 9 0 (mask_where (λ x. reaches_none x) j.axes) 0 lent
+        | Some n ↦ filled j n lent
+        | None ↦ refuse 9 0 (mask_where (λ x. reaches_none x) j.axes) 0 lent
       ]).number ≡ 9) ↔ Nowhere
-  nine-ends (some n) e =
+  nine-ends (Some n) e =
       let l = least-is (arrives j) 1 last_tick n e in (
         λ h. absurd (not-filled j lent p n 9 (λ k. omega arith) (λ k. omega arith) h),
         λ h. absurd (h n l.first (omega (arith, l.last)) (arrives-is j n p.axes (true-T l.passes))),
       )
-  nine-ends none e = (
+  nine-ends None e = (
     λ h n a b r. none_is (arrives j) 1 last_tick e n a (omega arith) (T_true (arrives j n) (is-arrives j n p.axes r)),
     λ h. refl,
   )

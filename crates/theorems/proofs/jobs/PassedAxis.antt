@@ -7,8 +7,7 @@ use lib.Dec.{T, leb, leb→le}
 use lib.IntN.{pos, nat_abs}
 use Rattle.whole.proofs.Tests.{both, not-false-T}
 use Rattle.model.specs.declared.Axis.{Axis}
-use Rattle.model.specs.declared.SecondSway.{SecondSway}
-use Rattle.model.specs.declared.SecondSway.TheVariants.{Absent, HalfPeriod}
+use Rattle.std.specs.Prelude.{Option, None, Some}
 use Rattle.model.specs.declared.Target.{Target}
 use Rattle.model.specs.declared.Target.TheVariants.{Fixed, Moving}
 use Rattle.model.specs.planning.Quantities.{speed_limit, acceleration_limit, half_period, second_weight, sway_delay}
@@ -70,18 +69,18 @@ module _ (x : Axis) (p : Passed x) where
   pub second-half-period : second_half_period x ≤ 256
   second-half-period = go x.second_sway (not-false-T (sway_allowed x.second_sway) p.sway)
     where
-      go : (s : SecondSway) → T (sway_allowed s) → sway_delay s ≤ 256
-      go Absent t = omega arith
-      go (HalfPeriod d) t = at_most 1 256 d t
+      go : (s : Option ℕ) → T (sway_allowed s) → sway_delay s ≤ 256
+      go None t = omega arith
+      go (Some d) t = at_most 1 256 d t
 
   -- where a second half period is given it is 1 to 256, and the target does not accelerate
-  pub second_range : (d : ℕ) → x.second_sway ≡ HalfPeriod d → (1 ≤ d) × (d ≤ 256)
+  pub second_range : (d : ℕ) → x.second_sway ≡ Some d → (1 ≤ d) × (d ≤ 256)
   second_range d e =
       let t : T (within 1 256 d) =
-      subst (λ (s : SecondSway). T (sway_allowed s)) e (not-false-T (sway_allowed x.second_sway) p.sway) in
+      subst (λ (s : Option ℕ). T (sway_allowed s)) e (not-false-T (sway_allowed x.second_sway) p.sway) in
       (at_least 1 256 d t, at_most 1 256 d t)
 
-  pub second-still : (d : ℕ) → x.second_sway ≡ HalfPeriod d → (n : ℕ) → (as_moving x.target n).acceleration ≡ pos 0
+  pub second-still : (d : ℕ) → x.second_sway ≡ Some d → (n : ℕ) → (as_moving x.target n).acceleration ≡ pos 0
   second-still d e =
       no-acceleration x.target
-      (subst (λ (s : SecondSway). acceleration_refused_by s x.target ≡ false) e p.acceleration)
+      (subst (λ (s : Option ℕ). acceleration_refused_by s x.target ≡ false) e p.acceleration)

@@ -5,12 +5,13 @@ use Prim.Native.Nat.{ℕ, zero, suc, ◌≤◌, ◌<◌}
 use mathlib.Core.Path.{◌≡◌, refl, sym, subst}
 use mathlib.Core.Bool.{Bool, true, false, not, false≢true}
 use mathlib.Core.List.{List, [], ◌∷◌}
-use mathlib.Core.Option.{Option, none, some}
+use Rattle.std.specs.Prelude.{Option, None, Some}
 use mathlib.Core.Logic.{◌↔◌, inl, inr}
 use native.Mathlib.Omega.{arith}
 use lib.Dec.{T, leb, ltb, leb→le, ltb→lt, nltb→le, nleb→lt}
 use lib.IntN.{ℤ}
-use lib.ListN.{length, get_elem?}
+use lib.ListN.{length}
+use Rattle.std.specs.Prelude.{slice_get}
 use Rattle.whole.proofs.Tests.{by_bool, by-option, both, and, T_true, true-T}
 use Rattle.whole.proofs.Elements.{none-some}
 use Rattle.model.specs.declared.Axis.{Axis}
@@ -75,29 +76,29 @@ all-passed (y ∷ l) a b c d e f g =
 
 -- ---- the first axis that a test refuses
 
-pub none-refused : (f : Axis → Bool) (l : List JobAxis) → first_axis f l ≡ none → NoneRefused f l
+pub none-refused : (f : Axis → Bool) (l : List JobAxis) → first_axis f l ≡ None → NoneRefused f l
 none-refused f [] e = λ x m. absurd (none-some m.1)
 none-refused f (y ∷ l) e = go (f y.axis) refl e (none-refused f l)
   where
     go : (b : Bool) → f y.axis ≡ b
-        → ◌≡◌ {A = Option ℕ} (elim b as (λ z. Option ℕ) [ true ↦ some y.number | false ↦ first_axis f l ]) none
-        → (first_axis f l ≡ none → NoneRefused f l) → NoneRefused f (y ∷ l)
+        → ◌≡◌ {A = Option ℕ} (elim b as (λ z. Option ℕ) [ true ↦ Some y.number | false ↦ first_axis f l ]) None
+        → (first_axis f l ≡ None → NoneRefused f l) → NoneRefused f (y ∷ l)
     go true p e h = absurd (none-some (sym e))
     go false p e h = all_among (λ x. f x.axis ≡ false) y l p (h e)
 
-first-refused : (f : Axis → Bool) (l : List JobAxis) (i : ℕ) → first_axis f l ≡ some i → FirstRefused f l i
+first-refused : (f : Axis → Bool) (l : List JobAxis) (i : ℕ) → first_axis f l ≡ Some i → FirstRefused f l i
 first-refused f [] i e = absurd (none-some e)
 first-refused f (y ∷ l) i e = go (f y.axis) refl e (first-refused f l i)
   where
     before : f y.axis ≡ false → (r : FirstRefused f l i) → (k : ℕ) (z : JobAxis)
-        → k < suc r.index → get_elem? (y ∷ l) k ≡ some z
+        → k < suc r.index → slice_get (y ∷ l) k ≡ Some z
         → f z.axis ≡ false
     before p r zero z h e = let s : y ≡ z = cc in subst (λ (w : JobAxis). f w.axis ≡ false) s p
     before p r (suc k) z h e = r.before k z (omega arith) e
 
     go : (b : Bool) → f y.axis ≡ b
-        → ◌≡◌ {A = Option ℕ} (elim b as (λ z. Option ℕ) [ true ↦ some y.number | false ↦ first_axis f l ]) (some i)
-        → (first_axis f l ≡ some i → FirstRefused f l i) → FirstRefused f (y ∷ l) i
+        → ◌≡◌ {A = Option ℕ} (elim b as (λ z. Option ℕ) [ true ↦ Some y.number | false ↦ first_axis f l ]) (Some i)
+        → (first_axis f l ≡ Some i → FirstRefused f l i) → FirstRefused f (y ∷ l) i
     go true p e h =
         record { index = 0; axis = y; here = refl; number = cc; refused = p; before = λ k z q e. absurd (omega arith) }
     go false p e h =
@@ -269,6 +270,6 @@ module _ (j : Job) (lent : List ℤ) (numbered : Ascends 0 j.axes) where
       (λ i e. refused17 i h n₄ n₁₂ n₅ n₁₅ n₆ n₁₆ (first-refused flying_refused j.axes i e) is-refusal) (λ e₁₇.
       let passed = all-passed j.axes n₄ n₁₂ n₅ n₁₅ n₆ n₁₆ (none-refused flying_refused j.axes e₁₇) in
       by-option A (W.refused13 j.windows) _ _
-      (λ p e. let x = windows-wrong j.windows p e in refused13 p h passed x.0 x.1 is-refusal)
+      (λ p e. refused13 p h passed (windows-wrong j.windows p e) is-refusal)
       (λ e. arrived-is j.asked refl h passed (windows-right j.windows e))))))))))
       (λ t. refused3 (nleb→lt j.asked last_tick t) is-refusal)

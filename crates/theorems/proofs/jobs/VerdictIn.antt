@@ -52,8 +52,8 @@ job-turned j lent o (refused16 i a b c d f g k e) =
     refused16 i a b c d f g k (still (axes_of j) lent o _ _ _ _ (λ z. omega (arith, z)) e)
 job-turned j lent o (refused17 i a b c d f g k l e) =
     refused17 i a b c d f g k l (still (axes_of j) lent o _ _ _ _ (λ z. omega (arith, z)) e)
-job-turned j lent o (refused13 p a b c d e) =
-    refused13 p a b c d (still (axes_of j) lent o _ _ _ _ (λ z. omega (arith, z)) e)
+job-turned j lent o (refused13 p a b c e) =
+    refused13 p a b c (still (axes_of j) lent o _ _ _ _ (λ z. omega (arith, z)) e)
 job-turned j lent o (refused8 m a b c w d f e) =
     refused8 m a b c w d f (still (axes_of j) lent o _ _ _ _ (λ z. omega (arith, z)) e)
 job-turned j lent o (refused9 m a b w c d e) =

@@ -4,11 +4,11 @@ use Prim.Native.Nat.{ℕ, zero, suc, ◌+◌, ◌≤◌, ◌<◌}
 use mathlib.Core.Path.{◌≡◌, refl, sym, subst}
 use mathlib.Core.Bool.{Bool, true, false, ◌&&◌, false≢true}
 use mathlib.Core.List.{List, [], ◌∷◌}
-use mathlib.Core.Option.{Option, none, some}
+use Rattle.std.specs.Prelude.{Option, None, Some, IfSome, IsSomeAnd}
 use mathlib.Core.Logic.{◌⊎◌, inl, inr}
 use native.Mathlib.Omega.{arith}
 use lib.Dec.{T, eqb, leb, ltb, leb→le, ltb→lt}
-use lib.ListN.{get_elem?}
+use Rattle.std.specs.Prelude.{slice_get}
 use borrow.Author.Tests.{ltb-true, ltb-false, leb-true, leb-false, eqb-true, eqb-false, le-leb, lt-ltb}
 use Rattle.whole.proofs.Tests.{both, and, true-T}
 use Rattle.whole.proofs.Elements.{none-some}
@@ -80,7 +80,7 @@ module _ (n dwell : ℕ) where
             stays = r.stays;
           }
 
-  is_one : (l : List Window) (k : ℕ) (v : Window) → get_elem? l k ≡ some v
+  is_one : (l : List Window) (k : ℕ) (v : Window) → slice_get l k ≡ Some v
       → T (fits_window n dwell v) → T (fits_one n dwell l)
   is_one [] k v e t = absurd (none-some e)
   is_one (w ∷ l) zero v e t =
@@ -95,51 +95,40 @@ module _ (n dwell : ℕ) where
       go true h = tt
       go false h = h
 
-module _ (w : Windows) (n : ℕ) where
-  pub in-windows : T (in_windows w n) → w.given ≡ true → FitsOne n w.dwell (brought w)
-  in-windows t g = go w.given g t
-    where
-      go : (b : Bool) → b ≡ true → T (elim b as (λ _. Bool) [ true ↦ fits_one n w.dwell (brought w) | false ↦ true ])
-          → FitsOne n w.dwell (brought w)
-      go true g t = one-is n w.dwell (brought w) t
-      go false g t = absurd (false≢true g)
+pub in-windows : (w : Option Windows) (n : ℕ) → T (in_windows w n) → IfSome w (λ v. FitsOne n v.dwell (brought v))
+in-windows None n t = tt
+in-windows (Some w) n t = one-is n w.dwell (brought w) t
 
-  pub windows-in : (w.given ≡ true → FitsOne n w.dwell (brought w)) → T (in_windows w n)
-  windows-in f = go w.given f
-    where
-      go : (b : Bool) → (b ≡ true → FitsOne n w.dwell (brought w))
-          → T (elim b as (λ _. Bool) [ true ↦ fits_one n w.dwell (brought w) | false ↦ true ])
-      go true f =
-          let r = f refl in
-          is_one n w.dwell (brought w) r.index r.window r.here
-          (is-fits n w.dwell r.window r.opened r.below r.stays)
-      go false f = tt
+pub windows-in : (w : Option Windows) (n : ℕ) → IfSome w (λ v. FitsOne n v.dwell (brought v)) → T (in_windows w n)
+windows-in None n f = tt
+windows-in (Some w) n r =
+    is_one n w.dwell (brought w) r.index r.window r.here (is-fits n w.dwell r.window r.opened r.below r.stays)
 
 -- ---- one window after the other
 
 -- a window in order, and those after it
-in_order : (c : ℕ) (w : Window) (l : List Window) → Right c w → (k : ℕ) (v : Window) → get_elem? (w ∷ l) k ≡ some v
-    → ((m : ℕ) → suc m ≡ k → get_elem? l m ≡ some v → InOrder w.closing l m v) → InOrder c (w ∷ l) k v
+in_order : (c : ℕ) (w : Window) (l : List Window) → Right c w → (k : ℕ) (v : Window) → slice_get (w ∷ l) k ≡ Some v
+    → ((m : ℕ) → suc m ≡ k → slice_get l m ≡ Some v → InOrder w.closing l m v) → InOrder c (w ∷ l) k v
 in_order c w l r zero v e h = let s : w ≡ v = cc in
     subst (InOrder c (w ∷ l) 0) s (record { closes = r.0; follows = r.1 })
 in_order c w l r (suc k) v e h = let o = h k refl e in record { closes = o.closes; follows = o.follows }
 
-pub none-wrong : (i c : ℕ) (l : List Window) → first_wrong_window i c l ≡ none → (k : ℕ) (v : Window)
-    → get_elem? l k ≡ some v → InOrder c l k v
+pub none-wrong : (i c : ℕ) (l : List Window) → first_wrong_window i c l ≡ None → (k : ℕ) (v : Window)
+    → slice_get l k ≡ Some v → InOrder c l k v
 none-wrong i c [] e = λ k v q. absurd (none-some q)
 none-wrong i c (w ∷ l) e = go (in_order_after c w) (right_is c w) e (none-wrong (suc i) w.closing l)
   where
     go : (b : Bool) → (b ≡ true → Right c w)
         → ◌≡◌ {A = Option ℕ}
-        (elim b as (λ _. Option ℕ) [ true ↦ first_wrong_window (suc i) w.closing l | false ↦ some i ]) none
-        → (first_wrong_window (suc i) w.closing l ≡ none → (k : ℕ) (v : Window)
-        → get_elem? l k ≡ some v → InOrder w.closing l k v)
-        → (k : ℕ) (v : Window) → get_elem? (w ∷ l) k ≡ some v → InOrder c (w ∷ l) k v
+        (elim b as (λ _. Option ℕ) [ true ↦ first_wrong_window (suc i) w.closing l | false ↦ Some i ]) None
+        → (first_wrong_window (suc i) w.closing l ≡ None → (k : ℕ) (v : Window)
+        → slice_get l k ≡ Some v → InOrder w.closing l k v)
+        → (k : ℕ) (v : Window) → slice_get (w ∷ l) k ≡ Some v → InOrder c (w ∷ l) k v
     go true f e h = λ k v q. in_order c w l (f refl) k v q (λ m s p. h e m v p)
     go false f e h = absurd (none-some (sym e))
 
 -- the first wrong window of those from index i on, counted from there
-first-wrong : (i c : ℕ) (l : List Window) (p : ℕ) → first_wrong_window i c l ≡ some p
+first-wrong : (i c : ℕ) (l : List Window) (p : ℕ) → first_wrong_window i c l ≡ Some p
     → (q : ℕ) × ((p ≡ i + q) × FirstWrongWindow c l q)
 first-wrong i c [] p e = absurd (none-some e)
 first-wrong i c (w ∷ l) p e =
@@ -156,8 +145,8 @@ first-wrong i c (w ∷ l) p e =
 
     go : (b : Bool) → (b ≡ true → Right c w) → (b ≡ false → Wrong c w)
         → ◌≡◌ {A = Option ℕ}
-        (elim b as (λ _. Option ℕ) [ true ↦ first_wrong_window (suc i) w.closing l | false ↦ some i ]) (some p)
-        → (first_wrong_window (suc i) w.closing l ≡ some p
+        (elim b as (λ _. Option ℕ) [ true ↦ first_wrong_window (suc i) w.closing l | false ↦ Some i ]) (Some p)
+        → (first_wrong_window (suc i) w.closing l ≡ Some p
         → (q : ℕ) × ((p ≡ suc i + q) × FirstWrongWindow w.closing l q))
         → (q : ℕ) × ((p ≡ i + q) × FirstWrongWindow c (w ∷ l) q)
     go true f g e h = let r = h e in let s : p ≡ suc i + r.0 = r.1.0 in
@@ -180,10 +169,10 @@ positive (suc n) h = omega arith
 module _ (w : Windows) where
   -- by the tests of the count and the dwell
   by : Bool → Bool → Option ℕ
-  by a b = elim a [ true ↦ some 0 | false ↦ elim b [ true ↦ first_wrong_window 0 0 (brought w) | false ↦ some 32 ] ]
+  by a b = elim a [ true ↦ Some 0 | false ↦ elim b [ true ↦ first_wrong_window 0 0 (brought w) | false ↦ Some 32 ] ]
 
   wrong : (a b c : Bool) (p : ℕ) → eqb w.count 0 ≡ a → leb w.count 32 ≡ b → leb w.dwell 4096 ≡ c
-      → by a (b && c) ≡ some p → WindowsWrong w p
+      → by a (b && c) ≡ Some p → WindowsWrong w p
   unfolding by
   wrong true b c p e f g h = let s : 0 ≡ p = cc in subst (WindowsWrong w) s (empty (eqb-true w.count 0 e))
   wrong false true true p e f g h =
@@ -200,7 +189,7 @@ module _ (w : Windows) where
   wrong false false c p e f g h = let s : 32 ≡ p = cc in subst (WindowsWrong w) s (too_many (leb-false w.count 32 f))
 
   right : (a b c : Bool) → eqb w.count 0 ≡ a → leb w.count 32 ≡ b → leb w.dwell 4096 ≡ c
-      → by a (b && c) ≡ none → WindowsRight w
+      → by a (b && c) ≡ None → WindowsRight w
   unfolding by
   right true b c e f g h = absurd (none-some (sym h))
   right false true true e f g h =
@@ -214,21 +203,18 @@ module _ (w : Windows) where
   right false true false e f g h = absurd (none-some (sym h))
   right false false c e f g h = absurd (none-some (sym h))
 
-  pub windows-wrong : (p : ℕ) → refused13 w ≡ some p → (w.given ≡ true) × WindowsWrong w p
+  wrong-place : (p : ℕ) → windows_refused w ≡ Some p → WindowsWrong w p
   unfolding by
-  windows-wrong p e = go w.given refl e
-    where
-      go : (b : Bool) → w.given ≡ b
-          → ◌≡◌ {A = Option ℕ} (elim b as (λ _. Option ℕ) [ true ↦ windows_refused w | false ↦ none ]) (some p)
-          → (w.given ≡ true) × WindowsWrong w p
-      go true g e = (g, wrong (eqb w.count 0) (leb w.count 32) (leb w.dwell 4096) p refl refl refl e)
-      go false g e = absurd (none-some e)
+  wrong-place p e = wrong (eqb w.count 0) (leb w.count 32) (leb w.dwell 4096) p refl refl refl e
 
-  pub windows-right : refused13 w ≡ none → w.given ≡ true → WindowsRight w
+  right-windows : windows_refused w ≡ None → WindowsRight w
   unfolding by
-  windows-right e t = go w.given t e
-    where
-      go : (b : Bool) → b ≡ true → ◌≡◌ {A = Option ℕ}
-          (elim b as (λ _. Option ℕ) [ true ↦ windows_refused w | false ↦ none ]) none → WindowsRight w
-      go true t e = right (eqb w.count 0) (leb w.count 32) (leb w.dwell 4096) refl refl refl e
-      go false t e = absurd (false≢true t)
+  right-windows e = right (eqb w.count 0) (leb w.count 32) (leb w.dwell 4096) refl refl refl e
+
+pub windows-wrong : (w : Option Windows) (p : ℕ) → refused13 w ≡ Some p → IsSomeAnd w (λ v. WindowsWrong v p)
+windows-wrong None p e = absurd (none-some e)
+windows-wrong (Some w) p e = wrong-place w p e
+
+pub windows-right : (w : Option Windows) → refused13 w ≡ None → IfSome w WindowsRight
+windows-right None e = tt
+windows-right (Some w) e = right-windows w e

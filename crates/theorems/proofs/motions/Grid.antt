@@ -10,8 +10,7 @@ use lib.IntN.{pos, nat_abs}
 use Rattle.whole.proofs.Tests.{not-false-T}
 use Rattle.whole.proofs.Laws.{nat_abs-zero}
 use Rattle.model.specs.declared.Axis.{Axis}
-use Rattle.model.specs.declared.SecondSway.{SecondSway}
-use Rattle.model.specs.declared.SecondSway.TheVariants.{Absent, HalfPeriod}
+use Rattle.std.specs.Prelude.{Option, None, Some}
 use Rattle.model.specs.declared.Target.{Target}
 use Rattle.model.specs.declared.Target.TheVariants.{Fixed, Moving}
 use Rattle.model.specs.planning.Quantities.{fine_steps, speed_limit, acceleration_limit, half_period, second_weight}
@@ -20,12 +19,12 @@ use Rattle.model.specs.planning.Quantities.{speed_steps}
 use Rattle.model.specs.planning.Quantities.{acceleration_steps}
 
 pub data Grid (x : Axis) : Type 0 where
-  two_sways : (d : ℕ) → finer x ≡ sway_steps → x.second_sway ≡ HalfPeriod d → Grid x
+  two_sways : (d : ℕ) → finer x ≡ sway_steps → x.second_sway ≡ Some d → Grid x
   -- one sway: the fine grid has one of three reasons
-  still : finer x ≡ 1 → x.second_sway ≡ Absent → ((n : ℕ) → (as_moving x.target n).acceleration ≡ pos 0) → Grid x
-  unblended : finer x ≡ 1 → x.second_sway ≡ Absent → half_period x ≡ 0 → Grid x
-  undamped : finer x ≡ 1 → x.second_sway ≡ Absent → second_weight x ≡ 128 → Grid x
-  corrected : finer x ≡ finest_steps → x.second_sway ≡ Absent → Grid x
+  still : finer x ≡ 1 → x.second_sway ≡ None → ((n : ℕ) → (as_moving x.target n).acceleration ≡ pos 0) → Grid x
+  unblended : finer x ≡ 1 → x.second_sway ≡ None → half_period x ≡ 0 → Grid x
+  undamped : finer x ≡ 1 → x.second_sway ≡ None → second_weight x ≡ 128 → Grid x
+  corrected : finer x ≡ finest_steps → x.second_sway ≡ None → Grid x
 
 pub no-acceleration : (t : Target) → accelerates t ≡ false → (n : ℕ) → (as_moving t n).acceleration ≡ pos 0
 no-acceleration (Fixed r) e n = refl
@@ -40,16 +39,16 @@ module _ (x : Axis) where
       (eqb (second_weight x) 128) (no-acceleration x.target)
       (eqb→eq (half_period x) 0) (eqb→eq (second_weight x) 128) refl refl refl
     where
-      go : (s : SecondSway) (moves h0 b128 : Bool)
+      go : (s : Option ℕ) (moves h0 b128 : Bool)
           → (accelerates x.target ≡ false → (n : ℕ) → (as_moving x.target n).acceleration ≡ pos 0)
           → (T h0 → half_period x ≡ 0) → (T b128 → second_weight x ≡ 128) → x.second_sway ≡ s
           → accelerates x.target ≡ moves
           → finer x ≡ finer_by s (moves && (not h0 && not b128)) → Grid x
-      go (HalfPeriod d) moves h0 b128 f g h s e r = two_sways d r s
-      go Absent false h0 b128 f g h s e r = still r s (f e)
-      go Absent true true b128 f g h s e r = unblended r s (g tt)
-      go Absent true false true f g h s e r = undamped r s (h tt)
-      go Absent true false false f g h s e r = corrected r s
+      go (Some d) moves h0 b128 f g h s e r = two_sways d r s
+      go None false h0 b128 f g h s e r = still r s (f e)
+      go None true true b128 f g h s e r = unblended r s (g tt)
+      go None true false true f g h s e r = undamped r s (h tt)
+      go None true false false f g h s e r = corrected r s
 
   -- ---- ranges
 

@@ -1,11 +1,12 @@
 -- Where a cell stands in the table: axis i of row k has its three cells from 3 (axes × k + i) on.
+use Rattle.std.specs.Prelude.{Some}
 use Prim.Native.Nat.{ℕ, zero, suc, ◌+◌, ◌*◌, ◌≤◌, ◌<◌}
 use mathlib.Core.Path.{◌≡◌, refl, sym, ap, ap₂, ◌∙◌, subst}
 use mathlib.Core.List.{List, [], ◌∷◌, ◌++◌, map, flatten}
-use mathlib.Core.Option.{some}
 use native.Mathlib.Omega.{arith}
 use native.Mathlib.Nat.{zero-add, add-zero, add_comm, mul-zero, mul-suc, mul_assoc}
-use lib.ListN.{get_or, length, get_elem?, length-append, length-map, get_or-append}
+use lib.ListN.{get_or, length, length-append, length-map, get_or-append}
+use Rattle.std.specs.Prelude.{slice_get}
 use lib.Seq.{get_or-append-add}
 use lib.IntN.{ℤ}
 use Rattle.whole.proofs.Elements.{none-some, at-below, map_at}
@@ -59,7 +60,7 @@ module _ {A : Type 0} (b : ℕ) (f : A → List ℤ) (even : (a : A) → length 
       ∙ add_comm b (b * length l)
       ∙ sym (mul-suc b (length l))
 
-  blocks_at : (l : List A) (i r : ℕ) (d : ℤ) (a : A) → get_elem? l i ≡ some a → r < b
+  blocks_at : (l : List A) (i r : ℕ) (d : ℤ) (a : A) → slice_get l i ≡ Some a → r < b
       → get_or (flatten (map f l)) (b * i + r) d ≡ get_or (f a) r d
   unfolding flatten
   blocks_at [] i r d a e q = absurd (none-some e)
@@ -110,7 +111,7 @@ module _ (o : Order) (xs : List Axis) (n : ℕ) where
   unfolding ts row_from
   table-length = rows-length (3 * length xs) row_from row-from-length 0 (suc n)
 
-  pub table_at : (i j k : ℕ) (x : Axis) (d : ℤ) → get_elem? xs i ≡ some x → j < 3 → k ≤ n
+  pub table_at : (i j k : ℕ) (x : Axis) (d : ℤ) → slice_get xs i ≡ Some x → j < 3 → k ≤ n
       → get_or (table o xs n) (3 * (length xs * row_at o n k + i) + j) d ≡ get_or (cells k (planned_axis n x)) j d
   unfolding ts row_from
   table_at i j k x d e hj hk =

@@ -3,13 +3,14 @@
 -- `cell-limits`, `exact-start`, `sway-left`. Each row of a backward call is the forward
 -- call's row for that tick: `same_rows`. Each position cell is the sum taken from the
 -- landing end, rounded once: `cells-from-landing`.
+use Rattle.std.specs.Prelude.{Some}
 use Prim.Native.Nat.{ℕ, zero, suc, ◌+◌, ◌-◌, ◌*◌, ◌≤◌, ◌<◌}
 use mathlib.Core.Path.{◌≡◌, refl, sym, ap, ap₂, ◌∙◌, subst}
 use mathlib.Core.List.{List, [], ◌∷◌, ◌++◌, map}
-use mathlib.Core.Option.{some}
 use native.Mathlib.Omega.{arith}
 use native.Mathlib.Nat as N
-use lib.ListN.{get_or, length, drop, get_elem?, length-append, get_or-append}
+use lib.ListN.{get_or, length, drop, length-append, get_or-append}
+use Rattle.std.specs.Prelude.{slice_get}
 use lib.Seq.{get_or-take}
 use lib.IntN.{ℤ, pos, nat_abs, ◌+ℤ◌, ◌-ℤ◌, ◌*ℤ◌}
 use Rattle.model.specs.declared.Axis.{Axis}
@@ -49,12 +50,12 @@ use Rattle.theorems.proofs.jobs.Ordered.{answer-stays, rows-turn}
 use Rattle.theorems.proofs.tables.SwayCancelled.{left-exact, left-rounded, cancelled-exact, cancelled-rounded}
 
 module _ (o : Order) (xs : List Axis) (n : ℕ) (lent rest : List ℤ) (is : lent ≡ table o xs n ++ rest)
-    (plannable : (i : ℕ) (x : Axis) → get_elem? xs i ≡ some x → Plannable x n) where
+    (plannable : (i : ℕ) (x : Axis) → slice_get xs i ≡ Some x → Plannable x n) where
   -- the place of cell j of axis i in the row at place r
   abbrev place_of : ℕ → ℕ → ℕ → ℕ
   place_of i j r = 3 * (length xs * r + i) + j
 
-  place_inside : (i j r : ℕ) (x : Axis) → get_elem? xs i ≡ some x → j < 3 → r ≤ n
+  place_inside : (i j r : ℕ) (x : Axis) → slice_get xs i ≡ Some x → j < 3 → r ≤ n
       → place_of i j r < cells_needed (length xs) n
   place_inside i j r x e hj h =
       omega (
@@ -66,7 +67,7 @@ module _ (o : Order) (xs : List Axis) (n : ℕ) (lent rest : List ℤ) (is : len
       )
 
   -- a cell of the row of tick k
-  cell-is : (i j k : ℕ) (x : Axis) → get_elem? xs i ≡ some x → j < 3 → k ≤ n
+  cell-is : (i j k : ℕ) (x : Axis) → slice_get xs i ≡ Some x → j < 3 → k ≤ n
       → cell_at (table_in o xs n lent) i j k ≡ get_or (cells k (planned_axis n x)) j (pos 0)
   cell-is i j k x e hj hk =
       let at : ℕ = place_of i j (row_at o n k) in
@@ -76,7 +77,7 @@ module _ (o : Order) (xs : List Axis) (n : ℕ) (lent rest : List ℤ) (is : len
       ∙ get_or-append (table o xs n) rest (pos 0) at (subst (λ (m : ℕ). at < m) (sym (table-length o xs n)) inside)
       ∙ table_at o xs n i j k x (pos 0) e hj hk
 
-  module _ (i : ℕ) (x : Axis) (e : get_elem? xs i ≡ some x) where
+  module _ (i : ℕ) (x : Axis) (e : slice_get xs i ≡ Some x) where
     g : Plannable x n
     g = plannable i x e
 
@@ -173,7 +174,7 @@ module _ (o : Order) (xs : List Axis) (n : ℕ) (lent rest : List ℤ) (is : len
       record {
         whole = whole;
         lands = lands;
-        carries = λ i k h q. let y : (x : Axis) × (get_elem? xs i ≡ some x) = element xs i h in
+        carries = λ i k h q. let y : (x : Axis) × (slice_get xs i ≡ Some x) = element xs i h in
             carries i y.0 y.1 k q;
         sway = stills;
       }
@@ -199,7 +200,7 @@ module _ (o : Order) (xs : List Axis) (n : ℕ) (lent rest : List ℤ) (is : len
       }
 
 -- an axis of a job without its number
-unnumbered : (l : List JobAxis) (i : ℕ) (x : Axis) → get_elem? (map (λ y. y.axis) l) i ≡ some x
+unnumbered : (l : List JobAxis) (i : ℕ) (x : Axis) → slice_get (map (λ y. y.axis) l) i ≡ Some x
     → (y : JobAxis) × (Among l y × (y.axis ≡ x))
 unnumbered [] i x e = absurd (let z : ◌≡◌ {A = ℕ} 0 1 = cc in omega arith)
 unnumbered (y ∷ l) zero x e = (y, ((zero, refl), cc))
@@ -207,7 +208,7 @@ unnumbered (y ∷ l) (suc i) x e = let r = unnumbered l i x e in (r.0, ((suc r.1
 
 -- an accepted job's axes can all be planned
 pub all-plannable : (j : Job) (n : ℕ) → AllPassed j.axes → IsArrival j n → (i : ℕ) (x : Axis)
-    → get_elem? (axes_of j) i ≡ some x → Plannable x n
+    → slice_get (axes_of j) i ≡ Some x → Plannable x n
 all-plannable j n p a i x q =
     let y = unnumbered j.axes i x q in
     let g = passed-among j.axes p y.0 y.1.0 in
@@ -222,7 +223,7 @@ all-plannable j n p a i x q =
 -- call
 module _ (Claim : List Axis → ℕ → List ℤ → Type 0)
     (holds : (xs : List Axis) (n : ℕ) (lent rest : List ℤ) → lent ≡ table Forwards xs n ++ rest
-    → ((i : ℕ) (x : Axis) → get_elem? xs i ≡ some x → Plannable x n) → Claim xs n lent) where
+    → ((i : ℕ) (x : Axis) → slice_get xs i ≡ Some x → Plannable x n) → Claim xs n lent) where
   -- only an accepted job has number 0
   by-verdict : (j : Job) (lent : List ℤ) (o : Outcome) → Verdict Forwards j lent o → o.number ≡ 0
       → Claim (axes_of j) o.arrival o.cells
@@ -237,7 +238,7 @@ module _ (Claim : List Axis → ℕ → List ℤ → Type 0)
   by-verdict j lent o (refused6 i a b c d f g e) z = absurd (let n = e.number in omega arith)
   by-verdict j lent o (refused16 i a b c d f g k e) z = absurd (let n = e.number in omega arith)
   by-verdict j lent o (refused17 i a b c d f g k l e) z = absurd (let n = e.number in omega arith)
-  by-verdict j lent o (refused13 p a b c d e) z = absurd (let n = e.number in omega arith)
+  by-verdict j lent o (refused13 p a b c e) z = absurd (let n = e.number in omega arith)
   by-verdict j lent o (refused8 m a b c w d f e) z = absurd (let n = e.number in omega arith)
   by-verdict j lent o (refused9 m a b w c d e) z = absurd (let n = e.number in omega arith)
   by-verdict j lent o (refused10 n a w b c e) z = absurd (let n = e.number in omega arith)
@@ -256,7 +257,7 @@ module _ (Claim : List Axis → ℕ → List ℤ → Type 0)
 
 -- an accepted call's axes can all be planned
 abbrev pub Planned : List Axis → ℕ → Type 0
-Planned xs n = (i : ℕ) (x : Axis) → get_elem? xs i ≡ some x → Plannable x n
+Planned xs n = (i : ℕ) (x : Axis) → slice_get xs i ≡ Some x → Plannable x n
 
 planned-axes : (q : Input) (lent : List ℤ) → (call q lent).number ≡ 0 → Planned (input_axes q) (call q lent).arrival
 planned-axes = of-forward-calls (λ xs n cells. Planned xs n) (λ xs n lent rest is plannable. plannable)
@@ -291,14 +292,14 @@ exact-start = of_calls ExactStart started
 
 pub sway-left : SwayLeftHolds planned_variation
 sway-left =
-    of_calls (λ o xs n lent. (i : ℕ) (x : Axis) → get_elem? xs i ≡ some x
+    of_calls (λ o xs n lent. (i : ℕ) (x : Axis) → slice_get xs i ≡ Some x
     → SwayLeft planned_variation x i n (table_in o xs n lent)) left
 
 -- ---- each row is that of its tick, in either order
 
 abbrev CellsByTick : Order → List Axis → ℕ → List ℤ → Type 0
 CellsByTick o xs n lent =
-    (i j k : ℕ) (x : Axis) → get_elem? xs i ≡ some x → j < 3 → k ≤ n
+    (i j k : ℕ) (x : Axis) → slice_get xs i ≡ Some x → j < 3 → k ≤ n
     → cell_at (table_in o xs n lent) i j k ≡ get_or (cells k (planned_axis n x)) j (pos 0)
 
 cells-by-tick : (o : Order) (q : Input) (lent : List ℤ) → (call_in o q lent).number ≡ 0
@@ -310,7 +311,7 @@ same_rows q lent z i j k h hj hk =
     let xs = input_axes q in
     let r = call q lent in
     let answer = answer-stays xs lent r Backwards in
-    let y : (x : Axis) × (get_elem? xs i ≡ some x) = element xs i h in
+    let y : (x : Axis) × (slice_get xs i ≡ Some x) = element xs i h in
     let back = subst (λ (n : ℕ). CellsByTick Backwards xs n (call_in Backwards q lent).cells)
     (ap (λ (a : Answer). a.arrival) answer)
     (cells-by-tick Backwards q lent (ap (λ (a : Answer). a.number) answer ∙ z)) in
@@ -320,7 +321,7 @@ same_rows q lent z i j k h hj hk =
 
 abbrev FromLanding : Order → List Axis → ℕ → List ℤ → Type 0
 FromLanding o xs n lent =
-    (i k : ℕ) (x : Axis) → get_elem? xs i ≡ some x → k ≤ n
+    (i k : ℕ) (x : Axis) → slice_get xs i ≡ Some x → k ≤ n
     → position_cell (table_in o xs n lent) i k ≡ nearest_quotient (from_landing x n (n - k)) (2 * divisor x)
 
 from-landing : (o : Order) (xs : List Axis) (n : ℕ) (lent rest : List ℤ) → lent ≡ table o xs n ++ rest

@@ -7,8 +7,7 @@ use native.Mathlib.Omega.{arith}
 use lib.IntN.{ℤ, pos, ◌+ℤ◌, ◌-ℤ◌, ◌*ℤ◌}
 use Rattle.whole.proofs.Ring.{pol, same}
 use Rattle.model.specs.declared.Axis.{Axis}
-use Rattle.model.specs.declared.SecondSway.{SecondSway}
-use Rattle.model.specs.declared.SecondSway.TheVariants.{Absent, HalfPeriod}
+use Rattle.std.specs.Prelude.{Option, None, Some}
 use Rattle.model.specs.planning.Motion.{Tick}
 use Rattle.model.specs.planning.Rows.{planned_axis, blend_once, blend_by, blend}
 use Rattle.theorems.specs.Rows.{from_landing, SumsFromLanding}
@@ -48,11 +47,11 @@ module _ (x : Axis) (n : ℕ) (r : Plannable x n) where
       at : ℕ → ℕ → (Tick → ℤ) → ℤ
       at j d f = blend_once (planned_axis n x) j d f
 
-      go : (s : SecondSway) → blend_by s (planned_axis n x) (suc k) (λ t. t.position)
+      go : (s : Option ℕ) → blend_by s (planned_axis n x) (suc k) (λ t. t.position)
           ≡ blend_by s (planned_axis n x) k (λ t. t.position) +ℤ blend_by s (planned_axis n x) k (λ t. t.velocity)
           +ℤ blend_by s (planned_axis n x) (suc k) (λ t. t.velocity)
-      go Absent = once-ends 0 k q
-      go (HalfPeriod d) =
+      go None = once-ends 0 k q
+      go (Some d) =
           ap₂ (λ (y z : ℤ). y +ℤ z) (once-ends 0 k q) (once-ends d k q)
           ∙ sorted (at k 0 (λ t. t.position)) (at k 0 (λ t. t.velocity))
           (at (suc k) 0 (λ t. t.velocity)) (at k d (λ t. t.position))

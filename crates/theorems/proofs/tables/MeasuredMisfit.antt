@@ -13,8 +13,7 @@ use Rattle.whole.proofs.Laws.{nat_abs-*}
 use Rattle.whole.proofs.Ring.{pol, same}
 use Rattle.whole.proofs.Tests.{lt-or-le}
 use Rattle.model.specs.declared.Axis.{Axis}
-use Rattle.model.specs.declared.SecondSway.{SecondSway}
-use Rattle.model.specs.declared.SecondSway.TheVariants.{Absent, HalfPeriod}
+use Rattle.std.specs.Prelude.{Option, None, Some}
 use Rattle.model.specs.planning.Quantities.{half_period, second_weight, sway_delay, second_half_period, delay}
 use Rattle.model.specs.planning.Rows.{planned_axis, blend, divisor}
 use Rattle.model.specs.planning.Demand.{CellTable, acceleration_cell, sway}
@@ -74,11 +73,11 @@ module _ (x : Axis) where
   B = pos (second_weight x)
 
   -- the misfit of two blends, by the pairs of the second
-  pub second-misfit : (d : ℕ) (w : ℕ → ℤ) (i : ℕ) → x.second_sway ≡ HalfPeriod d
+  pub second-misfit : (d : ℕ) (w : ℕ → ℤ) (i : ℕ) → x.second_sway ≡ Some d
       → misfit x w i ≡ A *ℤ (pos 1 *ℤ w (i + h + d) +ℤ pos 1 *ℤ w (i + h)) +ℤ B *ℤ (pos 1 *ℤ w (i + d) +ℤ pos 1 *ℤ w i)
   second-misfit d w i e =
       let order : i + d + h ≡ i + h + d = omega arith in
-      ap (λ (u : SecondSway). misfit_by u x w i) e
+      ap (λ (u : Option ℕ). misfit_by u x w i) e
       ∙ same (A ∷ B ∷ w (i + d + h) ∷ w (i + d) ∷ w (i + h) ∷ w i ∷ []) (search pol depth 20 fits 9000) tt
       ∙ ap (λ (k : ℕ). A *ℤ (pos 1 *ℤ w k +ℤ pos 1 *ℤ w (i + h)) +ℤ B *ℤ (pos 1 *ℤ w (i + d) +ℤ pos 1 *ℤ w i)) order
 
@@ -161,9 +160,9 @@ module _ (x : Axis) (weight : second_weight x ≤ 256) where
       twice : (a : ℕ) → a + a ≤ 2 * a
       twice a = omega arith
 
-      go : (u : SecondSway) → i + (h x + sway_delay u) ≤ m → nat_abs (misfit_by u x w i) ≤ first_misfit_by u E
-      go Absent l = once i (omega arith) (omega arith)
-      go (HalfPeriod d) l =
+      go : (u : Option ℕ) → i + (h x + sway_delay u) ≤ m → nat_abs (misfit_by u x w i) ≤ first_misfit_by u E
+      go None l = once i (omega arith) (omega arith)
+      go (Some d) l =
           le_trans
           (add_holds (misfit_once x w (i + d)) (misfit_once x w i) E E (once (i + d) (omega arith) (omega arith))
           (once i (omega arith) (omega arith)))
@@ -190,7 +189,7 @@ module _ (x : Axis) (weight : second_weight x ≤ 256) where
       sum b c l = let u : 256 - b + b ≤ 256 = omega arith in
           le_trans (omega (arith, add-mul (256 - b) b c)) (mul-le-mul_right c u)
 
-  near-second : (d : ℕ) (t : TruePole) (n m G D : ℕ) (u : ℕ → ℤ) → x.second_sway ≡ HalfPeriod d → SwayOf t m G D u
+  near-second : (d : ℕ) (t : TruePole) (n m G D : ℕ) (u : ℕ → ℤ) → x.second_sway ≡ Some d → SwayOf t m G D u
       → Misfits x n m (second_misfit d t G D) (weighted t u)
   near-second d t n m G D u e is i l q =
       let last : second_half_period x ≡ d = ap sway_delay e in

@@ -12,8 +12,7 @@ use Rattle.whole.proofs.Laws.{nat_abs-neg}
 use Rattle.whole.proofs.Ring.{pol, same}
 use Rattle.whole.proofs.Rounding.{nearest-neg}
 use Rattle.model.specs.declared.Axis.{Axis}
-use Rattle.model.specs.declared.SecondSway.{SecondSway}
-use Rattle.model.specs.declared.SecondSway.TheVariants.{Absent, HalfPeriod}
+use Rattle.std.specs.Prelude.{Option, None, Some}
 use Rattle.model.specs.declared.Target.{Target}
 use Rattle.model.specs.declared.Target.TheVariants.{Fixed, Moving}
 use Rattle.model.specs.planning.Quantities.{half_period, second_weight, accelerates, damped, finer, finer_by}
@@ -94,9 +93,9 @@ module _ (t : PlannedAxis) where
     blend-negated : blend (negated_plan t) k f ≡ neg_ℤ (blend t k f)
     blend-negated = go t.axis.second_sway
       where
-        go : (s : SecondSway) → blend_by s (negated_plan t) k f ≡ neg_ℤ (blend_by s t k f)
-        go Absent = once-negated 0
-        go (HalfPeriod d) = ap₂ (λ (y z : ℤ). y +ℤ z) (once-negated 0) (once-negated d)
+        go : (s : Option ℕ) → blend_by s (negated_plan t) k f ≡ neg_ℤ (blend_by s t k f)
+        go None = once-negated 0
+        go (Some d) = ap₂ (λ (y z : ℤ). y +ℤ z) (once-negated 0) (once-negated d)
             ∙ sym (neg_ℤ-+ℤ (blend_once t k 0 f) (blend_once t k d f))
 
     cell-negated : (d : ℕ) → 0 < d

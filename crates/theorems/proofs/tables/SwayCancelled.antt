@@ -15,8 +15,7 @@ use Rattle.whole.proofs.Laws.{nat_abs-*, nat_abs-zero}
 use Rattle.whole.proofs.Ring.{pol, same}
 use Rattle.whole.proofs.Rounding.{nearest-half}
 use Rattle.model.specs.declared.Axis.{Axis}
-use Rattle.model.specs.declared.SecondSway.{SecondSway}
-use Rattle.model.specs.declared.SecondSway.TheVariants.{Absent, HalfPeriod}
+use Rattle.std.specs.Prelude.{Option, None, Some}
 use Rattle.model.specs.planning.Quantities.{half_period, second_weight, sway_delay, second_half_period, as_moving}
 use Rattle.model.specs.planning.Quantities.{finer}
 use Rattle.model.specs.planning.Motion.{Tick, earlier, landing_tick, landing_acceleration}
@@ -135,12 +134,12 @@ module _ (x : Axis) (n : ℕ) (r : Plannable x n) where
       each : (y z : ℤ) → pos 1 *ℤ y +ℤ pos 1 *ℤ z ≡ pos 1 *ℤ (y +ℤ z)
       each y z = same (y ∷ z ∷ []) (search pol depth 20 fits 9000) tt
 
-      go : (u : SecondSway) → i ≡ j + (h + sway_delay u)
+      go : (u : Option ℕ) → i ≡ j + (h + sway_delay u)
           → smoothed (pos 1) (pos 1) (smoothed A B w h) (sway_delay u) i ≡ pos (times_by u) *ℤ misfit_by u x w j
-      go Absent e =
+      go None e =
           ap₂ (λ (y z : ℤ). pos 1 *ℤ y +ℤ pos 1 *ℤ z) (one i j (omega arith)) (one (i - 0) j (omega arith))
           ∙ twice (misfit_once x w j)
-      go (HalfPeriod d) e =
+      go (Some d) e =
           ap₂ (λ (y z : ℤ). pos 1 *ℤ y +ℤ pos 1 *ℤ z) (one i (j + d) (omega arith)) (one (i - d) j (omega arith))
           ∙ each (misfit_once x w (j + d)) (misfit_once x w j)
 
@@ -220,10 +219,10 @@ module _ (x : Axis) (n : ℕ) (r : Plannable x n) where
   none_left : (m : ℕ) (w : ℕ → ℤ) → Swing x m w → Misfits x n m 0 w
   none_left m w g i l q = let e : misfit x w i ≡ pos 0 = go g in omega (arith, ap nat_abs e)
     where
-      by_first : (u : SecondSway) → i + (h + sway_delay u) ≤ m
+      by_first : (u : Option ℕ) → i + (h + sway_delay u) ≤ m
           → ((j : ℕ) → j + h ≤ m → misfit_once x w j ≡ pos 0) → misfit_by u x w i ≡ pos 0
-      by_first Absent q fits = fits i (omega arith)
-      by_first (HalfPeriod d) q fits = ap₂ (λ (y z : ℤ). y +ℤ z) (fits (i + d) (omega arith)) (fits i (omega arith))
+      by_first None q fits = fits i (omega arith)
+      by_first (Some d) q fits = ap₂ (λ (y z : ℤ). y +ℤ z) (fits (i + d) (omega arith)) (fits i (omega arith))
 
       none : (A B : ℤ) → A *ℤ pos 0 +ℤ B *ℤ pos 0 ≡ pos 0
       none A B = same (A ∷ B ∷ []) (search pol depth 20 fits 9000) tt

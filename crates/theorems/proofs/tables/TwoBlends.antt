@@ -11,8 +11,7 @@ use Rattle.whole.proofs.Differences.{whole, all₂}
 use Rattle.whole.proofs.Ring.{pol, same}
 use Rattle.whole.proofs.Rounding.{nearest-times}
 use Rattle.model.specs.declared.Axis.{Axis}
-use Rattle.model.specs.declared.SecondSway.{SecondSway}
-use Rattle.model.specs.declared.SecondSway.TheVariants.{Absent, HalfPeriod}
+use Rattle.std.specs.Prelude.{Option, None, Some}
 use Rattle.model.specs.planning.Quantities.{sway_delay, second_half_period, finer}
 use Rattle.model.specs.planning.Motion.{Tick}
 use Rattle.model.specs.planning.Rows.{PlannedAxis, blend_once, blend_by, weights_by, blend, divisor}
@@ -25,9 +24,9 @@ abbrev pub both_divisor : Axis → ℕ
 both_divisor x = 512 * finer x
 
 -- how often the blend is in the two
-abbrev pub times_by : SecondSway → ℕ
-times_by Absent = 2
-times_by (HalfPeriod d) = 1
+abbrev pub times_by : Option ℕ → ℕ
+times_by None = 2
+times_by (Some d) = 1
 
 abbrev pub times : Axis → ℕ
 times x = times_by x.second_sway
@@ -35,9 +34,9 @@ times x = times_by x.second_sway
 pub times-some : (x : Axis) → 0 < times x
 times-some x = go x.second_sway
   where
-    go : (s : SecondSway) → 0 < times_by s
-    go Absent = omega arith
-    go (HalfPeriod d) = omega arith
+    go : (s : Option ℕ) → 0 < times_by s
+    go None = omega arith
+    go (Some d) = omega arith
 
 pub both_is : (t : PlannedAxis) (k : ℕ) (f : Tick → ℤ) → both t k f ≡ pos (times t.axis) *ℤ blend t k f
 both_is t k f = go t.axis.second_sway
@@ -48,13 +47,13 @@ both_is t k f = go t.axis.second_sway
     once : (z : ℤ) → z ≡ pos 1 *ℤ z
     once z = same (z ∷ []) (search pol depth 20 fits 9000) tt
 
-    go : (s : SecondSway) → blend_once t k 0 f +ℤ blend_once t k (sway_delay s) f ≡ pos (times_by s) *ℤ blend_by s t k f
-    go Absent = twice (blend_once t k 0 f)
-    go (HalfPeriod d) = once (blend_once t k 0 f +ℤ blend_once t k d f)
+    go : (s : Option ℕ) → blend_once t k 0 f +ℤ blend_once t k (sway_delay s) f ≡ pos (times_by s) *ℤ blend_by s t k f
+    go None = twice (blend_once t k 0 f)
+    go (Some d) = once (blend_once t k 0 f +ℤ blend_once t k d f)
 
-pub weights-times : (s : SecondSway) (f : ℕ) → times_by s * (weights_by s * f) ≡ 512 * f
-weights-times Absent f = omega arith
-weights-times (HalfPeriod d) f = omega arith
+pub weights-times : (s : Option ℕ) (f : ℕ) → times_by s * (weights_by s * f) ≡ 512 * f
+weights-times None f = omega arith
+weights-times (Some d) f = omega arith
 
 pub both_some : (x : Axis) → 0 < both_divisor x
 both_some x = omega (arith, (finer-range x).0)
@@ -62,9 +61,9 @@ both_some x = omega (arith, (finer-range x).0)
 pub divisor-some : (x : Axis) → 0 < divisor x
 divisor-some x = go x.second_sway
   where
-    go : (s : SecondSway) → 0 < weights_by s * finer x
-    go Absent = omega (arith, (finer-range x).0)
-    go (HalfPeriod d) = omega (arith, (finer-range x).0)
+    go : (s : Option ℕ) → 0 < weights_by s * finer x
+    go None = omega (arith, (finer-range x).0)
+    go (Some d) = omega (arith, (finer-range x).0)
 
 -- a cell in the one form
 module _ (t : PlannedAxis) (k : ℕ) (f : Tick → ℤ) where
@@ -101,10 +100,10 @@ blend-of-both t k f w e = go t.axis.second_sway (blend t k f) (finer t.axis) (sy
     once : (z : ℤ) → z ≡ pos 1 *ℤ z
     once z = same (z ∷ []) (search pol depth 20 fits 9000) tt
 
-    go : (s : SecondSway) (z : ℤ) (g : ℕ) → pos (times_by s) *ℤ z ≡ pos (2 * (512 * g)) *ℤ w
+    go : (s : Option ℕ) (z : ℤ) (g : ℕ) → pos (times_by s) *ℤ z ≡ pos (2 * (512 * g)) *ℤ w
         → z ≡ pos (2 * (weights_by s * g)) *ℤ w
-    go Absent z g e =
+    go None z g e =
         halves z (pos (2 * (256 * g)) *ℤ w)
         (e ∙ ap (λ (d : ℕ). pos d *ℤ w) {x = 2 * (512 * g)} {y = 2 * (2 * (256 * g))} (omega arith)
         ∙ doubled (pos (2 * (256 * g))) w)
-    go (HalfPeriod d) z g e = once z ∙ e
+    go (Some d) z g e = once z ∙ e

@@ -4,7 +4,7 @@ use Prim.Native.Nat.{ℕ, suc, ◌+◌, ◌≤◌, ◌<◌}
 use native.Mathlib.Omega.{arith}
 use mathlib.Core.Path.{◌≡◌, refl, sym, ap, subst}
 use mathlib.Core.Bool.{Bool, true, false, ◌&&◌}
-use mathlib.Core.Option.{Option, none, some}
+use Rattle.std.specs.Prelude.{Option, None, Some}
 use mathlib.Core.List.{List, [], ◌∷◌}
 use mathlib.Core.Logic.{◌⊎◌, inl, inr}
 use lib.Dec.{eqb}
@@ -23,7 +23,7 @@ use Rattle.theorems.proofs.words.Walks.{either, ends, of_kind, position_walk, sw
 
 abbrev Follow : {A : Type 0} → Reading A → Walk → Option ℕ → Type 0
 Follow (got a j vs) c o = o ≡ c j vs
-Follow (wrong p) c o = o ≡ some p
+Follow (wrong p) c o = o ≡ Some p
 
 abbrev Goes : {A : Type 0} → Reader A → Walk → Walk → Type 0
 Goes m w c = (i : ℕ) (ws : List ℕ) → Follow (m i ws) c (w i ws)
@@ -44,7 +44,7 @@ field-goes k c i (w ∷ ws) = go (eqb (kind w) k)
   where
     go : (b : Bool)
         → Follow {A = ℕ} (elim b as (λ _. Reading ℕ) [ true ↦ got (payload w) (suc i) ws | false ↦ wrong i ]) c
-        (elim b as (λ _. Option ℕ) [ true ↦ c (suc i) ws | false ↦ some i ])
+        (elim b as (λ _. Option ℕ) [ true ↦ c (suc i) ws | false ↦ Some i ])
     go true = refl
     go false = refl
 
@@ -107,13 +107,13 @@ ending-goes j i [] = refl
 ending-goes j i (w ∷ []) = go (eqb (kind w) 15 && eqb (payload w) 0)
   where
     go : (b : Bool) → Follow {A = Job} (elim b as (λ _. Reading Job) [ true ↦ got j (suc i) [] | false ↦ wrong i ]) done
-        (elim b as (λ _. Option ℕ) [ true ↦ none | false ↦ some i ])
+        (elim b as (λ _. Option ℕ) [ true ↦ None | false ↦ Some i ])
     go true = refl
     go false = refl
 ending-goes j i (w ∷ u ∷ ws) = go (eqb (kind w) 15 && eqb (payload w) 0)
   where
     go : (b : Bool) → Follow {A = Job} (elim b as (λ _. Reading Job) [ true ↦ wrong (suc i) | false ↦ wrong i ]) done
-        (elim b as (λ _. Option ℕ) [ true ↦ some (suc i) | false ↦ some i ])
+        (elim b as (λ _. Option ℕ) [ true ↦ Some (suc i) | false ↦ Some i ])
     go true = refl
     go false = refl
 
@@ -142,11 +142,11 @@ module _ (w : ℕ) (ws : List ℕ) (m : MaskWord w) where
 
   -- words that are read through are well formed
   pub read_through : (j : Job) (i : ℕ) (vs : List ℕ) → after_mask (payload w) 1 ws ≡ got j i vs → WellFormed (w ∷ ws)
-  read_through j i vs e = (m.0, (m.1, judged-as none (found (got j i vs) e)))
+  read_through j i vs e = (m.0, (m.1, judged-as None (found (got j i vs) e)))
 
   -- where reading ends, the first wrong word is
   pub first-wrong-word : (p : ℕ) → after_mask (payload w) 1 ws ≡ wrong p → FirstWrong WellFormed (w ∷ ws) p
-  first-wrong-word p e = go (judged-as (some p) (found (wrong p) e))
+  first-wrong-word p e = go (judged-as (Some p) (found (wrong p) e))
     where
       by : (q : ℕ) → ((q < length ws) × (Begins (AfterMask (payload w)) (take (suc q) ws) → ⊥))
           ⊎ ((q ≡ length ws) × (AfterMask (payload w) ws → ⊥))

@@ -4,12 +4,12 @@ use Prim.Native.Nat.{ℕ, zero, suc, ◌+◌, ◌<◌}
 use native.Mathlib.Omega.{arith}
 use mathlib.Core.Path.{◌≡◌, refl, sym, ap, subst, ◌∙◌}
 use mathlib.Core.Bool.{Bool, true, false, not, ◌&&◌, true≢false}
-use mathlib.Core.Option.{Option, none, some}
+use Rattle.std.specs.Prelude.{Option, None, Some}
 use mathlib.Core.List.{List, [], ◌∷◌}
 use mathlib.Core.Logic.{◌⊎◌, inl, inr}
 use lib.Dec.{eqb}
 use lib.IntN.{pos, negsuc}
-use lib.ListN.{get_elem?}
+use Rattle.std.specs.Prelude.{slice_get}
 use borrow.Author.Tests.{eq-eqb, eqb-true}
 use Rattle.model.specs.planning.Words.{kind, payload, twos, long_position, between, fits_word, long_allowed}
 use Rattle.model.specs.planning.Words.{first_bad_long}
@@ -48,7 +48,7 @@ module _ (w u : ℕ) where
           never false = refl
 
 -- by how many words the index lies past i
-first_past : (i p : ℕ) (ws : List ℕ) → first_bad_long i ws ≡ some p → (q : ℕ) × ((p ≡ i + q) × FirstLongWrong ws q)
+first_past : (i p : ℕ) (ws : List ℕ) → first_bad_long i ws ≡ Some p → (q : ℕ) × ((p ≡ i + q) × FirstLongWrong ws q)
 first_past i p [] e = absurd (let z : ◌≡◌ {A = ℕ} 0 1 = cc in omega arith)
 first_past i p (w ∷ []) e = absurd (let z : ◌≡◌ {A = ℕ} 0 1 = cc in omega arith)
 first_past i p (w ∷ u ∷ ws) e = go (bad w u) refl e (first_past (suc i) p (u ∷ ws))
@@ -70,8 +70,8 @@ first_past i p (w ∷ u ∷ ws) e = go (bad w u) refl e (first_past (suc i) p (u
       ),
     )
       where
-        earlier : (k v y : ℕ) → k < suc q → get_elem? (w ∷ u ∷ ws) k ≡ some v
-            → get_elem? (w ∷ u ∷ ws) (suc k) ≡ some y → LongWrong v y → ⊥
+        earlier : (k v y : ℕ) → k < suc q → slice_get (w ∷ u ∷ ws) k ≡ Some v
+            → slice_get (w ∷ u ∷ ws) (suc k) ≡ Some y → LongWrong v y → ⊥
         earlier zero v y h a b l =
             let first : v ≡ w = cc in
             let second : y ≡ u = cc in
@@ -79,8 +79,8 @@ first_past i p (w ∷ u ∷ ws) e = go (bad w u) refl e (first_past (suc i) p (u
         earlier (suc k) v y h a b l = f.before k v y (omega arith) a b l
 
     go : (b : Bool) → bad w u ≡ b → ◌≡◌ {A = Option ℕ}
-        (elim b as (λ _. Option ℕ) [ true ↦ some i | false ↦ first_bad_long (suc i) (u ∷ ws) ]) (some p)
-        → (first_bad_long (suc i) (u ∷ ws) ≡ some p → (q : ℕ) × ((p ≡ suc i + q) × FirstLongWrong (u ∷ ws) q))
+        (elim b as (λ _. Option ℕ) [ true ↦ Some i | false ↦ first_bad_long (suc i) (u ∷ ws) ]) (Some p)
+        → (first_bad_long (suc i) (u ∷ ws) ≡ Some p → (q : ℕ) × ((p ≡ suc i + q) × FirstLongWrong (u ∷ ws) q))
         → (q : ℕ) × ((p ≡ i + q) × FirstLongWrong (w ∷ u ∷ ws) q)
     go true t e h =
         let is : i ≡ p = cc in (
@@ -99,24 +99,24 @@ first_past i p (w ∷ u ∷ ws) e = go (bad w u) refl e (first_past (suc i) p (u
         )
     go false t e h = later t (h e)
 
-pub first-long-wrong : (p : ℕ) (ws : List ℕ) → first_bad_long 0 ws ≡ some p → FirstLongWrong ws p
+pub first-long-wrong : (p : ℕ) (ws : List ℕ) → first_bad_long 0 ws ≡ Some p → FirstLongWrong ws p
 first-long-wrong p ws e =
     let f = first_past 0 p ws e in
     let is : f.0 ≡ p = omega (arith, f.1.0) in
     subst (FirstLongWrong ws) is f.1.1
 
 -- where the test finds none, no word is wrong
-pub none-long-wrong : (i : ℕ) (ws : List ℕ) → first_bad_long i ws ≡ none → NoneLongWrong ws
+pub none-long-wrong : (i : ℕ) (ws : List ℕ) → first_bad_long i ws ≡ None → NoneLongWrong ws
 none-long-wrong i [] e k w u a b h = absurd (let z : ◌≡◌ {A = ℕ} 0 1 = cc in omega arith)
 none-long-wrong i (v ∷ []) e zero w u a b h = absurd (let z : ◌≡◌ {A = ℕ} 0 1 = cc in omega arith)
 none-long-wrong i (v ∷ []) e (suc k) w u a b h = absurd (let z : ◌≡◌ {A = ℕ} 0 1 = cc in omega arith)
 none-long-wrong i (v ∷ t ∷ ws) e k w u a b h = go (bad v t) refl e (none-long-wrong (suc i) (t ∷ ws)) k a b
   where
     go : (c : Bool) → bad v t ≡ c
-        → ◌≡◌ {A = Option ℕ} (elim c as (λ _. Option ℕ) [ true ↦ some i | false ↦ first_bad_long (suc i) (t ∷ ws) ])
-        none
-        → (first_bad_long (suc i) (t ∷ ws) ≡ none → NoneLongWrong (t ∷ ws))
-        → (k : ℕ) → get_elem? (v ∷ t ∷ ws) k ≡ some w → get_elem? (v ∷ t ∷ ws) (suc k) ≡ some u → ⊥
+        → ◌≡◌ {A = Option ℕ} (elim c as (λ _. Option ℕ) [ true ↦ Some i | false ↦ first_bad_long (suc i) (t ∷ ws) ])
+        None
+        → (first_bad_long (suc i) (t ∷ ws) ≡ None → NoneLongWrong (t ∷ ws))
+        → (k : ℕ) → slice_get (v ∷ t ∷ ws) k ≡ Some w → slice_get (v ∷ t ∷ ws) (suc k) ≡ Some u → ⊥
     go true c e more k a b = let z : ◌≡◌ {A = ℕ} 0 1 = cc in omega arith
     go false c e more zero a b =
         let s : v ≡ w = cc in

@@ -2,12 +2,12 @@
 use Prim.Native.Nat.{ℕ, suc}
 use mathlib.Core.Path.{◌≡◌, refl, ap, ◌∙◌}
 use mathlib.Core.Bool.{Bool, true, false, not, ◌&&◌}
-use mathlib.Core.Option.{Option, none, some}
+use Rattle.std.specs.Prelude.{Option, Some}
 use mathlib.Core.List.{List, [], ◌∷◌}
 use lib.Dec.{eqb}
 use lib.IntN.{ℤ}
 use borrow.Author.Tests.{ne_eqb}
-use Rattle.model.specs.declared.SecondSway.TheVariants.{Absent}
+use Rattle.std.specs.Prelude.{None}
 use Rattle.model.specs.planning.Job.{Job, set_bits}
 use Rattle.model.specs.planning.Words.{kind, payload, Reading, got, wrong, Reader, ◌>>=◌, give}
 use Rattle.model.specs.planning.Words.{field, signed, next, position_by, position, sway_by, second_sway, target}
@@ -80,11 +80,11 @@ position-alike k i [] c = (refl, tt)
 position-alike k i (w ∷ ws) c =
     (ap (λ (b : Bool). position_by b k i (w ∷ ws)) (ne_eqb (kind w) 14 c.0), (signed-alike k i (w ∷ ws) c).1)
 
-sway-alike : Alike second_sway (give Absent)
+sway-alike : Alike second_sway (give None)
 sway-alike i [] c = (refl, c)
 sway-alike i (w ∷ ws) c = (ap (λ (b : Bool). sway_by b i (w ∷ ws)) (ne_eqb (kind w) 13 c.1.0), c)
 
-axis-alike : Alike (axis_by position second_sway) (axis_by signed (give Absent))
+axis-alike : Alike (axis_by position second_sway) (axis_by signed (give None))
 axis-alike =
     then _ _
     (λ p₀. then _ _
@@ -95,7 +95,7 @@ axis-alike =
     (next 11) (next 11) (next-alike 11))
     (signed 10) (signed 10) (signed-alike 10))
     (position 9) (signed 9) (position-alike 9))
-    second_sway (give Absent) sway-alike)
+    second_sway (give None) sway-alike)
     (field 8) (field 8) (field_alike 8))
     (field 7) (field 7) (field_alike 7))
     (field 6) (field 6) (field_alike 6))
@@ -103,28 +103,28 @@ axis-alike =
     (signed 4) (signed 4) (signed-alike 4))
     (position 3) (signed 3) (position-alike 3)
 
-axes-alike : (ns : List ℕ) → Alike (axes_by position second_sway ns) (axes_by signed (give Absent) ns)
+axes-alike : (ns : List ℕ) → Alike (axes_by position second_sway ns) (axes_by signed (give None) ns)
 axes-alike [] = give-alike []
 axes-alike (n ∷ ns) =
     then _ _
     (λ x. then _ _ (λ xs. give-alike _) (axes_by position second_sway ns)
-    (axes_by signed (give Absent) ns) (axes-alike ns))
-    (axis_by position second_sway) (axis_by signed (give Absent)) axis-alike
+    (axes_by signed (give None) ns) (axes-alike ns))
+    (axis_by position second_sway) (axis_by signed (give None)) axis-alike
 
-job-alike : (m : ℕ) → Alike (after_mask_by position second_sway m) (after_mask_by signed (give Absent) m)
+job-alike : (m : ℕ) → Alike (after_mask_by position second_sway m) (after_mask_by signed (give None) m)
 job-alike m =
     then _ _
     (λ a. then _ _ (λ xs. ending-alike _) (axes_by position second_sway (set_bits m))
-    (axes_by signed (give Absent) (set_bits m)) (axes-alike (set_bits m)))
+    (axes_by signed (give None) (set_bits m)) (axes-alike (set_bits m)))
     (field 2) (field 2) (field_alike 2)
 
-none_named : (i : ℕ) (ws : List ℕ) → OldKinds ws → first_bad_long i ws ≡ none
+none_named : (i : ℕ) (ws : List ℕ) → OldKinds ws → first_bad_long i ws ≡ None
 none_named i [] c = refl
 none_named i (w ∷ []) c = refl
 none_named i (w ∷ u ∷ ws) c =
     ap (λ (b : Bool).
     elim (b && not (long_allowed (payload w) (payload u))) as
-    (λ _. Option ℕ) [ true ↦ some i | false ↦ first_bad_long (suc i) (u ∷ ws) ])
+    (λ _. Option ℕ) [ true ↦ Some i | false ↦ first_bad_long (suc i) (u ∷ ws) ])
     (ne_eqb (kind w) 14 c.0)
     ∙ none_named (suc i) (u ∷ ws) c.1.1
 
@@ -132,7 +132,7 @@ pub old-jobs-kept : OldJobsKept
 old-jobs-kept [] c = refl
 old-jobs-kept (w ∷ ws) c =
     ap (λ (r : Reading Job). by_mask (decided (w ∷ ws) r)) (job-alike (payload w) 1 ws c.1.1).0
-    ∙ ap by_mask (unspelled (after_mask_by signed (give Absent) (payload w) 1 ws))
+    ∙ ap by_mask (unspelled (after_mask_by signed (give None) (payload w) 1 ws))
   where
     by_mask : Decoded → Decoded
     by_mask d = elim (eqb (kind w) 1 && good_mask (payload w)) as (λ _. Decoded) [ true ↦ d | false ↦ no_mask ]

@@ -4,7 +4,7 @@ use native.Mathlib.Omega.{arith}
 use mathlib.Core.Path.{◌≡◌, refl, sym, ap, subst, ◌∙◌}
 use mathlib.Core.Bool.{Bool, true, false, not, ◌&&◌, true≢false}
 use mathlib.Core.Logic.{◌⊎◌, inl, inr}
-use mathlib.Core.Option.{Option, none, some}
+use Rattle.std.specs.Prelude.{Option, None, Some}
 use mathlib.Core.List.{List, [], ◌∷◌, ◌++◌, append-nil}
 use lib.Dec.{T, eqb, leb, ltb, ltb→lt, nltb→le}
 use lib.ListN.{length}
@@ -80,24 +80,24 @@ Clean [] = Unit
 Clean (w ∷ []) = Unit
 Clean (w ∷ u ∷ ws) = (bad w u ≡ false) × Clean (u ∷ ws)
 
-pub clean : (i : ℕ) (ws : List ℕ) → first_bad_long i ws ≡ none → Clean ws
+pub clean : (i : ℕ) (ws : List ℕ) → first_bad_long i ws ≡ None → Clean ws
 clean i [] e = tt
 clean i (w ∷ []) e = tt
 clean i (w ∷ u ∷ ws) e = go (bad w u) refl e (clean (suc i) (u ∷ ws))
   where
     go : (b : Bool) → bad w u ≡ b
-        → ◌≡◌ {A = Option ℕ} (elim b as (λ _. Option ℕ) [ true ↦ some i | false ↦ first_bad_long (suc i) (u ∷ ws) ])
-        none
-        → (first_bad_long (suc i) (u ∷ ws) ≡ none → Clean (u ∷ ws)) → Clean (w ∷ u ∷ ws)
+        → ◌≡◌ {A = Option ℕ} (elim b as (λ _. Option ℕ) [ true ↦ Some i | false ↦ first_bad_long (suc i) (u ∷ ws) ])
+        None
+        → (first_bad_long (suc i) (u ∷ ws) ≡ None → Clean (u ∷ ws)) → Clean (w ∷ u ∷ ws)
     go true t e h = absurd (let z : ◌≡◌ {A = ℕ} 0 1 = cc in omega arith)
     go false t e h = (t, h e)
 
 -- and no other words do
-pub clean-none : (i : ℕ) (ws : List ℕ) → Clean ws → first_bad_long i ws ≡ none
+pub clean-none : (i : ℕ) (ws : List ℕ) → Clean ws → first_bad_long i ws ≡ None
 clean-none i [] c = refl
 clean-none i (w ∷ []) c = refl
 clean-none i (w ∷ u ∷ ws) c =
-    ap (λ (b : Bool). elim b as (λ _. Option ℕ) [ true ↦ some i | false ↦ first_bad_long (suc i) (u ∷ ws) ]) c.0
+    ap (λ (b : Bool). elim b as (λ _. Option ℕ) [ true ↦ Some i | false ↦ first_bad_long (suc i) (u ∷ ws) ]) c.0
     ∙ clean-none (suc i) (u ∷ ws) c.1
 
 -- a word of another kind than 14 in front

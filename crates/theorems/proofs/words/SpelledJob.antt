@@ -4,7 +4,6 @@ use native.Mathlib.Omega.{arith}
 use mathlib.Core.Path.{◌≡◌, refl, sym, ap, subst, ◌∙◌}
 use mathlib.Core.Bool.{Bool, true, false, ◌&&◌}
 use mathlib.Core.Logic.{◌⊎◌, inl, inr}
-use mathlib.Core.Option.{Option, none}
 use mathlib.Core.List.{List, [], ◌∷◌, ◌++◌, append_assoc}
 use lib.Dec.{eqb}
 use lib.IntN.{ℤ}
@@ -12,8 +11,7 @@ use lib.ListN.{length}
 use borrow.Author.Tests.{eq-eqb, ne_eqb}
 use Rattle.whole.proofs.Tests.{ltb_yes, leb_yes}
 use Rattle.model.specs.declared.Axis.{Axis}
-use Rattle.model.specs.declared.SecondSway.{SecondSway}
-use Rattle.model.specs.declared.SecondSway.TheVariants.{Absent, HalfPeriod}
+use Rattle.std.specs.Prelude.{Option, None, Some}
 use Rattle.model.specs.declared.Target.{Target}
 use Rattle.model.specs.declared.Target.TheVariants.{Fixed, Moving}
 use Rattle.model.specs.declared.Weight.{Weight}
@@ -109,12 +107,12 @@ position-other l k p vs a b c h = go ((stands k a p h).first vs)
 
 -- ---- an axis
 
-sway-reads : (s : SecondSway) (vs : List ℕ) → SwayInWords s → Other 13 vs → Reads second_sway s (sway_words s ++ vs) vs
-sway-reads Absent vs h o = then (next 13) sway_by false Absent vs vs vs (next-no 13 vs o) (gives Absent vs)
-sway-reads (HalfPeriod d) vs h o =
-    then (next 13) sway_by true (HalfPeriod d) (word 13 d ∷ vs) (word 13 d ∷ vs) vs (next-yes 13 d vs h)
-    (then (field 13) _ d (HalfPeriod d) (word 13 d ∷ vs) vs vs
-    (field-reads 13 d vs (λ e. omega (arith, e)) h) (gives (HalfPeriod d) vs))
+sway-reads : (s : Option ℕ) (vs : List ℕ) → SwayInWords s → Other 13 vs → Reads second_sway s (sway_words s ++ vs) vs
+sway-reads None vs h o = then (next 13) sway_by false None vs vs vs (next-no 13 vs o) (gives None vs)
+sway-reads (Some d) vs h o =
+    then (next 13) sway_by true (Some d) (word 13 d ∷ vs) (word 13 d ∷ vs) vs (next-yes 13 d vs h)
+    (then (field 13) _ d (Some d) (word 13 d ∷ vs) vs vs
+    (field-reads 13 d vs (λ e. omega (arith, e)) h) (gives (Some d) vs))
 
 -- the words of a target after its velocity
 abbrev rest_words : Target → List ℕ
@@ -271,7 +269,7 @@ job-reads j h =
     asked = omega (arith, h.asked)
 
     same : read_job j.mask j.asked j.axes ≡ j
-    same = ap (λ (w : Windows). record { mask = j.mask; asked = j.asked; axes = j.axes; windows = w })
+    same = ap (λ (w : Option Windows). record { mask = j.mask; asked = j.asked; axes = j.axes; windows = w })
         (sym h.windows)
 
 pub spelled-reads : (ws : List ℕ) (j : Job) → SpellsJob ws j → decode ws ≡ job j
@@ -279,13 +277,13 @@ spelled-reads ws j s =
     let h = s.inside in
     let r = job-reads j h in
     let m : ℕ = j.mask in
-    let some : 1 ≤ m = omega (arith, h.mask.0) in
+    let Some : 1 ≤ m = omega (arith, h.mask.0) in
     let six : m ≤ 63 = omega (arith, h.mask.1) in
     let small : m < 2 ^ 28 = omega (arith, six) in
     let right : eqb (kind (word 1 m)) 1 && good_mask (payload (word 1 m)) ≡ true =
     (λ i. eq-eqb (kind (word 1 m)) 1 (kind-of 1 m small) i && good_mask (payload-of 1 m small i))
-    ∙ (λ i. ltb_yes some i && leb_yes six i) in
-    let good : first_bad_long 0 (job_words j) ≡ none =
+    ∙ (λ i. ltb_yes Some i && leb_yes six i) in
+    let good : first_bad_long 0 (job_words j) ≡ None =
     clean-none 0 (job_words j)
     (clean-cons (word 1 m) (after_mask_word j) (λ z. omega (arith, z, h.mask.1)) (r.pass tt)) in
     ap decode s.words

@@ -8,8 +8,7 @@ use lib.Dec.{eqb}
 use lib.IntN.{ℤ}
 use borrow.Author.Tests.{eqb-true}
 use Rattle.model.specs.declared.Axis.{Axis}
-use Rattle.model.specs.declared.SecondSway.{SecondSway}
-use Rattle.model.specs.declared.SecondSway.TheVariants.{Absent, HalfPeriod}
+use Rattle.std.specs.Prelude.{Option, None, Some}
 use Rattle.model.specs.declared.Target.{Target}
 use Rattle.model.specs.declared.Target.TheVariants.{Fixed, Moving}
 use Rattle.model.specs.declared.Weight.TheVariants.{Given}
@@ -99,10 +98,10 @@ sway-spells = then sway_words SwayInWords (λ vs. vs) (next 13) (λ _. []) (λ _
     by : (b : Bool) → Ends sway_words SwayInWords (λ vs. vs) (sway_by b)
     by true =
         then sway_words SwayInWords (λ vs. vs) (field 13) (λ n. word 13 n ∷ []) _ _ (field-spells 13)
-        (λ d r. last sway_words SwayInWords (λ vs. word 13 d ∷ vs) (HalfPeriod d) (λ vs. refl) r)
-    by false = last sway_words SwayInWords (λ vs. vs) Absent (λ vs. refl) tt
+        (λ d r. last sway_words SwayInWords (λ vs. word 13 d ∷ vs) (Some d) (λ vs. refl) r)
+    by false = last sway_words SwayInWords (λ vs. vs) None (λ vs. refl) tt
 
-module _ (p₀ v₀ : ℤ) (l m h b : ℕ) (s : SecondSway) (p v : ℤ) where
+module _ (p₀ v₀ : ℤ) (l m h b : ℕ) (s : Option ℕ) (p v : ℤ) where
   toward : Target → Axis
   toward g =
       record {

@@ -5,7 +5,7 @@ use Prim.Native.Nat.{ℕ, zero, suc, ◌+◌, ◌≤◌, ◌<◌}
 use native.Mathlib.Omega.{arith}
 use mathlib.Core.Path.{◌≡◌, refl, sym, ap, subst, ◌∙◌}
 use mathlib.Core.Bool.{Bool, true, false, ◌&&◌, true≢false}
-use mathlib.Core.Option.{Option, none, some}
+use Rattle.std.specs.Prelude.{Option, None, Some}
 use mathlib.Core.List.{List, [], ◌∷◌, ◌++◌}
 use mathlib.Core.Logic.{◌⊎◌, inl, inr}
 use lib.Dec.{eqb}
@@ -22,12 +22,12 @@ abbrev pub Walk : Type 0
 Walk = ℕ → List ℕ → Option ℕ
 
 abbrev pub done : Walk
-done i ws = none
+done i ws = None
 
 -- a word of kind k, and then c
 unfoldable pub of_kind : ℕ → Walk → Walk
-of_kind k c i [] = some i
-of_kind k c i (w ∷ ws) = elim (eqb (kind w) k) [ true ↦ c (suc i) ws | false ↦ some i ]
+of_kind k c i [] = Some i
+of_kind k c i (w ∷ ws) = elim (eqb (kind w) k) [ true ↦ c (suc i) ws | false ↦ Some i ]
 
 -- a where a word of kind k comes next, else b
 unfoldable pub either : ℕ → Walk → Walk → Walk
@@ -35,15 +35,15 @@ either k a b i [] = b i []
 either k a b i (w ∷ ws) = elim (eqb (kind w) k) [ true ↦ a i (w ∷ ws) | false ↦ b i (w ∷ ws) ]
 
 unfoldable pub ends : Walk
-ends i [] = some i
-ends i (w ∷ []) = elim (eqb (kind w) 15 && eqb (payload w) 0) [ true ↦ none | false ↦ some i ]
-ends i (w ∷ u ∷ ws) = elim (eqb (kind w) 15 && eqb (payload w) 0) [ true ↦ some (suc i) | false ↦ some i ]
+ends i [] = Some i
+ends i (w ∷ []) = elim (eqb (kind w) 15 && eqb (payload w) 0) [ true ↦ None | false ↦ Some i ]
+ends i (w ∷ u ∷ ws) = elim (eqb (kind w) 15 && eqb (payload w) 0) [ true ↦ Some (suc i) | false ↦ Some i ]
 
 -- ---- what a walk finds is so
 
 abbrev pub Judged : Form → ℕ → List ℕ → Option ℕ → Type 0
-Judged f i ws none = f ws
-Judged f i ws (some p) = (k : ℕ) × ((p ≡ i + k) × FirstWrong f ws k)
+Judged f i ws None = f ws
+Judged f i ws (Some p) = (k : ℕ) × ((p ≡ i + k) × FirstWrong f ws k)
 
 pub record Judges (c : Walk) (f : Form) : Type 0 where
   pub judged : (i : ℕ) (ws : List ℕ) → Judged f i ws (c i ws)
@@ -59,8 +59,8 @@ module _ (k : ℕ) (c : Walk) (f : Form) (j : Judges c f) where
 
   later : (i w : ℕ) (ws : List ℕ) → kind w ≡ k → (o : Option ℕ) → Judged f (suc i) ws o
       → Judged (OfKind k f) i (w ∷ ws) o
-  later i w ws e none h = (e, h)
-  later i w ws e (some p) (q, (is, h)) =
+  later i w ws e None h = (e, h)
+  later i w ws e (Some p) (q, (is, h)) =
       (suc q, (omega (arith, is), record { before = (h.before.0, (e, h.before.1)); here = by h.here }))
     where
       by : ((q < length ws) × (Begins f (take (suc q) ws) → ⊥)) ⊎ ((q ≡ length ws) × (f ws → ⊥))
@@ -74,7 +74,7 @@ module _ (k : ℕ) (c : Walk) (f : Form) (j : Judges c f) where
   of-kind = record { judged = go; some-are = of-kind-are }
     where
       at : (i w : ℕ) (ws : List ℕ) (b : Bool) → eqb (kind w) k ≡ b
-          → Judged (OfKind k f) i (w ∷ ws) (elim b as (λ _. Option ℕ) [ true ↦ c (suc i) ws | false ↦ some i ])
+          → Judged (OfKind k f) i (w ∷ ws) (elim b as (λ _. Option ℕ) [ true ↦ c (suc i) ws | false ↦ Some i ])
       at i w ws true e = later i w ws (eqb-true (kind w) k e) (c (suc i) ws) (j.judged (suc i) ws)
       at i w ws false e = (
         0,
@@ -106,8 +106,8 @@ other-either k f g a b w ws e (inr h) = b w ws e h
 module _ (k : ℕ) (a b : Walk) (f g : Form) (ja : Judges a (OfKind k f)) (jb : Judges b g) (apart : Shuns k g) where
   first-form : (i w : ℕ) (ws : List ℕ) → kind w ≡ k → (o : Option ℕ) → Judged (OfKind k f) i (w ∷ ws) o
       → Judged (Either (OfKind k f) g) i (w ∷ ws) o
-  first-form i w ws e none h = inl h
-  first-form i w ws e (some p) (q, (is, h)) =
+  first-form i w ws e None h = inl h
+  first-form i w ws e (Some p) (q, (is, h)) =
       (q, (is, record { before = (h.before.0, inl h.before.1); here = by h.here }))
     where
       by : ((q < suc (length ws)) × (Begins (OfKind k f) (w ∷ take q ws) → ⊥))
@@ -127,8 +127,8 @@ module _ (k : ℕ) (a b : Walk) (f g : Form) (ja : Judges a (OfKind k f)) (jb : 
 
   second-form : (i w : ℕ) (ws : List ℕ) → (kind w ≡ k → ⊥) → (o : Option ℕ) → Judged g i (w ∷ ws) o
       → Judged (Either (OfKind k f) g) i (w ∷ ws) o
-  second-form i w ws e none h = inr h
-  second-form i w ws e (some p) (q, (is, h)) =
+  second-form i w ws e None h = inr h
+  second-form i w ws e (Some p) (q, (is, h)) =
       (q, (is, record { before = (h.before.0, inr h.before.1); here = by h.here }))
     where
       by : ((q < suc (length ws)) × (Begins g (w ∷ take q ws) → ⊥)) ⊎ ((q ≡ suc (length ws)) × (g (w ∷ ws) → ⊥))
@@ -146,8 +146,8 @@ module _ (k : ℕ) (a b : Walk) (f g : Form) (ja : Judges a (OfKind k f)) (jb : 
           none_of (inr t) = n t
 
   no_words : (i : ℕ) (o : Option ℕ) → Judged g i [] o → Judged (Either (OfKind k f) g) i [] o
-  no_words i none h = inr h
-  no_words i (some p) (q, (is, h)) =
+  no_words i None h = inr h
+  no_words i (Some p) (q, (is, h)) =
       (q, (is, record { before = (h.before.0, inr h.before.1); here = by h.here }))
     where
       by : ((q < 0) × (Begins g [] → ⊥)) ⊎ ((q ≡ 0) × (g [] → ⊥))
@@ -193,13 +193,13 @@ ends-judges = record { judged = go; some-are = are }
         true≢false (sym (ap (λ (a : Bool). a && eqb (payload w) 0) (eq-eqb (kind w) 15 s) ∙ eq-eqb (payload w) 0 t) ∙ e)
 
     one : (i w : ℕ) (t : Bool) → eqb (kind w) 15 && eqb (payload w) 0 ≡ t
-        → Judged EndForm i (w ∷ []) (elim t as (λ _. Option ℕ) [ true ↦ none | false ↦ some i ])
+        → Judged EndForm i (w ∷ []) (elim t as (λ _. Option ℕ) [ true ↦ None | false ↦ Some i ])
     one i w true e = let h = is-end w (eqb (kind w) 15) (eqb (payload w) 0) refl refl e in (h.0, (h.1, refl))
     one i w false e =
         (0, (omega arith, record { before = are; here = inl (omega arith, λ b. no_end w e b.1.0 b.1.1.0) }))
 
     more : (i w u : ℕ) (ws : List ℕ) (t : Bool) → eqb (kind w) 15 && eqb (payload w) 0 ≡ t
-        → Judged EndForm i (w ∷ u ∷ ws) (elim t as (λ _. Option ℕ) [ true ↦ some (suc i) | false ↦ some i ])
+        → Judged EndForm i (w ∷ u ∷ ws) (elim t as (λ _. Option ℕ) [ true ↦ Some (suc i) | false ↦ Some i ])
     more i w u ws true e =
         let h = is-end w (eqb (kind w) 15) (eqb (payload w) 0) refl refl e in (
           1,

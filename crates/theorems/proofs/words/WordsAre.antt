@@ -3,7 +3,7 @@
 use Prim.Native.Nat.{ℕ, ◌≤◌, ◌<◌}
 use mathlib.Core.Path.{◌≡◌, refl, sym, ap, subst, ◌∙◌}
 use mathlib.Core.Bool.{Bool, true, false, not, ◌&&◌}
-use mathlib.Core.Option.{Option, none, some}
+use Rattle.std.specs.Prelude.{Option, None, Some}
 use mathlib.Core.List.{List, [], ◌∷◌}
 use mathlib.Core.Logic.{◌⊎◌, inl, inr}
 use native.Mathlib.Omega.{arith}
@@ -70,8 +70,8 @@ not-wrong w ws m (inr (inr z)) = omega (arith, m.1.1, z)
 by-long : (w : ℕ) (ws : List ℕ) (j : Job) (i : ℕ) (rest : List ℕ) → MaskWord w
     → after_mask (payload w) 1 ws ≡ got j i rest
     → (o : Option ℕ) → first_bad_long 0 (w ∷ ws) ≡ o → WordsAre (w ∷ ws) (spelled o j)
-by-long w ws j i rest m e (some p) f = (read_through w ws m j i rest e, first-long-wrong p (w ∷ ws) f)
-by-long w ws j i rest m e none f =
+by-long w ws j i rest m e (Some p) f = (read_through w ws m j i rest e, first-long-wrong p (w ∷ ws) f)
+by-long w ws j i rest m e None f =
     let spells = read-spells (payload w) 1 ws j i rest m.1 (clean-tail w ws (clean 0 (w ∷ ws) f)) e in (
       read_through w ws m j i rest e,
       (none-long-wrong 0 (w ∷ ws) f, subst (λ (v : ℕ). SpellsJob (v ∷ ws) j) (sym (word-is w 1 m.0)) spells),

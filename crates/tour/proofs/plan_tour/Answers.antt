@@ -1,8 +1,4 @@
--- `tour::plan_tour` meets its contract: a walk of its MIR, by hand, since no function over a slice
--- of structs is covered. `stop_row` gets a copy of the lent row, and `tour_of_row` the lent list at
--- its own lifetime, share and ghost name: the borrow is given up for good, and what the callee says
--- of its last list is what this function says.
--- Assumes nothing.
+-- The row of a list stands for it, and what the call for the row promises is promised of the list.
 use Rattle.std.proofs.Common.{subst}
 use Rattle.stops.specs.declared.StopRow.{StopRow}
 use Rattle.stops.specs.Rows.{row_stops}

@@ -1,57 +1,33 @@
-use mathlib.Core.Path.{sym, ap, ◌∙◌}
-use borrow.Author.Tests.{not-true, not-false}
-use Rattle.model.specs.declared.Checked.TheVariants.{Passed}
-use Rattle.model.specs.declared.Job as Typed
-use Rattle.words.proofs.JobWords.{no-asked, wrong-axis, wrong-end, whole-job}
-use Rattle.words.proofs.Reader.{there}
+use mathlib.Core.Path.{sym, ◌∙◌}
+use Rattle.std.proofs.lemmas.Result.{err_from_is_err_and}
+use Rattle.std.specs.declared.result.Result.TheVariants.{Ok, Err}
+use Rattle.words.proofs.JobWords.{wrong_axis, whole_job}
 use Rattle.words.proofs.decode_after_mask.Goals as goal
 
-pub returns-then-not-is_kind : goal.returns-then-not-is_kind
-returns-then-not-is_kind c =
-    let a = c.args in
-    let kind = sym c.is_kind.ensures ∙ c.if-not-is_kind.true in
-    c.refused.ensures ∙ no-asked a.words.now a.mask kind
-
-pub payload-asked-requires : goal.payload-asked-requires
-payload-asked-requires c =
-    let kind = sym c.is_kind.ensures ∙ c.if-not-is_kind.false in
-    there c.args.words.now 1 2 kind
-
-pub returns-then-not-reading : goal.returns-then-not-reading
-returns-then-not-reading c =
+pub returns-in_err-axes : goal.returns-in_err-axes
+returns-in_err-axes c =
     let a = c.args in
     let k = c.payload-asked in
-    let s = c.read_axes-reading in
-    let kind = c.is_kind.ensures in
-    let asked = sym kind ∙ c.if-not-is_kind.false in
-    let wrong = not-true _ c.if-not-reading.true in
-    c.refused-then-not-reading.ensures
-    ∙ wrong-axis a.words.now a.mask asked k.result k.ensures s.result s.ensures wrong
+    let asked = sym c.is_kind.ensures ∙ c.if-not-is_kind.false in
+    let p = err_from_is_err_and c.from_residual.result c.from_residual.ensures.1 in
+    rw (p.1, p.2)
+    (wrong_axis a.words.now a.mask asked k.result k.ensures _ c.in_err-axes.ensures)
 
-pub returns-in-Refused : goal.returns-in-Refused
-returns-in-Refused c =
+pub returns-in_err-check_end : goal.returns-in_err-check_end
+returns-in_err-check_end c =
     let a = c.args in
     let k = c.payload-asked in
-    let s = c.read_axes-reading in
-    let kind = c.is_kind.ensures in
-    let asked = sym kind
-    ∙ c.if-not-is_kind.false in
-    let got = not-false _ c.if-not-reading.false in
-    let e = c.check_end-checked in
-    c.refused-in-Refused.ensures
-    ∙ wrong-end a.words.now a.mask asked k.result k.ensures s.result s.ensures got
-    e.result e.ensures c.in-Refused.number c.in-Refused.place c.in-Refused.is
+    let asked = sym c.is_kind.ensures ∙ c.if-not-is_kind.false in
+    let r = c.in_ok-axes in
+    let x = c.in_err-check_end in
+    let p = err_from_is_err_and c.from_residual-in_err-check_end.result c.from_residual-in_err-check_end.ensures.1 in
+    rw (p.1, p.2)
+    (whole_job a.words.now a.mask asked k.result k.ensures r.axes r.end r.ensures (Err x.field-0.0) x.ensures)
 
 pub returns : goal.returns
 returns c =
     let a = c.args in
     let k = c.payload-asked in
-    let s = c.read_axes-reading in
-    let kind = c.is_kind.ensures in
-    let asked = sym kind
-    ∙ c.if-not-is_kind.false in
-    let got = not-false _ c.if-not-reading.false in
-    let e = c.check_end-checked in
-    ap (λ (t : Typed.Job). record { checked = Passed; job = t }) c.job_of-job.ensures
-    ∙ whole-job a.words.now a.mask asked k.result k.ensures s.result s.ensures got
-    e.result e.ensures c.in_default.is
+    let asked = sym c.is_kind.ensures ∙ c.if-not-is_kind.false in
+    let r = c.in_ok-axes in
+    whole_job a.words.now a.mask asked k.result k.ensures r.axes r.end r.ensures (Ok tt) c.in_ok-check_end.ensures

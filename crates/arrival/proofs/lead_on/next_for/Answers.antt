@@ -1,12 +1,12 @@
-use Rattle.arrival.proofs.Leading.{next-named, next-unnamed}
+use Rattle.arrival.proofs.Leading.{next_named, next_unnamed}
 use Rattle.arrival.proofs.lead_on.next_for.Goals as goal
 
-pub returns-then-bits-ne1 : goal.returns-then-bits-ne1
-returns-then-bits-ne1 c =
-    let a = c.before in
-    next-unnamed a.args.bits a.args.axis a.args.k a.args.last c.if-bits-ne1.true a.requires.k_bound
-
-pub returns : goal.returns
-returns c =
+pub returns-then-bits-eq1 : goal.returns-then-bits-eq1
+returns-then-bits-eq1 c =
     let a = c.args in
-    next-named a.bits a.axis a.k a.last _ c.if-bits-ne1.false c.next_reached.ensures
+    next_named a.bits a.axis a.k a.last _ c.if-bits-eq1.true c.next_reached.ensures
+
+pub returns-else-bits-eq1 : goal.returns-else-bits-eq1
+returns-else-bits-eq1 c =
+    let a = c.args in
+    next_unnamed a.bits a.axis a.k a.last c.if-bits-eq1.false c.requires.k_bound

@@ -1,10 +1,13 @@
-use Prim.Native.Nat.{ℕ, ◌≤◌}
-use mathlib.Core.Path.{sym, ap, subst}
+use mathlib.Core.Path.{ap, ◌∙◌}
 use lib.IntN.{pos}
-use Rattle.whole.proofs.Bounds.{cast-small, then_is}
+use Rattle.whole.proofs.Bounds.{exact, is-of}
+use Rattle.model.specs.planning.Quantities.{finer}
 use Rattle.theorems.proofs.motions.Grid.{finer-range}
+use Rattle.motion.proofs.Converted.{from-small}
 use Rattle.motion.proofs.grid.grid_steps.Goals as goal
 
 pub returns : goal.returns
-returns c = then_is (cast-small 256 c.finer.result
-    (subst (λ (n : ℕ). n ≤ 256) (sym c.finer.ensures) (finer-range c.args.x).1) tt) (ap pos c.finer.ensures)
+returns c =
+    let h = from-small 256 (finer c.args.x) c.from.result (c.from.ensures ∙ ap pos c.finer.ensures)
+    (finer-range c.args.x).1 in
+    is-of (search exact depth 9) tt

@@ -13,8 +13,8 @@ use Rattle.reach.proofs.approach.ticks_within.Goals as goal
 pub returns-then-steps-eq0 : goal.returns-then-steps-eq0
 returns-then-steps-eq0 c =
     let a = c.args in
-    let steps-is : c.size-steps.result ≡ nat_abs a.change =
-    c.size-steps.ensures ∙ ap nat_abs (back-id c.ranges.change) in
+    let steps-is : c.unsigned_abs-steps.result ≡ nat_abs a.change =
+    c.unsigned_abs-steps.ensures.value ∙ ap nat_abs (back-id c.ranges.change) in
     ticks-all a.limit a.velocity a.change a.most (sym steps-is ∙ c.if-steps-eq0.true)
 
 pub returns-then-room-lt0 : goal.returns-then-room-lt0
@@ -30,25 +30,11 @@ returns-then-room-lt0 c =
 pub overflow_cast-ticks : goal.overflow_cast-ticks
 overflow_cast-ticks c = nonneg-cast _ (lt_z_no (false-T c.if-room-lt0.false)) (sfits (search computed depth 9) tt)
 
-pub returns-then-ticks-most : goal.returns-then-ticks-most
-returns-then-ticks-most c =
-    let a = c.args in
-    let steps-is : c.size-steps.result ≡ nat_abs a.change =
-    c.size-steps.ensures ∙ ap nat_abs (back-id c.ranges.change) in
-    let room-is : to_z w64 (of_z w64 c.room_toward-room.result) ≡ room_toward a.limit a.velocity a.change =
-    (let v = back-id c.ranges.velocity in
-    let α = back-id c.ranges.change in
-    exactly (search computed depth 9) tt ∙ (λ i. room_toward a.limit (v i) (α i))) in
-    let room-some : pos 0 ≤ℤ to_z w64 (of_z w64 c.room_toward-room.result) = lt_z_no (false-T c.if-room-lt0.false) in
-    ticks-divided a.limit a.velocity a.change a.most _ _ steps-is
-    (omega (arith, c.if-steps-eq0.false)) room-is room-some
-    _ (omega (arith, c.if-ticks-most.true)) (omega arith) (λ k h q. q)
-
 pub returns : goal.returns
 returns c =
     let a = c.args in
-    let steps-is : c.size-steps.result ≡ nat_abs a.change =
-    c.size-steps.ensures ∙ ap nat_abs (back-id c.ranges.change) in
+    let steps-is : c.unsigned_abs-steps.result ≡ nat_abs a.change =
+    c.unsigned_abs-steps.ensures.value ∙ ap nat_abs (back-id c.ranges.change) in
     let room-is : to_z w64 (of_z w64 c.room_toward-room.result) ≡ room_toward a.limit a.velocity a.change =
     (let v = back-id c.ranges.velocity in
     let α = back-id c.ranges.change in
@@ -56,4 +42,4 @@ returns c =
     let room-some : pos 0 ≤ℤ to_z w64 (of_z w64 c.room_toward-room.result) = lt_z_no (false-T c.if-room-lt0.false) in
     ticks-divided a.limit a.velocity a.change a.most _ _ steps-is
     (omega (arith, c.if-steps-eq0.false)) room-is room-some
-    a.most (omega arith) (omega (arith, c.if-ticks-most.false)) (λ k h q. h)
+    _ (omega (arith, c.min.ensures)) (omega (arith, c.min.ensures)) (λ k h q. omega (arith, c.min.ensures))

@@ -3,7 +3,6 @@ use native.Mathlib.Omega.{arith}
 use lib.ListN.{length}
 use Rattle.whole.proofs.Lists.{room-front, room-then, written_one, written_then}
 use Rattle.text.specs.Printed.{ascii, arrival_line}
-use borrow.Author.Rules.{rules}
 use Rattle.text.proofs.lines.put_arrival.Goals as goal
 use Rattle.text.proofs.lines.put_arrival.Goals.{After-slice_known-2-1}
 

@@ -1,12 +1,9 @@
-use Prim.Native.Nat.{◌-◌, ◌*◌, ◌≤◌}
 use native.Mathlib.Omega.{arith}
-use mathlib.Core.Path.{◌≡◌, refl, ◌∙◌}
+use mathlib.Core.Path.{refl, ◌∙◌}
 use lib.IntN.{pos}
-use lib.ListN.{length, get_or}
+use lib.ListN.{get_or}
 use mir.Syntax.{w64}
 use mir.Val.{SFits}
-use borrow.Author.Rules.{rules}
-use Rattle.whole.specs.Lists.{up_to, WrittenWithin}
 use Rattle.whole.proofs.Lists.{within-nil}
 use Rattle.text.proofs.lines.Laws.{cell_at, cell_room, cell-turn, cells-done}
 use Rattle.text.proofs.lines.put_cells.Goals as goal
@@ -14,7 +11,6 @@ use Rattle.text.proofs.lines.put_cells.Goals as goal
 pub loop-i-init : goal.loop-i-init
 loop-i-init c =
     record {
-      low = omega arith;
       long = refl;
       text = within-nil (cell_at c.args.cells.now) 21 (omega (arith, c.requires));
     }
@@ -32,7 +28,6 @@ loop-i-preserved c =
     let f : SFits w64 (get_or c.args.cells.now l.i (pos 0)) =
     record { sfits = c.x-1.given } in
     record {
-      low = omega arith;
       long = w.auto.out ∙ l.invariant.long;
       text = cell-turn c.args.cells.now c.requires c.loop-i-test.true l.invariant.text f w.ensures;
     }

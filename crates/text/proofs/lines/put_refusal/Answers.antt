@@ -1,12 +1,7 @@
-use Prim.Native.Nat.{ℕ, ◌≤◌}
 use native.Mathlib.Omega.{arith}
 use mathlib.Core.Path.{◌∙◌}
-use mathlib.Core.List.{List}
-use lib.ListN.{length, length-set}
-use borrow.Author.Rules.{rules}
 use Rattle.whole.specs.Lists.{Room}
 use Rattle.text.specs.Printed.{refusal_line}
-use Rattle.text.specs.Enough.{refusal_bytes}
 use Rattle.text.proofs.lines.Laws as laws
 use Rattle.text.proofs.lines.put_refusal.Goals as goal
 

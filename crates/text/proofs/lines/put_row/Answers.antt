@@ -1,6 +1,6 @@
 use native.Mathlib.Omega.{arith}
 use mathlib.Core.Path.{◌≡◌, ◌∙◌}
-use lib.ListN.{length, length-set}
+use lib.ListN.{length}
 use Rattle.text.proofs.lines.Laws.{tick-room, cells-room, end-index, row_done}
 use Rattle.text.proofs.lines.put_row.Goals as goal
 use Rattle.text.proofs.lines.put_row.Goals.{After-slice_known-3-1}

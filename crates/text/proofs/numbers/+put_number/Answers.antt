@@ -1,6 +1,4 @@
-use Prim.Native.Nat.{ℕ, ◌+◌, ◌<◌}
 use native.Mathlib.Omega.{arith}
-use mathlib.Core.Path.{◌∙◌}
 use Rattle.text.proofs.numbers.Laws.{digit-index, written-digit, room-shorter, room-digit, written_last}
 use Rattle.text.proofs.numbers.+put_number.Goals as goal
 

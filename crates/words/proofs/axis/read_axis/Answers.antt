@@ -1,184 +1,143 @@
-use Prim.Native.Nat.{◌+◌}
 use native.Mathlib.Omega.{arith}
 use mathlib.Core.Path.{sym, ap, ◌∙◌}
+use Rattle.std.proofs.lemmas.Result.{err_from_is_err_and}
+use Rattle.std.specs.declared.result.Result.TheVariants.{Ok}
 use Rattle.model.specs.declared.Target.TheVariants.{Fixed, Moving}
 use Rattle.model.specs.declared.State.{State}
 use Rattle.model.specs.declared.RestPoint.{RestPoint}
 use Rattle.model.specs.declared.Axis.{Axis}
-use Rattle.words.specs.declared.axis.AxisReading.TheVariants.{Got}
 use Rattle.words.specs.ByIndex.{axis_at}
 use Rattle.words.proofs.Reader.{skip-within}
 use Rattle.words.proofs.AxisWords.{axis-short, axis-half, axis-fixed, axis-unfinished, axis-moving, start-there}
-use Rattle.words.proofs.AxisWords.{target-there, motion-there}
+use Rattle.words.proofs.AxisWords.{target-near, target-there, fixed-near, motion-there}
 use Rattle.words.proofs.axis.read_axis.Goals as goal
 
-pub first_wrong-first-requires : goal.first_wrong-first-requires
-first_wrong-first-requires c =
+pub run_end-requires : goal.run_end-requires
+run_end-requires c =
     let a = c.args in
     let s = c.skip_optional-start in
     (omega (arith, skip-within a.words.now a.at 14, s.ensures), omega arith, omega arith)
 
-pub overflow_add-sway_at : goal.overflow_add-sway_at
-overflow_add-sway_at c =
+pub returns-in_err-sway_at : goal.returns-in_err-sway_at
+returns-in_err-sway_at c =
     let a = c.args in
     let s = c.skip_optional-start in
-    record { fits = omega (arith, skip-within a.words.now a.at 14, s.ensures) }
+    let p = err_from_is_err_and c.from_residual.result c.from_residual.ensures.1 in
+    rw (p.1, p.2)
+    (axis-short a.words.now a.at s.result s.ensures _ c.in_err-sway_at.ensures)
 
-pub returns-then-first-sway_at : goal.returns-then-first-sway_at
-returns-then-first-sway_at c =
+pub run_end-requires-2 : goal.run_end-requires-2
+run_end-requires-2 c =
     let a = c.args in
     let s = c.skip_optional-start in
-    let n = c.first_wrong-first in
-    axis-short a.words.now a.at s.result s.ensures n.result n.ensures c.if-first-sway_at.true
-
-pub first_wrong-second-requires : goal.first_wrong-second-requires
-first_wrong-second-requires c =
-    let a = c.args in
-    let s = c.skip_optional-start in
+    let e = c.in_ok-sway_at in
     let g = c.skip_optional-target_at in
     let t = c.skip_optional-target in
-    let near = skip-within a.words.now a.at 14 in
-    let mid = skip-within a.words.now (s.result + 6) 13 in
-    let far = skip-within a.words.now g.result 14 in
-    (omega (arith, near, s.ensures, mid, g.ensures, far, t.ensures), omega arith, omega arith)
+    let near = target-near a.words.now a.at s.result s.ensures e.sway_at e.ensures g.result g.ensures
+    t.result t.ensures in
+    (omega arith, omega arith, omega arith)
 
-pub overflow_add-fixed_end : goal.overflow_add-fixed_end
-overflow_add-fixed_end c =
+pub returns-in_err-fixed_end : goal.returns-in_err-fixed_end
+returns-in_err-fixed_end c =
     let a = c.args in
     let s = c.skip_optional-start in
+    let e = c.in_ok-sway_at in
     let g = c.skip_optional-target_at in
     let t = c.skip_optional-target in
-    let near = skip-within a.words.now a.at 14 in
-    let mid = skip-within a.words.now (s.result + 6) 13 in
-    let far = skip-within a.words.now g.result 14 in
-    record { fits = omega (arith, near, s.ensures, mid, g.ensures, far, t.ensures) }
-
-pub returns-then-second-fixed_end : goal.returns-then-second-fixed_end
-returns-then-second-fixed_end c =
-    let a = c.args in
-    let s = c.skip_optional-start in
-    let n = c.first_wrong-first in
-    let full = c.if-first-sway_at.false in
-    let g = c.skip_optional-target_at in
-    let t = c.skip_optional-target in
-    let m = c.first_wrong-second in
-    axis-half a.words.now a.at s.result s.ensures n.result n.ensures full g.result g.ensures
-    t.result t.ensures m.result m.ensures c.if-second-fixed_end.true
+    let p = err_from_is_err_and c.from_residual-in_err-fixed_end.result c.from_residual-in_err-fixed_end.ensures.1 in
+    rw (p.1, p.2)
+    (axis-half a.words.now a.at s.result s.ensures e.sway_at e.ensures g.result g.ensures
+    t.result t.ensures _ c.in_err-fixed_end.ensures)
 
 pub rest_point-point-requires : goal.rest_point-point-requires
 rest_point-point-requires c =
     let a = c.args in
     let s = c.skip_optional-start in
-    let n = c.first_wrong-first in
-    let full = c.if-first-sway_at.false in
+    let e = c.in_ok-sway_at in
     let g = c.skip_optional-target_at in
     let t = c.skip_optional-target in
-    let m = c.first_wrong-second in
-    let full₂ = c.if-second-fixed_end.false in
-    target-there a.words.now a.at s.result s.ensures n.result n.ensures full g.result g.ensures
-    t.result t.ensures m.result m.ensures full₂
+    let f = c.in_ok-fixed_end in
+    target-there a.words.now a.at s.result s.ensures e.sway_at e.ensures g.result g.ensures
+    t.result t.ensures f.fixed_end f.ensures
 
-pub axis_to-axis-requires : goal.axis_to-axis-requires
-axis_to-axis-requires c =
+pub axis_to-requires : goal.axis_to-requires
+axis_to-requires c =
     let a = c.args in
     let s = c.skip_optional-start in
-    let n = c.first_wrong-first in
-    let full = c.if-first-sway_at.false in
-    start-there a.words.now a.at s.result s.ensures n.result n.ensures full
+    let e = c.in_ok-sway_at in
+    start-there a.words.now a.at s.result s.ensures e.sway_at e.ensures
 
 pub returns-then-not-is_kind : goal.returns-then-not-is_kind
 returns-then-not-is_kind c =
     let a = c.args in
     let s = c.skip_optional-start in
-    let n = c.first_wrong-first in
-    let full = c.if-first-sway_at.false in
+    let e = c.in_ok-sway_at in
     let g = c.skip_optional-target_at in
     let t = c.skip_optional-target in
-    let m = c.first_wrong-second in
-    let full₂ = c.if-second-fixed_end.false in
+    let f = c.in_ok-fixed_end in
     let fixed = sym c.is_kind.ensures ∙ c.if-not-is_kind.true in
     let target = ap (λ (p : RestPoint). axis_at a.words.now a.at (Fixed p)) c.rest_point-point.ensures in
-    ap (λ (x : Axis). Got x (t.result + 2)) (c.axis_to-axis.ensures ∙ target)
-    ∙ axis-fixed a.words.now a.at s.result s.ensures n.result n.ensures full g.result g.ensures
-    t.result t.ensures m.result m.ensures full₂ fixed
+    ap (λ (x : Axis). Ok (x, f.fixed_end)) (c.axis_to.ensures ∙ target)
+    ∙ axis-fixed a.words.now a.at s.result s.ensures e.sway_at e.ensures g.result g.ensures
+    t.result t.ensures f.fixed_end f.ensures fixed
 
-pub first_wrong-third-requires : goal.first_wrong-third-requires
-first_wrong-third-requires c =
+pub run_end-requires-3 : goal.run_end-requires-3
+run_end-requires-3 c =
     let a = c.args in
     let s = c.skip_optional-start in
+    let e = c.in_ok-sway_at in
     let g = c.skip_optional-target_at in
     let t = c.skip_optional-target in
-    let near = skip-within a.words.now a.at 14 in
-    let mid = skip-within a.words.now (s.result + 6) 13 in
-    let far = skip-within a.words.now g.result 14 in
-    (omega (arith, near, s.ensures, mid, g.ensures, far, t.ensures), omega arith, omega arith)
+    let f = c.in_ok-fixed_end in
+    let near = fixed-near a.words.now a.at s.result s.ensures e.sway_at e.ensures g.result g.ensures
+    t.result t.ensures f.fixed_end f.ensures in
+    (omega arith, omega arith, omega arith)
 
-pub overflow_add-moving_end : goal.overflow_add-moving_end
-overflow_add-moving_end c =
+pub returns-in_err-moving_end : goal.returns-in_err-moving_end
+returns-in_err-moving_end c =
     let a = c.args in
     let s = c.skip_optional-start in
+    let e = c.in_ok-sway_at in
     let g = c.skip_optional-target_at in
     let t = c.skip_optional-target in
-    let near = skip-within a.words.now a.at 14 in
-    let mid = skip-within a.words.now (s.result + 6) 13 in
-    let far = skip-within a.words.now g.result 14 in
-    record { fits = omega (arith, near, s.ensures, mid, g.ensures, far, t.ensures) }
-
-pub returns-then-third-moving_end : goal.returns-then-third-moving_end
-returns-then-third-moving_end c =
-    let a = c.args in
-    let s = c.skip_optional-start in
-    let n = c.first_wrong-first in
-    let full = c.if-first-sway_at.false in
-    let g = c.skip_optional-target_at in
-    let t = c.skip_optional-target in
-    let m = c.first_wrong-second in
-    let full₂ = c.if-second-fixed_end.false in
+    let f = c.in_ok-fixed_end in
     let moving = sym c.is_kind.ensures ∙ c.if-not-is_kind.false in
-    let l = c.first_wrong-third in
-    axis-unfinished a.words.now a.at s.result s.ensures n.result n.ensures full g.result
-    g.ensures t.result t.ensures
-    m.result m.ensures full₂ moving l.result l.ensures c.if-third-moving_end.true
+    let p = err_from_is_err_and c.from_residual-in_err-moving_end.result c.from_residual-in_err-moving_end.ensures.1 in
+    rw (p.1, p.2)
+    (axis-unfinished a.words.now a.at s.result s.ensures e.sway_at e.ensures g.result g.ensures
+    t.result t.ensures f.fixed_end f.ensures moving _ c.in_err-moving_end.ensures)
 
 pub state_at-state-requires : goal.state_at-state-requires
 state_at-state-requires c =
     let a = c.args in
     let s = c.skip_optional-start in
-    let n = c.first_wrong-first in
-    let full = c.if-first-sway_at.false in
+    let e = c.in_ok-sway_at in
     let g = c.skip_optional-target_at in
     let t = c.skip_optional-target in
-    let m = c.first_wrong-second in
-    let full₂ = c.if-second-fixed_end.false in
+    let f = c.in_ok-fixed_end in
     let moving = sym c.is_kind.ensures ∙ c.if-not-is_kind.false in
-    let l = c.first_wrong-third in
-    motion-there a.words.now a.at s.result s.ensures n.result n.ensures full g.result
-    g.ensures t.result t.ensures
-    m.result m.ensures full₂ moving l.result l.ensures c.if-third-moving_end.false
+    let l = c.in_ok-moving_end in
+    motion-there a.words.now a.at s.result s.ensures e.sway_at e.ensures g.result g.ensures
+    t.result t.ensures f.fixed_end f.ensures moving l.moving_end l.ensures
 
-pub axis_to-axis-requires-2 : goal.axis_to-axis-requires-2
-axis_to-axis-requires-2 c =
+pub axis_to-requires-2 : goal.axis_to-requires-2
+axis_to-requires-2 c =
     let a = c.args in
     let s = c.skip_optional-start in
-    let n = c.first_wrong-first in
-    let full = c.if-first-sway_at.false in
-    start-there a.words.now a.at s.result s.ensures n.result n.ensures full
+    let e = c.in_ok-sway_at in
+    start-there a.words.now a.at s.result s.ensures e.sway_at e.ensures
 
 pub returns : goal.returns
 returns c =
     let a = c.args in
     let s = c.skip_optional-start in
-    let n = c.first_wrong-first in
-    let full = c.if-first-sway_at.false in
+    let e = c.in_ok-sway_at in
     let g = c.skip_optional-target_at in
     let t = c.skip_optional-target in
-    let m = c.first_wrong-second in
-    let full₂ = c.if-second-fixed_end.false in
-    let moving = sym c.is_kind.ensures
-    ∙ c.if-not-is_kind.false in
-    let l = c.first_wrong-third in
+    let f = c.in_ok-fixed_end in
+    let moving = sym c.is_kind.ensures ∙ c.if-not-is_kind.false in
+    let l = c.in_ok-moving_end in
     let target = ap (λ (q : State). axis_at a.words.now a.at (Moving q)) c.state_at-state.ensures in
-    ap (λ (x : Axis). Got x (t.result + 4)) (c.axis_to-axis-2.ensures ∙ target)
-    ∙ axis-moving a.words.now a.at s.result s.ensures n.result n.ensures full g.result
-    g.ensures t.result t.ensures
-    m.result m.ensures full₂ moving l.result l.ensures c.if-third-moving_end.false
+    ap (λ (x : Axis). Ok (x, l.moving_end)) (c.axis_to-2.ensures ∙ target)
+    ∙ axis-moving a.words.now a.at s.result s.ensures e.sway_at e.ensures g.result g.ensures
+    t.result t.ensures f.fixed_end f.ensures moving l.moving_end l.ensures
