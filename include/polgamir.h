@@ -108,11 +108,11 @@ static inline int polgamir_library_fits(void)
  * first one. By target, measured and rounded up:
  *
  *     bytes of stack   x86-64  aarch64  armv7  cortex-m4f  cortex-m0plus  riscv64  riscv32  wasm32
- *     a plan            8,000    9,000  9,000      10,000         10,000    9,800   10,000   7,000
+ *     a plan            7,500    9,000  8,500       9,000          9,000    9,800    9,000   6,500
  *     a part            8,500   10,000  9,500      11,000         11,500   11,500   11,000   7,500
- *     raises            9,500   10,500 11,000      11,500         11,900   11,500   11,800   8,500
+ *     raises            9,500   10,500 10,500      11,500         11,900   11,500   11,800   8,000
  *     a search          6,000    7,000  7,000       7,500          8,000    8,500    8,000   5,000
- *     a conversion      4,500    4,500  4,500       5,000          5,500    5,500    5,500   4,500
+ *     a conversion      4,500    4,500  4,500       5,000          5,500    5,500    5,500   4,000
  *     a tour           17,500   18,500 18,500      19,500         19,800   20,500   20,400  16,000
  *
  * So a tour asks for 20,500.

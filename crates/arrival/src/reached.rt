@@ -8,6 +8,7 @@ ghost use Rattle.arrival.specs.Arrivals.{cannot_arrive, missed_by};
 use model::{AXES, Axis, LAST_TICK};
 
 // Whether every axis of the mask reaches a tick.
+#[inline(never)] // inlined, it leaves its copy of the axes, 576 bytes, on the stack of a search
 #[tactic(auto, using(crate::proofs::Reaching::missed))]
 pub fn all_reach(mask: u32, axes: [Axis; AXES], tick: u32) -> bool
     requires all_passed { AllPassed (set_axes 0 mask axes) }

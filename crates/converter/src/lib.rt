@@ -51,15 +51,19 @@ pub fn convert(words: &[u32], lent: &mut [u32]) -> Answer
 fn convert_in(words: &[u32], lent: &mut [u32]) -> Result<usize, Refusal>
     ensures { Converts words.now lent.old (conversion_answer result) lent.new }
 {
-    let job = words::decode(words)?;
-    admission::check(
-        job.mask,
-        job.asked,
-        job.axes,
-        job.windows,
-        Purpose::Converting,
-    )?;
-    write_converted(words, job.asked, lent)
+    match words::decode(words) {
+        Ok(job) => {
+            admission::check(
+                job.mask,
+                job.asked,
+                job.axes,
+                job.windows,
+                Purpose::Converting,
+            )?;
+            write_converted(words, job.asked, lent)
+        }
+        Err(refusal) => Err(refusal),
+    }
 }
 
 // ---- refusal 10, or the converted words

@@ -1,10 +1,10 @@
 -- The climb to the cruise as the code makes it: a step at a time, one for each bit from the highest
--- down.
-use Prim.Native.Nat.{ℕ, suc, ◌*◌, ◌%◌, ◌^◌, ◌<◌, ◌≤◌}
+-- down, each half of the one before.
+use Prim.Native.Nat.{ℕ, suc, ◌+◌, ◌/◌, ◌^◌, ◌<◌, ◌≤◌}
 use mathlib.Core.Path.{◌≡◌, refl, sym, ap, ◌∙◌}
 use mathlib.Core.Bool.{Bool, true, false, ◌&&◌}
 use native.Mathlib.Omega.{arith}
-use native.Mathlib.Nat.{pow-le-pow_right, mod-eq_of_lt}
+use native.Mathlib.Nat.{two-pow-succ, pow-le-pow_right}
 use lib.IntN.{ℤ, pos, neg_ℤ, ◌+ℤ◌}
 use lib.Signed.{le_z, le_z_yes, ◌≤ℤ◌}
 use Rattle.whole.proofs.Differences.{all₁, whole}
@@ -34,14 +34,16 @@ step-taken g s n c = go (le_z d (pos g.speed_limit)) (fits_at g s d)
     go true false = refl
     go false b = refl
 
--- a bit's step, as the machine shifts it
-pub bit-bound : {n : ℕ} → n < climb_steps → 2 ^ n ≤ 2 ^ 38
-bit-bound {n} h = pow-le-pow_right {n = 2} (omega arith) {i = n} {j = 38} (omega arith)
+-- a bit's step
+pub bit-bound : {n step : ℕ} → n < climb_steps → step ≡ 2 ^ n → step ≤ 2 ^ 38
+bit-bound {n} h e = omega (arith, e, pow-le-pow_right {n = 2} (omega arith) {i = n} {j = 38} (omega arith))
 
-pub shifted : {n : ℕ} → n < climb_steps → 1 * 2 ^ n % 2 ^ 64 ≡ 2 ^ n
-shifted {n} h =
-    let b = bit-bound h in
-    ap (λ (k : ℕ). k % 2 ^ 64) {x = 1 * 2 ^ n} {y = 2 ^ n} (omega arith) ∙ mod-eq_of_lt (omega arith)
+-- that of the next bit is half of it
+pub halved : {n m step : ℕ} → n ≡ suc m → step ≡ 2 ^ n → step / 2 ≡ 2 ^ m
+halved {n} {m} {step} e f = half step (2 ^ m) (f ∙ ap (λ (k : ℕ). 2 ^ k) e ∙ two-pow-succ m)
+  where
+    half : (a b : ℕ) → a ≡ b + b → a / 2 ≡ b
+    half a b e = omega arith
 
 module _ (g : Leg) (s : ℤ) where
   pub climb-start : climb_from g s climb_steps (neg_ℤ (pos g.speed_limit)) ≡ cruise g s

@@ -26,6 +26,7 @@ pub trait Engine {
 }
 
 // Tick by tick, as the definition has it.
+#[derive(Clone, Copy)]
 pub struct Ticks;
 
 impl Engine for Ticks {
@@ -37,6 +38,7 @@ impl Engine for Ticks {
 }
 
 // From the areas under the velocities, with no tick visited.
+#[derive(Clone, Copy)]
 pub struct Areas;
 
 impl Engine for Areas {
@@ -103,8 +105,10 @@ impl Required {
     {
         let p = self.profile;
         let mut c = profile::negative(p.speed_limit);
-        for bit in (0..39u32).rev() {
-            c = self.climb_step::<E>(c, 1 << bit);
+        let mut step: u64 = 1 << 39;
+        for _bit in (0..39u32).rev() {
+            step /= 2;
+            c = self.climb_step::<E>(c, step);
         }
         c
     }

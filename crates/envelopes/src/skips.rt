@@ -27,7 +27,10 @@ struct Ramps {
     pub fall: u64,
     pub ahead: u64,
     pub behind: u64,
+    ghost rise_bound: { rise ≤ 4096 },
+    ghost fall_bound: { fall ≤ 4096 },
     ghost ahead_bound: { ahead ≤ 4096 },
+    ghost behind_bound: { behind ≤ 4096 },
 }
 
 // The profile with another number of ticks.
@@ -134,6 +137,9 @@ fn skip_short(p: Profile, sought: Sought, last: u64) -> u64
     let far = p.ticks + STRETCH;
     if !short_at(p, sought, far, r) {
         return p.ticks;
+    }
+    if short_at(p, sought, last, r) {
+        return last + 1;
     }
     whole::failing_near(|t| !short_at(p, sought, t, r), far, last, NARROWEST_LEAP) + 1
 }

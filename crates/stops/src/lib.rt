@@ -160,5 +160,8 @@ pub fn write_front<T: Copy>(items: &[T], list: &mut [T])
     requires { length items.now ≤ length list.old }
     ensures { list.new ≡ items.now ++ drop (length items.now) list.old }
 {
-    list[..items.len()].copy_from_slice(items);
+    // by index: the library's copy subtracts addresses, which have 32 bits on some processors
+    for i in 0..items.len() {
+        list[i] = items[i];
+    }
 }

@@ -40,7 +40,13 @@ fn fits_one(tick: u32, dwell: u32, windows: &[Window]) -> bool
     requires dwell_bound { dwell ≤ 4096 }
     ensures { result ≡ list_any (fits_window tick dwell) windows.now }
 {
-    windows.iter().any(|window| fits(tick, dwell, *window))
+    // a loop: a call that gives a borrowed item back is laid out otherwise on 32-bit processors
+    for window in windows {
+        if fits(tick, dwell, *window) {
+            return true;
+        }
+    }
+    false
 }
 
 // Whether a window closes after it opens, and opens at the tick at which the

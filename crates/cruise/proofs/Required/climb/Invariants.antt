@@ -10,5 +10,6 @@ invariant-loop-bit g l =
     record {
       near : Within (2 ^ 37) l.c;
       small : Within l.fn.self.profile.speed_limit l.c;
-      climbing : climb_from l.fn.self.profile l.fn.self.sum l.bit l.c ≡ cruise l.fn.self.profile l.fn.self.sum;
+      halved : l.step ≡ 2 ^ l._bit;
+      climbing : climb_from l.fn.self.profile l.fn.self.sum l._bit l.c ≡ cruise l.fn.self.profile l.fn.self.sum;
     }
